@@ -154,7 +154,7 @@ pub text_on : (command : Command) (names : NamesValue) (b c : List ℕ) (f g : F
     → length (b ++ c) ≤ (command_job command names).limit
     → IsReading (command_job command names).framing b f → IsReading (command_job command names).framing (b ++ c) g
     → IsPrefixOf ((command_job command names).text f) ((command_job command names).text g)
-text_on (Dump options names_file file) names b c f g few r s = dumps_on options names b c f g few r s
+text_on (Dump options names_file file) names b c f g few r s = dumps_on false options names b c f g few r s
 text_on (Check rules framing file) names b c f g few r s = checks_on rules framing b c f g few r s
 text_on (Extract offset contents framing file) names b c f g few r s =
     extract_text_goes_on framing b c f g r s offset contents

@@ -2,7 +2,7 @@
 ghost use Rattle.tlv_cut.specs.ExtractJob.{extract_job};
 ghost use Rattle.tlv_cut.specs.IndefJob.{indef_job};
 ghost use Rattle.tlv_show.specs.CheckJob.{check_job};
-ghost use Rattle.tlv_show.specs.DumpJob.{dump_job};
+ghost use Rattle.tlv_show.specs.DumpJob.{dump_job, dump_job_with};
 ghost use Rattle.tlv_walk.specs.Job.{device_states};
 ghost use Rattle.tlv_run.specs.Report.{cut_report, indef_report, outcome_report, report_value_of};
 ghost use Rattle.tlv_run.specs.Results.{job_with_report};
@@ -10,7 +10,7 @@ ghost use Rattle.tlv_run.specs.RunsAndReports.{RunsAndReports};
 
 use crate::report::{Report, cut_report, device_report, indef_report, outcome_report};
 use tlv_cut::{extract, indef};
-use tlv_show::{FiniteNames, Options, Rules, check, dump};
+use tlv_show::{FiniteNames, Options, Rules, check, dump_with};
 use tlv_walk::{Drain, Framing, Source};
 
 /// Runs `dump` as [`run`](crate::run) does, with any table of names.
@@ -25,7 +25,23 @@ pub fn run_dump<N: FiniteNames, S: Source, D: Drain>(
         (device_states (S.state source.old) (D.state drain.old))
         (device_states (S.state source.new) (D.state drain.new)) (report_value_of result) }
 {
-    match dump(source, drain, options, names) {
+    run_dump_with(options, false, names, source, drain)
+}
+
+/// The same. If text is wanted, it is beside pairs of digits, as [`dump_with`](tlv_show::dump_with) has it.
+pub fn run_dump_with<N: FiniteNames, S: Source, D: Drain>(
+    options: &Options<'_>,
+    with_text: bool,
+    names: &N,
+    source: &mut S,
+    drain: &mut D,
+) -> Report
+    ensures { RunsAndReports
+        (job_with_report outcome_report (dump_job_with with_text options.now (N.table names.now)))
+        (device_states (S.state source.old) (D.state drain.old))
+        (device_states (S.state source.new) (D.state drain.new)) (report_value_of result) }
+{
+    match dump_with(source, drain, options, with_text, names) {
         Ok(outcome) => outcome_report(outcome),
         Err(fault) => device_report(fault),
     }

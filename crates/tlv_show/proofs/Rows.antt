@@ -28,7 +28,7 @@ ended : List ℕ → List ℕ
 ended text = text ++ 10 ∷ []
 
 dump_of : List EventValue → List ℕ
-dump_of es = (effect_of lines_step (new_lines (record { level = 0; limit = None; pure = false }) finite.empty) es).put
+dump_of es = (effect_of lines_step (new_lines false (record { level = 0; limit = None; pure = false }) finite.empty) es).put
 
 -- 3a 09 04 03 4a 6f 6e 04 02 65 73
 constructed-string : dump_of

@@ -1,5 +1,6 @@
 -- What a call of `dump` is to do.
 use Rattle.std.specs.FinMap as finite
+use Rattle.std.specs.Prelude.{Bool, false}
 use Rattle.tlv_value.specs.declared.layout.Layout.{Layout}
 use Rattle.tlv_value.specs.Names.{NamesValue}
 use Rattle.tlv_walk.specs.Job.{Job}
@@ -12,7 +13,11 @@ use Rattle.tlv_show.specs.Texts.{item_text}
 abbrev pub top_layout : Options → Layout
 top_layout options = record { level = 0; limit = options.limit; pure = options.pure }
 
--- all elements, as lines, with those of findings
+-- all elements, as lines, with those of findings. The first argument says whether text is beside pairs of digits
+abbrev pub dump_job_with : Bool → Options → NamesValue → Job Outcome
+dump_job_with with_text options names =
+    show_job options.rules options.framing (item_text with_text (finite.get names) (top_layout options))
+
+-- the same without text
 abbrev pub dump_job : Options → NamesValue → Job Outcome
-dump_job options names =
-    show_job options.rules options.framing (item_text (finite.get names) (top_layout options))
+dump_job options names = dump_job_with false options names

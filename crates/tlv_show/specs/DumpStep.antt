@@ -1,5 +1,5 @@
 -- What a dump makes of events: the lines of elements, with those of what is found in them before and after.
-use Rattle.std.specs.Prelude.{ℕ, List, [], ◌∷◌, ◌++◌}
+use Rattle.std.specs.Prelude.{ℕ, Bool, false, List, [], ◌∷◌, ◌++◌}
 use Rattle.tlv_value.specs.declared.layout.Layout.{Layout}
 use Rattle.tlv_value.specs.Names.{NamesValue}
 use Rattle.tlv_walk.specs.Events.{Begin, Bytes, Close, End, Enter, EventValue, Leave, Open, Pad, Unused}
@@ -18,9 +18,15 @@ pub record DumpState : Type 0 where
   -- what its finder keeps
   pub finder : CheckState
 
--- a dump of which nothing is written
+-- a dump of which nothing is written, with text beside pairs of digits or without it; and one without it
+abbrev pub new_dump_with : Bool → Rules → Layout → NamesValue → DumpState
+new_dump_with with_text rules layout names = record {
+  lines = new_lines with_text layout names;
+  finder = new_check rules;
+}
+
 abbrev pub new_dump : Rules → Layout → NamesValue → DumpState
-new_dump rules layout names = record { lines = new_lines layout names; finder = new_check rules }
+new_dump rules layout names = new_dump_with false rules layout names
 
 -- the lines of what is found
 abbrev pub finding_lines : DumpState → FinderState → List ℕ

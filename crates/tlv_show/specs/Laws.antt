@@ -7,14 +7,14 @@ use Rattle.tlv_show.specs.Items.{OpenPrimitiveLines, PaddingLine, items}
 use Rattle.tlv_show.specs.Site.{top_site}
 use Rattle.tlv_show.specs.declared.rules.Rules.TheVariants.{Ber}
 use Rattle.tlv_show.specs.CheckJob.{check_job}
-use Rattle.tlv_show.specs.DumpJob.{dump_job, top_layout}
+use Rattle.tlv_show.specs.DumpJob.{dump_job_with, top_layout}
 use Rattle.tlv_show.specs.FinderState.{new_check}
 use Rattle.tlv_show.specs.Texts.{check_line, finding_count}
 use Rattle.tlv_show.specs.CheckStep.{check_step}
-use Rattle.tlv_show.specs.DumpStep.{new_dump}
+use Rattle.tlv_show.specs.DumpStep.{new_dump_with}
 use Rattle.tlv_head.specs.Header.{HasAllContents, HeaderValue}
 use Rattle.tlv_value.specs.Names.{NamesValue}
-use Rattle.tlv_value.specs.ValueLines.{whole_lines}
+use Rattle.tlv_value.specs.ValueLines.{whole_lines_with}
 use Rattle.tlv_walk.specs.Events.{Begin, Bytes, End, events}
 use Rattle.tlv_walk.specs.Follow.{effect_of, effect_with}
 use Rattle.tlv_walk.specs.Forest.{Forest}
@@ -39,9 +39,10 @@ TextGoesOn job =
     → IsReading job.framing b f → IsReading job.framing (b ++ c) g
     → IsPrefixOf (job.text f) (job.text g)
 
--- the text of a dump goes on
+-- the text of a dump goes on, with text beside pairs of digits and without it
 abbrev pub DumpsGoOn : Type 0
-DumpsGoOn = (options : Options) (names : NamesValue) → TextGoesOn (dump_job options names)
+DumpsGoOn =
+    (with_text : Bool) (options : Options) (names : NamesValue) → TextGoesOn (dump_job_with with_text options names)
 
 -- the text of a check goes on
 abbrev pub ChecksGoOn : Type 0
@@ -64,16 +65,17 @@ PrimitivesAreShown =
     × (effect_of dump_step s (Begin h ∷ Bytes c ∷ End ∷ [])
     ≡ effect_with shown
     (finding_lines s (finder_begin_step s.finder h)
-    ++ (whole_lines (finite.get s.lines.names) h s.lines.layout c
+    ++ (whole_lines_with s.lines.with_text (finite.get s.lines.names) h s.lines.layout c
     ++ contents_finding_lines s h c)))
 
 -- a `Dump` puts the text of the reading of an input of at most 2^40 octets, counts its findings, and never has enough
 abbrev pub DumpsMakeTexts : Type 0
 DumpsMakeTexts =
-    (options : Options) (names : NamesValue) (b : List ℕ) (f : Forest)
+    (with_text : Bool) (options : Options) (names : NamesValue) (b : List ℕ) (f : Forest)
     → length b ≤ input_limit → IsReading options.framing b f
-    → let made = effect_of dump_step (new_dump options.rules (top_layout options) names) (events f) in
-    (made.put ≡ (dump_job options names).text f)
+    → let made =
+    effect_of dump_step (new_dump_with with_text options.rules (top_layout options) names) (events f) in
+    (made.put ≡ (dump_job_with with_text options names).text f)
     × (made.state.finder.finding_count ≡ finding_count options.rules f)
     × (made.goes ≡ On)
 

@@ -6,7 +6,7 @@ use Rattle.tlv_head.specs.Header.{HeaderValue, octets_of}
 use Rattle.tlv_value.specs.declared.layout.Layout.{Layout}
 use Rattle.tlv_value.specs.Names.{NamesValue}
 use Rattle.tlv_value.specs.ValueTextState.{ValueTextState, begin_lines, contents_lines, end_lines}
-use Rattle.tlv_value.specs.ValueTextState.{new_value_text, value_text_after}
+use Rattle.tlv_value.specs.ValueTextState.{new_value_text_with, value_text_after}
 use Rattle.tlv_walk.specs.Events.{Begin, Bytes, Close, End, Enter, EventValue, Leave, Open, Pad, Unused}
 use Rattle.tlv_walk.specs.Follow.{Effect, each_octet, effect_with}
 use Rattle.tlv_show.specs.HolderLines.{closing_line, opening_line, padding_line, opening_word}
@@ -16,6 +16,8 @@ use Rattle.tlv_show.specs.SaturatingSum.{saturating_sum}
 pub record LinesState : Type 0 where
   -- how lines are laid out: the level is how many elements are open that hold others
   pub layout : Layout
+  -- whether text is beside pairs of digits
+  pub with_text : Bool
   -- the names of object identifiers
   pub names : NamesValue
   -- the offset of the next octet
@@ -26,9 +28,10 @@ pub record LinesState : Type 0 where
   pub open_text : Option ValueTextState
 
 -- the lines of a dump before its first event
-abbrev pub new_lines : Layout → NamesValue → LinesState
-new_lines layout names = record {
+abbrev pub new_lines : Bool → Layout → NamesValue → LinesState
+new_lines with_text layout names = record {
   layout = layout;
+  with_text = with_text;
   names = names;
   offset = 0;
   in_padding = false;
@@ -66,8 +69,8 @@ lines_close_step s (Some offset) =
 -- a primitive begins
 abbrev pub lines_begin_step : LinesState → HeaderValue → Effect LinesState
 lines_begin_step s h =
-    effect_with (record (lines_after_header s h) { open_text = Some (new_value_text h s.layout) })
-    (begin_lines (new_value_text h s.layout))
+    effect_with (record (lines_after_header s h) { open_text = Some (new_value_text_with s.with_text h s.layout) })
+    (begin_lines (new_value_text_with s.with_text h s.layout))
 
 -- contents octets: those after the announced ones are not shown
 abbrev pub open_text_after : Option ValueTextState → List ℕ → Option ValueTextState

@@ -1,6 +1,6 @@
 //! `dump`, over a source and a drain.
 ghost use Rattle.tlv_walk.specs.Job.{Runs, device_states};
-ghost use Rattle.tlv_show.specs.DumpJob.{dump_job};
+ghost use Rattle.tlv_show.specs.DumpJob.{dump_job, dump_job_with};
 
 use crate::{Dump, FiniteNames, Options, Outcome};
 use tlv_walk::{DeviceFault, Drain, Source, drive};
@@ -24,7 +24,28 @@ pub fn dump<N: FiniteNames, S: Source, D: Drain>(
         (device_states (S.state source.old) (D.state drain.old))
         (device_states (S.state source.new) (D.state drain.new)) result }
 {
-    let mut follower = Dump::new(options, names);
+    dump_with(source, drain, options, false, names)
+}
+
+/// The same. If text is wanted, it is beside pairs of digits: what is shown as pairs and has three or more octets, a
+/// value on its line or a row, and all of them printable ASCII (20 to 7e), has these octets behind it, after two
+/// spaces and between bars.
+///
+/// # Errors
+///
+/// As [`dump`].
+pub fn dump_with<N: FiniteNames, S: Source, D: Drain>(
+    source: &mut S,
+    drain: &mut D,
+    options: &Options<'_>,
+    with_text: bool,
+    names: &N,
+) -> Result<Outcome, DeviceFault>
+    ensures { Runs (dump_job_with with_text options.now (N.table names.now))
+        (device_states (S.state source.old) (D.state drain.old))
+        (device_states (S.state source.new) (D.state drain.new)) result }
+{
+    let mut follower = Dump::new_with(options, with_text, names);
     let run = drive(source, &mut follower, drain, &options.framing)?;
     Ok(Outcome {
         ending: run.ending,

@@ -3,7 +3,8 @@ ghost use Rattle.std.specs.Prelude.{◌≡◌, ◌≤◌, length, refl};
 ghost use Rattle.tlv_walk.proofs.FollowerLemmas.FollowedEvents.{each_octet-goes_on, each_octet-joins};
 ghost use Rattle.tlv_walk.specs.Events.{Begin, Bytes, Close, End, Enter, event_value_of};
 ghost use Rattle.tlv_walk.specs.HasEffect.{HasEffect};
-ghost use Rattle.tlv_show.specs.DumpStep.{dump_octet_step, dump_padding_step, dump_step, findings_before, new_dump};
+ghost use Rattle.tlv_show.specs.DumpStep.{dump_octet_step, dump_padding_step, dump_step, findings_before};
+ghost use Rattle.tlv_show.specs.DumpStep.{new_dump, new_dump_with};
 ghost use Rattle.tlv_show.specs.FinderState.{finder_open_step};
 ghost use Rattle.tlv_show.specs.LinesStep.{lines_open_step};
 ghost use Rattle.tlv_show.specs.DumpJob.{top_layout};
@@ -44,13 +45,22 @@ impl<'n, N: FiniteNames> Dump<'n, N> {
     pub fn new(options: &Options<'_>, names: &'n N) -> Dump<'n, N>
         ensures { result ≡ new_dump options.now.rules (top_layout options.now) (N.table names.now) }
     {
+        Dump::new_with(options, false, names)
+    }
+
+    /// The same. If text is wanted, it is beside pairs of digits, as
+    /// [`ValueText::new_with`](tlv_value::ValueText::new_with) has it.
+    pub fn new_with(options: &Options<'_>, with_text: bool, names: &'n N) -> Dump<'n, N>
+        ensures { result ≡ new_dump_with with_text
+            options.now.rules (top_layout options.now) (N.table names.now) }
+    {
         let layout = Layout {
             level: 0,
             limit: options.limit,
             pure: options.pure,
         };
         Dump {
-            lines: Lines::new(layout, names),
+            lines: Lines::new(layout, with_text, names),
             finder: Finder::new(options.rules),
         }
     }

@@ -27,7 +27,7 @@ mod rules;
 pub use basic_findings::has_basic_findings;
 pub use check_call::check;
 pub use check_follower::Check;
-pub use dump_call::dump;
+pub use dump_call::{dump, dump_with};
 pub use dump_follower::Dump;
 pub use finite_names::FiniteNames;
 pub use options::Options;

@@ -6,7 +6,7 @@ ghost use Rattle.tlv_walk.specs.Follow.{each_octet};
 ghost use Rattle.tlv_walk.specs.HasEffect.{HasEffect};
 ghost use Rattle.tlv_io.specs.Out.{Puts};
 ghost use Rattle.tlv_head.specs.Header.{HasAllContents};
-ghost use Rattle.tlv_value.specs.ValueLines.{whole_lines};
+ghost use Rattle.tlv_value.specs.ValueLines.{whole_lines_with};
 ghost use Rattle.tlv_show.specs.Private.LinesStep.{lines_after_primitive};
 ghost use Rattle.tlv_show.specs.LinesStep.{lines_begin_step, lines_close_step, lines_end_step};
 ghost use Rattle.tlv_show.specs.LinesStep.{lines_octet_step, lines_open_step, lines_padding_step, lines_step};
@@ -17,7 +17,7 @@ use crate::finding_lines::Style;
 use crate::holder_lines::{put_closing, put_opening, put_padding};
 use std::marker::Model;
 use tlv_head::Header;
-use tlv_value::{Layout, ValueText, put_whole};
+use tlv_value::{Layout, ValueText, put_whole_with};
 use tlv_walk::{Drain, Out, WriteFault};
 
 /// Writes the lines that each event allows. The line of an element that holds others comes with its header, and that
@@ -26,6 +26,8 @@ use tlv_walk::{Drain, Out, WriteFault};
 pub(crate) struct Lines<'n, N: FiniteNames> {
     /// How lines are laid out: the level is how many elements are open that hold others.
     layout: Layout,
+    /// Whether text is beside pairs of digits.
+    with_text: bool,
     names: &'n N,
     /// Where the next octet is.
     offset: u64,
@@ -49,6 +51,7 @@ impl<'n, N: FiniteNames> Model for Lines<'n, N> {
 
     ghost view = { λ d. record {
       layout = d.layout;
+      with_text = d.with_text;
       names = N.table d.names.now;
       offset = d.offset;
       in_padding = d.in_padding;
@@ -57,12 +60,13 @@ impl<'n, N: FiniteNames> Model for Lines<'n, N> {
 }
 
 impl<'n, N: FiniteNames> Lines<'n, N> {
-    /// Lines in this layout, of which none is written.
-    pub fn new(layout: Layout, names: &'n N) -> Lines<'n, N>
-        ensures { result ≡ new_lines layout (N.table names.now) }
+    /// Lines in this layout, of which none is written. Text is beside pairs of digits if it is wanted.
+    pub fn new(layout: Layout, with_text: bool, names: &'n N) -> Lines<'n, N>
+        ensures { result ≡ new_lines with_text layout (N.table names.now) }
     {
         Lines {
             layout,
+            with_text,
             names,
             offset: 0,
             in_padding: false,
@@ -143,7 +147,7 @@ impl<'n, N: FiniteNames> Lines<'n, N> {
     {
         self.set_after_header(header);
         self.is_open = true;
-        self.text = ValueText::new(header, self.layout);
+        self.text = ValueText::new_with(header, self.layout, self.with_text);
         self.text.begin(out)
     }
 
@@ -182,13 +186,20 @@ impl<'n, N: FiniteNames> Lines<'n, N> {
         requires { HasAllContents header.now contents.now }
         ensures state { self.new ≡ lines_after_primitive self.old header.now contents.now }
         ensures puts { Puts D.state out.old out.new
-            (whole_lines (finite.get self.old.names) header.now self.old.layout contents.now)
-            result }
+            (whole_lines_with self.old.with_text (finite.get self.old.names) header.now
+            self.old.layout contents.now) result }
     {
         self.set_after_header(header);
         self.offset = self.offset.saturating_add(contents.len() as u64);
         self.is_open = false;
-        put_whole(header, self.layout, contents, self.names, out)
+        put_whole_with(
+            header,
+            self.layout,
+            self.with_text,
+            contents,
+            self.names,
+            out,
+        )
     }
 
     /// Padding goes on. A run of it has one line, which comes with its first octet.

@@ -1,14 +1,14 @@
 -- Laws of the lines of a primitive, and of rows.
-use Rattle.std.specs.Prelude.{◌≡◌, ℕ, List, [], ◌++◌}
+use Rattle.std.specs.Prelude.{◌≡◌, ℕ, Bool, List, [], ◌++◌}
 use Rattle.tlv_head.specs.Header.{HasAllContents, HeaderValue}
 use Rattle.tlv_io.specs.Cuts.{IsCut}
 use Rattle.tlv_value.specs.declared.kind.Kind.{Kind}
 use Rattle.tlv_value.specs.declared.layout.Layout.{Layout}
 use Rattle.tlv_value.specs.RowSizes.{character_length, row_size}
 use Rattle.tlv_value.specs.Rows.{rows_of}
-use Rattle.tlv_value.specs.ValueLines.{open_lines, whole_lines}
+use Rattle.tlv_value.specs.ValueLines.{open_lines_with, whole_lines_with}
 use Rattle.tlv_value.specs.ValueTextState.{ValueTextState, begin_lines, contents_lines, end_lines}
-use Rattle.tlv_value.specs.ValueTextState.{new_value_text, value_text_for, value_text_after}
+use Rattle.tlv_value.specs.ValueTextState.{new_value_text_with, value_text_for, value_text_after}
 use Rattle.tlv_value.specs.Value.{NameOf}
 
 -- two pieces, one after the other, are as one
@@ -21,24 +21,24 @@ PiecesJoin =
 -- with the header, the lines of a primitive without contents so far; the state is then the one before any octet
 abbrev pub LinesBegin : Type 0
 LinesBegin =
-    (h : HeaderValue) (layout : Layout)
-    → (open_lines h layout [] ≡ begin_lines (new_value_text h layout))
-    × (value_text_for h layout [] ≡ new_value_text h layout)
+    (with_text : Bool) (h : HeaderValue) (layout : Layout)
+    → (open_lines_with with_text h layout [] ≡ begin_lines (new_value_text_with with_text h layout))
+    × (value_text_for with_text h layout [] ≡ new_value_text_with with_text h layout)
 
 -- with more octets, what is new in the lines of the primitive, which is still open
 abbrev pub LinesGoOn : Type 0
 LinesGoOn =
-    (h : HeaderValue) (layout : Layout) (octets x : List ℕ)
-    → open_lines h layout (octets ++ x)
-    ≡ open_lines h layout octets ++ contents_lines (value_text_for h layout octets) x
+    (with_text : Bool) (h : HeaderValue) (layout : Layout) (octets x : List ℕ)
+    → open_lines_with with_text h layout (octets ++ x)
+    ≡ open_lines_with with_text h layout octets ++ contents_lines (value_text_for with_text h layout octets) x
 
 -- with the end, the rest of the lines of the whole primitive
 abbrev pub LinesEnd : Type 0
 LinesEnd =
-    (name_of : NameOf) (h : HeaderValue) (layout : Layout) (octets : List ℕ)
+    (with_text : Bool) (name_of : NameOf) (h : HeaderValue) (layout : Layout) (octets : List ℕ)
     → HasAllContents h octets
-    → whole_lines name_of h layout octets
-    ≡ open_lines h layout octets ++ end_lines name_of (value_text_for h layout octets)
+    → whole_lines_with with_text name_of h layout octets
+    ≡ open_lines_with with_text h layout octets ++ end_lines name_of (value_text_for with_text h layout octets)
 
 -- the rows of contents are a cut
 abbrev pub RowsAreACut : Type 0

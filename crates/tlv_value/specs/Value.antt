@@ -3,7 +3,7 @@ use Rattle.std.specs.Prelude.{ℕ, ◌+◌, ◌-◌, ◌*◌, Bool, true, false,
 use Rattle.std.specs.Prelude.{if◌then◌else◌, List, [], ◌∷◌, ◌++◌, length, map, take, Option, None, codes}
 use Rattle.std.specs.Prelude.{decimal}
 use Rattle.std.specs.Fmt.{signed_decimal}
-use Rattle.std.specs.List.{join_by}
+use Rattle.std.specs.List.{join_by, list_all}
 use Rattle.std.specs.Option.{option_map_or}
 use Rattle.hex.specs.Hex.{encode_lower}
 pub use Rattle.tlv_io.specs.LineTexts.{spaced_pairs}
@@ -15,7 +15,7 @@ use Rattle.tlv_value.specs.RowSizes.{row_size}
 use Rattle.tlv_value.specs.Kind.{is_text}
 use Rattle.tlv_value.specs.Number.{twos_complement}
 use Rattle.tlv_value.specs.Rows.{known_rows, rows_of}
-use Rattle.tlv_value.specs.Units.{quoted_text}
+use Rattle.tlv_value.specs.Units.{is_printable, quoted_text}
 
 -- what the element's line has after the tag text, and the octets of each row
 pub record Value : Type 0 where
@@ -29,23 +29,37 @@ NameOf = List ℕ → Option (List ℕ)
 abbrev pub value_on_line : List ℕ → Value
 value_on_line text = record { text = 0x20 ∷ text; rows = [] }
 
--- up to 16 octets are on the line
-abbrev pub octets_value : List ℕ → Value
-octets_value octets =
+-- ---- Pairs of digits, and the text beside them
+
+-- three or more octets that are all printable ASCII, between bars and after two spaces; of any others nothing
+abbrev pub text_behind : List ℕ → List ℕ
+text_behind octets =
+    if nat_le 3 (length octets) && list_all is_printable octets
+    then codes "  |" ++ octets ++ codes "|"
+    else []
+
+-- the pairs of these octets, and their text behind them, if it is wanted: the first argument says whether it is
+abbrev pub pairs_with_text : Bool → List ℕ → List ℕ → List ℕ
+pairs_with_text false octets pairs = pairs
+pairs_with_text true octets pairs = pairs ++ text_behind octets
+
+-- up to 16 octets are on the line. Here and below a first argument `with_text` says whether text is beside pairs
+abbrev pub octets_value : Bool → List ℕ → Value
+octets_value with_text octets =
     if nat_le (length octets) 16
-    then record { text = spaced_pairs octets; rows = [] }
+    then record { text = pairs_with_text with_text octets (spaced_pairs octets); rows = [] }
     else record { text = []; rows = rows_of Octets octets }
 
 -- ---- Kind by kind. What cannot be read is shown as octets.
 
 -- 8.2.2: FALSE is zero
-abbrev pub boolean_value : List ℕ → Value
-boolean_value (x ∷ []) = value_on_line (if eqb x 0 then codes "FALSE" else codes "TRUE")
-boolean_value octets = octets_value octets
+abbrev pub boolean_value : Bool → List ℕ → Value
+boolean_value with_text (x ∷ []) = value_on_line (if eqb x 0 then codes "FALSE" else codes "TRUE")
+boolean_value with_text octets = octets_value with_text octets
 
--- 8.3.3, 8.4
+-- 8.3.3, 8.4; without octets nothing is on the line
 abbrev pub integer_value : List ℕ → Value
-integer_value [] = octets_value []
+integer_value [] = record { text = []; rows = [] }
 integer_value (x ∷ xs) = value_on_line (signed_decimal (twos_complement (x ∷ xs)))
 
 -- the number of bits of so many octets, without those that are not used
@@ -67,12 +81,12 @@ used_digits unused_bits octets =
     0x20 ∷ digits_of_bits (take (8 * length octets - unused_bits) (bits_of octets))
 
 -- 8.6.2: the first octet is the number of unused bits in the last one
-abbrev pub bits_value : List ℕ → Value
-bits_value [] = octets_value []
-bits_value (unused_bits ∷ octets) =
+abbrev pub bits_value : Bool → List ℕ → Value
+bits_value with_text [] = octets_value with_text []
+bits_value with_text (unused_bits ∷ octets) =
     if is_readable unused_bits (length octets)
     then value_on_line (bit_count_text unused_bits (length octets) ++ used_digits unused_bits octets)
-    else octets_value (unused_bits ∷ octets)
+    else octets_value with_text (unused_bits ∷ octets)
 
 -- a name after its object identifier
 abbrev pub name_text : Option (List ℕ) → List ℕ
@@ -83,10 +97,10 @@ abbrev pub no_names : NameOf
 no_names text = None
 
 -- 8.19; 8.20 for one that is relative
-abbrev pub object_value : NameOf → Bool → List ℕ → Value
-object_value name_of relative octets =
+abbrev pub object_value : Bool → NameOf → Bool → List ℕ → Value
+object_value with_text name_of relative octets =
     option_map_or (λ text. value_on_line (text ++ name_text (name_of text)))
-    (dotted_of relative octets) (octets_value octets)
+    (dotted_of relative octets) (octets_value with_text octets)
 
 -- ---- Of any kind
 
@@ -102,14 +116,14 @@ abbrev pub is_long : Kind → ℕ → Bool
 is_long kind n = nat_lt (most_on_line kind) n
 
 -- the value of contents that are not long
-abbrev pub short_value : NameOf → Kind → List ℕ → Value
-short_value name_of Boolean octets = boolean_value octets
-short_value name_of Integer octets = integer_value octets
-short_value name_of Bits octets = bits_value octets
-short_value name_of Object octets = object_value name_of false octets
-short_value name_of Relative octets = object_value no_names true octets
-short_value name_of kind octets =
-    if is_text kind then value_on_line (quoted_text kind octets) else octets_value octets
+abbrev pub short_value : Bool → NameOf → Kind → List ℕ → Value
+short_value with_text name_of Boolean octets = boolean_value with_text octets
+short_value with_text name_of Integer octets = integer_value octets
+short_value with_text name_of Bits octets = bits_value with_text octets
+short_value with_text name_of Object octets = object_value with_text name_of false octets
+short_value with_text name_of Relative octets = object_value with_text no_names true octets
+short_value with_text name_of kind octets =
+    if is_text kind then value_on_line (quoted_text kind octets) else octets_value with_text octets
 
 -- of long contents: what is on the line of n octets, of which these have come. 8.6.2: of a BIT STRING the number of
 -- bits, if its first octet can be read
@@ -132,16 +146,17 @@ long_value whole kind n octets = record {
 }
 
 -- the value of contents that are whole
-abbrev pub whole_value : NameOf → Kind → List ℕ → Value
-whole_value name_of kind octets =
+abbrev pub whole_value : Bool → NameOf → Kind → List ℕ → Value
+whole_value with_text name_of kind octets =
     if is_long kind (length octets)
     then long_value true kind (length octets) octets
-    else short_value name_of kind octets
+    else short_value with_text name_of kind octets
 
 -- pairs of digits with spaces between them
 abbrev pub joined_pairs : List ℕ → List ℕ
 joined_pairs octets = join_by (λ x. encode_lower (x ∷ [])) (codes " ") octets
 
 -- the text of a row: characters, or pairs of digits
-abbrev pub row_text : Kind → List ℕ → List ℕ
-row_text kind row = if is_text kind then quoted_text kind row else joined_pairs row
+abbrev pub row_text : Bool → Kind → List ℕ → List ℕ
+row_text with_text kind row =
+    if is_text kind then quoted_text kind row else pairs_with_text with_text row (joined_pairs row)

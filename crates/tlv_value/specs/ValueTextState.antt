@@ -26,15 +26,16 @@ pub record ValueTextState : Type 0 where
   pub left : ℕ
   pub kept : KeptContents
 
--- the primitive with this header, in this layout
-abbrev pub new_primitive : HeaderValue → Layout → Primitive
-new_primitive h layout = record {
+-- the primitive with this header, in this layout, with text beside pairs of digits or without it
+abbrev pub new_primitive : Bool → HeaderValue → Layout → Primitive
+new_primitive with_text h layout = record {
   offset = h.offset;
   class = h.class;
   number = h.number;
   size = announced_length h.size;
   kind = header_kind h;
   layout = layout;
+  with_text = with_text;
 }
 
 -- it has too many contents octets for them to be on its line
@@ -57,8 +58,12 @@ new_value_text_of p = record {
   kept = record { has_put_line = has_line p.kind []; row_count = 0; row = [] };
 }
 
+-- the state before any octet of the primitive with this header, and the same without text beside pairs
+abbrev pub new_value_text_with : Bool → HeaderValue → Layout → ValueTextState
+new_value_text_with with_text h layout = new_value_text_of (new_primitive with_text h layout)
+
 abbrev pub new_value_text : HeaderValue → Layout → ValueTextState
-new_value_text h layout = new_value_text_of (new_primitive h layout)
+new_value_text h layout = new_value_text_with false h layout
 
 -- the state for no primitive yet: as for an empty one that is of no universal type, at the top
 abbrev pub idle_value_text : ValueTextState
@@ -69,6 +74,7 @@ idle_value_text = new_value_text_of (record {
   size = 0;
   kind = Octets;
   layout = record { level = 0; limit = None; pure = false };
+  with_text = false;
 })
 
 -- what is kept after more octets of a long value whose line was put
@@ -80,8 +86,9 @@ kept_contents_after_line kind k octets = record {
 }
 
 -- the lines of the rows that are full with more octets
-abbrev pub full_row_lines : Kind → Layout → KeptContents → List ℕ → List ℕ
-full_row_lines kind layout k octets = row_lines kind layout k.row_count (full_rows kind k.row octets)
+abbrev pub full_row_lines : Bool → Kind → Layout → KeptContents → List ℕ → List ℕ
+full_row_lines with_text kind layout k octets =
+    row_lines with_text kind layout k.row_count (full_rows kind k.row octets)
 
 -- what is kept of a long value whose line came with this first contents octet
 abbrev pub kept_contents_with_line : Kind → ℕ → KeptContents
@@ -97,7 +104,8 @@ abbrev pub first_row_lines : ValueTextState → List ℕ → List ℕ
 first_row_lines s [] = []
 first_row_lines s (x ∷ octets) =
     long_value_line s.primitive (x ∷ [])
-    ++ full_row_lines s.primitive.kind s.primitive.layout (kept_contents_with_line s.primitive.kind x) octets
+    ++ full_row_lines s.primitive.with_text s.primitive.kind s.primitive.layout
+    (kept_contents_with_line s.primitive.kind x) octets
 
 -- what is kept after more octets of a long value
 abbrev pub long_kept_contents_after : ValueTextState → List ℕ → KeptContents
@@ -118,8 +126,8 @@ abbrev pub value_text_after : ValueTextState → List ℕ → ValueTextState
 value_text_after s octets = record s { left = s.left - length octets; kept = kept_contents_after s octets }
 
 -- the state for contents of which these octets have come
-abbrev pub value_text_for : HeaderValue → Layout → List ℕ → ValueTextState
-value_text_for h layout octets = value_text_after (new_value_text h layout) octets
+abbrev pub value_text_for : Bool → HeaderValue → Layout → List ℕ → ValueTextState
+value_text_for with_text h layout octets = value_text_after (new_value_text_with with_text h layout) octets
 
 -- the lines that are known with the header
 abbrev pub begin_lines : ValueTextState → List ℕ
@@ -133,19 +141,19 @@ abbrev pub contents_lines : ValueTextState → List ℕ → List ℕ
 contents_lines s octets =
     if is_long_primitive s.primitive
     then (if s.kept.has_put_line
-    then full_row_lines s.primitive.kind s.primitive.layout s.kept octets
+    then full_row_lines s.primitive.with_text s.primitive.kind s.primitive.layout s.kept octets
     else first_row_lines s octets)
     else []
 
 -- the lines of a primitive with these contents, if they are not long
 abbrev pub primitive_lines : NameOf → Primitive → List ℕ → List ℕ
 primitive_lines name_of p octets =
-    primitive_line p (short_value name_of p.kind octets).text
-    ++ row_lines p.kind p.layout 0 (short_value name_of p.kind octets).rows
+    primitive_line p (short_value p.with_text name_of p.kind octets).text
+    ++ row_lines p.with_text p.kind p.layout 0 (short_value p.with_text name_of p.kind octets).rows
 
 -- the lines that are known with the end
 abbrev pub end_lines : NameOf → ValueTextState → List ℕ
 end_lines name_of s =
     if is_long_primitive s.primitive
-    then row_lines s.primitive.kind s.primitive.layout s.kept.row_count (last_rows s.kept.row)
+    then row_lines s.primitive.with_text s.primitive.kind s.primitive.layout s.kept.row_count (last_rows s.kept.row)
     else primitive_lines name_of s.primitive s.kept.row

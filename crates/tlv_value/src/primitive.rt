@@ -1,5 +1,5 @@
 //! A primitive by what its header says.
-ghost use Rattle.std.specs.Prelude.{◌≡◌, ◌<◌, ◌≤◌, ◌++◌, [], IsTrue, None, OnOk, length, true, ◌↔◌};
+ghost use Rattle.std.specs.Prelude.{◌≡◌, ◌<◌, ◌≤◌, ◌++◌, [], IsTrue, None, OnOk, false, length, true, ◌↔◌};
 ghost use Rattle.tlv_io.specs.OutLimits.{line_room};
 ghost use Rattle.tlv_io.specs.LineTexts.{AddsAtMost, HasRoomFor};
 ghost use Rattle.tlv_io.specs.Out.{Puts, held_octets};
@@ -28,13 +28,15 @@ pub(crate) struct Primitive {
     pub size: u64,
     pub kind: Kind,
     pub layout: Layout,
+    /// Whether text is beside pairs of digits.
+    pub with_text: bool,
 }
 
 impl Primitive {
-    /// The primitive with this header.
+    /// The primitive with this header. Text is beside pairs of digits if it is wanted.
     #[inline(always)]
-    pub fn new(header: &Header, layout: Layout) -> Primitive
-        ensures { result ≡ new_primitive header.now layout }
+    pub fn new(header: &Header, layout: Layout, with_text: bool) -> Primitive
+        ensures { result ≡ new_primitive with_text header.now layout }
     {
         Primitive {
             offset: header.offset,
@@ -43,6 +45,7 @@ impl Primitive {
             size: header.size.announced_length(),
             kind: kind_of(header.class, header.number),
             layout,
+            with_text,
         }
     }
 
@@ -59,13 +62,14 @@ impl Primitive {
         self.size > most
     }
 
-    /// Whether its rows are pairs of digits, and their number is not limited.
+    /// Whether its rows are pairs of digits without text, and their number is not limited.
     #[inline(always)]
     pub fn has_unlimited_pairs(&self) -> bool
         ensures { IsTrue result
-            ↔ ((row_size self.now.kind ≡ 16) × (self.now.layout.limit ≡ None)) }
+            ↔ ((row_size self.now.kind ≡ 16) × (self.now.layout.limit ≡ None)
+            × (self.now.with_text ≡ false)) }
     {
-        row_size(self.kind) == 16 && self.layout.limit.is_none()
+        row_size(self.kind) == 16 && self.layout.limit.is_none() && !self.with_text
     }
 
     /// Begins its line, up to its tag text.
@@ -181,10 +185,10 @@ impl Primitive {
     {
         self.put_prefix(out)?;
         match self.kind {
-            Kind::Object => put_object(self.layout, contents, names, out),
-            Kind::Relative => put_relative(self.layout, contents, out),
+            Kind::Object => put_object(self.layout, self.with_text, contents, names, out),
+            Kind::Relative => put_relative(self.layout, self.with_text, contents, out),
             _ => {
-                write_undotted(&mut out.held, self.kind, contents);
+                write_undotted(&mut out.held, self.kind, self.with_text, contents);
                 out.held.add(b"\n");
                 Ok(())
             }

@@ -6,57 +6,44 @@ ghost use Rattle.tlv_value.specs.Bits.{last_bits};
 ghost use Rattle.tlv_value.specs.Private.UndottedText.{undotted_text};
 ghost use Rattle.tlv_value.specs.Units.{quoted_text};
 ghost use Rattle.tlv_value.specs.Value.{bit_count_text, bits_value, boolean_value, digits_of_bits, integer_value};
-ghost use Rattle.tlv_value.specs.Value.{is_long, is_readable, joined_pairs, long_text, most_on_line};
+ghost use Rattle.tlv_value.specs.Value.{is_long, is_readable, long_text, most_on_line};
 ghost use Rattle.tlv_value.specs.Value.{row_text, used_digits};
 
 use crate::decimal::{decimal_of, short_decimal_of};
 use crate::kind::Kind;
+use crate::pairs::{write_pairs, write_row_pairs};
 use crate::units::write_characters;
 use tlv_io::HeldOctets;
 
 /// A space, a sign, and spaces up to 32 octets.
 const SIGN: &[u8; 32] = b" -                              ";
 
-/// Adds a row of long contents after a space.
-pub(crate) fn write_row(held: &mut HeldOctets, kind: Kind, row: &[u8])
+/// Adds a row of long contents after a space. Text is beside pairs of digits if it is wanted.
+pub(crate) fn write_row(held: &mut HeldOctets, kind: Kind, with_text: bool, row: &[u8])
     requires short { length row.now ≤ 64 }
     requires room { HasRoomFor held.old 400 }
-    ensures { AddsAtMost 323 held.old held.new (32 ∷ row_text kind row.now) }
+    ensures { AddsAtMost 323 held.old held.new (32 ∷ row_text with_text kind row.now) }
 {
     match kind {
         Kind::Text | Kind::Utf8 | Kind::Ucs2 | Kind::Ucs4 => write_quoted(held, kind, row),
-        _ => write_joined_pairs(held, row),
-    }
-}
-
-/// Adds pairs of digits after a space, and with spaces between them.
-fn write_joined_pairs(held: &mut HeldOctets, octets: &[u8])
-    requires short { length octets.now ≤ 64 }
-    requires room { HasRoomFor held.old 192 }
-    ensures { held.new ≡ held.old ++ 32 ∷ joined_pairs octets.now }
-{
-    if octets.is_empty() {
-        held.add(b" ");
-    } else {
-        // Each pair brings the space before it.
-        held.spaced_pairs(octets);
+        _ => write_row_pairs(held, with_text, row),
     }
 }
 
 /// Adds a value that is not long, with a space before it, if there is one. An object identifier is shown in
-/// hexadecimal.
+/// hexadecimal. Text is beside pairs of digits if it is wanted.
 #[inline(always)]
-pub(crate) fn write_undotted(held: &mut HeldOctets, kind: Kind, contents: &[u8])
+pub(crate) fn write_undotted(held: &mut HeldOctets, kind: Kind, with_text: bool, contents: &[u8])
     requires short { length contents.now ≤ most_on_line kind }
     requires room { HasRoomFor held.old 400 }
-    ensures { AddsAtMost 330 held.old held.new (undotted_text kind contents.now) }
+    ensures { AddsAtMost 330 held.old held.new (undotted_text with_text kind contents.now) }
 {
     match kind {
-        Kind::Boolean => write_boolean(held, contents),
+        Kind::Boolean => write_boolean(held, with_text, contents),
         Kind::Integer => write_integer(held, contents),
-        Kind::Bits => write_bits(held, contents),
+        Kind::Bits => write_bits(held, with_text, contents),
         Kind::Text | Kind::Utf8 | Kind::Ucs2 | Kind::Ucs4 => write_quoted(held, kind, contents),
-        Kind::Octets | Kind::Object | Kind::Relative => held.spaced_pairs(contents),
+        Kind::Octets | Kind::Object | Kind::Relative => write_pairs(held, with_text, contents),
     }
 }
 
@@ -73,15 +60,15 @@ fn write_quoted(held: &mut HeldOctets, kind: Kind, row: &[u8])
 }
 
 /// Adds a BOOLEAN (8.2.2).
-fn write_boolean(held: &mut HeldOctets, contents: &[u8])
+fn write_boolean(held: &mut HeldOctets, with_text: bool, contents: &[u8])
     requires short { length contents.now ≤ 16 }
-    requires room { HasRoomFor held.old 48 }
-    ensures { held.new ≡ held.old ++ (boolean_value contents.now).text }
+    requires room { HasRoomFor held.old 68 }
+    ensures { held.new ≡ held.old ++ (boolean_value with_text contents.now).text }
 {
     match contents {
         [0] => held.add(b" FALSE"),
         [_] => held.add(b" TRUE"),
-        _ => held.spaced_pairs(contents),
+        _ => write_pairs(held, with_text, contents),
     }
 }
 
@@ -127,17 +114,17 @@ fn write_signed(held: &mut HeldOctets, number: i128)
 
 /// Adds a BIT STRING (8.6.2).
 #[inline(never)]
-fn write_bits(held: &mut HeldOctets, contents: &[u8])
+fn write_bits(held: &mut HeldOctets, with_text: bool, contents: &[u8])
     requires short { length contents.now ≤ 9 }
     requires room { HasRoomFor held.old 128 }
-    ensures { held.new ≡ held.old ++ (bits_value contents.now).text }
+    ensures { held.new ≡ held.old ++ (bits_value with_text contents.now).text }
 {
     match contents {
         [unused_bits, octets @ ..] if is_readable(*unused_bits, octets.len()) => {
             write_bit_count(held, *unused_bits, octets.len() as u64);
             write_used_digits(held, *unused_bits, octets);
         }
-        _ => held.spaced_pairs(contents),
+        _ => write_pairs(held, with_text, contents),
     }
 }
 

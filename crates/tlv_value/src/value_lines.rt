@@ -8,6 +8,7 @@ ghost use Rattle.tlv_value.specs.Value.{no_names};
 mod row_lines;
 
 use crate::dotted_texts::write_dotted;
+use crate::pairs::write_pairs;
 use crate::{Layout, NameTable};
 use row_lines::put_all_rows;
 pub(crate) use row_lines::{put_last, put_pair_rows, put_rows};
@@ -16,6 +17,7 @@ use tlv_io::{Drain, Out, WriteFault};
 /// Puts the rest of the lines of an object identifier: its dotted text, with its name if it has one, or its octets.
 pub(crate) fn put_object<N: NameTable, D: Drain>(
     layout: Layout,
+    with_text: bool,
     contents: &[u8],
     names: &N,
     out: &mut Out<'_, D>,
@@ -23,11 +25,11 @@ pub(crate) fn put_object<N: NameTable, D: Drain>(
     requires room { HasRoomFor (held_octets out.old) 400 }
     requires short { length contents.now ≤ 64 }
     ensures { Puts D.state out.old out.new
-        (object_lines (N.name_of names.now) layout false contents.now) result }
+        (object_lines with_text (N.name_of names.now) layout false contents.now) result }
 {
     let start = out.held.len() + 1;
     if !write_dotted(&mut out.held, contents, false) {
-        return put_octets(layout, contents, out);
+        return put_octets(layout, with_text, contents, out);
     }
     match names.get(&out.held.as_slice()[start..]) {
         Some(name) => put_name(name, out),
@@ -51,16 +53,17 @@ fn put_name<D: Drain>(name: &[u8], out: &mut Out<'_, D>) -> Result<(), WriteFaul
 /// Puts the rest of the lines of a relative object identifier: its dotted text, or its octets.
 pub(crate) fn put_relative<D: Drain>(
     layout: Layout,
+    with_text: bool,
     contents: &[u8],
     out: &mut Out<'_, D>,
 ) -> Result<(), WriteFault>
     requires room { HasRoomFor (held_octets out.old) 400 }
     requires short { length contents.now ≤ 64 }
     ensures { Puts D.state out.old out.new
-        (object_lines no_names layout true contents.now) result }
+        (object_lines with_text no_names layout true contents.now) result }
 {
     if !write_dotted(&mut out.held, contents, true) {
-        return put_octets(layout, contents, out);
+        return put_octets(layout, with_text, contents, out);
     }
     out.held.add(b"\n");
     Ok(())
@@ -70,18 +73,19 @@ pub(crate) fn put_relative<D: Drain>(
 #[inline(never)]
 fn put_octets<D: Drain>(
     layout: Layout,
+    with_text: bool,
     contents: &[u8],
     out: &mut Out<'_, D>,
 ) -> Result<(), WriteFault>
     requires room { HasRoomFor (held_octets out.old) 400 }
     requires short { length contents.now ≤ 64 }
-    ensures { Puts D.state out.old out.new (octets_lines layout contents.now) result }
+    ensures { Puts D.state out.old out.new (octets_lines with_text layout contents.now) result }
 {
     if contents.len() <= 16 {
-        out.held.spaced_pairs(contents);
+        write_pairs(&mut out.held, with_text, contents);
         out.held.add(b"\n");
         return Ok(());
     }
     out.held.add(b"\n");
-    put_all_rows(layout, contents, out)
+    put_all_rows(layout, with_text, contents, out)
 }

@@ -1,15 +1,17 @@
 //! The lines of a primitive, from its contents in pieces.
-ghost use Rattle.std.specs.Prelude.{◌≡◌, ◌≤◌, ◌++◌, ◌∷◌, [], ℕ, List, length, OnOk};
+ghost use Rattle.std.specs.Prelude.{◌≡◌, ◌≤◌, ◌++◌, ◌∷◌, [], ℕ, Bool, List, length, OnOk};
 ghost use Rattle.tlv_head.specs.Header.{HasAllContents, HeaderValue, announced_length};
 ghost use Rattle.tlv_io.specs.Out.{Puts};
 ghost use Rattle.tlv_value.specs.PutsRest.{PutsRest};
 ghost use Rattle.tlv_value.specs.Value.{row_octets};
-ghost use Rattle.tlv_value.specs.ValueLines.{open_lines, whole_lines};
+ghost use Rattle.tlv_value.specs.ValueLines.{open_lines_with, whole_lines_with};
 ghost use Rattle.tlv_value.specs.ValueTextState.{begin_lines, contents_lines, end_lines, idle_value_text};
-ghost use Rattle.tlv_value.specs.ValueTextState.{new_value_text, new_value_text_of, value_text_for, value_text_after};
+ghost use Rattle.tlv_value.specs.ValueTextState.{new_value_text, new_value_text_of, new_value_text_with};
+ghost use Rattle.tlv_value.specs.ValueTextState.{value_text_after, value_text_for};
 
 use crate::kind::Kind;
 use crate::primitive::Primitive;
+use crate::row_form::RowForm;
 use crate::value_lines::{put_last, put_rows};
 use crate::{Layout, NameTable};
 use arrayvec::ArrayVec;
@@ -63,7 +65,17 @@ impl ValueText {
     pub fn new(header: &Header, layout: Layout) -> ValueText
         ensures { result ≡ new_value_text header.now layout }
     {
-        ValueText::of(Primitive::new(header, layout))
+        ValueText::new_with(header, layout, false)
+    }
+
+    /// The same. If text is wanted, it is beside pairs of digits: what is shown as pairs and has three or more octets, a
+    /// value on its line or a row, and all of them printable ASCII (20 to 7e), has these octets behind it, after two
+    /// spaces and between bars.
+    #[inline(always)]
+    pub fn new_with(header: &Header, layout: Layout, with_text: bool) -> ValueText
+        ensures { result ≡ new_value_text_with with_text header.now layout }
+    {
+        ValueText::of(Primitive::new(header, layout, with_text))
     }
 
     /// For this primitive, of whose contents no octet has come.
@@ -95,6 +107,7 @@ impl ValueText {
                 limit: None,
                 pure: false,
             },
+            with_text: false,
         };
         ValueText {
             primitive,
@@ -122,9 +135,9 @@ impl ValueText {
         ensures puts { Puts D.state out.old out.new (begin_lines self.now) result }
 
         // In other words: the lines of the primitive with the header h, without contents.
-        ensures lines { (h : HeaderValue) (layout : Layout)
-            → self.now ≡ new_value_text h layout
-            → Puts D.state out.old out.new (open_lines h layout []) result }
+        ensures lines { (with_text : Bool) (h : HeaderValue) (layout : Layout)
+            → self.now ≡ new_value_text_with with_text h layout
+            → Puts D.state out.old out.new (open_lines_with with_text h layout []) result }
     {
         if !self.primitive.is_long() || !self.has_put_line {
             return Ok(());
@@ -144,26 +157,24 @@ impl ValueText {
         ensures puts { Puts D.state out.old out.new (contents_lines self.old octets.now) result }
 
         // In other words: after the lines with the contents c, the rest of those with these octets too.
-        ensures lines { (h : HeaderValue) (layout : Layout) (c : List ℕ)
-            → self.old ≡ value_text_for h layout c
+        ensures lines { (with_text : Bool) (h : HeaderValue) (layout : Layout) (c : List ℕ)
+            → self.old ≡ value_text_for with_text h layout c
             → PutsRest D.state out.old out.new
-            (open_lines h layout c) (open_lines h layout (c ++ octets.now)) result }
+            (open_lines_with with_text h layout c) (open_lines_with with_text h layout (c ++ octets.now))
+            result }
     {
         self.left -= octets.len() as u64;
         if !self.primitive.is_long() {
             let _ = self.row.try_extend_from_slice(octets);
             return Ok(());
         }
-        let (kind, layout) = (self.primitive.kind, self.primitive.layout);
+        let form = RowForm {
+            kind: self.primitive.kind,
+            layout: self.primitive.layout,
+            with_text: self.primitive.with_text,
+        };
         if self.has_put_line {
-            return put_rows(
-                kind,
-                layout,
-                &mut self.row,
-                &mut self.row_count,
-                octets,
-                out,
-            );
+            return put_rows(&form, &mut self.row, &mut self.row_count, octets, out);
         }
         let Some((unused_bits, rest)) = octets.split_first() else {
             return Ok(());
@@ -171,7 +182,7 @@ impl ValueText {
         self.has_put_line = true;
         begin_row(*unused_bits, &mut self.row);
         self.primitive.put_bits_line(*unused_bits, out)?;
-        put_rows(kind, layout, &mut self.row, &mut self.row_count, rest, out)
+        put_rows(&form, &mut self.row, &mut self.row_count, rest, out)
     }
 
     /// Puts what is known with the last contents octet: after what was put before it, the rest of the lines
@@ -191,21 +202,21 @@ impl ValueText {
             (end_lines (N.name_of names.now) self.old) result }
 
         // In other words: after the lines with the contents c, which are all, the rest of those of the whole primitive.
-        ensures lines { (h : HeaderValue) (layout : Layout) (c : List ℕ)
-            → self.old ≡ value_text_for h layout c
+        ensures lines { (with_text : Bool) (h : HeaderValue) (layout : Layout) (c : List ℕ)
+            → self.old ≡ value_text_for with_text h layout c
             → HasAllContents h c
             → PutsRest D.state out.old out.new
-            (open_lines h layout c) (whole_lines (N.name_of names.now) h layout c) result }
+            (open_lines_with with_text h layout c)
+            (whole_lines_with with_text (N.name_of names.now) h layout c) result }
     {
         let contents = self.row.as_slice();
         if self.primitive.is_long() {
-            return put_last(
-                self.primitive.kind,
-                self.primitive.layout,
-                self.row_count,
-                contents,
-                out,
-            );
+            let form = RowForm {
+                kind: self.primitive.kind,
+                layout: self.primitive.layout,
+                with_text: self.primitive.with_text,
+            };
+            return put_last(&form, self.row_count, contents, out);
         }
         self.primitive.put(contents, names, out)
     }

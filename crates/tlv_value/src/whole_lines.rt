@@ -1,13 +1,13 @@
 //! The lines of a primitive of which all contents are at hand. Those of a value that is on its line, or in rows of
 //! pairs of digits without a limit, are made at once: no contents are copied, and its type is asked for once.
-ghost use Rattle.std.specs.Prelude.{◌≡◌, ◌++◌, None, length, true};
+ghost use Rattle.std.specs.Prelude.{◌≡◌, ◌++◌, None, false, length, true};
 ghost use Rattle.tlv_head.specs.Header.{HasAllContents, announced_length};
 ghost use Rattle.tlv_io.specs.Out.{Puts};
 ghost use Rattle.tlv_value.specs.RowSizes.{row_size};
 ghost use Rattle.tlv_value.specs.Private.PrimitiveLines.{lines_in_steps};
 ghost use Rattle.tlv_value.specs.Rows.{rows_of};
 ghost use Rattle.tlv_value.specs.Value.{row_octets};
-ghost use Rattle.tlv_value.specs.ValueLines.{row_lines, whole_lines};
+ghost use Rattle.tlv_value.specs.ValueLines.{row_lines, whole_lines, whole_lines_with};
 ghost use Rattle.tlv_value.specs.ValueTextState.{is_long_primitive, long_value_line, new_value_text_of};
 
 use crate::kind::Kind;
@@ -35,18 +35,61 @@ pub fn put_whole<N: NameTable, D: Drain>(
     ensures { Puts D.state out.old out.new
         (whole_lines (N.name_of names.now) header.now layout contents.now) result }
 {
-    let primitive = Primitive::new(header, layout);
-    if primitive.is_long() {
+    put_whole_with(header, layout, false, contents, names, out)
+}
+
+/// The same. If text is wanted, it is beside pairs of digits, as [`ValueText::new_with`] has it.
+///
+/// # Errors
+///
+/// `WriteFault` exactly if a write failed.
+#[inline(always)]
+pub fn put_whole_with<N: NameTable, D: Drain>(
+    header: &Header,
+    layout: Layout,
+    with_text: bool,
+    contents: &[u8],
+    names: &N,
+    out: &mut Out<'_, D>,
+) -> Result<(), WriteFault>
+    requires { HasAllContents header.now contents.now }
+    ensures { Puts D.state out.old out.new
+        (whole_lines_with with_text (N.name_of names.now) header.now layout contents.now) result }
+{
+    let primitive = Primitive::new(header, layout, with_text);
+    if with_text || primitive.is_long() {
         // A reference to a copy: a value on its line then stays in registers.
-        let long = primitive;
-        put_long_lines(&long, contents, names, out)
+        let other = primitive;
+        put_apart(&other, contents, names, out)
     } else {
         primitive.put(contents, names, out)
     }
 }
 
-/// Puts the lines of a primitive whose contents are too long for its line. It is apart, since it comes seldom.
+/// Puts the lines of a primitive with text beside pairs of digits, or whose contents are too long for its line. It is
+/// apart and `cold`, since without text it comes seldom.
+#[cold]
 #[inline(never)]
+fn put_apart<N: NameTable, D: Drain>(
+    primitive: &Primitive,
+    contents: &[u8],
+    names: &N,
+    out: &mut Out<'_, D>,
+) -> Result<(), WriteFault>
+    requires { length contents.now ≡ primitive.now.size }
+    ensures { Puts D.state out.old out.new
+        (lines_in_steps (N.name_of names.now) (new_value_text_of primitive.now) contents.now)
+        result }
+{
+    if primitive.is_long() {
+        put_long_lines(primitive, contents, names, out)
+    } else {
+        primitive.put(contents, names, out)
+    }
+}
+
+/// Puts the lines of a primitive whose contents are too long for its line.
+#[inline(always)]
 fn put_long_lines<N: NameTable, D: Drain>(
     primitive: &Primitive,
     contents: &[u8],
@@ -66,8 +109,8 @@ fn put_long_lines<N: NameTable, D: Drain>(
     }
 }
 
-/// Puts the lines of a primitive whose value is in rows of pairs of digits, from where its contents are. This
-/// saves the state of a [`ValueText`].
+/// Puts the lines of a primitive whose value is in rows of pairs of digits without text, from where its contents are.
+/// This saves the state of a [`ValueText`].
 #[inline(always)]
 fn put_pairs<D: Drain>(
     primitive: &Primitive,
@@ -76,10 +119,11 @@ fn put_pairs<D: Drain>(
 ) -> Result<(), WriteFault>
     requires pairs { row_size primitive.now.kind ≡ 16 }
     requires unlimited { primitive.now.layout.limit ≡ None }
+    requires without_text { primitive.now.with_text ≡ false }
     requires long { is_long_primitive primitive.now ≡ true }
     ensures { Puts D.state out.old out.new
         (long_value_line primitive.now contents.now
-        ++ row_lines primitive.now.kind primitive.now.layout 0
+        ++ row_lines primitive.now.with_text primitive.now.kind primitive.now.layout 0
         (rows_of primitive.now.kind (row_octets primitive.now.kind contents.now))) result }
 {
     primitive.put_long_line(contents, out)?;

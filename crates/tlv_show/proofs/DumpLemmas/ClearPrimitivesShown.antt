@@ -5,7 +5,7 @@ use Rattle.std.specs.Prelude.{Ok, Err, Result, IsErr, ⊤}
 use Rattle.std.proofs.lemmas.Bool.{true≢false}
 use Rattle.tlv_head.specs.Header.{HasAllContents, HeaderValue}
 use Rattle.tlv_value.specs.declared.finding.Finding.{Finding}
-use Rattle.tlv_value.specs.ValueLines.{whole_lines}
+use Rattle.tlv_value.specs.ValueLines.{whole_lines_with}
 use Rattle.tlv_io.specs.declared.drain.WriteFault.{WriteFault}
 use Rattle.tlv_io.specs.declared.out.Out.{Out}
 use Rattle.tlv_io.specs.Device.{DrainState}
@@ -26,7 +26,7 @@ use Rattle.tlv_show.proofs.DumpLemmas.DumpEvents.{dump_state, primitive-by, text
 use Rattle.tlv_show.proofs.DumpLemmas.DumpTexts.{primitives_shown}
 
 abbrev pub lines_of : DumpState → HeaderValue → List ℕ → List ℕ
-lines_of s h c = whole_lines (finite.get s.lines.names) h s.lines.layout c
+lines_of s h c = whole_lines_with s.lines.with_text (finite.get s.lines.names) h s.lines.layout c
 
 abbrev pub after_whole : DumpState → HeaderValue → List ℕ → DumpState
 after_whole s h c = dump_state (lines_after_primitive s.lines h c) (finder_whole_step s.finder h c).kept

@@ -101,7 +101,7 @@ primitive-by l s h c =
     let o : Effect LinesState =
     of_bytes b.state (saturating_sum b.state.offset (length c)) (open_text_after b.state.open_text c)
     (open_text_lines b.state.open_text c) in
-    let is : m ≡ o = dumped_bytes b.state c (λ e. rested-new h l.layout) in
+    let is : m ≡ o = dumped_bytes b.state c (λ e. rested-new l.with_text h l.layout) in
     ap (λ (k : Effect DumpState). record {
       state = (effect_if_more k.goes k (λ w. effect_of dump_step w (End ∷ []))).state;
       put = (first ++ b.put) ++ (effect_if_more k.goes k (λ w. effect_of dump_step w (End ∷ []))).put;
@@ -141,7 +141,7 @@ part-by l s h c =
     let o : Effect LinesState =
     of_bytes b.state (saturating_sum b.state.offset (length c)) (open_text_after b.state.open_text c)
     (open_text_lines b.state.open_text c) in
-    let is : m ≡ o = dumped_bytes b.state c (λ e. rested-new h l.layout) in
+    let is : m ≡ o = dumped_bytes b.state c (λ e. rested-new l.with_text h l.layout) in
     ap (λ (k : Effect DumpState). (first ++ b.put) ++ (effect_if_more k.goes k (λ w. effect_of dump_step w [])).put)
     (each-shown (dump_state b.state (finder_begin_step s h).kept) c)
     ∙ append_assoc first b.put (m.put ++ [])

@@ -1,7 +1,7 @@
 -- A dump shows its text, and counts its findings.
 use Rattle.std.proofs.Common.{◌≡◌, ℕ, ◌^◌, ◌≤◌, List, [], ◌∷◌, length, refl, ap, ◌∙◌, arith, length-append}
 use Rattle.std.specs.FinMap as finite
-use Rattle.std.specs.Prelude.{None}
+use Rattle.std.specs.Prelude.{Bool, None}
 use Rattle.tlv_value.specs.Names.{NamesValue}
 use Rattle.tlv_walk.specs.declared.follow.Go.{Go}
 use Rattle.tlv_walk.specs.Events.{Begin, Bytes, Close, End, Enter, EventValue, Leave, Open, Pad, Unused, events}
@@ -10,8 +10,8 @@ use Rattle.tlv_walk.specs.Forest.{Forest, spelling}
 use Rattle.tlv_walk.specs.Place.{top_place}
 use Rattle.tlv_walk.specs.Reading.{IsReading}
 use Rattle.tlv_show.specs.declared.options.Options.{Options}
-use Rattle.tlv_show.specs.DumpJob.{dump_job, top_layout}
-use Rattle.tlv_show.specs.DumpStep.{DumpState, dump_step, new_dump}
+use Rattle.tlv_show.specs.DumpJob.{dump_job_with, top_layout}
+use Rattle.tlv_show.specs.DumpStep.{DumpState, dump_step, new_dump_with}
 use Rattle.tlv_show.specs.FinderState.{CheckState}
 use Rattle.tlv_show.specs.NestingState.{top_frame}
 use Rattle.tlv_show.specs.Private.FinderState.{finder_step}
@@ -43,28 +43,28 @@ finder-run s (e ∷ es) =
     ∙ finder-run (dump_step s e).state es
     ∙ ap (λ (u : CheckState). (run_finder u es).state) (finder-by s e)
 
-module _ (options : Options) (names : NamesValue) (octets : List ℕ) (f : Forest) (short : length octets ≤ 2 ^ 40)
+module _ (with_text : Bool) (options : Options) (names : NamesValue) (octets : List ℕ) (f : Forest) (short : length octets ≤ 2 ^ 40)
     (r : IsReading options.framing octets f) where
-  pub text-made : (effect_of dump_step (new_dump options.rules (top_layout options) names) (events f)).put
-      ≡ (dump_job options names).text f
+  pub text-made : (effect_of dump_step (new_dump_with with_text options.rules (top_layout options) names) (events f)).put
+      ≡ (dump_job_with with_text options names).text f
   text-made =
-      (shows_forest (top_layout options) names options.rules (top_place options.framing) None Start top_frame [] f
+      (shows_forest with_text (top_layout options) names options.rules (top_place options.framing) None Start top_frame [] f
       r.obeys_grammar (omega (arith, short, ap length r.is_prefix.1, length-append (spelling f) r.is_prefix.0))
       (refl, refl, λ e. refl)).text 0
 
-  pub count-made : (effect_of dump_step (new_dump options.rules (top_layout options) names)
+  pub count-made : (effect_of dump_step (new_dump_with with_text options.rules (top_layout options) names)
       (events f)).state.finder.finding_count
       ≡ finding_count options.rules f
   count-made =
       ap (λ (u : CheckState). u.finding_count)
-      (finder-run (new_dump options.rules (top_layout options) names) (events f))
+      (finder-run (new_dump_with with_text options.rules (top_layout options) names) (events f))
       ∙ count-run options.rules options.framing octets f short r
 
-pub dump-shows : (options : Options) (names : NamesValue)
-    → Shower dump_step (new_dump options.rules (top_layout options) names) options.rules options.framing
-    (item_text (finite.get names) (top_layout options)) (λ (s : DumpState). s.finder.finding_count)
-dump-shows options names = record {
+pub dump-shows : (with_text : Bool) (options : Options) (names : NamesValue)
+    → Shower dump_step (new_dump_with with_text options.rules (top_layout options) names) options.rules options.framing
+    (item_text with_text (finite.get names) (top_layout options)) (λ (s : DumpState). s.finder.finding_count)
+dump-shows with_text options names = record {
   goes_on = all_on;
-  put = λ octets f few r. text-made options names octets f few r;
-  counts = λ octets f few r. count-made options names octets f few r;
+  put = λ octets f few r. text-made with_text options names octets f few r;
+  counts = λ octets f few r. count-made with_text options names octets f few r;
 }

@@ -8,7 +8,7 @@ use Rattle.tlv_head.specs.Header.{AllowsSize, HasAllContents, HeaderValue, annou
 use Rattle.tlv_value.specs.declared.finding.Finding.{Finding}
 use Rattle.tlv_value.specs.declared.layout.Layout.{Layout}
 use Rattle.tlv_value.specs.Names.{NamesValue}
-use Rattle.tlv_value.specs.ValueLines.{whole_lines}
+use Rattle.tlv_value.specs.ValueLines.{whole_lines_with}
 use Rattle.tlv_walk.specs.Events.{Begin, Bytes, End, EventValue, events, opening_events, closing_event, end_offset}
 use Rattle.tlv_walk.specs.Events.{end_octets_offset}
 use Rattle.tlv_walk.specs.Follow.{Effect, effect_of, effect_with}
@@ -38,9 +38,9 @@ use Rattle.tlv_value.specs.Types.{is_primitive}
 use Rattle.tlv_show.specs.Conditions.{segments_of}
 
 -- ---- elements, in this style, with these names and rules
-module _ (style : Layout) (names : NamesValue) (rules : Rules) where
+module _ (with_text : Bool) (style : Layout) (names : NamesValue) (rules : Rules) where
   abbrev pub item : Item → List ℕ
-  item i = item_text (finite.get names) style i
+  item i = item_text with_text (finite.get names) style i
 
   abbrev pub item_texts : List Item → List ℕ
   item_texts l = flat_map item l
@@ -67,7 +67,7 @@ module _ (style : Layout) (names : NamesValue) (rules : Rules) where
 
   abbrev pub start : Place → Bool → HolderFrame → List HolderFrame → ℕ → DumpState
   start p padded w outer n =
-      dump_state (lines_between style names p.depth p.offset padded) (check_between rules w outer n)
+      dump_state (lines_between with_text style names p.depth p.offset padded) (check_between rules w outer n)
 
   pub record IsShown (p : Place) (holder : Option HeaderValue) (previous : Previous) (w : HolderFrame)
       (outer : List HolderFrame) (f : Forest) : Type 0 where
@@ -77,8 +77,8 @@ module _ (style : Layout) (names : NamesValue) (rules : Rules) where
     pub after : (n : ℕ) → is_whole f ≡ true → (m : ℕ)
         × ((effect_of dump_step (start p (is_padding previous) w outer n) (events f)).state
         ≡ dump_state
-        (lines_between style names p.depth (p.offset + length (spelling f))
-        (ends_in_padding style names (is_padding previous) f))
+        (lines_between with_text style names p.depth (p.offset + length (spelling f))
+        (ends_in_padding with_text style names (is_padding previous) f))
         (check_between rules (frame_after_elements w f) outer m))
 
   -- elements after what was shown
@@ -111,12 +111,12 @@ module _ (style : Layout) (names : NamesValue) (rules : Rules) where
       (styled_lines (Dump style.pure) (length outer) h.offset (header_findings rules (surroundings_in w) h)
       ++ dump_opening_line (layout_at style p.depth) h)
   opened-shown p holder previous w outer n h k there low far =
-      opens-by (lines_between style names p.depth p.offset (is_padding previous)) (check_between rules w outer n) h
+      opens-by (lines_between with_text style names p.depth p.offset (is_padding previous)) (check_between rules w outer n) h
       h.constructed (h.number == 3)
       ∙ ap₂
       (λ (d : Effect LinesState) (f : FinderState). effect_with (dump_state d.state f.kept)
       (texts style f ++ d.put))
-      (holder_shown style names p.depth p.offset (is_padding previous) h there (omega (arith, low)) far)
+      (holder_shown with_text style names p.depth p.offset (is_padding previous) h there (omega (arith, low)) far)
       (opened-find rules w outer n h (omega (arith, k.1, low)))
 
   -- a primitive
@@ -129,15 +129,15 @@ module _ (style : Layout) (names : NamesValue) (rules : Rules) where
       (start (place_after p (length (octets_of h) + length c)) false (after_primitive rules w h c) outer
       (after_contents rules w h c n))
       (styled_lines (Dump style.pure) (length outer) h.offset (header_findings rules (surroundings_in w) h)
-      ++ (whole_lines (finite.get names) h (layout_at style p.depth) c
+      ++ (whole_lines_with with_text (finite.get names) h (layout_at style p.depth) c
       ++ styled_lines (Dump style.pure) (length outer) h.offset (contents_findings rules h c)))
   primitive-shown p padded w outer n h c there size far =
-      primitive-by (lines_between style names p.depth p.offset padded) (check_between rules w outer n) h c
+      primitive-by (lines_between with_text style names p.depth p.offset padded) (check_between rules w outer n) h c
       ∙ ap₂
       (λ (d : Effect LinesState) (f : FinderState). effect_with (dump_state d.state f.kept)
       (styled_lines (Dump style.pure) (length outer) h.offset (header_findings rules (surroundings_in w) h)
       ++ (d.put ++ texts style f)))
-      (primitive_shown style names p.depth p.offset padded h c there size far)
+      (primitive_shown with_text style names p.depth p.offset padded h c there size far)
       (primitive-find rules w outer n h c size)
 
   -- an element that holds others ends
@@ -147,7 +147,7 @@ module _ (style : Layout) (names : NamesValue) (rules : Rules) where
       → AllowsSize h.constructed h.size → p.offset + extent h inside ≤ 2 ^ 64 - 1
       → effect_of dump_step
       (dump_state
-      (lines_between style names (p.depth + 1) (p.offset + length (opening h) + length (spelling inside)) false)
+      (lines_between with_text style names (p.depth + 1) (p.offset + length (opening h) + length (spelling inside)) false)
       (check_between rules (frame_after_elements (frame_under w h) inside) (w ∷ outer) n))
       (closing_event h inside ∷ [])
       ≡ effect_with
@@ -164,18 +164,18 @@ module _ (style : Layout) (names : NamesValue) (rules : Rules) where
       let after : CheckState =
       check_between rules (frame_after w (is_primitive h) (announced_length h.size) false) outer
       (after_end rules h inside n) in
-      closes-by (lines_between style names (p.depth + 1) end false)
+      closes-by (lines_between with_text style names (p.depth + 1) end false)
       (check_between rules (frame_after_elements (frame_under w h) inside) (w ∷ outer) n)
       (end_offset h.size (h.offset + length (opening h) + length (spelling inside))) h.constructed
       ∙ ap₂
       (λ (d : Effect LinesState) (f : FinderState). effect_with (dump_state d.state f.kept)
       (d.put ++ texts style f))
-      (closer_shown style names p.depth end h inside (omega (arith, there)) allowed (omega (arith, far)))
+      (closer_shown with_text style names p.depth end h inside (omega (arith, there)) allowed (omega (arith, far)))
       (closed-find rules (place_of_children p h) w outer n h inside v whole)
       ∙ ap (λ (l : List ℕ). effect_with
-      (dump_state (lines_between style names p.depth (end + length (end_octets h.size)) false) after) (close ++ l))
+      (dump_state (lines_between with_text style names p.depth (end + length (end_octets h.size)) false) after) (close ++ l))
       (offset-under rules (place_of_children p h) w h inside v whole (styled_lines (Dump style.pure) (length outer))
       (λ offset. refl))
-      ∙ ap (λ (offset : ℕ). effect_with (dump_state (lines_between style names p.depth offset false) after)
+      ∙ ap (λ (offset : ℕ). effect_with (dump_state (lines_between with_text style names p.depth offset false) after)
       (close ++ last))
       (omega arith)

@@ -8,7 +8,7 @@ use Rattle.tlv_head.specs.Header.{HasAllContents, HeaderValue, announced_length,
 use Rattle.tlv_value.specs.declared.layout.Layout.{Layout}
 use Rattle.tlv_value.specs.ValueCheckState.{has_unused_bits, value_check_for}
 use Rattle.tlv_value.specs.Names.{NamesValue}
-use Rattle.tlv_value.specs.ValueLines.{open_lines, whole_lines}
+use Rattle.tlv_value.specs.ValueLines.{open_lines_with, whole_lines_with}
 use Rattle.tlv_value.specs.Types.{is_primitive}
 use Rattle.tlv_walk.specs.declared.follow.Go.{Go}
 use Rattle.tlv_walk.specs.Events.{Begin, Bytes, End, EventValue, Pad, closing_event, end_octets_offset, events}
@@ -51,36 +51,36 @@ use Rattle.tlv_show.proofs.DumpLemmas.DumpItems.{primitive-shown}
 use Rattle.tlv_show.proofs.DumpLemmas.DumpItems.{shown-after, site, item_texts-append, start}
 
 -- elements, in this style, with these names and rules
-module _ (style : Layout) (names : NamesValue) (rules : Rules) where
+module _ (with_text : Bool) (style : Layout) (names : NamesValue) (rules : Rules) where
   pub shows_forest : (p : Place) (holder : Option HeaderValue) (previous : Previous) (w : HolderFrame)
       (outer : List HolderFrame) (f : Forest)
       → ObeysGrammar p f → p.offset + length (spelling f) ≤ 2 ^ 64 - 1
-      → Known style names rules p holder previous w outer
-      → IsShown style names rules p holder previous w outer f
+      → Known with_text style names rules p holder previous w outer
+      → IsShown with_text style names rules p holder previous w outer f
   shows_forest p holder previous w outer NoMore v b k = record {
     text = λ n. refl;
     after =
         λ n
         e. (
           n,
-          ap (λ (offset : ℕ). dump_state (lines_between style names p.depth offset (is_padding previous))
+          ap (λ (offset : ℕ). dump_state (lines_between with_text style names p.depth offset (is_padding previous))
               (check_between rules w outer n))
               (omega arith),
         );
   }
   shows_forest p holder previous w outer (PaddingOctet rest) v b k =
-      let s : Site = site style names rules p holder previous in
+      let s : Site = site with_text style names rules p holder previous in
       let t =
       shows_forest (place_after p 1) holder Padding w outer rest v.1 (omega (arith, b))
       (knows-padding w s k.0 (k.2 v.0.0), k.1, k.2) in
       let one : (n : ℕ)
-      → effect_of dump_step (start style names rules p (is_padding previous) w outer n) (Pad (0 ∷ []) ∷ [])
-      ≡ effect_with (start style names rules (place_after p 1) true w outer n)
+      → effect_of dump_step (start with_text style names rules p (is_padding previous) w outer n) (Pad (0 ∷ []) ∷ [])
+      ≡ effect_with (start with_text style names rules (place_after p 1) true w outer n)
       (if is_padding previous then [] else padding_line (layout_at style p.depth) p.offset) =
       λ n. ap (λ (d : Effect LinesState). effect_with (dump_state d.state (check_between rules w outer n)) d.put)
-      (fill_shown style names p.depth p.offset (is_padding previous) (omega (arith, b))) in
+      (fill_shown with_text style names p.depth p.offset (is_padding previous) (omega (arith, b))) in
       let all =
-      λ (n : ℕ). shown-after style names rules p (place_after p 1) (is_padding previous) w outer n n w holder Padding
+      λ (n : ℕ). shown-after with_text style names rules p (place_after p 1) (is_padding previous) w outer n n w holder Padding
       (Pad (0 ∷ []) ∷ [])
       (if is_padding previous then [] else padding_line (layout_at style p.depth) p.offset) rest refl
       (one n) t in
@@ -93,19 +93,19 @@ module _ (style : Layout) (names : NamesValue) (rules : Rules) where
               r.0,
               ap (λ (x : Effect DumpState). x.state) (all n) ∙ r.1
                   ∙ ap (λ (offset : ℕ). dump_state
-                  (lines_between style names p.depth offset (ends_in_padding style names true rest))
+                  (lines_between with_text style names p.depth offset (ends_in_padding with_text style names true rest))
                   (check_between rules (frame_after_elements w rest) outer r.0))
                   (omega arith),
             );
       }
     where
       pads : (k : Bool) (level offset : ℕ) (l : List Item)
-          → (if k then [] else padding_line (layout_at style level) offset) ++ item_texts style names rules l
-          ≡ item_texts style names rules ((if k then [] else PaddingLine level offset ∷ []) ++ l)
+          → (if k then [] else padding_line (layout_at style level) offset) ++ item_texts with_text style names rules l
+          ≡ item_texts with_text style names rules ((if k then [] else PaddingLine level offset ∷ []) ++ l)
       pads true level offset l = refl
       pads false level offset l = refl
   shows_forest p holder previous w outer (Primitive h c rest) v b k =
-      let s : Site = site style names rules p holder previous in
+      let s : Site = site with_text style names rules p holder previous in
       let q : Place = place_after p (length (octets_of h) + length c) in
       let size : HasAllContents h c = ap announced_length v.0.1 in
       let form : h.constructed ≡ false = not-constructed h.constructed (wraps h) v.0.0.header.form in
@@ -118,10 +118,10 @@ module _ (style : Layout) (names : NamesValue) (rules : Rules) where
       shows_forest q holder (Sibling h (first_contents_octet c)) (after_primitive rules w h c) outer rest v.1
       (omega (arith, b, length-primitive h c rest)) (known, k.1, k.2) in
       let all =
-      λ (n : ℕ). shown-after style names rules p q (is_padding previous) w outer n (after_contents rules w h c n)
+      λ (n : ℕ). shown-after with_text style names rules p q (is_padding previous) w outer n (after_contents rules w h c n)
       (after_primitive rules w h c) holder (Sibling h (first_contents_octet c)) (Begin h ∷ Bytes c ∷ End ∷ []) _ rest
       refl
-      (primitive-shown style names rules p (is_padding previous) w outer n h c v.0.0.header.offset size
+      (primitive-shown with_text style names rules p (is_padding previous) w outer n h c v.0.0.header.offset size
       (omega (arith, b, length-primitive h c rest)))
       t in
       let others : List Item = items rules (site_after_primitive s h c) rest in
@@ -130,23 +130,23 @@ module _ (style : Layout) (names : NamesValue) (rules : Rules) where
             ap (λ (x : Effect DumpState). x.put) (all n)
             ∙ three
             (styled_lines (Dump style.pure) (length outer) h.offset (header_findings rules (surroundings_in w) h))
-            (whole_lines (finite.get names) h (layout_at style p.depth) c)
+            (whole_lines_with with_text (finite.get names) h (layout_at style p.depth) c)
             (styled_lines (Dump style.pure) (length outer) h.offset (contents_findings rules h c))
-            (item_texts style names rules others)
-            ∙ found-first style names rules (length outer) p.depth h.offset
+            (item_texts with_text style names rules others)
+            ∙ found-first with_text style names rules (length outer) p.depth h.offset
             (header_findings rules (surroundings_in w) h)
             (header_findings rules (surroundings_of s) h)
             _ (PrimitiveLines p.depth h c ∷ (finding_items p.depth h.offset (contents_findings rules h c) ++ others))
             k.1 (header-same rules w s h k.0)
-            (ap (λ (l : List ℕ). whole_lines (finite.get names) h (layout_at style p.depth) c ++ l)
-            (found-first style names rules (length outer) p.depth h.offset (contents_findings rules h c)
-            (contents_findings rules h c) (item_texts style names rules others) others k.1 refl refl));
+            (ap (λ (l : List ℕ). whole_lines_with with_text (finite.get names) h (layout_at style p.depth) c ++ l)
+            (found-first with_text style names rules (length outer) p.depth h.offset (contents_findings rules h c)
+            (contents_findings rules h c) (item_texts with_text style names rules others) others k.1 refl refl));
         after = λ n e.
             let r = t.after (after_contents rules w h c n) e in (
               r.0,
               ap (λ (x : Effect DumpState). x.state) (all n) ∙ r.1
                   ∙ ap (λ (offset : ℕ). dump_state
-                  (lines_between style names p.depth offset (ends_in_padding style names false rest))
+                  (lines_between with_text style names p.depth offset (ends_in_padding with_text style names false rest))
                   (check_between rules (frame_after_elements (after_primitive rules w h c) rest) outer r.0))
                   (omega (arith, length-primitive h c rest)),
             );
@@ -155,7 +155,7 @@ module _ (style : Layout) (names : NamesValue) (rules : Rules) where
       three : (a b c d : List ℕ) → (a ++ (b ++ c)) ++ d ≡ a ++ (b ++ (c ++ d))
       three a b c d = simp append_assoc
   shows_forest p holder previous w outer (Holder h inside rest) v b k =
-      let s : Site = site style names rules p holder previous in
+      let s : Site = site with_text style names rules p holder previous in
       let q : Place = place_after p (extent h inside) in
       let i_place : Place = place_of_children p h in
       let size = length-holder h inside rest in
@@ -175,47 +175,47 @@ module _ (style : Layout) (names : NamesValue) (rules : Rules) where
       let last : List ℕ =
       styled_lines (Dump style.pure) (length outer) h.offset
       (end_findings rules (segments_of h (headers inside))) in
-      let held : List ℕ = item_texts style names rules (items rules (site_of_children s h) inside) in
+      let held : List ℕ = item_texts with_text style names rules (items rules (site_of_children s h) inside) in
       let held-shown : (m : ℕ)
       → (r : ℕ)
-      × (effect_of dump_step (start style names rules i_place false (frame_under w h) (w ∷ outer) m) (events inside)
+      × (effect_of dump_step (start with_text style names rules i_place false (frame_under w h) (w ∷ outer) m) (events inside)
       ≡ effect_with
-      (dump_state (lines_between style names (p.depth + 1) end false)
+      (dump_state (lines_between with_text style names (p.depth + 1) end false)
       (check_between rules (frame_after_elements (frame_under w h) inside) (w ∷ outer) r))
       held) =
       λ m.
       let r = i.after m v.0.1 in (
         r.0,
-        as_shows (start style names rules i_place false (frame_under w h) (w ∷ outer) m) _ (events inside) held
+        as_shows (start with_text style names rules i_place false (frame_under w h) (w ∷ outer) m) _ (events inside) held
             (r.1
-            ∙ ap (λ (x : Bool). dump_state (lines_between style names (p.depth + 1) end x)
+            ∙ ap (λ (x : Bool). dump_state (lines_between with_text style names (p.depth + 1) end x)
             (check_between rules (frame_after_elements (frame_under w h) inside) (w ∷ outer) r.0))
-            (no_padding style names i_place inside refl v.1))
+            (no_padding with_text style names i_place inside refl v.1))
             (i.text m),
       ) in
       let element : (n : ℕ)
       → (m : ℕ)
-      × (effect_of dump_step (start style names rules p (is_padding previous) w outer n)
+      × (effect_of dump_step (start with_text style names rules p (is_padding previous) w outer n)
       (opening_events h ++ (events inside ++ closing_event h inside ∷ []))
       ≡ effect_with
-      (start style names rules q false (frame_after w (is_primitive h) (announced_length h.size) false) outer m)
+      (start with_text style names rules q false (frame_after w (is_primitive h) (announced_length h.size) false) outer m)
       ((first ++ line) ++ (held ++ (close ++ last)))) =
       λ n.
       let a : ℕ = later_header rules w h n in
       let r = held-shown a in (
         after_end rules h inside r.0,
-        then_shown (start style names rules p (is_padding previous) w outer n)
-            (start style names rules i_place false (frame_under w h) (w ∷ outer) a)
+        then_shown (start with_text style names rules p (is_padding previous) w outer n)
+            (start with_text style names rules i_place false (frame_under w h) (w ∷ outer) a)
             (first ++ line) (opening_events h) (events inside ++ closing_event h inside ∷ [])
-            (opened-shown style names rules p holder previous w outer n h k v.0.0.header.offset (v.0.0.shallow refl)
+            (opened-shown with_text style names rules p holder previous w outer n h k v.0.0.header.offset (v.0.0.shallow refl)
             (omega (arith, b, size)))
             ∙ ap (λ (x : Effect DumpState). record x { put = (first ++ line) ++ x.put })
-            (then_shown (start style names rules i_place false (frame_under w h) (w ∷ outer) a)
-            (dump_state (lines_between style names (p.depth + 1) end false)
+            (then_shown (start with_text style names rules i_place false (frame_under w h) (w ∷ outer) a)
+            (dump_state (lines_between with_text style names (p.depth + 1) end false)
             (check_between rules (frame_after_elements (frame_under w h) inside) (w ∷ outer) r.0))
             held (events inside) (closing_event h inside ∷ []) r.1
             ∙ ap (λ (x : Effect DumpState). record x { put = held ++ x.put })
-            (closed-shown style names rules p w outer r.0 h inside v.1 v.0.1 v.0.0.header.offset
+            (closed-shown with_text style names rules p w outer r.0 h inside v.1 v.0.1 v.0.0.header.offset
             v.0.0.header.valid.allowed (omega (arith, b, size)))),
       ) in
       let es : List EventValue = opening_events h ++ (events inside ++ closing_event h inside ∷ []) in
@@ -224,8 +224,8 @@ module _ (style : Layout) (names : NamesValue) (rules : Rules) where
       ∙ ap (λ (l : List EventValue). opening_events h ++ l)
       (append_assoc (events inside) (closing_event h inside ∷ []) (events rest)) in
       let all = λ (n : ℕ).
-      ap (effect_of dump_step (start style names rules p (is_padding previous) w outer n)) (sym joined)
-      ∙ shown-after style names rules p q (is_padding previous) w outer n (element n).0
+      ap (effect_of dump_step (start with_text style names rules p (is_padding previous) w outer n)) (sym joined)
+      ∙ shown-after with_text style names rules p q (is_padding previous) w outer n (element n).0
       (frame_after w (is_primitive h) (announced_length h.size) false) holder (Sibling h None) es
       ((first ++ line) ++ (held ++ (close ++ last))) rest refl (element n).1 t in
       let others : List Item = items rules (site_after_holder s h inside) rest in
@@ -235,25 +235,25 @@ module _ (style : Layout) (names : NamesValue) (rules : Rules) where
       record {
         text = λ n.
             ap (λ (x : Effect DumpState). x.put) (all n)
-            ∙ six first line held close last (item_texts style names rules others)
-            ∙ found-first style names rules (length outer) p.depth h.offset
+            ∙ six first line held close last (item_texts with_text style names rules others)
+            ∙ found-first with_text style names rules (length outer) p.depth h.offset
             (header_findings rules (surroundings_in w) h)
             (header_findings rules (surroundings_of s) h)
             _ (OpeningLine p.depth h ∷ (items rules (site_of_children s h) inside ++ closing)) k.1
             (header-same rules w s h k.0)
             (ap (λ (l : List ℕ). line ++ l)
             (ap (λ (l : List ℕ). held ++ (close ++ l))
-            (found-first style names rules (length outer) p.depth h.offset
+            (found-first with_text style names rules (length outer) p.depth h.offset
             (end_findings rules (segments_of h (headers inside)))
-            (end_findings rules (segments_of h (headers inside))) (item_texts style names rules others) others k.1
+            (end_findings rules (segments_of h (headers inside))) (item_texts with_text style names rules others) others k.1
             refl refl)
-            ∙ sym (item_texts-append style names rules (items rules (site_of_children s h) inside) closing)));
+            ∙ sym (item_texts-append with_text style names rules (items rules (site_of_children s h) inside) closing)));
         after = λ n e.
             let r = t.after (element n).0 e in (
               r.0,
               ap (λ (x : Effect DumpState). x.state) (all n) ∙ r.1
                   ∙ ap (λ (offset : ℕ). dump_state
-                  (lines_between style names p.depth offset (ends_in_padding style names false rest))
+                  (lines_between with_text style names p.depth offset (ends_in_padding with_text style names false rest))
                   (check_between rules
                   (frame_after_elements (frame_after w (is_primitive h) (announced_length h.size) false) rest) outer
                   r.0))
@@ -273,17 +273,17 @@ module _ (style : Layout) (names : NamesValue) (rules : Rules) where
           ∙ ap₂ (λ (u : DumpState) (l : List ℕ). effect_with u l) e f
   shows_forest p holder previous w outer (OpenPrimitive h c) v b k = record {
     text = λ n.
-        part-by (lines_between style names p.depth p.offset (is_padding previous)) (check_between rules w outer n) h c
-        ∙ found-first style names rules (length outer) p.depth h.offset (header_findings rules (surroundings_in w) h)
-        (header_findings rules (surroundings_of (site style names rules p holder previous)) h)
+        part-by (lines_between with_text style names p.depth p.offset (is_padding previous)) (check_between rules w outer n) h c
+        ∙ found-first with_text style names rules (length outer) p.depth h.offset (header_findings rules (surroundings_in w) h)
+        (header_findings rules (surroundings_of (site with_text style names rules p holder previous)) h)
         _ (OpenPrimitiveLines p.depth h c ∷ []) k.1
-        (header-same rules w (site style names rules p holder previous) h k.0)
-        (part_shown style names p.depth p.offset (is_padding previous) h c (omega (arith, v.1))
-        ∙ sym (append-nil (open_lines h (layout_at style p.depth) c)));
+        (header-same rules w (site with_text style names rules p holder previous) h k.0)
+        (part_shown with_text style names p.depth p.offset (is_padding previous) h c (omega (arith, v.1))
+        ∙ sym (append-nil (open_lines_with with_text h (layout_at style p.depth) c)));
     after = λ n e. absurd (cc (e));
   }
   shows_forest p holder previous w outer (OpenHolder h inside) v b k =
-      let s : Site = site style names rules p holder previous in
+      let s : Site = site with_text style names rules p holder previous in
       let size = length-append (opening h) (spelling inside) in
       let i =
       shows_forest (place_of_children p h) (Some h) Start (frame_under w h) (w ∷ outer) inside v.1
@@ -294,15 +294,15 @@ module _ (style : Layout) (names : NamesValue) (rules : Rules) where
       record {
         text = λ n.
             ap (λ (x : Effect DumpState). x.put)
-            (then_shown (start style names rules p (is_padding previous) w outer n)
-            (start style names rules (place_of_children p h) false (frame_under w h) (w ∷ outer)
+            (then_shown (start with_text style names rules p (is_padding previous) w outer n)
+            (start with_text style names rules (place_of_children p h) false (frame_under w h) (w ∷ outer)
             (later_header rules w h n))
             (first ++ line) (opening_events h) (events inside)
-            (opened-shown style names rules p holder previous w outer n h k v.0.0.header.offset (v.0.0.shallow refl)
+            (opened-shown with_text style names rules p holder previous w outer n h k v.0.0.header.offset (v.0.0.shallow refl)
             (omega (arith, b, size))))
             ∙ ap (λ (l : List ℕ). (first ++ line) ++ l) (i.text (later_header rules w h n))
-            ∙ append_assoc first line (item_texts style names rules (items rules (site_of_children s h) inside))
-            ∙ found-first style names rules (length outer) p.depth h.offset
+            ∙ append_assoc first line (item_texts with_text style names rules (items rules (site_of_children s h) inside))
+            ∙ found-first with_text style names rules (length outer) p.depth h.offset
             (header_findings rules (surroundings_in w) h)
             (header_findings rules (surroundings_of s) h)
             _ (OpeningLine p.depth h ∷ items rules (site_of_children s h) inside) k.1
@@ -314,10 +314,10 @@ module _ (style : Layout) (names : NamesValue) (rules : Rules) where
         append_assoc
         (styled_lines (Dump style.pure) (length outer) h.offset (header_findings rules (surroundings_in w) h))
         (opening_line (layout_at style p.depth) h (opening_word false)) []
-        ∙ found-first style names rules (length outer) p.depth h.offset (header_findings rules (surroundings_in w) h)
-        (header_findings rules (surroundings_of (site style names rules p holder previous)) h)
+        ∙ found-first with_text style names rules (length outer) p.depth h.offset (header_findings rules (surroundings_in w) h)
+        (header_findings rules (surroundings_of (site with_text style names rules p holder previous)) h)
         _ (OpeningLine p.depth h ∷ []) k.1
-        (header-same rules w (site style names rules p holder previous) h k.0)
+        (header-same rules w (site with_text style names rules p holder previous) h k.0)
         (ap (λ (l : List ℕ). l ++ []) (sym (awaiting p.depth h h.constructed v.1)));
     after = λ n e. absurd (cc (e));
   }

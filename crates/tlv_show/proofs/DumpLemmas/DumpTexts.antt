@@ -9,9 +9,9 @@ use Rattle.tlv_head.specs.declared.header.Size.TheVariants.{Definite, Indefinite
 use Rattle.tlv_head.specs.Header.{AllowsSize, HasAllContents, HeaderValue, announced_length, octets_of}
 use Rattle.tlv_value.specs.declared.layout.Layout.{Layout}
 use Rattle.tlv_value.specs.Names.{NamesValue}
-use Rattle.tlv_value.specs.ValueLines.{open_lines, whole_lines}
-use Rattle.tlv_value.specs.ValueTextState.{ValueTextState, begin_lines, contents_lines, end_lines, new_value_text}
-use Rattle.tlv_value.specs.ValueTextState.{value_text_after}
+use Rattle.tlv_value.specs.ValueLines.{open_lines_with, whole_lines_with}
+use Rattle.tlv_value.specs.ValueTextState.{ValueTextState, begin_lines, contents_lines, end_lines}
+use Rattle.tlv_value.specs.ValueTextState.{new_value_text_with, value_text_after}
 use Rattle.tlv_value.specs.Value.{NameOf}
 use Rattle.tlv_value.proofs.TextLemmas.Pieces.{lines-end, open-lines}
 use Rattle.tlv_walk.specs.Events.{Begin, Bytes, Close, End, Enter, Leave, Open, Pad, Unused, closing_event}
@@ -34,18 +34,18 @@ use Rattle.tlv_show.proofs.SaturatingSums.{sum-small}
 -- ---- what is reported of a primitive
 
 -- with the header, with the contents octets, and with the end
-whole_shown : (name_of : NameOf) (h : HeaderValue) (layout : Layout) (c : List ℕ) → HasAllContents h c
-    → begin_lines (new_value_text h layout)
-    ++ (contents_lines (new_value_text h layout) c
-    ++ (end_lines name_of (value_text_after (new_value_text h layout) c) ++ []))
-    ≡ whole_lines name_of h layout c
-whole_shown name_of h layout c e =
-    let t : ValueTextState = new_value_text h layout in
+whole_shown : (with_text : Bool) (name_of : NameOf) (h : HeaderValue) (layout : Layout) (c : List ℕ) → HasAllContents h c
+    → begin_lines (new_value_text_with with_text h layout)
+    ++ (contents_lines (new_value_text_with with_text h layout) c
+    ++ (end_lines name_of (value_text_after (new_value_text_with with_text h layout) c) ++ []))
+    ≡ whole_lines_with with_text name_of h layout c
+whole_shown with_text name_of h layout c e =
+    let t : ValueTextState = new_value_text_with with_text h layout in
     ap (λ (l : List ℕ). begin_lines t ++ (contents_lines t c ++ l))
     (append-nil (end_lines name_of (value_text_after t c)))
     ∙ sym (append_assoc (begin_lines t) (contents_lines t c) (end_lines name_of (value_text_after t c)))
-    ∙ ap (λ (l : List ℕ). l ++ end_lines name_of (value_text_after t c)) (sym (open-lines h layout c))
-    ∙ sym (lines-end name_of h layout c e)
+    ∙ ap (λ (l : List ℕ). l ++ end_lines name_of (value_text_after t c)) (sym (open-lines with_text h layout c))
+    ∙ sym (lines-end with_text name_of h layout c e)
 
 -- whatever went before
 pub primitives_shown : (s : LinesState) (h : HeaderValue) (c : List ℕ) → HasAllContents h c
@@ -53,9 +53,9 @@ pub primitives_shown : (s : LinesState) (h : HeaderValue) (c : List ℕ) → Has
     ≡ effect_with
     (record (lines_after_header s h)
     { offset = saturating_sum (lines_after_header s h).offset (length c); open_text = None })
-    (whole_lines (finite.get s.names) h s.layout c)
+    (whole_lines_with s.with_text (finite.get s.names) h s.layout c)
 primitives_shown s h c size =
-    let t : ValueTextState = new_value_text h s.layout in
+    let t : ValueTextState = new_value_text_with s.with_text h s.layout in
     let u : LinesState = record (lines_after_header s h) { open_text = Some t } in
     let lines_after : LinesState =
     record (lines_after_header s h)
@@ -64,7 +64,7 @@ primitives_shown s h c size =
     let none : announced_length h.size - length c ≡ 0 = omega (arith, size) in
     ap (λ (k : Effect LinesState). after_put (begin_lines t)
     (effect_if_more k.goes k (λ w. effect_of lines_step w (End ∷ []))))
-    (dumped_bytes u c (λ e. rested-new h s.layout))
+    (dumped_bytes u c (λ e. rested-new s.with_text h s.layout))
     ∙ ap (λ (l : List ℕ). effect_with lines_after
     (begin_lines t
     ++ (contents_lines t l
@@ -77,14 +77,15 @@ primitives_shown s h c size =
     ++ (contents_lines t c
     ++ ((if n == 0 then end_lines (finite.get s.names) (value_text_after t c) else []) ++ []))))
     none
-    ∙ ap (effect_with lines_after) (whole_shown (finite.get s.names) h s.layout c size)
+    ∙ ap (effect_with lines_after) (whole_shown s.with_text (finite.get s.names) h s.layout c size)
 
--- of elements in this style, with these names
-module _ (style : Layout) (names : NamesValue) where
+-- of elements in this style, with these names, with text beside pairs of digits or without it
+module _ (with_text : Bool) (style : Layout) (names : NamesValue) where
   -- a dump between two elements
   abbrev pub lines_between : ℕ → ℕ → Bool → LinesState
   lines_between level offset padded = record {
     layout = layout_at style level;
+    with_text = with_text;
     names = names;
     offset = offset;
     in_padding = padded;
@@ -103,33 +104,33 @@ module _ (style : Layout) (names : NamesValue) where
   abbrev lines_in_primitive : ℕ → ℕ → Bool → HeaderValue → LinesState
   lines_in_primitive level offset padded h =
       record (lines_after_header (lines_between level offset padded) h)
-      { open_text = Some (new_value_text h (layout_at style level)) }
+      { open_text = Some (new_value_text_with with_text h (layout_at style level)) }
 
   pub primitive_shown : (level offset : ℕ) (padded : Bool) (h : HeaderValue) (c : List ℕ) → h.offset ≡ offset
       → HasAllContents h c → offset + (length (octets_of h) + length c) ≤ 2 ^ 64 - 1
       → effect_of lines_step (lines_between level offset padded) (Begin h ∷ Bytes c ∷ End ∷ [])
       ≡ effect_with (lines_between level (offset + (length (octets_of h) + length c)) false)
-      (whole_lines (finite.get names) h (layout_at style level) c)
+      (whole_lines_with with_text (finite.get names) h (layout_at style level) c)
   primitive_shown level offset padded h c there size far_enough =
       primitives_shown (lines_between level offset padded) h c size
       ∙ between-equal level level (saturating_sum (saturating_sum h.offset (length (octets_of h))) (length c))
       (offset + (length (octets_of h) + length c)) false false
-      _ (whole_lines (finite.get names) h (layout_at style level) c)
+      _ (whole_lines_with with_text (finite.get names) h (layout_at style level) c)
       refl (omega (arith, there, far_enough)) refl refl
 
   pub part_shown : (level offset : ℕ) (padded : Bool) (h : HeaderValue) (c : List ℕ)
       → length c ≤ announced_length h.size
       → (effect_of lines_step (lines_between level offset padded) (Begin h ∷ Bytes c ∷ [])).put
-      ≡ open_lines h (layout_at style level) c
+      ≡ open_lines_with with_text h (layout_at style level) c
   part_shown level offset padded h c size =
-      let t : ValueTextState = new_value_text h (layout_at style level) in
+      let t : ValueTextState = new_value_text_with with_text h (layout_at style level) in
       ap
       (λ (k : Effect LinesState).
       (after_put (begin_lines t) (effect_if_more k.goes k (λ w. effect_of lines_step w []))).put)
-      (dumped_bytes (lines_in_primitive level offset padded h) c (λ e. rested-new h (layout_at style level)))
+      (dumped_bytes (lines_in_primitive level offset padded h) c (λ e. rested-new with_text h (layout_at style level)))
       ∙ ap (λ (l : List ℕ). begin_lines t ++ (contents_lines t l ++ [])) (take_all (announced_length h.size) c size)
       ∙ ap (λ (l : List ℕ). begin_lines t ++ l) (append-nil (contents_lines t c))
-      ∙ sym (open-lines h (layout_at style level) c)
+      ∙ sym (open-lines with_text h (layout_at style level) c)
 
   -- ---- an element that holds others begins
 

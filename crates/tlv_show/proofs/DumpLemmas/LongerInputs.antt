@@ -9,7 +9,7 @@ use Rattle.tlv_walk.proofs.FollowerLemmas.FollowedEvents.{followed-more}
 use Rattle.tlv_walk.proofs.EventLemmas.LongerInputs.{events-prefix}
 use Rattle.tlv_show.specs.CheckStep.{check_octet_step, check_step}
 use Rattle.tlv_show.specs.DumpJob.{top_layout}
-use Rattle.tlv_show.specs.DumpStep.{DumpState, dump_octet_step, dump_padding_step, dump_step, new_dump}
+use Rattle.tlv_show.specs.DumpStep.{DumpState, dump_octet_step, dump_padding_step, dump_step, new_dump_with}
 use Rattle.tlv_show.specs.FinderState.{CheckState, new_check}
 use Rattle.tlv_show.specs.Items.{Item}
 use Rattle.tlv_show.specs.ShowJob.{show_job}
@@ -43,10 +43,10 @@ module _ {S : Type 0} (next : S → EventValue → Effect S) (first : S) (rules 
       )
 
 pub dumps_on : DumpsGoOn
-dumps_on options names b c f g few r s =
-    goes_on dump_step (new_dump options.rules (top_layout options) names) options.rules options.framing
-    (item_text (finite.get names) (top_layout options)) (λ (t : DumpState). t.finder.finding_count)
-    (dump-shows options names)
+dumps_on with_text options names b c f g few r s =
+    goes_on dump_step (new_dump_with with_text options.rules (top_layout options) names) options.rules options.framing
+    (item_text with_text (finite.get names) (top_layout options)) (λ (t : DumpState). t.finder.finding_count)
+    (dump-shows with_text options names)
     (followed-alike dump_step (each_octet-joins dump_octet_step) (λ s. refl) (each_octet-goes_on dump_octet_step)
     (each_octet-joins dump_padding_step) (λ s. refl) (each_octet-goes_on dump_padding_step))
     b c f g few r s

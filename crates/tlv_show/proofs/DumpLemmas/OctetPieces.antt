@@ -6,7 +6,7 @@ use Rattle.std.proofs.lemmas.List.{nil_from_length}
 use Rattle.std.specs.Prelude.{Option, Some, None}
 use Rattle.tlv_head.specs.Header.{HeaderValue}
 use Rattle.tlv_value.specs.declared.layout.Layout.{Layout}
-use Rattle.tlv_value.specs.ValueTextState.{ValueTextState, contents_lines, new_value_text, value_text_after}
+use Rattle.tlv_value.specs.ValueTextState.{ValueTextState, contents_lines, new_value_text_with, value_text_after}
 use Rattle.tlv_value.proofs.TextLemmas.Pieces.{after-nothing, new-nothing, pieces-join}
 use Rattle.tlv_walk.specs.Follow.{Effect, each_octet, effect_with}
 use Rattle.tlv_show.specs.LinesStep.{LinesState, lines_octet_step, lines_padding_step, open_text_after}
@@ -49,11 +49,12 @@ rested-after v x =
     (j.0, nil_from_length more (omega (arith, ap length j.1, length-append put more)))
 
 -- it is so of a primitive that begins
-pub rested-new : (h : HeaderValue) (layout : Layout) → IsRested (Some (new_value_text h layout))
-rested-new h layout =
-    let t : ValueTextState = new_value_text h layout in (
-      ap (λ (u : ValueTextState). Some u) (ap (value_text_after t) (take-of-none t.left) ∙ after-nothing h layout),
-      ap (contents_lines t) (take-of-none t.left) ∙ new-nothing h layout,
+pub rested-new : (with_text : Bool) (h : HeaderValue) (layout : Layout)
+    → IsRested (Some (new_value_text_with with_text h layout))
+rested-new with_text h layout =
+    let t : ValueTextState = new_value_text_with with_text h layout in (
+      ap (λ (u : ValueTextState). Some u) (ap (value_text_after t) (take-of-none t.left) ∙ after-nothing with_text h layout),
+      ap (contents_lines t) (take-of-none t.left) ∙ new-nothing with_text h layout,
     )
   where
     take-of-none : (n : ℕ) → take {A = ℕ} n [] ≡ []

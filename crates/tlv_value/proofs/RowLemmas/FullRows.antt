@@ -1,5 +1,5 @@
 -- Full rows of pairs of digits, from where their octets are.
-use Rattle.std.proofs.Common.{◌≡◌, inl, ℕ, zero, suc, ◌+◌, ◌-◌, ◌*◌, ◌/◌, ◌<◌, ◌≤◌, false, true, List, [], ◌∷◌, ◌++◌}
+use Rattle.std.proofs.Common.{◌≡◌, inl, ℕ, zero, suc, ◌+◌, ◌-◌, ◌*◌, ◌/◌, ◌<◌, ◌≤◌, Bool, false, true, List, [], ◌∷◌, ◌++◌}
 use Rattle.std.proofs.Common.{length, take, drop, get_or, refl, sym, ap, ap₂, ◌∙◌, arith, append_assoc, append-nil}
 use Rattle.std.proofs.Common.{length-append, length-drop, take-append-drop}
 use Rattle.std.specs.Prelude.{None, eqb}
@@ -92,20 +92,20 @@ module _ (kind : Kind) (short : row_size kind ≡ 16) where
       (t.0 ∙ ap (λ (r : List (List ℕ)). first_chunks 16 n octets ++ r) k.0 ∙ append-nil (first_chunks 16 n octets))
       ∙ ap (λ (r : List ℕ). first_chunks 16 n octets ++ last_rows r) (t.1 ∙ k.1)
 
-  module _ (layout : Layout) (endless : layout.limit ≡ None) where
-    -- their lines, if there is no limit to rows
-    lines_of : (i : ℕ) (rows : List (List ℕ)) → row_lines kind layout i rows ≡ pair_row_lines layout rows
+  module _ (with_text : Bool) (plain : with_text ≡ false) (layout : Layout) (endless : layout.limit ≡ None) where
+    -- their lines, if there is no limit to rows, and no text beside pairs
+    lines_of : (i : ℕ) (rows : List (List ℕ)) → row_lines with_text kind layout i rows ≡ pair_row_lines layout rows
     lines_of i [] = refl
     lines_of i (row ∷ rows) =
-        let one : row_line layout i (row_text kind row) ≡ pair_row_line layout row =
-        rw (endless, not_text kind short) refl in
+        let one : row_line layout i (row_text with_text kind row) ≡ pair_row_line layout row =
+        rw (endless, plain, not_text kind short) refl in
         ap₂ (λ (k l : List ℕ). k ++ l) one (lines_of (i + 1) rows)
 
     -- the full rows of octets, and what is left of them
     abbrev pub SplitsFullRows : ℕ → List ℕ → List (List ℕ) → List ℕ → Type 0
     SplitsFullRows i octets rows more =
-        (row_lines kind layout i (rows_filled kind [] octets)
-        ≡ pair_row_lines layout rows ++ row_lines kind layout (i + length rows) (rows_filled kind [] more))
+        (row_lines with_text kind layout i (rows_filled kind [] octets)
+        ≡ pair_row_lines layout rows ++ row_lines with_text kind layout (i + length rows) (rows_filled kind [] more))
         × (row_begun kind [] octets ≡ row_begun kind [] more)
         × (length (rows_filled kind [] octets) ≡ length rows + length (rows_filled kind [] more))
 
@@ -115,24 +115,24 @@ module _ (kind : Kind) (short : row_size kind ≡ 16) where
     splits-full_rows i octets rows more e f =
         let t = rows_first (length octets / 16) octets (omega arith) in
         let all : rows_filled kind [] octets ≡ rows ++ rows_filled kind [] more = rw (e, f) t.0 in (
-          ap (row_lines kind layout i) all ∙ row_lines-append kind layout i rows (rows_filled kind [] more)
-              ∙ ap (λ (l : List ℕ). l ++ row_lines kind layout (i + length rows) (rows_filled kind [] more))
+          ap (row_lines with_text kind layout i) all ∙ row_lines-append with_text kind layout i rows (rows_filled kind [] more)
+              ∙ ap (λ (l : List ℕ). l ++ row_lines with_text kind layout (i + length rows) (rows_filled kind [] more))
               (lines_of i rows),
           rw f t.1,
           ap length all ∙ length-append rows (rows_filled kind [] more),
         )
 
 -- the lines of all rows, if there is no limit to them
-pub pair_lines : (kind : Kind) → row_size kind ≡ 16 → (layout : Layout) → layout.limit ≡ None → (octets : List ℕ)
-    → pair_row_lines layout (rows_of Octets octets) ≡ row_lines kind layout 0 (rows_of kind octets)
-pair_lines kind short layout endless octets =
+pub pair_lines : (kind : Kind) → row_size kind ≡ 16 → (with_text : Bool) → with_text ≡ false → (layout : Layout) → layout.limit ≡ None → (octets : List ℕ)
+    → pair_row_lines layout (rows_of Octets octets) ≡ row_lines with_text kind layout 0 (rows_of kind octets)
+pair_lines kind short with_text plain layout endless octets =
     ap (pair_row_lines layout) (rows_cut Octets refl octets ∙ sym (rows_cut kind short octets))
-    ∙ sym (lines_of kind short layout endless 0 (rows_of kind octets))
+    ∙ sym (lines_of kind short with_text plain layout endless 0 (rows_of kind octets))
 
 -- ---- the line of a full row
 
 -- pairs, each after a space, and pairs with spaces between them
-pairs_joined : (x : ℕ) (xs : List ℕ) → spaced_pairs (x ∷ xs) ≡ 32 ∷ row_text Octets (x ∷ xs)
+pairs_joined : (x : ℕ) (xs : List ℕ) → spaced_pairs (x ∷ xs) ≡ 32 ∷ row_text false Octets (x ∷ xs)
 pairs_joined x xs = refl
 
 pub full_line_added : (layout : Layout) (old row : List ℕ) (n : ℕ)
@@ -140,7 +140,7 @@ pub full_line_added : (layout : Layout) (old row : List ℕ) (n : ℕ)
     → old ++ spaces (n - 1) ++ spaced_pairs row ++ 10 ∷ [] ≡ old ++ pair_row_line layout row
 full_line_added layout old [] n e some whole = absurd (omega (arith, whole))
 full_line_added layout old (x ∷ xs) n e some whole =
-    let text : List ℕ = row_text Octets (x ∷ xs) in
+    let text : List ℕ = row_text false Octets (x ∷ xs) in
     let indent : spaces (n - 1) ++ 32 ∷ [] ≡ margin layout.pure blank_columns (layout.level + 1) =
     replicate_more (n - 1) 32 ∙ ap spaces (omega (arith, some)) ∙ e in
     ap (λ (l : List ℕ). old ++ spaces (n - 1) ++ l ++ 10 ∷ []) (pairs_joined x xs)

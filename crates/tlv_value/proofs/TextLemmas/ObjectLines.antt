@@ -12,7 +12,8 @@ use Rattle.tlv_value.specs.Arcs.{dotted_of}
 use Rattle.tlv_value.specs.Private.ObjectLines.{object_lines, octets_lines}
 use Rattle.tlv_value.specs.Rows.{rows_of}
 use Rattle.tlv_value.specs.ValueLines.{row_lines}
-use Rattle.tlv_value.specs.Value.{NameOf, spaced_pairs}
+use Rattle.tlv_value.specs.Private.UndottedText.{line_pairs}
+use Rattle.tlv_value.specs.Value.{NameOf}
 
 -- a text, if there is one
 pub some_text : (d : Option (List ℕ)) → is_some d ≡ true → d ≡ Some (unwrap_or d [])
@@ -30,10 +31,10 @@ after_space old new text n e at =
     take_all (length new - n) (drop n new) (omega (arith, length-drop n new)) ∙ ap (λ (l : List ℕ). drop n l) e
     ∙ ap (λ (k : ℕ). drop k (old ++ 32 ∷ text)) at ∙ drop-append-add old (32 ∷ text) 1
 
-module _ (name_of : NameOf) (layout : Layout) (relative : Bool) (contents : List ℕ) where
+module _ (with_text : Bool) (name_of : NameOf) (layout : Layout) (relative : Bool) (contents : List ℕ) where
   -- a dotted text with a name
   pub object_named : (text name : List ℕ) → dotted_of relative contents ≡ Some text → name_of text ≡ Some name
-      → (32 ∷ text) ++ (32 ∷ 40 ∷ (name ++ 41 ∷ 10 ∷ [])) ≡ object_lines name_of layout relative contents
+      → (32 ∷ text) ++ (32 ∷ 40 ∷ (name ++ 41 ∷ 10 ∷ [])) ≡ object_lines with_text name_of layout relative contents
   object_named text name d n =
       rw (d, n) (sym
       (append-nil ((32 ∷ (text ++ (32 ∷ 40 ∷ (name ++ 41 ∷ [])))) ++ 10 ∷ [])
@@ -42,7 +43,7 @@ module _ (name_of : NameOf) (layout : Layout) (relative : Bool) (contents : List
 
   -- without a name
   pub object_unnamed : (text : List ℕ) → dotted_of relative contents ≡ Some text → name_of text ≡ None
-      → (32 ∷ text) ++ 10 ∷ [] ≡ object_lines name_of layout relative contents
+      → (32 ∷ text) ++ 10 ∷ [] ≡ object_lines with_text name_of layout relative contents
   object_unnamed text d n =
       rw (d, n)
       (sym
@@ -51,17 +52,17 @@ module _ (name_of : NameOf) (layout : Layout) (relative : Bool) (contents : List
 
   -- no dotted text
   pub object_octets : dotted_of relative contents ≡ None
-      → octets_lines layout contents ≡ object_lines name_of layout relative contents
+      → octets_lines with_text layout contents ≡ object_lines with_text name_of layout relative contents
   object_octets d = rw d refl
 
 -- octets on the line
-pub octets_short : (layout : Layout) (contents : List ℕ) → length contents ≤ 16
-    → spaced_pairs contents ++ 10 ∷ [] ≡ octets_lines layout contents
-octets_short layout contents few =
+pub octets_short : (with_text : Bool) (layout : Layout) (contents : List ℕ) → length contents ≤ 16
+    → line_pairs with_text contents ++ 10 ∷ [] ≡ octets_lines with_text layout contents
+octets_short with_text layout contents few =
     let b : nat_le (length contents) 16 ≡ true =
-    grind (arith, nat_tests) in rw b (sym (append-nil (spaced_pairs contents ++ 10 ∷ [])))
+    grind (arith, nat_tests) in rw b (sym (append-nil (line_pairs with_text contents ++ 10 ∷ [])))
 
 -- and in rows
-pub octets_long : (layout : Layout) (contents : List ℕ) → 17 ≤ length contents
-    → (10 ∷ []) ++ row_lines Octets layout 0 (rows_of Octets contents) ≡ octets_lines layout contents
-octets_long layout contents many = let b : nat_le (length contents) 16 ≡ false = grind (arith, nat_tests) in rw b refl
+pub octets_long : (with_text : Bool) (layout : Layout) (contents : List ℕ) → 17 ≤ length contents
+    → (10 ∷ []) ++ row_lines with_text Octets layout 0 (rows_of Octets contents) ≡ octets_lines with_text layout contents
+octets_long with_text layout contents many = let b : nat_le (length contents) 16 ≡ false = grind (arith, nat_tests) in rw b refl

@@ -13,11 +13,11 @@ use Rattle.tlv_value.specs.Kind.{kind_of}
 use Rattle.tlv_value.specs.Laws.{LinesBegin, LinesEnd, LinesGoOn, PiecesJoin}
 use Rattle.tlv_value.specs.Rows.{full_rows, full_rows_in, open_row, open_row_in, rows_of}
 use Rattle.tlv_value.specs.Private.PrimitiveLines.{lines_in_steps}
-use Rattle.tlv_value.specs.ValueLines.{has_line, open_lines, row_lines, whole_lines}
+use Rattle.tlv_value.specs.ValueLines.{has_line, open_lines_with, row_lines, whole_lines_with}
 use Rattle.tlv_value.specs.ValueTextState.{KeptContents, ValueTextState, begin_lines, contents_lines, end_lines}
 use Rattle.tlv_value.specs.ValueTextState.{kept_contents_with_line, kept_contents_before_line, full_row_lines}
 use Rattle.tlv_value.specs.ValueTextState.{new_value_text_of}
-use Rattle.tlv_value.specs.ValueTextState.{new_value_text, primitive_line, primitive_lines, new_primitive}
+use Rattle.tlv_value.specs.ValueTextState.{new_value_text_with, primitive_line, primitive_lines, new_primitive}
 use Rattle.tlv_value.specs.ValueTextState.{kept_contents_after_line}
 use Rattle.tlv_value.specs.ValueTextState.{kept_contents_after, value_text_for, value_text_after}
 use Rattle.tlv_value.specs.Value.{NameOf, is_long, long_text, long_value, row_octets, short_value}
@@ -32,7 +32,7 @@ kept_with n r = record { has_put_line = true; row_count = n; row = r }
 kept-eq : (n m : ℕ) (r q : List ℕ) → n ≡ m → r ≡ q → kept_with n r ≡ kept_with m q
 kept-eq n m r q e f = ap (λ (j : ℕ). kept_with j r) e ∙ ap (kept_with m) f
 
-module _ (kind : Kind) where
+module _ (with_text : Bool) (kind : Kind) where
   -- what is kept, and what is written, of two pieces
   kept-join : (k : KeptContents) (x y : List ℕ)
       → kept_contents_after_line kind (kept_contents_after_line kind k x) y ≡ kept_contents_after_line kind k (x ++ y)
@@ -46,14 +46,14 @@ module _ (kind : Kind) where
       (open_row kind k.row (x ++ y)) n (sym j.1)
 
   new-join : (layout : Layout) (k : KeptContents) (x y : List ℕ)
-      → full_row_lines kind layout k (x ++ y)
-      ≡ full_row_lines kind layout k x ++ full_row_lines kind layout (kept_contents_after_line kind k x) y
+      → full_row_lines with_text kind layout k (x ++ y)
+      ≡ full_row_lines with_text kind layout k x ++ full_row_lines with_text kind layout (kept_contents_after_line kind k x) y
   new-join layout k x y =
-      ap (row_lines kind layout k.row_count) (rows-join kind k.row x y).0
-      ∙ row_lines-append kind layout k.row_count (full_rows kind k.row x) (full_rows kind (open_row kind k.row x) y)
+      ap (row_lines with_text kind layout k.row_count) (rows-join kind k.row x y).0
+      ∙ row_lines-append with_text kind layout k.row_count (full_rows kind k.row x) (full_rows kind (open_row kind k.row x) y)
 
 -- the parts of a state that do not change are left out here: the tests, the lines and what is kept
-module _ (kind : Kind) (layout : Layout) (line : List ℕ → List ℕ) (size : ℕ) where
+module _ (with_text : Bool) (kind : Kind) (layout : Layout) (line : List ℕ → List ℕ) (size : ℕ) where
   abbrev kept_by : Bool → Bool → KeptContents → List ℕ → KeptContents
   kept_by long has_put_line k x =
       if long then (if has_put_line then kept_contents_after_line kind k x else kept_contents_before_line kind k x) else
@@ -65,12 +65,12 @@ module _ (kind : Kind) (layout : Layout) (line : List ℕ → List ℕ) (size : 
 
   abbrev first_new : List ℕ → List ℕ
   first_new [] = []
-  first_new (u ∷ x) = line (long_text kind size (u ∷ [])) ++ full_row_lines kind layout (kept_contents_with_line kind u)
+  first_new (u ∷ x) = line (long_text kind size (u ∷ [])) ++ full_row_lines with_text kind layout (kept_contents_with_line kind u)
       x
 
   abbrev new_by : Bool → Bool → KeptContents → List ℕ → List ℕ
   new_by long has_put_line k x =
-      if long then (if has_put_line then full_row_lines kind layout k x else first_new x) else []
+      if long then (if has_put_line then full_row_lines with_text kind layout k x else first_new x) else []
 
   join-kept : (long has_put_line : Bool) (k : KeptContents) (x y : List ℕ) → k.has_put_line ≡ has_put_line
       → kept_by long (kept_by long has_put_line k x).has_put_line (kept_by long has_put_line k x) y
@@ -78,29 +78,29 @@ module _ (kind : Kind) (layout : Layout) (line : List ℕ → List ℕ) (size : 
   join-kept false has_put_line k x y e =
       ap (λ (r : List ℕ). record { has_put_line = k.has_put_line; row_count = k.row_count; row = r })
       (append_assoc k.row x y)
-  join-kept true true k x y e = kept-join kind k x y
+  join-kept true true k x y e = kept-join with_text kind k x y
   join-kept true false k [] y e = rw e refl
-  join-kept true false k (u ∷ x) y e = kept-join kind (kept_contents_with_line kind u) x y
+  join-kept true false k (u ∷ x) y e = kept-join with_text kind (kept_contents_with_line kind u) x y
 
   join-new : (long has_put_line : Bool) (k : KeptContents) (x y : List ℕ) → k.has_put_line ≡ has_put_line
       → new_by long has_put_line k (x ++ y)
       ≡ new_by long has_put_line k x
       ++ new_by long (kept_by long has_put_line k x).has_put_line (kept_by long has_put_line k x) y
   join-new false has_put_line k x y e = refl
-  join-new true true k x y e = new-join kind layout k x y
+  join-new true true k x y e = new-join with_text kind layout k x y
   join-new true false k [] y e = rw e refl
   join-new true false k (u ∷ x) y e =
       ap (λ (t : List ℕ). line (long_text kind size (u ∷ [])) ++ t)
-      (new-join kind layout (kept_contents_with_line kind u) x y)
+      (new-join with_text kind layout (kept_contents_with_line kind u) x y)
       ∙ sym (append_assoc (line (long_text kind size (u ∷ [])))
-      (full_row_lines kind layout (kept_contents_with_line kind u) x)
-      (full_row_lines kind layout (kept_contents_after_line kind (kept_contents_with_line kind u) x) y))
+      (full_row_lines with_text kind layout (kept_contents_with_line kind u) x)
+      (full_row_lines with_text kind layout (kept_contents_after_line kind (kept_contents_with_line kind u) x) y))
 
 abbrev with_kept : ValueTextState → ℕ → KeptContents → ValueTextState
 with_kept s left k = record { primitive = s.primitive; left = left; kept = k }
 
 new_by-new : (s : ValueTextState) (x : List ℕ)
-    → new_by s.primitive.kind s.primitive.layout (primitive_line s.primitive) s.primitive.size
+    → new_by s.primitive.with_text s.primitive.kind s.primitive.layout (primitive_line s.primitive) s.primitive.size
     (is_long s.primitive.kind s.primitive.size) s.kept.has_put_line s.kept x
     ≡ contents_lines s x
 new_by-new s [] = refl
@@ -110,16 +110,16 @@ pub pieces-join : PiecesJoin
 pieces-join s x y =
     let l : s.left - length x - length y ≡ s.left - length (x ++ y) = omega (arith, length-append x y) in
     let k =
-    join-kept s.primitive.kind s.primitive.layout (primitive_line s.primitive) s.primitive.size
+    join-kept s.primitive.with_text s.primitive.kind s.primitive.layout (primitive_line s.primitive) s.primitive.size
     (is_long s.primitive.kind s.primitive.size) s.kept.has_put_line s.kept x y refl in
     let t =
-    join-new s.primitive.kind s.primitive.layout (primitive_line s.primitive) s.primitive.size
+    join-new s.primitive.with_text s.primitive.kind s.primitive.layout (primitive_line s.primitive) s.primitive.size
     (is_long s.primitive.kind s.primitive.size) s.kept.has_put_line s.kept x y refl in (
       ap (λ (n : ℕ). with_kept s n (kept_contents_after (value_text_after s x) y)) l
           ∙ ap (with_kept s (s.left - length (x ++ y))) k,
       sym (new_by-new s (x ++ y)) ∙ t
           ∙ ap (λ (r : List ℕ). r
-          ++ new_by s.primitive.kind s.primitive.layout (primitive_line s.primitive) s.primitive.size
+          ++ new_by s.primitive.with_text s.primitive.kind s.primitive.layout (primitive_line s.primitive) s.primitive.size
           (is_long s.primitive.kind s.primitive.size) (kept_contents_after s x).has_put_line (kept_contents_after s x)
           y)
           (new_by-new s x)
@@ -140,20 +140,20 @@ first-open_row u rest false = refl
 abbrev begin_kept : Kind → KeptContents
 begin_kept kind = record { has_put_line = has_line kind []; row_count = 0; row = [] }
 
-module _ (layout : Layout) (line : List ℕ → List ℕ) (size : ℕ) where
+module _ (with_text : Bool) (layout : Layout) (line : List ℕ → List ℕ) (size : ℕ) where
   abbrev begun_at : Kind → Bool → List ℕ
   begun_at kind long = if long then (if has_line kind [] then line [] else []) else []
 
   abbrev open_at : Kind → Bool → List ℕ → List ℕ
   open_at kind long octets =
       if long && has_line kind octets
-      then line (long_text kind size octets) ++ row_lines kind layout 0 (full_rows kind [] (row_octets kind octets))
+      then line (long_text kind size octets) ++ row_lines with_text kind layout 0 (full_rows kind [] (row_octets kind octets))
       else []
 
   abbrev OpenIsNew : Kind → Bool → List ℕ → Type 0
   OpenIsNew kind long octets =
       open_at kind long octets
-      ≡ begun_at kind long ++ new_by kind layout line size long (has_line kind []) (begin_kept kind) octets
+      ≡ begun_at kind long ++ new_by with_text kind layout line size long (has_line kind []) (begin_kept kind) octets
 
   open-new : (kind : Kind) (long : Bool) (octets : List ℕ) → OpenIsNew kind long octets
   open-new kind false octets = refl
@@ -168,38 +168,38 @@ module _ (layout : Layout) (line : List ℕ → List ℕ) (size : ℕ) where
   open-new Ucs4 true octets = refl
   open-new Bits true [] = refl
   open-new Bits true (u ∷ octets) =
-      ap (λ (t : List (List ℕ)). line (long_text Bits size (u ∷ [])) ++ row_lines Bits layout 0 t)
+      ap (λ (t : List (List ℕ)). line (long_text Bits size (u ∷ [])) ++ row_lines with_text Bits layout 0 t)
       (first-full u octets (nat_le u 7))
 
   abbrev whole_at : NameOf → Kind → Bool → List ℕ → List ℕ
   whole_at name_of kind long octets =
-      line (if long then long_value true kind size octets else short_value name_of kind octets).text
-      ++ row_lines kind layout 0
-      (if long then long_value true kind size octets else short_value name_of kind octets).rows
+      line (if long then long_value true kind size octets else short_value with_text name_of kind octets).text
+      ++ row_lines with_text kind layout 0
+      (if long then long_value true kind size octets else short_value with_text name_of kind octets).rows
 
   abbrev ended_at : NameOf → Kind → Bool → KeptContents → List ℕ
   ended_at name_of kind long k =
-      if long then row_lines kind layout k.row_count (last_rows k.row)
-      else line (short_value name_of kind k.row).text
-      ++ row_lines kind layout 0 (short_value name_of kind k.row).rows
+      if long then row_lines with_text kind layout k.row_count (last_rows k.row)
+      else line (short_value with_text name_of kind k.row).text
+      ++ row_lines with_text kind layout 0 (short_value with_text name_of kind k.row).rows
 
   abbrev WholeIsEnded : NameOf → Kind → Bool → List ℕ → Type 0
   WholeIsEnded name_of kind long octets =
       whole_at name_of kind long octets
       ≡ open_at kind long octets
       ++ ended_at name_of kind long
-      (kept_by kind layout line size long (has_line kind []) (begin_kept kind) octets)
+      (kept_by with_text kind layout line size long (has_line kind []) (begin_kept kind) octets)
 
   last-after : (kind : Kind) (first octets : List ℕ)
-      → first ++ row_lines kind layout 0 (rows_of kind octets)
-      ≡ (first ++ row_lines kind layout 0 (full_rows kind [] octets))
-      ++ row_lines kind layout (0 + length (full_rows kind [] octets)) (last_rows (open_row kind [] octets))
+      → first ++ row_lines with_text kind layout 0 (rows_of kind octets)
+      ≡ (first ++ row_lines with_text kind layout 0 (full_rows kind [] octets))
+      ++ row_lines with_text kind layout (0 + length (full_rows kind [] octets)) (last_rows (open_row kind [] octets))
   last-after kind first octets =
       let full = full_rows kind [] octets in
       let last = last_rows (open_row kind [] octets) in
-      ap (λ (rows : List (List ℕ)). first ++ row_lines kind layout 0 rows) (rows-parts kind octets)
-      ∙ ap (λ (t : List ℕ). first ++ t) (row_lines-append kind layout 0 full last)
-      ∙ sym (append_assoc first (row_lines kind layout 0 full) (row_lines kind layout (0 + length full) last))
+      ap (λ (rows : List (List ℕ)). first ++ row_lines with_text kind layout 0 rows) (rows-parts kind octets)
+      ∙ ap (λ (t : List ℕ). first ++ t) (row_lines-append with_text kind layout 0 full last)
+      ∙ sym (append_assoc first (row_lines with_text kind layout 0 full) (row_lines with_text kind layout (0 + length full) last))
 
   whole-ended : (name_of : NameOf) (kind : Kind) (long : Bool) (octets : List ℕ) → (long ≡ true → 1 ≤ length octets)
       → WholeIsEnded name_of kind long octets
@@ -220,132 +220,132 @@ module _ (layout : Layout) (line : List ℕ → List ℕ) (size : ℕ) where
       last-after Bits (line (long_text Bits size (u ∷ []))) (row_octets Bits (u ∷ octets))
       ∙ ap (λ (t : List (List ℕ)).
       (line (long_text Bits size (u ∷ []))
-      ++ row_lines Bits layout 0 (full_rows Bits [] (row_octets Bits (u ∷ octets))))
-      ++ row_lines Bits layout (0 + length t) (last_rows (open_row Bits [] (row_octets Bits (u ∷ octets)))))
+      ++ row_lines with_text Bits layout 0 (full_rows Bits [] (row_octets Bits (u ∷ octets))))
+      ++ row_lines with_text Bits layout (0 + length t) (last_rows (open_row Bits [] (row_octets Bits (u ∷ octets)))))
       f
       ∙ ap (λ (t : List ℕ).
       (line (long_text Bits size (u ∷ []))
-      ++ row_lines Bits layout 0 (full_rows Bits [] (row_octets Bits (u ∷ octets))))
-      ++ row_lines Bits layout (0 + length (full_rows Bits (row_octets Bits (u ∷ [])) octets)) (last_rows t))
+      ++ row_lines with_text Bits layout 0 (full_rows Bits [] (row_octets Bits (u ∷ octets))))
+      ++ row_lines with_text Bits layout (0 + length (full_rows Bits (row_octets Bits (u ∷ [])) octets)) (last_rows t))
       o
 
-abbrev line_for : HeaderValue → Layout → List ℕ → List ℕ
-line_for h layout = primitive_line (new_primitive h layout)
+abbrev line_for : Bool → HeaderValue → Layout → List ℕ → List ℕ
+line_for with_text h layout = primitive_line (new_primitive with_text h layout)
 
 -- all that is known of a primitive that is still open was written
-pub open-lines : (h : HeaderValue) (layout : Layout) (octets : List ℕ)
-    → open_lines h layout octets
-    ≡ begin_lines (new_value_text h layout) ++ contents_lines (new_value_text h layout) octets
-open-lines h layout octets =
-    open-new layout (line_for h layout) (size_of h.size) (kind_of h.class h.number)
+pub open-lines : (with_text : Bool) (h : HeaderValue) (layout : Layout) (octets : List ℕ)
+    → open_lines_with with_text h layout octets
+    ≡ begin_lines (new_value_text_with with_text h layout) ++ contents_lines (new_value_text_with with_text h layout) octets
+open-lines with_text h layout octets =
+    open-new with_text layout (line_for with_text h layout) (size_of h.size) (kind_of h.class h.number)
     (is_long (kind_of h.class h.number) (size_of h.size)) octets
-    ∙ ap (λ (t : List ℕ). begin_lines (new_value_text h layout) ++ t) (new_by-new (new_value_text h layout) octets)
+    ∙ ap (λ (t : List ℕ). begin_lines (new_value_text_with with_text h layout) ++ t) (new_by-new (new_value_text_with with_text h layout) octets)
 
 -- with no octets a primitive that begins has no lines more, and is kept as it is
 
-new-nothing_at : (kind : Kind) (layout : Layout) (line : List ℕ → List ℕ) (size : ℕ) (long has_put_line : Bool)
-    → new_by kind layout line size long has_put_line (begin_kept kind) [] ≡ []
-new-nothing_at kind layout line size false has_put_line = refl
-new-nothing_at kind layout line size true true =
-    ap (λ (rows : List (List ℕ)). row_lines kind layout 0 (full_rows_in kind rows)) (rows-filled kind [])
-new-nothing_at kind layout line size true false = refl
+new-nothing_at : (with_text : Bool) (kind : Kind) (layout : Layout) (line : List ℕ → List ℕ) (size : ℕ) (long has_put_line : Bool)
+    → new_by with_text kind layout line size long has_put_line (begin_kept kind) [] ≡ []
+new-nothing_at with_text kind layout line size false has_put_line = refl
+new-nothing_at with_text kind layout line size true true =
+    ap (λ (rows : List (List ℕ)). row_lines with_text kind layout 0 (full_rows_in kind rows)) (rows-filled kind [])
+new-nothing_at with_text kind layout line size true false = refl
 
-pub new-nothing : (h : HeaderValue) (layout : Layout) → contents_lines (new_value_text h layout) [] ≡ []
-new-nothing h layout =
-    let s : ValueTextState = new_value_text h layout in
+pub new-nothing : (with_text : Bool) (h : HeaderValue) (layout : Layout) → contents_lines (new_value_text_with with_text h layout) [] ≡ []
+new-nothing with_text h layout =
+    let s : ValueTextState = new_value_text_with with_text h layout in
     sym (new_by-new s [])
-    ∙ new-nothing_at s.primitive.kind s.primitive.layout (primitive_line s.primitive) s.primitive.size
+    ∙ new-nothing_at s.primitive.with_text s.primitive.kind s.primitive.layout (primitive_line s.primitive) s.primitive.size
     (is_long s.primitive.kind s.primitive.size) s.kept.has_put_line
 
-after-nothing_at : (kind : Kind) (layout : Layout) (line : List ℕ → List ℕ) (size : ℕ) (long has_put_line : Bool)
+after-nothing_at : (with_text : Bool) (kind : Kind) (layout : Layout) (line : List ℕ → List ℕ) (size : ℕ) (long has_put_line : Bool)
     → has_put_line ≡ has_line kind []
-    → kept_by kind layout line size long has_put_line (begin_kept kind) [] ≡ begin_kept kind
-after-nothing_at kind layout line size false has_put_line e = refl
-after-nothing_at kind layout line size true true e =
+    → kept_by with_text kind layout line size long has_put_line (begin_kept kind) [] ≡ begin_kept kind
+after-nothing_at with_text kind layout line size false has_put_line e = refl
+after-nothing_at with_text kind layout line size true true e =
     ap (λ (rows : List (List ℕ)). kept_with (0 + length (full_rows_in kind rows)) (open_row_in kind rows))
     (rows-filled kind [])
     ∙ ap (λ (b : Bool). record { has_put_line = b; row_count = 0; row = [] }) e
-after-nothing_at kind layout line size true false e = refl
+after-nothing_at with_text kind layout line size true false e = refl
 
-pub after-nothing : (h : HeaderValue) (layout : Layout)
-    → value_text_after (new_value_text h layout) [] ≡ new_value_text h layout
-after-nothing h layout =
-    let s : ValueTextState = new_value_text h layout in
+pub after-nothing : (with_text : Bool) (h : HeaderValue) (layout : Layout)
+    → value_text_after (new_value_text_with with_text h layout) [] ≡ new_value_text_with with_text h layout
+after-nothing with_text h layout =
+    let s : ValueTextState = new_value_text_with with_text h layout in
     let l : s.left - 0 ≡ s.left = omega arith in
     ap (λ (n : ℕ). with_kept s n (kept_contents_after s [])) l
     ∙ ap (with_kept s s.left)
-    (after-nothing_at s.primitive.kind s.primitive.layout (primitive_line s.primitive) s.primitive.size
+    (after-nothing_at s.primitive.with_text s.primitive.kind s.primitive.layout (primitive_line s.primitive) s.primitive.size
     (is_long s.primitive.kind s.primitive.size) s.kept.has_put_line refl)
 
 pub lines-begin : LinesBegin
-lines-begin h layout = (
-  open-lines h layout [] ∙ ap (λ (t : List ℕ). begin_lines (new_value_text h layout) ++ t) (new-nothing h layout)
-      ∙ append-nil (begin_lines (new_value_text h layout)),
-  after-nothing h layout,
+lines-begin with_text h layout = (
+  open-lines with_text h layout [] ∙ ap (λ (t : List ℕ). begin_lines (new_value_text_with with_text h layout) ++ t) (new-nothing with_text h layout)
+      ∙ append-nil (begin_lines (new_value_text_with with_text h layout)),
+  after-nothing with_text h layout,
 )
 
 pub lines-go_on : LinesGoOn
-lines-go_on h layout octets x =
-    open-lines h layout (octets ++ x)
-    ∙ ap (λ (t : List ℕ). begin_lines (new_value_text h layout) ++ t) (pieces-join (new_value_text h layout) octets x).1
-    ∙ sym (append_assoc (begin_lines (new_value_text h layout)) (contents_lines (new_value_text h layout) octets)
-    (contents_lines (value_text_for h layout octets) x))
-    ∙ ap (λ (t : List ℕ). t ++ contents_lines (value_text_for h layout octets) x) (sym (open-lines h layout octets))
+lines-go_on with_text h layout octets x =
+    open-lines with_text h layout (octets ++ x)
+    ∙ ap (λ (t : List ℕ). begin_lines (new_value_text_with with_text h layout) ++ t) (pieces-join (new_value_text_with with_text h layout) octets x).1
+    ∙ sym (append_assoc (begin_lines (new_value_text_with with_text h layout)) (contents_lines (new_value_text_with with_text h layout) octets)
+    (contents_lines (value_text_for with_text h layout octets) x))
+    ∙ ap (λ (t : List ℕ). t ++ contents_lines (value_text_for with_text h layout octets) x) (sym (open-lines with_text h layout octets))
 
 long-some : (kind : Kind) (n size : ℕ) → n ≡ size → is_long kind size ≡ true → 1 ≤ n
 long-some kind n size e h = grind (arith, nat_tests)
 
-abbrev whole_by : Layout → (List ℕ → List ℕ) → NameOf → Kind → ℕ → List ℕ → List ℕ
-whole_by layout line name_of kind n octets =
-    line (if is_long kind n then long_value true kind n octets else short_value name_of kind octets).text
-    ++ row_lines kind layout 0
-    (if is_long kind n then long_value true kind n octets else short_value name_of kind octets).rows
+abbrev whole_by : Bool → Layout → (List ℕ → List ℕ) → NameOf → Kind → ℕ → List ℕ → List ℕ
+whole_by with_text layout line name_of kind n octets =
+    line (if is_long kind n then long_value true kind n octets else short_value with_text name_of kind octets).text
+    ++ row_lines with_text kind layout 0
+    (if is_long kind n then long_value true kind n octets else short_value with_text name_of kind octets).rows
 
 pub lines-end : LinesEnd
-lines-end name_of h layout octets e =
+lines-end with_text name_of h layout octets e =
     let kind : Kind = kind_of h.class h.number in
     let w =
-    whole-ended layout (line_for h layout) (size_of h.size) name_of kind (is_long kind (size_of h.size)) octets
+    whole-ended with_text layout (line_for with_text h layout) (size_of h.size) name_of kind (is_long kind (size_of h.size)) octets
     (long-some kind (length octets) (size_of h.size) (sym e)) in
-    ap (λ (n : ℕ). whole_by layout (line_for h layout) name_of kind n octets) (sym e) ∙ w
+    ap (λ (n : ℕ). whole_by with_text layout (line_for with_text h layout) name_of kind n octets) (sym e) ∙ w
 
 -- a primitive written with its header, its contents and its end has the lines of the whole
-pub whole-new : (name_of : NameOf) (h : HeaderValue) (layout : Layout) (c : List ℕ) → HasAllContents h c
-    → begin_lines (new_value_text h layout)
-    ++ (contents_lines (new_value_text h layout) c
-    ++ end_lines name_of (value_text_after (new_value_text h layout) c))
-    ≡ whole_lines name_of h layout c
-whole-new name_of h layout c e =
-    let t : ValueTextState = new_value_text h layout in
+pub whole-new : (with_text : Bool) (name_of : NameOf) (h : HeaderValue) (layout : Layout) (c : List ℕ) → HasAllContents h c
+    → begin_lines (new_value_text_with with_text h layout)
+    ++ (contents_lines (new_value_text_with with_text h layout) c
+    ++ end_lines name_of (value_text_after (new_value_text_with with_text h layout) c))
+    ≡ whole_lines_with with_text name_of h layout c
+whole-new with_text name_of h layout c e =
+    let t : ValueTextState = new_value_text_with with_text h layout in
     sym (append_assoc (begin_lines t) (contents_lines t c) (end_lines name_of (value_text_after t c)))
-    ∙ ap (λ (l : List ℕ). l ++ end_lines name_of (value_text_after t c)) (sym (open-lines h layout c))
-    ∙ sym (lines-end name_of h layout c e)
+    ∙ ap (λ (l : List ℕ). l ++ end_lines name_of (value_text_after t c)) (sym (open-lines with_text h layout c))
+    ∙ sym (lines-end with_text name_of h layout c e)
 
 -- so has a long one: its line, and its rows
 pub new-long : (name_of : NameOf) (p : Primitive) (c : List ℕ) → is_long p.kind p.size ≡ true → length c ≡ p.size
-    → primitive_line p (long_text p.kind p.size c) ++ row_lines p.kind p.layout 0 (rows_of p.kind (row_octets p.kind c))
+    → primitive_line p (long_text p.kind p.size c) ++ row_lines p.with_text p.kind p.layout 0 (rows_of p.kind (row_octets p.kind c))
     ≡ lines_in_steps name_of (new_value_text_of p) c
 new-long name_of p c long e =
     let s : ValueTextState = new_value_text_of p in
     let w =
-    whole-ended p.layout (primitive_line p) p.size name_of p.kind (is_long p.kind p.size) c
+    whole-ended p.with_text p.layout (primitive_line p) p.size name_of p.kind (is_long p.kind p.size) c
     (long-some p.kind (length c) p.size e) in
-    let o = open-new p.layout (primitive_line p) p.size p.kind (is_long p.kind p.size) c in
-    ap (λ (b : Bool). whole_at p.layout (primitive_line p) p.size name_of p.kind b c) (sym long)
+    let o = open-new p.with_text p.layout (primitive_line p) p.size p.kind (is_long p.kind p.size) c in
+    ap (λ (b : Bool). whole_at p.with_text p.layout (primitive_line p) p.size name_of p.kind b c) (sym long)
     ∙ w
     ∙ ap (λ (t : List ℕ). t ++ end_lines name_of (value_text_after s c))
     (o ∙ ap (λ (t : List ℕ). begin_lines s ++ t) (new_by-new s c))
     ∙ append_assoc (begin_lines s) (contents_lines s c) (end_lines name_of (value_text_after s c))
 
 -- one with its value on its line is written with its end
-pub shown-new : (name_of : NameOf) (h : HeaderValue) (layout : Layout) (p : Primitive) (c : List ℕ)
-    → p ≡ new_primitive h layout → is_long (kind_of h.class h.number) (size_of h.size) ≡ false
-    → HasAllContents h c → primitive_lines name_of p c ≡ whole_lines name_of h layout c
-shown-new name_of h layout p c is short e =
-    ap (λ (q : Primitive). primitive_lines name_of q c) is ∙ at-end ∙ whole-new name_of h layout c e
-  where
-    at-end : primitive_lines name_of (new_primitive h layout) c
-        ≡ begin_lines (new_value_text h layout)
-        ++ (contents_lines (new_value_text h layout) c
-        ++ end_lines name_of (value_text_after (new_value_text h layout) c))
-    at-end = rw short refl
+pub new-short : (name_of : NameOf) (p : Primitive) (c : List ℕ) → is_long p.kind p.size ≡ false
+    → primitive_lines name_of p c ≡ lines_in_steps name_of (new_value_text_of p) c
+new-short name_of p c short = rw short refl
+
+pub shown-new : (with_text : Bool) (name_of : NameOf) (h : HeaderValue) (layout : Layout) (p : Primitive) (c : List ℕ)
+    → p ≡ new_primitive with_text h layout → is_long (kind_of h.class h.number) (size_of h.size) ≡ false
+    → HasAllContents h c → primitive_lines name_of p c ≡ whole_lines_with with_text name_of h layout c
+shown-new with_text name_of h layout p c is short e =
+    ap (λ (q : Primitive). primitive_lines name_of q c) is
+    ∙ new-short name_of (new_primitive with_text h layout) c short
+    ∙ whole-new with_text name_of h layout c e

@@ -21,17 +21,17 @@ use Rattle.tlv_value.specs.Value.{short_value, used_digits, value_on_line}
 use Rattle.tlv_value.specs.Private.UndottedText.{undotted_text}
 
 -- rows of octets are the same for an object identifier
-object-rows : (layout : Layout) (i : ℕ) (rows : List (List ℕ))
-    → row_lines Object layout i rows ≡ row_lines Octets layout i rows
-object-rows layout i [] = refl
-object-rows layout i (row ∷ rows) =
-    ap (λ (t : List ℕ). row_line layout i (row_text Octets row) ++ t) (object-rows layout (i + 1) rows)
+object-rows : (with_text : Bool) (layout : Layout) (i : ℕ) (rows : List (List ℕ))
+    → row_lines with_text Object layout i rows ≡ row_lines with_text Octets layout i rows
+object-rows with_text layout i [] = refl
+object-rows with_text layout i (row ∷ rows) =
+    ap (λ (t : List ℕ). row_line layout i (row_text with_text Octets row) ++ t) (object-rows with_text layout (i + 1) rows)
 
-relative-rows : (layout : Layout) (i : ℕ) (rows : List (List ℕ))
-    → row_lines Relative layout i rows ≡ row_lines Octets layout i rows
-relative-rows layout i [] = refl
-relative-rows layout i (row ∷ rows) =
-    ap (λ (t : List ℕ). row_line layout i (row_text Octets row) ++ t) (relative-rows layout (i + 1) rows)
+relative-rows : (with_text : Bool) (layout : Layout) (i : ℕ) (rows : List (List ℕ))
+    → row_lines with_text Relative layout i rows ≡ row_lines with_text Octets layout i rows
+relative-rows with_text layout i [] = refl
+relative-rows with_text layout i (row ∷ rows) =
+    ap (λ (t : List ℕ). row_line layout i (row_text with_text Octets row) ++ t) (relative-rows with_text layout (i + 1) rows)
 
 -- what the line of a primitive begins with, and the rest of its lines
 prefix-line : (p : Primitive) (text rows : List ℕ)
@@ -40,65 +40,65 @@ prefix-line p text rows = simp append_assoc
 
 pub shown-prefix : (name_of : NameOf) (p : Primitive) (octets : List ℕ)
     → line_prefix p
-    ++ (((short_value name_of p.kind octets).text ++ 10 ∷ [])
-    ++ row_lines p.kind p.layout 0 (short_value name_of p.kind octets).rows)
+    ++ (((short_value p.with_text name_of p.kind octets).text ++ 10 ∷ [])
+    ++ row_lines p.with_text p.kind p.layout 0 (short_value p.with_text name_of p.kind octets).rows)
     ≡ primitive_lines name_of p octets
 shown-prefix name_of p octets =
-    let v : Value = short_value name_of p.kind octets in prefix-line p v.text (row_lines p.kind p.layout 0 v.rows)
+    let v : Value = short_value p.with_text name_of p.kind octets in prefix-line p v.text (row_lines p.with_text p.kind p.layout 0 v.rows)
 
-module _ (name_of : NameOf) (layout : Layout) (line : List ℕ → List ℕ) (octets : List ℕ) where
+module _ (with_text : Bool) (name_of : NameOf) (layout : Layout) (line : List ℕ → List ℕ) (octets : List ℕ) where
   abbrev shown_by : Kind → List ℕ
   shown_by kind =
-      line (short_value name_of kind octets).text ++ row_lines kind layout 0 (short_value name_of kind octets).rows
+      line (short_value with_text name_of kind octets).text ++ row_lines with_text kind layout 0 (short_value with_text name_of kind octets).rows
 
   object_at : (kind : Kind) → kind ≡ Object
-      → line (short_value name_of Object octets).text
-      ++ row_lines Octets layout 0 (short_value name_of Object octets).rows
+      → line (short_value with_text name_of Object octets).text
+      ++ row_lines with_text Octets layout 0 (short_value with_text name_of Object octets).rows
       ≡ shown_by kind
   object_at kind e =
       rw e
-      (ap (λ (t : List ℕ). line (short_value name_of Object octets).text ++ t)
-      (sym (object-rows layout 0 (short_value name_of Object octets).rows)))
+      (ap (λ (t : List ℕ). line (short_value with_text name_of Object octets).text ++ t)
+      (sym (object-rows with_text layout 0 (short_value with_text name_of Object octets).rows)))
 
   relative_at : (kind : Kind) → kind ≡ Relative
-      → line (short_value name_of Relative octets).text
-      ++ row_lines Octets layout 0 (short_value name_of Relative octets).rows
+      → line (short_value with_text name_of Relative octets).text
+      ++ row_lines with_text Octets layout 0 (short_value with_text name_of Relative octets).rows
       ≡ shown_by kind
   relative_at kind e =
       rw e
-      (ap (λ (t : List ℕ). line (short_value name_of Relative octets).text ++ t)
-      (sym (relative-rows layout 0 (short_value name_of Relative octets).rows)))
+      (ap (λ (t : List ℕ). line (short_value with_text name_of Relative octets).text ++ t)
+      (sym (relative-rows with_text layout 0 (short_value with_text name_of Relative octets).rows)))
 
 pub shown-object : (name_of : NameOf) (p : Primitive) (octets : List ℕ) → p.kind ≡ Object
-    → line_prefix p ++ object_lines name_of p.layout false octets ≡ primitive_lines name_of p octets
+    → line_prefix p ++ object_lines p.with_text name_of p.layout false octets ≡ primitive_lines name_of p octets
 shown-object name_of p octets e =
-    let v : Value = short_value name_of Object octets in
-    prefix-line p v.text (row_lines Octets p.layout 0 v.rows)
-    ∙ object_at name_of p.layout (primitive_line p) octets p.kind e
+    let v : Value = short_value p.with_text name_of Object octets in
+    prefix-line p v.text (row_lines p.with_text Octets p.layout 0 v.rows)
+    ∙ object_at p.with_text name_of p.layout (primitive_line p) octets p.kind e
 
 pub shown-relative : (name_of : NameOf) (p : Primitive) (octets : List ℕ) → p.kind ≡ Relative
-    → line_prefix p ++ object_lines no_names p.layout true octets ≡ primitive_lines name_of p octets
+    → line_prefix p ++ object_lines p.with_text no_names p.layout true octets ≡ primitive_lines name_of p octets
 shown-relative name_of p octets e =
-    let v : Value = short_value name_of Relative octets in
-    prefix-line p v.text (row_lines Octets p.layout 0 v.rows)
-    ∙ relative_at name_of p.layout (primitive_line p) octets p.kind e
+    let v : Value = short_value p.with_text name_of Relative octets in
+    prefix-line p v.text (row_lines p.with_text Octets p.layout 0 v.rows)
+    ∙ relative_at p.with_text name_of p.layout (primitive_line p) octets p.kind e
 
 -- values on their lines, without rows
 
-abbrev IsUndotted : NameOf → Kind → List ℕ → Type 0
-IsUndotted name_of kind row =
-    ((short_value name_of kind row).text ≡ undotted_text kind row) × ((short_value name_of kind row).rows ≡ [])
+abbrev IsUndotted : Bool → NameOf → Kind → List ℕ → Type 0
+IsUndotted with_text name_of kind row =
+    ((short_value with_text name_of kind row).text ≡ undotted_text with_text kind row) × ((short_value with_text name_of kind row).rows ≡ [])
 
-octets-rows : (row : List ℕ) → length row ≤ 16 → (octets_value row).rows ≡ []
-octets-rows row h = let b : nat_le (length row) 16 ≡ true = grind (arith, nat_tests) in rw b refl
+octets-rows : (with_text : Bool) (row : List ℕ) → length row ≤ 16 → (octets_value with_text row).rows ≡ []
+octets-rows with_text row h = let b : nat_le (length row) 16 ≡ true = grind (arith, nat_tests) in rw b refl
 
-octets-text : (name_of : NameOf) (row : List ℕ) → length row ≤ 16 → IsUndotted name_of Octets row
-octets-text name_of row h = let b : nat_le (length row) 16 ≡ true = grind (arith, nat_tests) in rw b (refl, refl)
+octets-text : (with_text : Bool) (name_of : NameOf) (row : List ℕ) → length row ≤ 16 → IsUndotted with_text name_of Octets row
+octets-text with_text name_of row h = let b : nat_le (length row) 16 ≡ true = grind (arith, nat_tests) in rw b (refl, refl)
 
-boolean-rows : (row : List ℕ) → length row ≤ 16 → (boolean_value row).rows ≡ []
-boolean-rows [] h = refl
-boolean-rows (x ∷ []) h = refl
-boolean-rows (x ∷ y ∷ row) h = octets-rows (x ∷ y ∷ row) h
+boolean-rows : (with_text : Bool) (row : List ℕ) → length row ≤ 16 → (boolean_value with_text row).rows ≡ []
+boolean-rows with_text [] h = refl
+boolean-rows with_text (x ∷ []) h = refl
+boolean-rows with_text (x ∷ y ∷ row) h = octets-rows with_text (x ∷ y ∷ row) h
 
 integer-rows : (row : List ℕ) → length row ≤ 16 → (integer_value row).rows ≡ []
 integer-rows [] h = refl
@@ -108,38 +108,38 @@ if-rows : (b : Bool) (x y : Value) → x.rows ≡ [] → y.rows ≡ [] → (if b
 if-rows true x y e f = e
 if-rows false x y e f = f
 
-bits-rows : (row : List ℕ) → length row ≤ 9 → (bits_value row).rows ≡ []
-bits-rows [] h = refl
-bits-rows (u ∷ row) h =
+bits-rows : (with_text : Bool) (row : List ℕ) → length row ≤ 9 → (bits_value with_text row).rows ≡ []
+bits-rows with_text [] h = refl
+bits-rows with_text (u ∷ row) h =
     if-rows (is_readable u (length row)) (value_on_line (bit_count_text u (length row) ++ used_digits u row))
-    (octets_value (u ∷ row)) refl (octets-rows (u ∷ row) (omega arith))
+    (octets_value with_text (u ∷ row)) refl (octets-rows with_text (u ∷ row) (omega arith))
 
-pub held-undotted : (name_of : NameOf) (kind : Kind) (row : List ℕ) → (kind ≡ Object → ⊥) → (kind ≡ Relative → ⊥)
-    → length row ≤ most_on_line kind → IsUndotted name_of kind row
-held-undotted name_of Octets row o r h = octets-text name_of row h
-held-undotted name_of Boolean row o r h = (refl, boolean-rows row h)
-held-undotted name_of Integer row o r h = (refl, integer-rows row h)
-held-undotted name_of Bits row o r h = (refl, bits-rows row h)
-held-undotted name_of Object row o r h = absurd (o refl)
-held-undotted name_of Relative row o r h = absurd (r refl)
-held-undotted name_of Text row o r h = (refl, refl)
-held-undotted name_of Utf8 row o r h = (refl, refl)
-held-undotted name_of Ucs2 row o r h = (refl, refl)
-held-undotted name_of Ucs4 row o r h = (refl, refl)
+pub held-undotted : (with_text : Bool) (name_of : NameOf) (kind : Kind) (row : List ℕ) → (kind ≡ Object → ⊥) → (kind ≡ Relative → ⊥)
+    → length row ≤ most_on_line kind → IsUndotted with_text name_of kind row
+held-undotted with_text name_of Octets row o r h = octets-text with_text name_of row h
+held-undotted with_text name_of Boolean row o r h = (refl, boolean-rows with_text row h)
+held-undotted with_text name_of Integer row o r h = (refl, integer-rows row h)
+held-undotted with_text name_of Bits row o r h = (refl, bits-rows with_text row h)
+held-undotted with_text name_of Object row o r h = absurd (o refl)
+held-undotted with_text name_of Relative row o r h = absurd (r refl)
+held-undotted with_text name_of Text row o r h = (refl, refl)
+held-undotted with_text name_of Utf8 row o r h = (refl, refl)
+held-undotted with_text name_of Ucs2 row o r h = (refl, refl)
+held-undotted with_text name_of Ucs4 row o r h = (refl, refl)
 
-undotted_at : (name_of : NameOf) (kind : Kind) (layout : Layout) (line row : List ℕ) → IsUndotted name_of kind row
-    → line ++ (undotted_text kind row ++ 10 ∷ [])
+undotted_at : (with_text : Bool) (name_of : NameOf) (kind : Kind) (layout : Layout) (line row : List ℕ) → IsUndotted with_text name_of kind row
+    → line ++ (undotted_text with_text kind row ++ 10 ∷ [])
     ≡ line
-    ++ (((short_value name_of kind row).text ++ 10 ∷ [])
-    ++ row_lines kind layout 0 (short_value name_of kind row).rows)
-undotted_at name_of kind layout line row p =
-    rw (p.0, p.1) (ap (λ (t : List ℕ). line ++ t) (sym (append-nil (undotted_text kind row ++ 10 ∷ []))))
+    ++ (((short_value with_text name_of kind row).text ++ 10 ∷ [])
+    ++ row_lines with_text kind layout 0 (short_value with_text name_of kind row).rows)
+undotted_at with_text name_of kind layout line row p =
+    rw (p.0, p.1) (ap (λ (t : List ℕ). line ++ t) (sym (append-nil (undotted_text with_text kind row ++ 10 ∷ []))))
 
 pub shown-undotted : (name_of : NameOf) (p : Primitive) (octets : List ℕ) → (p.kind ≡ Object → ⊥)
     → (p.kind ≡ Relative → ⊥) → length octets ≤ most_on_line p.kind
-    → line_prefix p ++ (undotted_text p.kind octets ++ 10 ∷ []) ≡ primitive_lines name_of p octets
+    → line_prefix p ++ (undotted_text p.with_text p.kind octets ++ 10 ∷ []) ≡ primitive_lines name_of p octets
 shown-undotted name_of p octets o r h =
-    undotted_at name_of p.kind p.layout (line_prefix p) octets (held-undotted name_of p.kind octets o r h)
+    undotted_at p.with_text name_of p.kind p.layout (line_prefix p) octets (held-undotted p.with_text name_of p.kind octets o r h)
     ∙ shown-prefix name_of p octets
 
 abbrev pub state_by : Primitive → ℕ → KeptContents → ValueTextState
@@ -152,32 +152,32 @@ ended-shown name_of p left kept l = rw l refl
 
 -- the first contents octet of a long BIT STRING
 
-new-first_at : (kind : Kind) (has_put_line : Bool) (size : ℕ) (layout : Layout) (line : List ℕ → List ℕ) (x : ℕ)
+new-first_at : (with_text : Bool) (kind : Kind) (has_put_line : Bool) (size : ℕ) (layout : Layout) (line : List ℕ → List ℕ) (x : ℕ)
     (rest rows_part : List ℕ)
     → kind ≡ Bits → has_put_line ≡ false → is_long kind size ≡ true
     → (if is_long kind size
     then (if has_put_line then rows_part
     else (line (long_text kind size (x ∷ []))
-    ++ row_lines kind layout 0 (full_rows kind (row_octets kind (x ∷ [])) rest)))
+    ++ row_lines with_text kind layout 0 (full_rows kind (row_octets kind (x ∷ [])) rest)))
     else [])
-    ≡ line (long_text Bits size (x ∷ [])) ++ row_lines Bits layout 0 (full_rows Bits (row_octets Bits (x ∷ [])) rest)
-new-first_at kind has_put_line size layout line x rest rows_part e u l = rw (l, u, e) refl
+    ≡ line (long_text Bits size (x ∷ [])) ++ row_lines with_text Bits layout 0 (full_rows Bits (row_octets Bits (x ∷ [])) rest)
+new-first_at with_text kind has_put_line size layout line x rest rows_part e u l = rw (l, u, e) refl
 
 pub new-first : (s : ValueTextState) (x : ℕ) (rest : List ℕ) → s.primitive.kind ≡ Bits → s.kept.has_put_line ≡ false
     → is_long s.primitive.kind s.primitive.size ≡ true
     → contents_lines s (x ∷ rest)
     ≡ primitive_line s.primitive (long_text Bits s.primitive.size (x ∷ []))
-    ++ row_lines Bits s.primitive.layout 0 (full_rows Bits (row_octets Bits (x ∷ [])) rest)
+    ++ row_lines s.primitive.with_text Bits s.primitive.layout 0 (full_rows Bits (row_octets Bits (x ∷ [])) rest)
 new-first s x rest e u l =
-    new-first_at s.primitive.kind s.kept.has_put_line s.primitive.size s.primitive.layout (primitive_line s.primitive) x
+    new-first_at s.primitive.with_text s.primitive.kind s.kept.has_put_line s.primitive.size s.primitive.layout (primitive_line s.primitive) x
     rest
-    (row_lines s.primitive.kind s.primitive.layout s.kept.row_count (full_rows s.primitive.kind s.kept.row (x ∷ rest)))
+    (row_lines s.primitive.with_text s.primitive.kind s.primitive.layout s.kept.row_count (full_rows s.primitive.kind s.kept.row (x ∷ rest)))
     e u l
 
 -- the rows after it
-pub rows-first : (kind : Kind) (layout : Layout) (n : ℕ) (row begun rest : List ℕ) → kind ≡ Bits → n ≡ 0 → row ≡ begun
-    → row_lines kind layout n (full_rows kind row rest) ≡ row_lines Bits layout 0 (full_rows Bits begun rest)
-rows-first kind layout n row begun rest e z r = rw (e, z, r) refl
+pub rows-first : (with_text : Bool) (kind : Kind) (layout : Layout) (n : ℕ) (row begun rest : List ℕ) → kind ≡ Bits → n ≡ 0 → row ≡ begun
+    → row_lines with_text kind layout n (full_rows kind row rest) ≡ row_lines with_text Bits layout 0 (full_rows Bits begun rest)
+rows-first with_text kind layout n row begun rest e z r = rw (e, z, r) refl
 
 -- a value on its line has few octets
 pub held-most : (kind : Kind) (n size : ℕ) → is_long kind size ≡ false → n ≡ size → n ≤ most_on_line kind

@@ -5,6 +5,7 @@ use Rattle.std.proofs.lemmas.Bool.Decides.{nat_tests}
 use Rattle.std.proofs.lemmas.Bool.{leb-true}
 use Rattle.std.proofs.lemmas.Fmt.{length-decimal-le_wide}
 use Rattle.std.proofs.lemmas.List.{length-map, length-take}
+use Rattle.std.specs.List.{list_all}
 use Rattle.std.specs.Prelude.{ℤ, pos, negsuc, codes, decimal, FitsSigned}
 use Rattle.std.specs.Fmt.{signed_decimal}
 use lib.Signed.{mag}
@@ -24,7 +25,8 @@ use Rattle.tlv_io.specs.Cuts.{utf8_length}
 use Rattle.tlv_value.specs.Units.{escaped_number, escaped_octet, is_printable, octet_text, printable_text, quoted_text}
 use Rattle.tlv_value.specs.Units.{three_octets, unit_size, unit_text, units, utf8_number, without_zeros}
 use Rattle.tlv_value.specs.Value.{Value, bit_count_text, bits_value, boolean_value, integer_value, is_readable}
-use Rattle.tlv_value.specs.Value.{joined_pairs}
+use Rattle.tlv_value.specs.Private.UndottedText.{line_pairs}
+use Rattle.tlv_value.specs.Value.{joined_pairs, pairs_with_text, text_behind}
 use Rattle.tlv_io.specs.LineTexts.{AddsAtMost}
 use Rattle.tlv_io.proofs.HeldTexts.{pairs-size}
 use Rattle.tlv_value.specs.Value.{octets_value, spaced_pairs, used_digits, value_on_line}
@@ -166,18 +168,43 @@ pub quoted-short : (kind : Kind) (row : List ℕ) → length (quoted_text kind r
 quoted-short kind row =
     omega (arith, length-append (flat_map (unit_text kind) (units kind 0 row)) (34 ∷ []), units-short kind 0 row)
 
-pub joined-short : (octets : List ℕ) → length (joined_pairs octets) ≤ 5 * length octets + 2
+pub joined-short : (octets : List ℕ) → length (joined_pairs octets) ≤ 3 * length octets
 joined-short [] = omega arith
 joined-short (x ∷ xs) =
     omega (arith, length-append (encode_lower (x ∷ [])) (spaced_pairs xs), pair-length x, pairs-size xs)
 
 -- values on their lines
 
-octets-text-short : (octets : List ℕ) → length (octets_value octets).text ≤ 330
-octets-text-short octets =
+behind-short : (octets : List ℕ) → length (text_behind octets) ≤ length octets + 4
+behind-short octets =
+    if-short (nat_le 3 (length octets) && list_all is_printable octets) (codes "  |" ++ octets ++ codes "|") []
+    (length octets + 4)
+    (omega (arith, length-append (codes "  |" ++ octets) (codes "|"), length-append (codes "  |") octets))
+    (omega arith)
+
+-- pairs with their text, or without it
+with-text-short : (with_text : Bool) (octets pairs : List ℕ)
+    → length (pairs_with_text with_text octets pairs) ≤ length pairs + (length octets + 4)
+with-text-short false octets pairs = omega arith
+with-text-short true octets pairs = omega (arith, length-append pairs (text_behind octets), behind-short octets)
+
+pub row-pairs-short : (with_text : Bool) (octets : List ℕ) → length octets ≤ 64
+    → length (pairs_with_text with_text octets (joined_pairs octets)) ≤ 322
+row-pairs-short with_text octets h =
+    omega (arith, with-text-short with_text octets (joined_pairs octets), joined-short octets)
+
+pub pairs-short : (with_text : Bool) (octets : List ℕ) → length octets ≤ 64
+    → length (line_pairs with_text octets) ≤ 330
+pairs-short with_text octets h =
+    omega (arith, with-text-short with_text octets (spaced_pairs octets), pairs-size octets)
+
+octets-text-short : (with_text : Bool) (octets : List ℕ) → length (octets_value with_text octets).text ≤ 330
+octets-text-short with_text octets =
     elim (nat_le (length octets) 16) as (λ b. nat_le (length octets) 16 ≡ b
-    → length (if b then value_with (spaced_pairs octets) [] else value_with [] (rows_of Octets octets)).text ≤ 330) [
-      | true ↦ λ e. let h : length octets ≤ 16 = leb-true (length octets) 16 e in omega (arith, pairs-size octets)
+    → length (if b then value_with (line_pairs with_text octets) [] else value_with [] (rows_of Octets octets)).text
+    ≤ 330) [
+      | true ↦ λ e.
+          let h : length octets ≤ 16 = leb-true (length octets) 16 e in pairs-short with_text octets (omega (arith, h))
       | false ↦ λ e. omega arith
     ] refl
 
@@ -188,12 +215,12 @@ signed-short : (z : ℤ) → mag z < 2 ^ 127 → length (signed_decimal z) ≤ 4
 signed-short (pos n) h = omega (arith, digits-short n (omega arith))
 signed-short (negsuc n) h = omega (arith, digits-short (suc n) (omega arith))
 
-pub boolean-short : (octets : List ℕ) → length octets ≤ 16 → length (boolean_value octets).text ≤ 330
-boolean-short [] h = omega arith
-boolean-short (x ∷ []) h =
+pub boolean-short : (with_text : Bool) (octets : List ℕ) → length octets ≤ 16 → length (boolean_value with_text octets).text ≤ 330
+boolean-short with_text [] h = octets-text-short with_text []
+boolean-short with_text (x ∷ []) h =
     elim (eqb x 0) as (λ b. length (32 ∷ (if b then codes "FALSE" else codes "TRUE")) ≤ 330)
     [ true ↦ omega arith | false ↦ omega arith ]
-boolean-short (x ∷ y ∷ octets) h = octets-text-short (x ∷ y ∷ octets)
+boolean-short with_text (x ∷ y ∷ octets) h = octets-text-short with_text (x ∷ y ∷ octets)
 
 pub integer-short : (octets : List ℕ) → length octets ≤ 16 → length (integer_value octets).text ≤ 330
 integer-short [] h = omega arith
@@ -220,12 +247,12 @@ count-short unused_bits octets h =
       digits-short (8 * octets - unused_bits) (omega arith),
     )
 
-pub bits-short : (octets : List ℕ) → length octets ≤ 9 → length (bits_value octets).text ≤ 330
-bits-short [] h = omega arith
-bits-short (unused_bits ∷ octets) h =
+pub bits-short : (with_text : Bool) (octets : List ℕ) → length octets ≤ 9 → length (bits_value with_text octets).text ≤ 330
+bits-short with_text [] h = octets-text-short with_text []
+bits-short with_text (unused_bits ∷ octets) h =
     elim (is_readable unused_bits (length octets)) as (λ b. length
     (if b then value_on_line (bit_count_text unused_bits (length octets) ++ used_digits unused_bits octets)
-    else octets_value (unused_bits ∷ octets)).text
+    else octets_value with_text (unused_bits ∷ octets)).text
     ≤ 330) [
       | true ↦
           omega (
@@ -234,11 +261,8 @@ bits-short (unused_bits ∷ octets) h =
             count-short unused_bits (length octets) (omega arith),
             used-short unused_bits octets (omega arith),
           )
-      | false ↦ octets-text-short (unused_bits ∷ octets)
+      | false ↦ octets-text-short with_text (unused_bits ∷ octets)
     ]
 
 pub text-short : (kind : Kind) (octets : List ℕ) → length octets ≤ 64 → length (32 ∷ quoted_text kind octets) ≤ 330
 text-short kind octets h = omega (arith, quoted-short kind octets)
-
-pub pairs-short : (octets : List ℕ) → length octets ≤ 64 → length (spaced_pairs octets) ≤ 330
-pairs-short octets h = omega (arith, pairs-size octets)

@@ -5,14 +5,15 @@ use Rattle.tlv_value.specs.declared.layout.Layout.{Layout}
 use Rattle.tlv_value.specs.ValueLines.{row_lines}
 use Rattle.tlv_value.specs.Value.{NameOf, Value, object_value, octets_value}
 
--- the rest of the line after the tag, and the rows below it
-abbrev pub rest_of_lines : Layout → Value → List ℕ
-rest_of_lines layout v = (v.text ++ 10 ∷ []) ++ row_lines Octets layout 0 v.rows
+-- the rest of the line after the tag, and the rows below it. The first argument says whether text is beside pairs
+abbrev pub rest_of_lines : Bool → Layout → Value → List ℕ
+rest_of_lines with_text layout v = (v.text ++ 10 ∷ []) ++ row_lines with_text Octets layout 0 v.rows
 
 -- the same, of octets that are shown as pairs of digits
-abbrev pub octets_lines : Layout → List ℕ → List ℕ
-octets_lines layout octets = rest_of_lines layout (octets_value octets)
+abbrev pub octets_lines : Bool → Layout → List ℕ → List ℕ
+octets_lines with_text layout octets = rest_of_lines with_text layout (octets_value with_text octets)
 
 -- the same, of an object identifier, or of a relative one
-abbrev pub object_lines : NameOf → Layout → Bool → List ℕ → List ℕ
-object_lines name_of layout relative octets = rest_of_lines layout (object_value name_of relative octets)
+abbrev pub object_lines : Bool → NameOf → Layout → Bool → List ℕ → List ℕ
+object_lines with_text name_of layout relative octets =
+    rest_of_lines with_text layout (object_value with_text name_of relative octets)

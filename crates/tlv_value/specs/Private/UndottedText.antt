@@ -1,11 +1,15 @@
 -- The text of a value on its element's line, if an object identifier is shown in hexadecimal.
-use Rattle.std.specs.Prelude.{ℕ, List}
+use Rattle.std.specs.Prelude.{ℕ, Bool, List}
 use Rattle.tlv_value.specs.declared.kind.Kind.{Kind}
 use Rattle.tlv_value.specs.declared.kind.Kind.TheVariants.{Object, Octets, Relative}
-use Rattle.tlv_value.specs.Value.{no_names, short_value, spaced_pairs}
+use Rattle.tlv_value.specs.Value.{no_names, pairs_with_text, short_value, spaced_pairs}
 
-abbrev pub undotted_text : Kind → List ℕ → List ℕ
-undotted_text Octets octets = spaced_pairs octets
-undotted_text Object octets = spaced_pairs octets
-undotted_text Relative octets = spaced_pairs octets
-undotted_text kind octets = (short_value no_names kind octets).text
+-- pairs of digits after spaces, with text beside them or without it
+abbrev pub line_pairs : Bool → List ℕ → List ℕ
+line_pairs with_text octets = pairs_with_text with_text octets (spaced_pairs octets)
+
+abbrev pub undotted_text : Bool → Kind → List ℕ → List ℕ
+undotted_text with_text Octets octets = line_pairs with_text octets
+undotted_text with_text Object octets = line_pairs with_text octets
+undotted_text with_text Relative octets = line_pairs with_text octets
+undotted_text with_text kind octets = (short_value with_text no_names kind octets).text

@@ -1,14 +1,14 @@
 //! What a line of a names file says.
 ghost use Rattle.std.specs.Prelude.{◌≡◌, ◌==◌, ◌+◌, ◌≤◌, drop, length};
-ghost use Rattle.std.specs.List.{list_all, position_or_len};
+ghost use Rattle.std.specs.List.{position_or_len};
 ghost use Rattle.tlv_value.specs.Names.{is_blank, is_name, names_line, without_first_blanks};
 ghost use Rattle.tlv_value.specs.Names.{without_last_blanks, without_outer_blanks};
 ghost use Rattle.std.specs.Str.Lines.{strip_carriage_return};
-ghost use Rattle.tlv_value.specs.Units.{is_printable};
 ghost use Rattle.tlv_value.specs.Private.NamesSteps.{entry_or_refusal, texts_of};
 
 use super::NamesFault;
 use super::arcs::is_dotted;
+use crate::pairs::are_printable;
 
 /// The most octets of a line.
 const LINE_LIMIT: usize = 400;
@@ -125,15 +125,4 @@ fn is_name(text: &[u8]) -> bool
     ensures { result ≡ is_name text.now }
 {
     !text.is_empty() && are_printable(text)
-}
-
-fn are_printable(text: &[u8]) -> bool
-    ensures { result ≡ list_all is_printable text.now }
-{
-    for octet in text {
-        if *octet < b' ' || *octet > b'~' {
-            return false;
-        }
-    }
-    true
 }

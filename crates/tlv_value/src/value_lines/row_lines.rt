@@ -1,6 +1,6 @@
 //! Rows on their way to an [`Out`].
 ghost use Rattle.std.specs.Prelude.{◌≡◌, ◌+◌, ◌<◌, ◌≤◌, ◌^◌, ◌++◌, [], codes, if◌then◌else◌, length, IsTrue};
-ghost use Rattle.std.specs.Prelude.{None, OnOk, ◌↔◌};
+ghost use Rattle.std.specs.Prelude.{None, OnOk, false, ◌↔◌};
 ghost use Rattle.tlv_io.specs.OutLimits.{line_room};
 ghost use Rattle.tlv_io.specs.Cuts.{last_rows};
 ghost use Rattle.tlv_io.specs.LineTexts.{HasRoomFor};
@@ -15,6 +15,7 @@ ghost use Rattle.tlv_value.specs.ValueLines.{row_lines};
 use crate::Layout;
 use crate::kind::Kind;
 use crate::line_starts::row_indent;
+use crate::row_form::RowForm;
 use crate::row_sizes::{fitting_length, row_size};
 use crate::value::write_row;
 use arrayvec::ArrayVec;
@@ -23,59 +24,58 @@ use tlv_io::{Drain, HeldOctets, Out, WriteFault};
 /// Puts rows of all of the octets.
 pub(super) fn put_all_rows<D: Drain>(
     layout: Layout,
+    with_text: bool,
     contents: &[u8],
     out: &mut Out<'_, D>,
 ) -> Result<(), WriteFault>
     requires { length contents.now ≤ 64 }
     ensures { Puts D.state out.old out.new
-        (row_lines Kind.Octets layout 0 (rows_of Kind.Octets contents.now)) result }
+        (row_lines with_text Kind.Octets layout 0 (rows_of Kind.Octets contents.now)) result }
 {
+    let form = RowForm {
+        kind: Kind::Octets,
+        layout,
+        with_text,
+    };
     let mut row = ArrayVec::new();
     let mut row_count = 0;
-    put_rows(
-        Kind::Octets,
-        layout,
-        &mut row,
-        &mut row_count,
-        contents,
-        out,
-    )?;
-    put_last(Kind::Octets, layout, row_count, row.as_slice(), out)
+    put_rows(&form, &mut row, &mut row_count, contents, out)?;
+    put_last(&form, row_count, row.as_slice(), out)
 }
 
 /// Puts the rows that are full, of the octets of the row that has begun and those after them. What is left begins a
 /// row.
 pub(crate) fn put_rows<D: Drain>(
-    kind: Kind,
-    layout: Layout,
+    form: &RowForm,
     row: &mut ArrayVec<u8, 64>,
     row_count: &mut u64,
     octets: &[u8],
     out: &mut Out<'_, D>,
 ) -> Result<(), WriteFault>
-    requires is_open { IsOpenRow kind row.old.items }
+    requires is_open { IsOpenRow form.now.kind row.old.items }
     requires counted { row_count.old + length row.old.items + length octets.now < 2 ^ 64 }
-    ensures is_open { IsOpenRow kind row.new.items }
+    ensures is_open { IsOpenRow form.now.kind row.new.items }
     ensures counted { row_count.new + length row.new.items
         ≤ row_count.old + length row.old.items + length octets.now }
-    ensures row { OnOk result (row.new.items ≡ open_row kind row.old.items octets.now) }
+    ensures row { OnOk result (row.new.items ≡ open_row form.now.kind row.old.items octets.now) }
     ensures row_count { OnOk result
-        (row_count.new ≡ row_count.old + length (full_rows kind row.old.items octets.now)) }
+        (row_count.new ≡ row_count.old + length (full_rows form.now.kind row.old.items octets.now)) }
     ensures puts { Puts D.state out.old out.new
-        (row_lines kind layout row_count.old (full_rows kind row.old.items octets.now)) result }
+        (row_lines form.now.with_text form.now.kind form.now.layout row_count.old
+        (full_rows form.now.kind row.old.items octets.now)) result }
 {
-    let size = row_size(kind);
+    let size = row_size(form.kind);
     let mut rest = octets;
     while !rest.is_empty() {
         let begun = row.len();
-        if has_full_rows(layout, size, begun, rest) {
+        if has_full_rows(form, size, begun, rest) {
             let (full, more) = rest.as_chunks::<16>();
             rest = more;
             *row_count += full.len() as u64;
-            put_full_rows(layout, full, out)?;
+            put_full_rows(form.layout, full, out)?;
             continue;
         }
-        let (part, more) = rest.split_at(fitting_length(kind, begun, rest));
+        let (part, more) = rest.split_at(fitting_length(form.kind, begun, rest));
         rest = more;
         if begun + part.len() < size && rest.is_empty() {
             let _ = row.try_extend_from_slice(part);
@@ -83,21 +83,23 @@ pub(crate) fn put_rows<D: Drain>(
         }
         let index = *row_count;
         *row_count += 1;
-        put_full(kind, layout, index, row, part, out)?;
+        put_full(form, index, row, part, out)?;
     }
     Ok(())
 }
 
-/// Whether the octets begin with full rows of pairs of digits, while no row has begun and their number is not limited.
+/// Whether the octets begin with full rows of pairs of digits without text, while no row has begun and their number is
+/// not limited.
 #[inline(always)]
-fn has_full_rows(layout: Layout, size: usize, begun: usize, octets: &[u8]) -> bool
+fn has_full_rows(form: &RowForm, size: usize, begun: usize, octets: &[u8]) -> bool
     ensures { IsTrue result
-        ↔ ((begun ≡ 0) × (size ≡ 16) × (layout.limit ≡ None) × (16 ≤ length octets.now)) }
+        ↔ ((begun ≡ 0) × (size ≡ 16) × (form.now.layout.limit ≡ None) × (form.now.with_text ≡ false)
+        × (16 ≤ length octets.now)) }
 {
-    begun == 0 && size == 16 && layout.limit.is_none() && octets.len() >= 16
+    begun == 0 && size == 16 && form.layout.limit.is_none() && !form.with_text && octets.len() >= 16
 }
 
-/// Puts full rows of pairs of digits, from where their octets are. There is no limit to them.
+/// Puts full rows of pairs of digits without text, from where their octets are. There is no limit to them.
 #[inline(always)]
 fn put_full_rows<D: Drain>(
     layout: Layout,
@@ -115,7 +117,7 @@ fn put_full_rows<D: Drain>(
     Ok(())
 }
 
-/// Puts rows of pairs of digits, of all of the octets, from where they are. There is no limit to them.
+/// Puts rows of pairs of digits without text, of all of the octets, from where they are. There is no limit to them.
 #[inline(always)]
 pub(crate) fn put_pair_rows<D: Drain>(
     layout: Layout,
@@ -131,14 +133,18 @@ pub(crate) fn put_pair_rows<D: Drain>(
         return Ok(());
     }
     out.make_room()?;
-    write_line(&mut out.held, layout, Kind::Octets, last);
+    let form = RowForm {
+        kind: Kind::Octets,
+        layout,
+        with_text: false,
+    };
+    write_line(&mut out.held, &form, last);
     Ok(())
 }
 
 /// Puts the row that has begun with the octets that fill it: from where they are, if they are the whole row.
 fn put_full<D: Drain>(
-    kind: Kind,
-    layout: Layout,
+    form: &RowForm,
     index: u64,
     row: &mut ArrayVec<u8, 64>,
     part: &[u8],
@@ -147,54 +153,54 @@ fn put_full<D: Drain>(
     requires { length row.old.items + length part.now ≤ 64 }
     ensures row { row.new.items ≡ [] }
     ensures puts { Puts D.state out.old out.new
-        (row_line layout index (row_text kind (row.old.items ++ part.now))) result }
+        (row_line form.now.layout index (row_text form.now.with_text form.now.kind (row.old.items ++ part.now)))
+        result }
 {
     if row.is_empty() {
-        return put_row(kind, layout, index, part, out);
+        return put_row(form, index, part, out);
     }
     let _ = row.try_extend_from_slice(part);
-    let put = put_row(kind, layout, index, row.as_slice(), out);
+    let put = put_row(form, index, row.as_slice(), out);
     row.clear();
     put
 }
 
 /// Puts a last row, if there is one.
 pub(crate) fn put_last<D: Drain>(
-    kind: Kind,
-    layout: Layout,
+    form: &RowForm,
     index: u64,
     row: &[u8],
     out: &mut Out<'_, D>,
 ) -> Result<(), WriteFault>
     requires { length row.now ≤ 64 }
     ensures { Puts D.state out.old out.new
-        (row_lines kind layout index (last_rows row.now)) result }
+        (row_lines form.now.with_text form.now.kind form.now.layout index (last_rows row.now)) result }
 {
     if row.is_empty() {
         return Ok(());
     }
-    put_row(kind, layout, index, row, out)
+    put_row(form, index, row, out)
 }
 
 /// Puts a row; beyond the limit three dots for the first, and nothing for the others.
 #[inline(always)]
 fn put_row<D: Drain>(
-    kind: Kind,
-    layout: Layout,
+    form: &RowForm,
     index: u64,
     row: &[u8],
     out: &mut Out<'_, D>,
 ) -> Result<(), WriteFault>
     requires { length row.now ≤ 64 }
-    ensures { Puts D.state out.old out.new (row_line layout index (row_text kind row.now)) result }
+    ensures { Puts D.state out.old out.new
+        (row_line form.now.layout index (row_text form.now.with_text form.now.kind row.now)) result }
 {
-    if let Some(limit) = layout.limit
+    if let Some(limit) = form.layout.limit
         && index >= u64::from(limit)
     {
-        return put_dots(layout, index == u64::from(limit), out);
+        return put_dots(form.layout, index == u64::from(limit), out);
     }
     out.make_room()?;
-    write_line(&mut out.held, layout, kind, row);
+    write_line(&mut out.held, form, row);
     Ok(())
 }
 
@@ -219,13 +225,14 @@ fn put_dots<D: Drain>(
 
 /// Adds the line of a row.
 #[inline(always)]
-fn write_line(held: &mut HeldOctets, layout: Layout, kind: Kind, row: &[u8])
+fn write_line(held: &mut HeldOctets, form: &RowForm, row: &[u8])
     requires room { HasRoomFor held.old line_room }
     requires short { length row.now ≤ 64 }
-    ensures { held.new ≡ held.old ++ inner_line layout (row_text kind row.now) }
+    ensures { held.new ≡ held.old
+        ++ inner_line form.now.layout (row_text form.now.with_text form.now.kind row.now) }
 {
-    held.spaces(row_indent(layout) - 1);
-    write_row(held, kind, row);
+    held.spaces(row_indent(form.layout) - 1);
+    write_row(held, form.kind, form.with_text, row);
     held.add(b"\n");
 }
 

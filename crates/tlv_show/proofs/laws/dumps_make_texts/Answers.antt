@@ -1,15 +1,15 @@
 use Rattle.tlv_walk.specs.Events.{events}
 use Rattle.tlv_show.specs.DumpJob.{top_layout}
-use Rattle.tlv_show.specs.DumpStep.{new_dump}
+use Rattle.tlv_show.specs.DumpStep.{new_dump_with}
 use Rattle.tlv_show.proofs.DumpLemmas.DumpFolds.{count-made, text-made}
 use Rattle.tlv_show.proofs.DumpLemmas.DumpSteps.{all_on}
 use Rattle.tlv_show.proofs.laws.dumps_make_texts.Goals as goal
 
 pub returns : goal.returns
 returns c =
-    λ options names b f few
+    λ with_text options names b f few
     r. (
-      text-made options names b f few r,
-      count-made options names b f few r,
-      all_on (new_dump options.rules (top_layout options) names) (events f),
+      text-made with_text options names b f few r,
+      count-made with_text options names b f few r,
+      all_on (new_dump_with with_text options.rules (top_layout options) names) (events f),
     )

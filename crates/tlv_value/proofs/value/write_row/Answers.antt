@@ -1,7 +1,7 @@
 use Rattle.std.proofs.Common.{◌∷◌, arith, rules}
-use Rattle.tlv_value.specs.Value.{joined_pairs}
+use Rattle.tlv_value.specs.Value.{joined_pairs, pairs_with_text}
 use Rattle.tlv_value.specs.Units.{quoted_text}
-use Rattle.tlv_value.proofs.TextLemmas.RowTextLengths.{length-grown, joined-short, quoted-short}
+use Rattle.tlv_value.proofs.TextLemmas.RowTextLengths.{length-grown, quoted-short, row-pairs-short}
 use Rattle.tlv_value.proofs.value.write_row.Goals as goal
 
 pub returns-in-Text : goal.returns-in-Text
@@ -17,7 +17,9 @@ pub returns-in_default : goal.returns-in_default
 returns-in_default c =
     record {
       text = search rules;
-      within = length-grown c.args.held.now c.write_joined_pairs.new.held (32 ∷ joined_pairs c.args.row.now) 323
-          c.write_joined_pairs.ensures
-          (omega (arith, joined-short c.args.row.now, c.requires.short));
+      within =
+          length-grown c.args.held.now c.write_row_pairs.new.held
+          (32 ∷ pairs_with_text c.args.with_text c.args.row.now (joined_pairs c.args.row.now)) 323
+          c.write_row_pairs.ensures
+          (omega (arith, row-pairs-short c.args.with_text c.args.row.now c.requires.short));
     }

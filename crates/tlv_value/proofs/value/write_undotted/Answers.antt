@@ -1,5 +1,6 @@
 use Rattle.std.proofs.Common.{rules, ◌≤◌, ◌∷◌, length, List, ℕ}
-use Rattle.tlv_value.specs.Value.{bits_value, boolean_value, integer_value, spaced_pairs}
+use Rattle.tlv_value.specs.Private.UndottedText.{line_pairs}
+use Rattle.tlv_value.specs.Value.{bits_value, boolean_value, integer_value}
 use Rattle.tlv_value.specs.Units.{quoted_text}
 use Rattle.tlv_value.proofs.TextLemmas.RowTextLengths.{bits-short, boolean-short, length-grown, integer-short}
 use Rattle.tlv_value.proofs.TextLemmas.RowTextLengths.{pairs-short}
@@ -12,8 +13,8 @@ returns-in-Boolean c =
     record {
       text = search rules;
       within =
-          length-grown c.args.held.now c.write_boolean.new.held (boolean_value octets).text 330 c.write_boolean.ensures
-          (boolean-short octets (rw c.in-Boolean.is at c.requires.short));
+          length-grown c.args.held.now c.write_boolean.new.held (boolean_value c.args.with_text octets).text 330 c.write_boolean.ensures
+          (boolean-short c.args.with_text octets (rw c.in-Boolean.is at c.requires.short));
     }
 
 pub returns-in-Integer : goal.returns-in-Integer
@@ -31,8 +32,8 @@ returns-in-Bits c =
     let octets : List ℕ = c.args.contents.now in
     record {
       text = search rules;
-      within = length-grown c.args.held.now c.write_bits.new.held (bits_value octets).text 330 c.write_bits.ensures
-          (bits-short octets (rw c.in-Bits.is at c.requires.short));
+      within = length-grown c.args.held.now c.write_bits.new.held (bits_value c.args.with_text octets).text 330 c.write_bits.ensures
+          (bits-short c.args.with_text octets (rw c.in-Bits.is at c.requires.short));
     }
 
 pub returns-in-Text : goal.returns-in-Text
@@ -52,6 +53,7 @@ returns-in-Octets c =
     let short : length octets ≤ 64 = search rules in
     record {
       text = search rules;
-      within = length-grown c.args.held.now c.spaced_pairs.new.self (spaced_pairs octets) 330 c.spaced_pairs.ensures
-          (pairs-short octets short);
+      within =
+          length-grown c.args.held.now c.write_pairs.new.held (line_pairs c.args.with_text octets) 330
+          c.write_pairs.ensures (pairs-short c.args.with_text octets short);
     }

@@ -21,7 +21,7 @@ returns-in-Some g c =
     let n : names text ≡ Some c.in-Some.name.now =
     sym (ap names b) ∙ sym c.get.ensures ∙ ap option_copied c.in-Some.is in
     puts_then_as state_of _ _ _ (32 ∷ text) _ _ _ _ (puts_held state_of _ _ (32 ∷ text) (tt {0}) refl h)
-    c.put_name.ensures (object_named names c.args.layout false c.args.contents.now text c.in-Some.name.now d n)
+    c.put_name.ensures (object_named c.args.with_text names c.args.layout false c.args.contents.now text c.in-Some.name.now d n)
 
 pub returns-in-None : goal.returns-in-None
 returns-in-None g c =
@@ -41,4 +41,4 @@ returns-in-None g c =
     puts_held state_of _ _ _ _ refl
     (all
     ∙ ap (λ (l : List ℕ). c.args.out.now.held ++ l)
-    (object_unnamed names c.args.layout false c.args.contents.now text d n))
+    (object_unnamed c.args.with_text names c.args.layout false c.args.contents.now text d n))

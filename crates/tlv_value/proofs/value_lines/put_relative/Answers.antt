@@ -13,7 +13,7 @@ returns-then-not-write_dotted g c =
     let state_of = g.D.Drain.state in
     let same = rw c.if-not-write_dotted.true at c.write_dotted.ensures.adds.text in
     puts_then_as state_of _ _ _ [] _ _ (tt {0}) _ (puts_held state_of _ _ [] (tt {0}) refl same) c.put_octets.ensures
-    (object_octets no_names c.args.layout true c.args.contents.now d)
+    (object_octets c.args.with_text no_names c.args.layout true c.args.contents.now d)
 
 pub returns : goal.returns
 returns g c =
@@ -27,4 +27,4 @@ returns g c =
     puts_held g.D.Drain.state _ _ _ _ refl
     (all
     ∙ ap (λ (l : List ℕ). c.args.out.now.held ++ l)
-    (object_unnamed no_names c.args.layout true c.args.contents.now text d refl))
+    (object_unnamed c.args.with_text no_names c.args.layout true c.args.contents.now text d refl))

@@ -26,7 +26,7 @@ returns g c =
       state = on_ok_weaker c.put_bytes.result
           (λ e. ap₂
           (λ (o : ℕ) (v : Option ValueTextState).
-          record { layout = s.layout; names = g.N.FiniteNames.table s.names.now; offset = o; in_padding = s.in_padding; open_text = v })
+          record { layout = s.layout; with_text = s.with_text; names = g.N.FiniteNames.table s.names.now; offset = o; in_padding = s.in_padding; open_text = v })
           there e
           ∙ sym (ap (λ (t : Effect LinesState). t.state) is))
           c.put_bytes.ensures.state;

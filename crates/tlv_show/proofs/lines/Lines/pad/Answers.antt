@@ -25,6 +25,7 @@ returns-then-self g c =
           record {
             layout =
                 s.layout;
+            with_text = s.with_text;
             names = g.N.FiniteNames.table s.names.now;
             offset = o;
             in_padding = s.in_padding;
@@ -53,6 +54,7 @@ returns g c =
           record {
             layout =
                 s.layout;
+            with_text = s.with_text;
             names = g.N.FiniteNames.table s.names.now;
             offset = o;
             in_padding = true;

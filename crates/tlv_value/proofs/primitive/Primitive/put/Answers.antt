@@ -11,10 +11,10 @@ pub returns-in_err-put_prefix : goal.returns-in_err-put_prefix
 returns-in_err-put_prefix g c =
     let p = c.args.self.now in
     let names = g.N.NameTable.name_of c.args.names.now in
-    let v : Value = short_value names p.kind c.args.contents.now in
+    let v : Value = short_value p.with_text names p.kind c.args.contents.now in
     puts_failed_in g.D.Drain.state _ _ (line_prefix p) _ _ _ c.in_err-put_prefix.ensures.puts (search rules)
     (record {
-      rest = (v.text ++ 10 ∷ []) ++ row_lines p.kind p.layout 0 v.rows;
+      rest = (v.text ++ 10 ∷ []) ++ row_lines p.with_text p.kind p.layout 0 v.rows;
       is = shown-prefix names p c.args.contents.now;
     })
 
@@ -37,7 +37,7 @@ returns-in_default g c =
     let state_of = g.D.Drain.state in
     let p = c.args.self.now in
     let names = g.N.NameTable.name_of c.args.names.now in
-    let text : List ℕ = undotted_text p.kind c.args.contents.now in
+    let text : List ℕ = undotted_text p.with_text p.kind c.args.contents.now in
     let begun = c.put_prefix.new.out in
     let added =
     c.add.ensures ∙ ap (λ (l : List ℕ). l ++ 10 ∷ []) c.write_undotted.ensures.text

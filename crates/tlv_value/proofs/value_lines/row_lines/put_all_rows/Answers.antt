@@ -11,11 +11,11 @@ pub returns-in_err-put_rows : goal.returns-in_err-put_rows
 returns-in_err-put_rows g c =
     let octets : List ℕ = c.args.contents.now in
     let failed = rw c.new-row.ensures at c.in_err-put_rows.ensures.puts in
-    puts_failed_in g.D.Drain.state _ _ (row_lines Octets c.args.layout 0 (full_rows Octets [] octets)) _ _ _ failed
+    puts_failed_in g.D.Drain.state _ _ (row_lines c.args.with_text Octets c.args.layout 0 (full_rows Octets [] octets)) _ _ _ failed
     (search rules) (record {
       rest =
-          row_lines Octets c.args.layout (length (full_rows Octets [] octets)) (last_rows (open_row Octets [] octets));
-      is = rows-split Octets c.args.layout octets;
+          row_lines c.args.with_text Octets c.args.layout (length (full_rows Octets [] octets)) (last_rows (open_row Octets [] octets));
+      is = rows-split c.args.with_text Octets c.args.layout octets;
     })
 
 pub returns : goal.returns
@@ -29,4 +29,4 @@ returns g c =
     let rows : c.put_rows.new.row_count ≡ length (full_rows Octets [] octets) =
     rw none at c.in_ok-put_rows.ensures.row_count ∙ zero in
     puts_then_as g.D.Drain.state _ _ _ _ _ _ _ _ put (rw (row, rows) at c.put_last.ensures)
-    (rows-split Octets c.args.layout octets)
+    (rows-split c.args.with_text Octets c.args.layout octets)

@@ -37,7 +37,7 @@ no_limit layout i text e = rw e refl
 pub returns : goal.returns
 returns g c =
     let e =
-    past_limit c.args.layout c.args.index c.in-Some.limit c.from-2.result (row_text c.args.kind c.args.row.now)
+    past_limit c.args.form.now.layout c.args.index c.in-Some.limit c.from-2.result (row_text c.args.form.now.with_text c.args.form.now.kind c.args.row.now)
     c.in-Some.is (omega (arith, c.from.ensures, c.if-index-from.true)) c.from-2.ensures in
     puts_text g.D.Drain.state _ _ _ _ _ e c.put_dots.ensures
 
@@ -46,11 +46,11 @@ returns-in_err-make_room g c = puts_no_room g.D.Drain.state _ _ _ _ _ c.in_err-m
 
 pub returns-2 : goal.returns-2
 returns-2 g c =
-    let text : List ℕ = row_text c.args.kind c.args.row.now in
-    let e : inner_line c.args.layout text ≡ row_line c.args.layout c.args.index text = elim c.in_default.branch [
-      | in_default-via-in-None-1 w ↦ no_limit c.args.layout c.args.index text (search rules)
+    let text : List ℕ = row_text c.args.form.now.with_text c.args.form.now.kind c.args.row.now in
+    let e : inner_line c.args.form.now.layout text ≡ row_line c.args.form.now.layout c.args.index text = elim c.in_default.branch [
+      | in_default-via-in-None-1 w ↦ no_limit c.args.form.now.layout c.args.index text (search rules)
       | in_default-via-in-Some+else-index-from w ↦
-          below_limit c.args.layout c.args.index w.in-Some.limit text w.in-Some.is
+          below_limit c.args.form.now.layout c.args.index w.in-Some.limit text w.in-Some.is
           (omega (arith, w.from.ensures, w.if-index-from.false))
     ] in
     puts_line g.D.Drain.state _ _ _ _ _ _ c.in_ok-make_room.ensures.puts refl

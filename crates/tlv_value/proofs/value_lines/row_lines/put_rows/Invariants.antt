@@ -8,15 +8,15 @@ use Rattle.tlv_value.proofs.value_lines.row_lines.put_rows.Given as goal
 
 abbrev pub invariant-loop-rest : goal.invariant-loop-rest
 invariant-loop-rest g l = record {
-  is_open : IsOpenRow l.kind l.row.items;
+  is_open : IsOpenRow l.form.kind l.row.items;
   counted : l.row_count + length l.row.items + length l.rest
       ≤ l.initial.row_count + length l.initial.row.items + length l.octets;
-  row : row_begun l.kind l.row.items l.rest ≡ open_row l.kind l.initial.row.items l.octets;
-  rows : l.row_count + length (rows_filled l.kind l.row.items l.rest)
-      ≡ l.initial.row_count + length (full_rows l.kind l.initial.row.items l.octets);
+  row : row_begun l.form.kind l.row.items l.rest ≡ open_row l.form.kind l.initial.row.items l.octets;
+  rows : l.row_count + length (rows_filled l.form.kind l.row.items l.rest)
+      ≡ l.initial.row_count + length (full_rows l.form.kind l.initial.row.items l.octets);
   put : (text : List ℕ) × HasPut g.D.Drain.state l.initial.out l.out text
-      × (text ++ row_lines l.kind l.layout l.row_count (rows_filled l.kind l.row.items l.rest)
-      ≡ row_lines l.kind l.layout l.initial.row_count (full_rows l.kind l.initial.row.items l.octets));
+      × (text ++ row_lines l.form.with_text l.form.kind l.form.layout l.row_count (rows_filled l.form.kind l.row.items l.rest)
+      ≡ row_lines l.form.with_text l.form.kind l.form.layout l.initial.row_count (full_rows l.form.kind l.initial.row.items l.octets));
 }
 
 abbrev pub decreases-loop-rest : goal.decreases-loop-rest

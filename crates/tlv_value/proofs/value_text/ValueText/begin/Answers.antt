@@ -47,9 +47,9 @@ returns-clause-puts g c = search rules
 -- in other words
 
 pub returns-then-not-is_long-clause-lines : goal.returns-then-not-is_long-clause-lines
-returns-then-not-is_long-clause-lines g c h layout e =
-    begin-puts g.D.Drain.state _ _ _ h layout c.args.self.now e (returns-then-not-is_long-clause-puts g c)
+returns-then-not-is_long-clause-lines g c with_text h layout e =
+    begin-puts g.D.Drain.state _ _ _ with_text h layout c.args.self.now e (returns-then-not-is_long-clause-puts g c)
 
 pub returns-clause-lines : goal.returns-clause-lines
-returns-clause-lines g c h layout e =
-    begin-puts g.D.Drain.state _ _ _ h layout c.args.self.now e (returns-clause-puts g c)
+returns-clause-lines g c with_text h layout e =
+    begin-puts g.D.Drain.state _ _ _ with_text h layout c.args.self.now e (returns-clause-puts g c)

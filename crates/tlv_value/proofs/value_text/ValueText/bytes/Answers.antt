@@ -16,7 +16,7 @@ use Rattle.tlv_value.proofs.value_text.ValueText.bytes.Goals as goal
 new-both : (s v : ValueTextState) (x : ℕ) (rest octets : List ℕ) → s ≡ v → s.primitive.kind ≡ Bits
     → s.kept.has_put_line ≡ false → is_long s.primitive.kind s.primitive.size ≡ true → octets ≡ x ∷ rest
     → primitive_line s.primitive (long_text Bits s.primitive.size (x ∷ []))
-    ++ row_lines Bits s.primitive.layout 0 (full_rows Bits (row_octets Bits (x ∷ [])) rest)
+    ++ row_lines s.primitive.with_text Bits s.primitive.layout 0 (full_rows Bits (row_octets Bits (x ∷ [])) rest)
     ≡ contents_lines v octets
 new-both s v x rest octets same b u l e =
     sym (new-first s x rest b u l) ∙ ap (contents_lines s) (sym e)
@@ -34,7 +34,7 @@ returns-in_err-put_bits_line-clause-puts g c =
     c.in-Some.ensures.cases.0 in
     puts_failed_in g.D.Drain.state _ _ (primitive_line t.primitive (long_text Bits t.primitive.size (x ∷ [])))
     _ _ _ c.in_err-put_bits_line.ensures (search rules)
-    (record { rest = row_lines Bits t.primitive.layout 0 (full_rows Bits (row_octets Bits (x ∷ [])) rest); is = all })
+    (record { rest = row_lines t.primitive.with_text Bits t.primitive.layout 0 (full_rows Bits (row_octets Bits (x ∷ [])) rest); is = all })
 
 pub returns-clause-puts : goal.returns-clause-puts
 returns-clause-puts g c =
@@ -47,7 +47,7 @@ returns-clause-puts g c =
     new-both (value_text_state_of t) c.args.self.now x rest c.args.octets.now c.self.view_is u.0 c.if-self.false l
     c.in-Some.ensures.cases.0 in
     let same =
-    rows-first t.primitive.kind t.primitive.layout t.row_count c.begin_row.new.row.items (row_octets Bits (x ∷ []))
+    rows-first t.primitive.with_text t.primitive.kind t.primitive.layout t.row_count c.begin_row.new.row.items (row_octets Bits (x ∷ []))
     rest u.0 u.2 c.begin_row.ensures in
     let state_of = g.D.Drain.state in
     puts_then_as state_of _ _ _ _ _ _ _ _ c.in_ok-put_bits_line.ensures
@@ -65,25 +65,25 @@ returns-in_default-clause-puts g c = search rules
 -- in other words
 
 pub returns-then-not-is_long-clause-lines : goal.returns-then-not-is_long-clause-lines
-returns-then-not-is_long-clause-lines g c h layout prefix e =
-    bytes-puts g.D.Drain.state _ _ _ h layout c.args.self.now prefix c.args.octets.now e
+returns-then-not-is_long-clause-lines g c with_text h layout prefix e =
+    bytes-puts g.D.Drain.state _ _ _ with_text h layout c.args.self.now prefix c.args.octets.now e
     (returns-then-not-is_long-clause-puts g c)
 
 pub returns-then-self-clause-lines : goal.returns-then-self-clause-lines
-returns-then-self-clause-lines g c h layout prefix e =
-    bytes-puts g.D.Drain.state _ _ _ h layout c.args.self.now prefix c.args.octets.now e
+returns-then-self-clause-lines g c with_text h layout prefix e =
+    bytes-puts g.D.Drain.state _ _ _ with_text h layout c.args.self.now prefix c.args.octets.now e
     (returns-then-self-clause-puts g c)
 
 pub returns-in_default-clause-lines : goal.returns-in_default-clause-lines
-returns-in_default-clause-lines g c h layout prefix e =
-    bytes-puts g.D.Drain.state _ _ _ h layout c.args.self.now prefix c.args.octets.now e
+returns-in_default-clause-lines g c with_text h layout prefix e =
+    bytes-puts g.D.Drain.state _ _ _ with_text h layout c.args.self.now prefix c.args.octets.now e
     (returns-in_default-clause-puts g c)
 
 pub returns-in_err-put_bits_line-clause-lines : goal.returns-in_err-put_bits_line-clause-lines
-returns-in_err-put_bits_line-clause-lines g c h layout prefix e =
-    bytes-puts g.D.Drain.state _ _ _ h layout c.args.self.now prefix c.args.octets.now e
+returns-in_err-put_bits_line-clause-lines g c with_text h layout prefix e =
+    bytes-puts g.D.Drain.state _ _ _ with_text h layout c.args.self.now prefix c.args.octets.now e
     (returns-in_err-put_bits_line-clause-puts g c)
 
 pub returns-clause-lines : goal.returns-clause-lines
-returns-clause-lines g c h layout prefix e =
-    bytes-puts g.D.Drain.state _ _ _ h layout c.args.self.now prefix c.args.octets.now e (returns-clause-puts g c)
+returns-clause-lines g c with_text h layout prefix e =
+    bytes-puts g.D.Drain.state _ _ _ with_text h layout c.args.self.now prefix c.args.octets.now e (returns-clause-puts g c)

@@ -36,11 +36,11 @@ returns-then-is_long-clause-puts g c = search rules
 -- in other words
 
 pub returns-clause-lines : goal.returns-clause-lines
-returns-clause-lines g c h layout octets e size =
-    end-puts g.D.Drain.state _ _ _ h layout c.args.self.now (g.N.NameTable.name_of c.args.names.now) octets e size
+returns-clause-lines g c with_text h layout octets e size =
+    end-puts g.D.Drain.state _ _ _ with_text h layout c.args.self.now (g.N.NameTable.name_of c.args.names.now) octets e size
     (returns-clause-puts g c)
 
 pub returns-then-is_long-clause-lines : goal.returns-then-is_long-clause-lines
-returns-then-is_long-clause-lines g c h layout octets e size =
-    end-puts g.D.Drain.state _ _ _ h layout c.args.self.now (g.N.NameTable.name_of c.args.names.now) octets e size
+returns-then-is_long-clause-lines g c with_text h layout octets e size =
+    end-puts g.D.Drain.state _ _ _ with_text h layout c.args.self.now (g.N.NameTable.name_of c.args.names.now) octets e size
     (returns-then-is_long-clause-puts g c)

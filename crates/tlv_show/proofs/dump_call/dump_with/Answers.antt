@@ -2,11 +2,11 @@ use Rattle.std.proofs.Common.{refl}
 use Rattle.std.specs.FinMap as finite
 use Rattle.std.proofs.lemmas.Result.{err_from_is_err_and}
 use Rattle.tlv_show.specs.DumpJob.{top_layout}
-use Rattle.tlv_show.specs.DumpStep.{DumpState, dump_step, new_dump}
+use Rattle.tlv_show.specs.DumpStep.{DumpState, dump_step, new_dump_with}
 use Rattle.tlv_show.specs.Texts.{item_text}
 use Rattle.tlv_show.proofs.DumpLemmas.DumpFolds.{dump-shows}
 use Rattle.tlv_show.proofs.DumpLemmas.ShowJob.{shows_err, shows_ok}
-use Rattle.tlv_show.proofs.dump_call.dump.Goals as goal
+use Rattle.tlv_show.proofs.dump_call.dump_with.Goals as goal
 
 pub returns-in_err-run : goal.returns-in_err-run
 returns-in_err-run g c =
@@ -14,17 +14,17 @@ returns-in_err-run g c =
     let o = c.args.options.now in
     let names = g.N.FiniteNames.table c.args.names.now in
     rw (p.1, p.2)
-    (shows_err dump_step (new_dump o.rules (top_layout o) names) o.rules o.framing
-    (item_text (finite.get names) (top_layout o)) (λ (s : DumpState). s.finder.finding_count) (dump-shows o names)
+    (shows_err dump_step (new_dump_with c.args.with_text o.rules (top_layout o) names) o.rules o.framing
+    (item_text c.args.with_text (finite.get names) (top_layout o)) (λ (s : DumpState). s.finder.finding_count) (dump-shows c.args.with_text o names)
     _ _ _ _ _ c.in_err-run.field-0.0
-    (rw c.new-follower.ensures at c.in_err-run.ensures))
+    (rw c.new_with-follower.ensures at c.in_err-run.ensures))
 
 pub returns : goal.returns
 returns g c =
     let o = c.args.options.now in
     let names = g.N.FiniteNames.table c.args.names.now in
-    shows_ok dump_step (new_dump o.rules (top_layout o) names) o.rules o.framing
-    (item_text (finite.get names) (top_layout o)) (λ (s : DumpState). s.finder.finding_count) (dump-shows o names)
+    shows_ok dump_step (new_dump_with c.args.with_text o.rules (top_layout o) names) o.rules o.framing
+    (item_text c.args.with_text (finite.get names) (top_layout o)) (λ (s : DumpState). s.finder.finding_count) (dump-shows c.args.with_text o names)
     _ _ _ _ _ c.in_ok-run.run' _ refl
     c.findings.ensures refl
-    (rw c.new-follower.ensures at c.in_ok-run.ensures)
+    (rw c.new_with-follower.ensures at c.in_ok-run.ensures)

@@ -1,7 +1,7 @@
 use Rattle.std.proofs.Common.{◌≡◌, drop}
 use Rattle.std.specs.List.{list_all}
 use Rattle.tlv_value.specs.Units.{is_printable}
-use Rattle.tlv_value.proofs.names.names_line.are_printable.Given as goal
+use Rattle.tlv_value.proofs.pairs.are_printable.Given as goal
 
 abbrev pub invariant-loop-octet : goal.invariant-loop-octet
-invariant-loop-octet l = list_all is_printable l.text ≡ list_all is_printable (drop l.octet-index l.text)
+invariant-loop-octet l = list_all is_printable l.octets ≡ list_all is_printable (drop l.octet-index l.octets)

@@ -1,0 +1,73 @@
+//! Pairs of digits, and the text beside them.
+ghost use Rattle.std.specs.List.{list_all};
+ghost use Rattle.std.specs.Prelude.{◌≡◌, ◌+◌, ◌*◌, ◌≤◌, ◌++◌, ◌∷◌, length};
+ghost use Rattle.tlv_io.specs.LineTexts.{HasRoomFor};
+ghost use Rattle.tlv_value.specs.Private.UndottedText.{line_pairs};
+ghost use Rattle.tlv_value.specs.Units.{is_printable};
+ghost use Rattle.tlv_value.specs.Value.{joined_pairs, pairs_with_text, text_behind};
+
+use tlv_io::HeldOctets;
+
+/// Adds pairs of digits, each after a space, and the text of their octets behind them, if it is wanted.
+#[inline(always)]
+pub(crate) fn write_pairs(held: &mut HeldOctets, with_text: bool, octets: &[u8])
+    requires { HasRoomFor held.old (4 * length octets.now + 4) }
+    ensures { held.new ≡ held.old ++ line_pairs with_text octets.now }
+{
+    held.spaced_pairs(octets);
+    if with_text {
+        write_text_behind(held, octets);
+    }
+}
+
+/// Adds a row of pairs of digits after a space, with spaces between them, and the text of its octets behind them, if it
+/// is wanted.
+pub(crate) fn write_row_pairs(held: &mut HeldOctets, with_text: bool, row: &[u8])
+    requires short { length row.now ≤ 64 }
+    requires room { HasRoomFor held.old 261 }
+    ensures { held.new ≡ held.old ++ 32 ∷ pairs_with_text with_text row.now (joined_pairs row.now) }
+{
+    write_joined_pairs(held, row);
+    if with_text {
+        write_text_behind(held, row);
+    }
+}
+
+/// Adds pairs of digits after a space, and with spaces between them.
+fn write_joined_pairs(held: &mut HeldOctets, octets: &[u8])
+    requires short { length octets.now ≤ 64 }
+    requires room { HasRoomFor held.old 192 }
+    ensures { held.new ≡ held.old ++ 32 ∷ joined_pairs octets.now }
+{
+    if octets.is_empty() {
+        held.add(b" ");
+    } else {
+        // Each pair brings the space before it.
+        held.spaced_pairs(octets);
+    }
+}
+
+/// Adds the text of three or more octets that are all printable, between bars.
+#[inline(never)]
+fn write_text_behind(held: &mut HeldOctets, octets: &[u8])
+    requires { HasRoomFor held.old (length octets.now + 4) }
+    ensures { held.new ≡ held.old ++ text_behind octets.now }
+{
+    if octets.len() >= 3 && are_printable(octets) {
+        held.add(b"  |");
+        held.add(octets);
+        held.add(b"|");
+    }
+}
+
+/// Whether all of the octets are printable ASCII.
+pub(crate) fn are_printable(octets: &[u8]) -> bool
+    ensures { result ≡ list_all is_printable octets.now }
+{
+    for octet in octets {
+        if *octet < b' ' || *octet > b'~' {
+            return false;
+        }
+    }
+    true
+}

@@ -1,0 +1,13 @@
+//! How the rows of a value are written.
+
+use crate::Layout;
+use crate::kind::Kind;
+
+/// How the rows of a value are written.
+#[derive(Clone, Copy)]
+pub(crate) struct RowForm {
+    pub kind: Kind,
+    pub layout: Layout,
+    /// Whether text is beside pairs of digits.
+    pub with_text: bool,
+}
