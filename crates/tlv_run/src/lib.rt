@@ -15,7 +15,7 @@ mod unfailing_source;
 pub use command::Command;
 pub use command_runs::{run_check, run_dump, run_dump_with, run_extract, run_indef};
 pub use message::write_message;
-pub use report::{Report, device_report, names_report, unopened_report};
+pub use report::{Report, device_report, indef_report, names_report, unopened_report};
 pub use run_call::run;
 pub use run_octets_call::{OctetsRun, run_octets};
 pub use text::Text;

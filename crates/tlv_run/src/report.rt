@@ -59,8 +59,8 @@ pub(crate) fn cut_report(offset: u64, cut: Cut) -> Report
     ending_report(cut.ending, found_report(offset, cut.found))
 }
 
-/// The report of an input written with indefinite lengths.
-pub(crate) fn indef_report(ending: Ending) -> Report
+/// The report of an input of which nothing but its ending is said: a fault, or nothing.
+pub fn indef_report(ending: Ending) -> Report
     ensures { report_value_of result ≡ indef_report ending }
 {
     ending_report(ending, Report::without_message(0))

@@ -5,4 +5,4 @@ mod offsets;
 mod view_call;
 
 pub use offsets::write_offsets;
-pub use view_call::{View, view_octets};
+pub use view_call::{View, Viewed, view_octets};

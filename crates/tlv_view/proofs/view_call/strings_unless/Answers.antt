@@ -7,7 +7,7 @@ use Rattle.tlv_walk.proofs.GrammarLemmas.Readings.{is-reading, reading}
 use Rattle.tlv_open.specs.Laws.{OpeningIsSafe, opened_framing}
 use Rattle.tlv_open.specs.Opens.{AreOpened, closed_framing}
 use Rattle.tlv_open.proofs.FinderLemmas.Inputs.{octets-fit}
-use Rattle.tlv_view.proofs.view_call.offsets_of_strings.Goals as goal
+use Rattle.tlv_view.proofs.view_call.strings_unless.Goals as goal
 
 -- the offsets of the strings that are opened rise
 rising : OpeningIsSafe → (padding : Bool) (octets offsets : List ℕ) → AreOctets octets → length octets ≤ input_limit
@@ -19,8 +19,8 @@ rising safe padding octets offsets each short opens =
 
 pub returns-clause-rising : goal.returns-clause-rising
 returns-clause-rising c =
-    IfOk-weaker c.opened.result _ _
-    (λ list opens.
-    rising c.opening_is_safe.ensures c.args.padding c.args.octets.now list.items
+    IfOk-weaker c.strings_of.result _ _
+    (λ strings opens.
+    rising c.opening_is_safe.ensures c.args.padding c.args.octets.now strings.opened.items
     (octets-fit c.args.octets.now c.type_inv.octets) c.requires opens)
-    c.opened.ensures
+    c.strings_of.ensures.opened
