@@ -1,8 +1,11 @@
-//! What a person sees of octets in memory: a dump, a check or one element, with the strings opened that hold encodings.
+//! What a person sees of octets in memory: a dump, a check or one element, with the strings opened that hold encodings. And
+//! an input that is read into memory.
 #![tactic(auto)]
 
+mod input;
 mod offsets;
 mod view_call;
 
+pub use input::{InputFault, input_report, read_whole};
 pub use offsets::write_offsets;
 pub use view_call::{View, Viewed, view_octets};

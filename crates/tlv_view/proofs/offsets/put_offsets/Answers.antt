@@ -3,7 +3,7 @@ use Rattle.std.proofs.Common.{◌-◌, Bool, take, add-one, append_assoc, rules}
 use Rattle.std.specs.Prelude.{◌==◌}
 use Rattle.std.proofs.lemmas.List.{length-drop, length-take}
 use Rattle.std.proofs.Math.Seq.{drop-cons}
-use Rattle.tlv_io.proofs.Puts.{puts_as, puts_failed_in, puts_nothing, puts_then}
+use Rattle.tlv_io.proofs.Puts.{puts_as, puts_failed_in, puts_then}
 use Rattle.tlv_view.specs.Offsets.{listed_offset, offsets_line}
 use Rattle.tlv_view.proofs.offsets.put_offsets.Goals as goal
 

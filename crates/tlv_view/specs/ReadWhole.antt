@@ -1,0 +1,46 @@
+-- What reading all that a source gives comes to, and what is reported if its octets cannot be had.
+use Rattle.std.specs.Prelude.{◌≡◌, ℕ, ◌<◌, ◌≤◌, List, length, Result, Ok, Err, codes}
+use Rattle.std.specs.List.{concat}
+use Rattle.std.specs.Io.KnownBytes.{IsAtEnd}
+use Rattle.tlv_head.specs.InputLimit.{input_limit}
+use Rattle.tlv_io.specs.Device.{Pieces, SourceState, failed, gave, next_count, octets_given}
+use Rattle.tlv_walk.specs.declared.run.DeviceFault.TheVariants as device
+use Rattle.tlv_run.specs.Report.{ReportValue, device_report, report_with}
+use Rattle.tlv_view.specs.declared.input.InputFault.{InputFault}
+use Rattle.tlv_view.specs.declared.input.InputFault.TheVariants.{ReadFailed, TooLong, Memory}
+
+-- the source has ended, and these are the octets that the reads gave
+pub record IsWholeInput {old new : SourceState} (pieces : Pieces old new) (octets : List ℕ) : Type 0 where
+  pub are_given : octets ≡ octets_given pieces
+  pub ended : new.last ≡ gave 0
+  pub at_end : IsAtEnd new.left
+
+-- the last read gave some octets, and there is no memory for them, though there are no more than the limit
+pub record IsWithoutMemory {old new : SourceState} (pieces : Pieces old new) : Type 0 where
+  pub gave_some : 0 < length pieces.last
+  pub in_limit : length (octets_given pieces) ≤ input_limit
+
+-- why no more was read, by what is returned
+abbrev pub GivesWhole : {old new : SourceState} → Pieces old new → Result (List ℕ) InputFault → Type 0
+GivesWhole pieces (Ok octets) = IsWholeInput pieces octets
+GivesWhole {old} {new} pieces (Err ReadFailed) = new.last ≡ failed
+GivesWhole pieces (Err TooLong) = input_limit < length (octets_given pieces)
+GivesWhole pieces (Err Memory) = IsWithoutMemory pieces
+
+-- the failures of a source: one more if a read failed
+abbrev pub input_failures_after : Result (List ℕ) InputFault → ℕ → ℕ
+input_failures_after (Err ReadFailed) old = next_count old
+input_failures_after _ old = old
+
+-- a source was read until there was a reason to stop: before the last read there was none
+pub record ReadsWhole (old new : SourceState) (result : Result (List ℕ) InputFault) : Type 0 where
+  pub pieces : Pieces old new
+  pub within : length (concat pieces.pieces) ≤ input_limit
+  pub gives : GivesWhole pieces result
+  pub failures : new.failures ≡ input_failures_after result old.failures
+
+-- the report of an input whose octets cannot be had
+abbrev pub input_report : InputFault → ReportValue
+input_report ReadFailed = device_report device.ReadFailed
+input_report TooLong = device_report device.InputTooLong
+input_report Memory = report_with 5 (codes "E8 out of memory")

@@ -1,0 +1,63 @@
+//! A whole input in memory.
+ghost use Rattle.std.specs.Prelude.{◌≡◌};
+ghost use Rattle.std.specs.Result.{result_map_both};
+ghost use Rattle.tlv_run.specs.Report.{report_value_of};
+ghost use Rattle.tlv_view.specs.ReadWhole.{ReadsWhole, input_report};
+
+use std::alloc::Allocator;
+use tlv_run::{Report, device_report};
+use tlv_walk::{DeviceFault, INPUT_LIMIT, Source};
+
+/// Why the octets of an input cannot be had.
+#[derive(Clone, Copy, Debug, PartialEq, Eq)]
+pub enum InputFault {
+    /// E1: a read failed.
+    ReadFailed,
+    /// E3: there are more than 2^40 octets.
+    TooLong,
+    /// E8: memory for the octets was refused.
+    Memory,
+}
+
+/// Reads the source to its end, and returns its octets. A read gives at most 4096 octets. The memory asked for is doubled as
+/// the octets come.
+///
+/// # Errors
+///
+/// `ReadFailed` exactly if a read failed, and `TooLong` once the source gave more than 2^40 octets. `Memory` after any read
+/// that gave octets, if memory for them is refused. Nothing is read after these, and nothing after the end.
+pub fn read_whole<A: Allocator, S: Source>(
+    alloc: A,
+    source: &mut S,
+) -> Result<Vec<u8, A>, InputFault>
+    ensures { ReadsWhole (S.state source.old) (S.state source.new)
+        (result_map_both (λ octets. octets.items) (λ fault. fault) result) }
+{
+    let mut octets = Vec::new(alloc);
+    let mut piece = [0u8; 4096];
+    loop {
+        let Ok(count) = source.read(&mut piece) else {
+            return Err(InputFault::ReadFailed);
+        };
+        if count == 0 {
+            return Ok(octets);
+        }
+        if octets.len() as u64 + count as u64 > INPUT_LIMIT {
+            return Err(InputFault::TooLong);
+        }
+        if octets.extend_from_slice(&piece[..count]).is_err() {
+            return Err(InputFault::Memory);
+        }
+    }
+}
+
+/// The report if the octets of an input cannot be had.
+pub fn input_report(fault: InputFault) -> Report
+    ensures { report_value_of result ≡ input_report fault }
+{
+    match fault {
+        InputFault::ReadFailed => device_report(DeviceFault::ReadFailed),
+        InputFault::TooLong => device_report(DeviceFault::InputTooLong),
+        InputFault::Memory => Report::with_message(5, b"E8 out of memory"),
+    }
+}
