@@ -1,5 +1,5 @@
 -- Inputs, and the strings of them that are broken.
-use Rattle.std.proofs.Common.{◌≡◌, ℕ, zero, suc, ◌<◌, ◌++◌, true, false, ltb, List, [], ◌∷◌, refl, subst, Bool}
+use Rattle.std.proofs.Common.{◌≡◌, ℕ, zero, suc, true, false, ltb, List, [], ◌∷◌, refl, subst}
 use Rattle.std.specs.List.{list_all}
 use Rattle.tlv_head.specs.declared.fault.FaultCode.{FaultCode}
 use Rattle.tlv_head.specs.declared.fault.FaultCode.TheVariants.{MissingEnd, Overrun, TooDeep}
@@ -193,11 +193,18 @@ row-broken_33 : AreBroken false
     (breaks_there 9 Extension Overrun 12 ∷ breaks_there 21 Extension Overrun 24 ∷ [])
 row-broken_33 = row-of_broken _ _ refl refl
 
--- the string is the 128th element that holds others, or would be the 129th
-row-broken_deep : AreBroken false (nested 127 (4 ∷ 0x19 ∷ 0x30 ∷ 0x17 ∷ 2 ∷ 1 ∷ 5 ∷ 4 ∷ 0x13 ∷ zeros 18)) (breaks_there 254 Sequence Overrun 262 ∷ [])
+-- the SEQUENCE in the string is the 128th element that holds others, or would be the 129th; and the string would be
+row-broken_deep : AreBroken false (nested 126 (4 ∷ 0x19 ∷ 0x30 ∷ 0x17 ∷ 2 ∷ 1 ∷ 5 ∷ 4 ∷ 0x13 ∷ zeros 18))
+    (breaks_there 252 Sequence Overrun 260 ∷ [])
 unfolding nested
 row-broken_deep = row-of_broken _ _ refl refl
 
-row-broken_too_deep : AreBroken false (nested 128 (4 ∷ 0x19 ∷ 0x30 ∷ 0x17 ∷ 2 ∷ 1 ∷ 5 ∷ 4 ∷ 0x13 ∷ zeros 18)) (breaks_there 256 Sequence TooDeep 257 ∷ [])
+row-broken_deeper : AreBroken false (nested 127 (4 ∷ 0x19 ∷ 0x30 ∷ 0x17 ∷ 2 ∷ 1 ∷ 5 ∷ 4 ∷ 0x13 ∷ zeros 18))
+    (breaks_there 254 Sequence TooDeep 257 ∷ [])
+unfolding nested
+row-broken_deeper = row-of_broken _ _ refl refl
+
+row-broken_too_deep : AreBroken false (nested 128 (4 ∷ 0x19 ∷ 0x30 ∷ 0x17 ∷ 2 ∷ 1 ∷ 5 ∷ 4 ∷ 0x13 ∷ zeros 18))
+    (breaks_there 256 Sequence TooDeep 257 ∷ [])
 unfolding nested
 row-broken_too_deep = row-of_broken _ _ refl refl

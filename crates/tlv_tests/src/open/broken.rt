@@ -62,16 +62,13 @@ fn expect_deep(rt: &impl Abort, alloc: Global, depth: usize, line: &[u8]) -> Res
 /// A string that is named counts among the 128 elements that may hold others.
 #[test]
 fn deep_strings_are_broken(rt: HostRuntime) -> Result<(), Fail> {
-    expect_deep(
-        &rt,
-        rt.alloc(),
-        127,
-        b"string at 254 begins as a SEQUENCE of its size and breaks at 262: F11 element runs past the enclosing length",
-    )?;
-    expect_deep(
-        &rt,
-        rt.alloc(),
-        128,
-        b"string at 256 begins as a SEQUENCE of its size and breaks at 257: F10 more than 128 open elements",
-    )
+    let overrun: &[u8] =
+        b"string at 252 begins as a SEQUENCE of its size and breaks at 260: F11 element runs past the enclosing length";
+    let inner: &[u8] =
+        b"string at 254 begins as a SEQUENCE of its size and breaks at 257: F10 more than 128 open elements";
+    let outer: &[u8] =
+        b"string at 256 begins as a SEQUENCE of its size and breaks at 257: F10 more than 128 open elements";
+    expect_deep(&rt, rt.alloc(), 126, overrun)?;
+    expect_deep(&rt, rt.alloc(), 127, inner)?;
+    expect_deep(&rt, rt.alloc(), 128, outer)
 }
