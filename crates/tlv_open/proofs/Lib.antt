@@ -1,5 +1,6 @@
 pub mod ElementLemmas
 pub mod FinderLemmas
 pub mod LawLemmas
-mod Rows
+pub mod Rows
+mod BrokenRows
 pub mod BreakLemmas

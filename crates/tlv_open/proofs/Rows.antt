@@ -7,7 +7,7 @@ use Rattle.tlv_walk.specs.Reading.{AreOctets}
 use Rattle.tlv_open.specs.Opens.{AreOpened}
 use Rattle.tlv_open.proofs.LawLemmas.SomeList.{input_list, input-opens}
 
-are-octets : (b : List ℕ) → list_all (λ x. ltb x 256) b ≡ true → AreOctets b
+pub are-octets : (b : List ℕ) → list_all (λ x. ltb x 256) b ≡ true → AreOctets b
 are-octets [] e = All-nil (λ x. x < 256)
 are-octets (x ∷ b) e =
     let parts : (ltb x 256 ≡ true) × (list_all (λ x. ltb x 256) b ≡ true) = and_parts _ _ e in
@@ -126,7 +126,7 @@ row-25 : AreOpened true (0 ∷ 0 ∷ 4 ∷ 2 ∷ 5 ∷ 0 ∷ 0 ∷ []) (2 ∷ []
 row-25 = row-of true _ _ refl refl
 
 -- so many elements of indefinite length, one in another, that hold these octets
-nested : ℕ → List ℕ → List ℕ
+unfoldable pub nested : ℕ → List ℕ → List ℕ
 nested zero octets = octets
 nested (suc n) octets = 0x30 ∷ 0x80 ∷ (nested n octets ++ 0 ∷ 0 ∷ [])
 

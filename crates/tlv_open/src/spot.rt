@@ -76,7 +76,7 @@ fn may_open_in(fields: &HeaderFields, octets: &[u8], offset: u64, end_octets: bo
     ensures { (header : List ℕ) (p : Place) (f : Forest) (depth : ℕ) (rest : List ℕ)
         → p.padding ≡ false → IsReadAt p f depth offset end_octets octets.now rest
         → result ≡ may_open_in (new_header fields.now header)
-            (is_one_primitive f && is_elements_end end_octets rest) }
+        (is_one_primitive f && is_elements_end end_octets rest) }
 {
     !has_segments(fields) || is_one_segment(octets, offset, end_octets)
 }

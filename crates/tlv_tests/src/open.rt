@@ -1,9 +1,13 @@
-//! Which strings of an input are opened.
-use crate::expect::expect_eq_of;
+//! Which strings of an input are opened, and which are broken.
+mod broken;
+mod broken_rows;
+
+use crate::expect::{expect, expect_eq_of};
 use std::alloc::{AllocError, Global};
 use std::process::Abort;
 use std::test::Fail;
-use tlv_open::opened;
+use tlv_head::{Header, read_header};
+use tlv_open::{holds_encodings, opened};
 use tlv_walk::INPUT_LIMIT;
 
 /// An input, and the offsets of the strings that are opened.
@@ -93,4 +97,39 @@ fn expect_deep(rt: &impl Abort, alloc: Global, depth: usize, offsets: &[u64]) ->
 fn deep_strings_are_opened(rt: HostRuntime) -> Result<(), Fail> {
     expect_deep(&rt, rt.alloc(), 127, &[254])?;
     expect_deep(&rt, rt.alloc(), 128, &[])
+}
+
+/// An element, how many elements hold it, and whether it is a string that holds encodings.
+type HoldsRow<'a> = (&'a [u8], u8, bool);
+
+/// Elements at the top, and inside as many as may hold others.
+static HOLDS: [HoldsRow<'static>; 9] = [
+    (b"\x04\x02\x05\x00", 0, true),
+    (b"\x04\x02\x05\x00", 127, true),
+    (b"\x04\x02\x05\x00", 128, false),
+    (b"\x04\x04\x30\x02\x05\x00", 126, true),
+    (b"\x04\x04\x30\x02\x05\x00", 127, false),
+    (b"\x04\x02\x80\x00", 0, false),
+    (b"\x03\x03\x00\x05\x00", 0, true),
+    (b"\x03\x03\x01\x05\x00", 0, false),
+    (b"\x0c\x02\x05\x00", 0, false),
+];
+
+fn expect_holds(rt: &impl Abort, row: HoldsRow<'_>) {
+    let (octets, depth, holds) = row;
+    let Some((fields, count)) = read_header(0, false, octets) else {
+        expect(rt, false, "there is a header");
+        return;
+    };
+    let (header, contents) = octets.split_at(count);
+    let got = holds_encodings(&Header::new(&fields, header), contents, depth);
+    expect_eq_of(rt, octets, got, holds);
+}
+
+#[test]
+fn strings_hold_encodings(rt: HostRuntime) -> Result<(), Fail> {
+    for row in HOLDS.as_slice() {
+        expect_holds(&rt, *row);
+    }
+    Ok(())
 }

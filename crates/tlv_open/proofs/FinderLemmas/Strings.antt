@@ -20,7 +20,7 @@ use Rattle.tlv_open.specs.Breaks.{Breaks, IsBroken, IsBrokenString}
 use Rattle.tlv_open.specs.Held.{HoldsEncodings, after_unused_bits, inner_octets, place_by_itself}
 use Rattle.tlv_open.specs.Opens as opens
 use Rattle.tlv_open.specs.Opens.{Opens, Where, where_of_held}
-use Rattle.tlv_open.specs.Private.Finds.{AddsAll, AddsPrimitive, AddsStrings, Finds, FoundStrings, IsReadAt, found_both}
+use Rattle.tlv_open.specs.Private.Finds.{AddsAll, AddsPrimitive, AddsStrings, FoundStrings, IsReadAt, found_both}
 use Rattle.tlv_open.specs.Private.Finds.{list_of, nothing_found, spot_before, where_of}
 use Rattle.tlv_open.specs.Private.Held.{inner_octets_of}
 use Rattle.tlv_open.proofs.FinderLemmas.FoundBoth.{both-assoc, both-nothing}

@@ -1,6 +1,6 @@
 -- A walk over an input that is at hand, and how much of the input is read.
-use Rattle.std.proofs.Common.{◌≡◌, ◌⊎◌, inl, inr, ℕ, ◌+◌, List, [], ◌∷◌, ◌++◌, length, refl, sym, ap, ◌∙◌, arith, subst}
-use Rattle.std.proofs.Common.{append_assoc, length-append}
+use Rattle.std.proofs.Common.{◌≡◌, ◌⊎◌, inl, inr, ℕ, List, [], ◌∷◌, ◌++◌, length, refl, sym, ap, ◌∙◌, subst}
+use Rattle.std.proofs.Common.{append_assoc}
 use Rattle.tlv_head.specs.declared.fault.Fault.{Fault}
 use Rattle.tlv_walk.specs.declared.ending.Ending.{Ending}
 use Rattle.tlv_walk.specs.declared.ending.Ending.TheVariants as ending
@@ -101,21 +101,24 @@ way-start framing octets piece w h = by_end h.at_end
       stands = st;
       whole = refl;
     })
-    by_end (refused_one f at) = inr ((f, at.stands.phase), record {
-      framing_is = h.framing_is;
-      yielded = h.yielded;
-      at_end =
-          refused_one f (record {
-            taken = at.taken;
-            octet = at.octet;
-            others = at.others ++ piece;
-            octets_are =
-                sym (append_assoc at.taken (at.octet ∷ at.others) piece)
-                ∙ ap (λ (o : List ℕ). o ++ piece) at.octets_are;
-            stands = at.stands;
-          });
-      idle = h.idle;
-    })
+    by_end (refused_one f at) = inr (
+      (f, at.stands.phase),
+      record {
+        framing_is = h.framing_is;
+        yielded = h.yielded;
+        at_end =
+            refused_one f (record {
+              taken = at.taken;
+              octet = at.octet;
+              others = at.others ++ piece;
+              octets_are =
+                  sym (append_assoc at.taken (at.octet ∷ at.others) piece)
+                  ∙ ap (λ (o : List ℕ). o ++ piece) at.octets_are;
+              stands = at.stands;
+            });
+        idle = h.idle;
+      },
+    )
 
 pub way-on : (framing : Framing) (octets : List ℕ) (old new : WalkerState) (rest left : List ℕ) (e : Event)
     → IsOnItsWay framing octets old rest → YieldsNext old new rest left e → IsOnItsWay framing octets new left

@@ -3,7 +3,6 @@ use Rattle.tlv_walk.specs.Ending.{IsEnding}
 use Rattle.tlv_open.specs.Breaks.{octets_around, sequence_starts}
 use Rattle.tlv_open.specs.Private.Walks.{HasWalkedOver}
 use Rattle.tlv_open.proofs.BreakLemmas.Around.{around-length, starts-next}
-use Rattle.tlv_open.proofs.FinderLemmas.Walks.{way-first}
 use Rattle.tlv_open.proofs.breaking.ending_around.Goals as goal
 
 pub loop-preserved : goal.loop-preserved

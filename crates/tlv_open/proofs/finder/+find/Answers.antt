@@ -1,5 +1,5 @@
 use Rattle.std.proofs.Common.{◌≡◌, ◌+◌, ◌&&◌, Bool, not, false, true, List, ℕ, length, take, drop, refl, sym, ap, append-nil}
-use Rattle.std.proofs.Common.{◌∙◌, arith, length-drop, subst}
+use Rattle.std.proofs.Common.{◌∙◌, arith, length-drop}
 use Rattle.std.proofs.lemmas.Bool.{not-true}
 use Rattle.tlv_head.specs.HeaderFields.{new_header}
 use Rattle.tlv_open.specs.Private.Elements.{is_elements_end}
@@ -7,7 +7,7 @@ use Rattle.tlv_open.specs.Private.Finds.{found_of, nothing_found}
 use Rattle.tlv_open.proofs.ElementLemmas.Elements.{tail-all, tail-of_tail}
 use Rattle.tlv_open.proofs.FinderLemmas.FirstFound.{adds-ended_holder, adds-holder, adds-open_holder, adds-primitive}
 use Rattle.tlv_open.proofs.FinderLemmas.FirstFound.{adds-too_deep, adds-unended_holder, adds-unfinished, indefinite-constructed}
-use Rattle.tlv_open.proofs.FinderLemmas.FirstRead.{finds-header, head-count}
+use Rattle.tlv_open.proofs.FinderLemmas.FirstRead.{finds-header}
 use Rattle.tlv_open.proofs.FinderLemmas.Found.{adds-all-at, adds-done, adds-ended, adds-first-at, adds-more}
 use Rattle.tlv_open.proofs.FinderLemmas.Found.{adds-padding, adds-start}
 use Rattle.tlv_open.proofs.FinderLemmas.FoundBoth.{both-nothing}

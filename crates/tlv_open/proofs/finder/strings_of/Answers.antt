@@ -1,4 +1,4 @@
-use Rattle.std.proofs.Common.{ℕ, List, take, sym, ap₂, arith}
+use Rattle.std.proofs.Common.{take, sym, arith}
 use Rattle.std.proofs.Common.{false, subst}
 use Rattle.std.proofs.lemmas.List.{length-take-le}
 use Rattle.tlv_walk.specs.Reading.{AreOctets, IsReading}

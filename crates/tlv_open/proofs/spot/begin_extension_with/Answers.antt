@@ -1,4 +1,4 @@
-use Rattle.std.proofs.Common.{◌≡◌, Bool, ◌&&◌, true, false, inl, inr, sym, ap, ◌∙◌, arith, length, refl, take, drop, List, ℕ}
+use Rattle.std.proofs.Common.{◌≡◌, Bool, ◌&&◌, true, false, inl, inr, sym, ap, ◌∙◌, arith, length, take, drop, List, ℕ}
 use Rattle.tlv_head.specs.HeaderFields.{new_header}
 use Rattle.tlv_head.specs.UniversalTypes as universal
 use Rattle.tlv_value.specs.Types.{is_a}

@@ -1,4 +1,4 @@
-use Rattle.std.proofs.Common.{inl, inr, sym, ap, ◌∙◌, ◌&&◌, Bool, true, false, arith, length, drop}
+use Rattle.std.proofs.Common.{inl, inr, sym, ap, ◌∙◌, ◌&&◌, Bool, arith, length}
 use Rattle.tlv_head.specs.Header.{announced_length}
 use Rattle.tlv_open.specs.Private.Elements.{is_elements_end}
 use Rattle.tlv_open.proofs.ElementLemmas.Elements.{tail-all, tail-of_tail}
