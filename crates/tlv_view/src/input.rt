@@ -1,6 +1,7 @@
 //! A whole input in memory.
-ghost use Rattle.std.specs.Prelude.{◌≡◌};
+ghost use Rattle.std.specs.Prelude.{◌≡◌, ◌≤◌, IfOk, length};
 ghost use Rattle.std.specs.Result.{result_map_both};
+ghost use Rattle.tlv_head.specs.InputLimit.{input_limit};
 ghost use Rattle.tlv_run.specs.Report.{report_value_of};
 ghost use Rattle.tlv_view.specs.ReadWhole.{ReadsWhole, input_report};
 
@@ -30,8 +31,9 @@ pub fn read_whole<A: Allocator, S: Source>(
     alloc: A,
     source: &mut S,
 ) -> Result<Vec<u8, A>, InputFault>
-    ensures { ReadsWhole (S.state source.old) (S.state source.new)
+    ensures reads { ReadsWhole (S.state source.old) (S.state source.new)
         (result_map_both (λ octets. octets.items) (λ fault. fault) result) }
+    ensures within { IfOk result (λ octets. length octets.items ≤ input_limit) }
 {
     let mut octets = Vec::new(alloc);
     let mut piece = [0u8; 4096];

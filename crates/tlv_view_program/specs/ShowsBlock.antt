@@ -13,7 +13,7 @@ use Rattle.tlv_open.specs.BrokenLine.{broken_line}
 use Rattle.tlv_open.specs.Opens.{AreOpened, closed_framing}
 use Rattle.tlv_open.specs.declared.strings.BrokenString.{BrokenString}
 use Rattle.tlv_run.specs.Report.{ReportValue, device_report, indef_report, unopened_report}
-use Rattle.tlv_view.specs.Input.{ReadsWhole, input_report}
+use Rattle.tlv_view.specs.ReadWhole.{ReadsWhole, input_report}
 use Rattle.tlv_view.specs.declared.input.InputFault.{InputFault}
 use Rattle.tlv_view.specs.declared.input.InputFault.TheVariants.{Memory}
 use Rattle.tlv_view.specs.Offsets.{offsets_line}

@@ -1,6 +1,6 @@
 //! What is shown of one file, and what is said of it.
 ghost use Rattle.std.specs.Prelude.{◌≡◌, [], Result};
-ghost use Rattle.std.specs.Result.{result_map};
+ghost use Rattle.std.specs.Result.{result_map_both};
 ghost use Rattle.tlv_io.specs.Out.{Sends};
 ghost use Rattle.tlv_run.specs.BorrowedText.{text_in};
 ghost use Rattle.tlv_run.specs.Report.{report_value_of};
@@ -158,7 +158,7 @@ impl Task<'_> {
 
 /// The octets, or what is reported if they cannot be had.
 fn octets_or_report(octets: Result<Vec<u8>, InputFault>) -> Result<Vec<u8>, Report>
-    ensures { octets_had result ≡ octets_or_report (result_items octets.entry) }
+    ensures { octets_had result ≡ octets_or_report (result_map_both (λ v. v.items) (λ fault. fault) octets.entry) }
 {
     match octets {
         Ok(octets) => Ok(octets),

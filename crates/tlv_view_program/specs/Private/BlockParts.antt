@@ -2,7 +2,6 @@
 use Rattle.std.specs.Prelude.{ℕ, List, Result, Ok, Err, Vec}
 use Rattle.tlv_run.specs.Report.{ReportValue, report_value_of}
 use Rattle.tlv_run.specs.declared.report.Report.{Report}
-use Rattle.tlv_view.specs.declared.input.InputFault.{InputFault}
 
 -- the octets that were had, or the report that there are none
 abbrev pub octets_had : {Z : Type 0} → Result (Vec ℕ Z) Report → Result (List ℕ) ReportValue

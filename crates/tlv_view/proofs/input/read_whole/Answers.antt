@@ -23,25 +23,25 @@ loop-count-preserved g c =
       failures = search rules;
     }
 
-pub returns-in_default : goal.returns-in_default
-returns-in_default g c =
+pub returns-in_default-clause-reads : goal.returns-in_default-clause-reads
+returns-in_default-clause-reads g c =
     let i = c.loop-count.invariant in
     whole-failed _ _ _ _ i.given i.most i.failures c.read.new.to (search rules) _ c.in_default.ensures
 
-pub returns-then-count-eq0 : goal.returns-then-count-eq0
-returns-then-count-eq0 g c =
+pub returns-then-count-eq0-clause-reads : goal.returns-then-count-eq0-clause-reads
+returns-then-count-eq0-clause-reads g c =
     let i = c.loop-count.invariant in
     whole-ended _ _ _ _ i.given i.most i.failures c.read.new.to (search rules) c.in-Ok.count c.in-Ok.ensures
     (search rules)
 
-pub returns-then-len-count-gt-INPUT_LIMIT : goal.returns-then-len-count-gt-INPUT_LIMIT
-returns-then-len-count-gt-INPUT_LIMIT g c =
+pub returns-then-len-count-gt-INPUT_LIMIT-clause-reads : goal.returns-then-len-count-gt-INPUT_LIMIT-clause-reads
+returns-then-len-count-gt-INPUT_LIMIT-clause-reads g c =
     let i = c.loop-count.invariant in
     whole-too_long _ _ _ _ i.given i.most i.failures c.read.new.to (search rules) c.in-Ok.count c.in-Ok.ensures
     (omega (arith, c.len.ensures, c.if-len-count-gt-INPUT_LIMIT.true))
 
-pub returns-then-is_err : goal.returns-then-is_err
-returns-then-is_err g c =
+pub returns-then-is_err-clause-reads : goal.returns-then-is_err-clause-reads
+returns-then-is_err-clause-reads g c =
     let i = c.loop-count.invariant in
     whole-no_memory _ _ _ _ i.given i.most i.failures c.read.new.to (search rules) c.in-Ok.count c.in-Ok.ensures
     (search rules) (omega (arith, c.len.ensures, c.if-len-count-gt-INPUT_LIMIT.false))
