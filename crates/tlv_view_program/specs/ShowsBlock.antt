@@ -1,6 +1,7 @@
 -- What is shown of one file, or of standard input, and what is said of it.
-use Rattle.std.specs.Prelude.{◌≡◌, ◌&&◌, ◌++◌, ⊤, tt, ℕ, Bool, true, false, not, List, [], ◌∷◌, Option, Some, None}
+use Rattle.std.specs.Prelude.{◌≡◌, ◌&&◌, ◌++◌, ⊤, ℕ, Bool, true, false, not, List, [], ◌∷◌, Option, Some, None}
 use Rattle.std.specs.Prelude.{Result, Ok, Err, flat_map, if◌then◌else◌, max, nat_lt}
+use Rattle.std.specs.Result.{IsErr, IsOk}
 use Rattle.std.specs.Str.{bytes_eq}
 use Rattle.tlv_io.specs.Device.{DrainState, SourceState}
 use Rattle.tlv_io.specs.Out.{Sends}
@@ -128,12 +129,13 @@ module _ {S : Type 0} (allows : Allows S) where
     pub data ShowsTitled (number count : ℕ) (file : Option (List ℕ)) (old new : StreamsValue S)
         : ReportValue → List BrokenString → Type 0 where
       -- that line cannot be written, and the file is not opened
-      title_failed : (fault : WriteFault)
-          → Sends old.output new.output (title request.wanted number count file) (Err {T = ⊤} fault)
+      title_failed : (result : Result ⊤ WriteFault) → IsErr result
+          → Sends old.output new.output (title request.wanted number count file) result
           → new ≡ record old { output = new.output }
           → ShowsTitled number count file old new (device_report WriteFailed) []
-      titled : (between : DrainState) (report : ReportValue) (broken : List BrokenString)
-          → Sends old.output between (title request.wanted number count file) (Ok {E = WriteFault} tt)
+      titled : (between : DrainState) (result : Result ⊤ WriteFault) (report : ReportValue)
+          (broken : List BrokenString) → IsOk result
+          → Sends old.output between (title request.wanted number count file) result
           → ShowsFile file (record old { output = between }) new report broken
           → ShowsTitled number count file old new report broken
 

@@ -48,7 +48,7 @@ impl Task<'_> {
         file: Option<&str>,
         streams: &mut Streams<S, I, O, M>,
     ) -> BlockResult
-        ensures { ShowsBlock S.allows self.now.request.now self.now.names.now number self.now.count (text_in file)
+        ensures { ShowsBlock S.allows self.now.request.now self.now.names.now number self.now.count (text_in file.entry)
             (streams_value I.state O.state M.state streams.old) (streams_value I.state O.state M.state streams.new)
             result.has_failed result.status }
     {
@@ -72,7 +72,7 @@ impl Task<'_> {
         file: Option<&str>,
         streams: &mut Streams<S, I, O, M>,
     ) -> Viewed
-        ensures { ShowsTitled S.allows self.now.request.now self.now.names.now number self.now.count (text_in file)
+        ensures { ShowsTitled S.allows self.now.request.now self.now.names.now number self.now.count (text_in file.entry)
             (streams_value I.state O.state M.state streams.old) (streams_value I.state O.state M.state streams.new)
             (report_value_of result.report) result.broken.items }
     {
@@ -90,7 +90,7 @@ impl Task<'_> {
         drain: &mut D,
     ) -> Result<(), WriteFault>
         ensures { Sends (D.state drain.old) (D.state drain.new)
-            (title self.now.request.now.wanted number self.now.count (text_in file)) result }
+            (title self.now.request.now.wanted number self.now.count (text_in file.entry)) result }
     {
         if has_titles(&self.request.wanted) && self.count > 1 {
             write_block_line(number, self.count, file, drain)
@@ -105,7 +105,7 @@ impl Task<'_> {
         file: Option<&str>,
         streams: &mut Streams<S, I, O, M>,
     ) -> Viewed
-        ensures { ShowsFile S.allows self.now.request.now self.now.names.now (text_in file)
+        ensures { ShowsFile S.allows self.now.request.now self.now.names.now (text_in file.entry)
             (streams_value I.state O.state M.state streams.old) (streams_value I.state O.state M.state streams.new)
             (report_value_of result.report) result.broken.items }
     {
@@ -127,7 +127,7 @@ impl Task<'_> {
         file: Option<&str>,
         streams: &mut Streams<S, I, O, M>,
     ) -> Result<Vec<u8>, Report>
-        ensures { GetsOctets S.allows (text_in file)
+        ensures { GetsOctets S.allows (text_in file.entry)
             (streams_value I.state O.state M.state streams.old) (streams_value I.state O.state M.state streams.new)
             (octets_had result) }
     {
@@ -146,7 +146,7 @@ impl Task<'_> {
 
     /// Nothing is shown, and this is reported.
     fn reported(&self, report: Report) -> Viewed
-        ensures report { report_value_of result.report ≡ report_value_of report.entry }
+        ensures report { report_value_of result.report ≡ report_value_of report }
         ensures none { result.broken.items ≡ [] }
     {
         Viewed {
@@ -158,7 +158,7 @@ impl Task<'_> {
 
 /// The octets, or what is reported if they cannot be had.
 fn octets_or_report(octets: Result<Vec<u8>, InputFault>) -> Result<Vec<u8>, Report>
-    ensures { octets_had result ≡ octets_or_report (result_map_both (λ v. v.items) (λ fault. fault) octets.entry) }
+    ensures { octets_had result ≡ octets_or_report (result_map_both (λ v. v.items) (λ fault. fault) octets) }
 {
     match octets {
         Ok(octets) => Ok(octets),

@@ -1,5 +1,5 @@
 //! All files, one after another.
-ghost use Rattle.std.specs.Prelude.{◌≡◌, length};
+ghost use Rattle.std.specs.Prelude.{◌≡◌, length, max};
 ghost use Rattle.tlv_run.specs.BorrowedText.{text_in};
 ghost use Rattle.tlv_view_program.specs.ShowsAll.{ShowsFiles, file_of_word, files_of_words};
 ghost use Rattle.tlv_view_program.specs.Streams.{streams_value};
@@ -25,26 +25,37 @@ pub(crate) fn show_files<S: System, I: Source, O: Drain, M: Drain>(
         result }
 {
     let files = request.files.as_slice();
+    if files.is_empty() {
+        let task = Task {
+            alloc,
+            request,
+            names,
+            count: 1,
+        };
+        return task.block(1, None, streams).status;
+    }
     let task = Task {
         alloc,
         request,
         names,
         count: files.len(),
     };
-    if files.is_empty() {
-        return task.block(1, None, streams).status;
-    }
     let mut status = 0;
-    let mut number = 0;
-    for word in files {
-        number += 1;
-        let block = task.block(number, file_of_word(word.as_str()), streams);
-        status = status.max(block.status);
+    for i in 0..files.len() {
+        let block = task.block(i + 1, file_of_word(files[i].as_str()), streams);
+        status = highest(status, block.status);
         if block.has_failed {
-            break;
+            return status;
         }
     }
     status
+}
+
+/// The higher of two statuses.
+fn highest(status: u8, other: u8) -> u8
+    ensures { result ≡ max status other }
+{
+    status.max(other)
 }
 
 /// The file of a word: `-` is standard input, which has no name.

@@ -1,18 +1,21 @@
 //! What is shown of octets.
-ghost use Rattle.std.specs.Prelude.{◌≡◌, ◌≤◌, IfOk, None, OnErr, Some, length};
+ghost use Rattle.std.specs.Prelude.{◌≡◌, ◌≤◌, [], None, Some, length};
 ghost use Rattle.tlv_head.specs.InputLimit.{input_limit};
 ghost use Rattle.tlv_run.specs.Report.{report_value_of};
 ghost use Rattle.tlv_value.specs.Names.{NamesValue};
-ghost use Rattle.tlv_view_program.specs.ShowsBlock.{ShowsOctets, view_of};
+ghost use Rattle.tlv_open.specs.Opens.{closed_framing};
+ghost use Rattle.tlv_view.specs.ReadWhole.{input_report};
+ghost use Rattle.tlv_walk.specs.Ending.{IsEnding};
+ghost use Rattle.tlv_view_program.specs.ShowsBlock.{ShowsOctets, offsets_report, view_of};
 
 use crate::wanted::{reports_broken, stays_closed};
-use std::alloc::{AllocError, Global};
+use std::alloc::Global;
 use tlv_open::{ending_of, opened};
-use tlv_run::{device_report, indef_report};
+use tlv_run::{Report, device_report, indef_report};
 use tlv_show::FiniteNames;
 use tlv_view::{InputFault, View, Viewed, input_report, view_octets, write_offsets};
 use tlv_view_words::{Request, Wanted};
-use tlv_walk::{DeviceFault, Drain};
+use tlv_walk::{DeviceFault, Drain, Ending, WriteFault};
 
 /// Writes what is wanted of the octets. Returns what is reported of them, and which strings in them are reported as
 /// broken.
@@ -27,16 +30,20 @@ pub(crate) fn show_octets<N: FiniteNames, D: Drain>(
     ensures { ShowsOctets request.now (N.table names.now) octets.now (D.state drain.old) (D.state drain.new)
         (report_value_of result.report) result.broken.items }
 {
-    let shown = match view_of(&request.wanted) {
+    match view_of(&request.wanted) {
         Some(view) => show_view(alloc, request, &view, names, octets, drain),
         None => list_offsets(alloc, request, octets, drain),
-    };
-    match shown {
-        Ok(shown) => shown,
-        Err(_) => Viewed {
-            report: input_report(InputFault::Memory),
-            broken: Vec::new(alloc),
-        },
+    }
+}
+
+/// Memory is refused.
+fn no_memory(alloc: Global) -> Viewed
+    ensures report { report_value_of result.report ≡ input_report InputFault.Memory }
+    ensures none { result.broken.items ≡ [] }
+{
+    Viewed {
+        report: input_report(InputFault::Memory),
+        broken: Vec::new(alloc),
     }
 }
 
@@ -74,22 +81,26 @@ fn show_view<N: FiniteNames, D: Drain>(
     names: &N,
     octets: &[u8],
     drain: &mut D,
-) -> Result<Viewed, AllocError>
+) -> Viewed
     requires short { length octets.now ≤ input_limit }
     requires wanted { view_of request.now.wanted ≡ Some view.now }
-    ensures shows { IfOk result (λ viewed. ShowsOctets request.now (N.table names.now) octets.now
-        (D.state drain.old) (D.state drain.new) (report_value_of viewed.report) viewed.broken.items) }
-    ensures nothing { OnErr result (D.state drain.new ≡ D.state drain.old) }
+    ensures { ShowsOctets request.now (N.table names.now) octets.now (D.state drain.old) (D.state drain.new)
+        (report_value_of result.report) result.broken.items }
 {
     let closed = stays_closed(&request.wanted);
-    let viewed = view_octets(alloc, view, names, closed, request.padding, octets, drain)?;
-    if reports_broken(&request.wanted) {
-        return Ok(viewed);
+    match view_octets(alloc, view, names, closed, request.padding, octets, drain) {
+        Ok(viewed) => {
+            if reports_broken(&request.wanted) {
+                viewed
+            } else {
+                Viewed {
+                    report: viewed.report,
+                    broken: Vec::new(alloc),
+                }
+            }
+        }
+        Err(_) => no_memory(alloc),
     }
-    Ok(Viewed {
-        report: viewed.report,
-        broken: Vec::new(alloc),
-    })
 }
 
 /// Writes the offsets of the strings that are opened.
@@ -98,20 +109,31 @@ fn list_offsets<D: Drain>(
     request: &Request,
     octets: &[u8],
     drain: &mut D,
-) -> Result<Viewed, AllocError>
+) -> Viewed
     requires short { length octets.now ≤ input_limit }
     requires wanted { view_of request.now.wanted ≡ None }
-    ensures shows { (table : NamesValue) → IfOk result (λ viewed. ShowsOctets request.now table octets.now
-        (D.state drain.old) (D.state drain.new) (report_value_of viewed.report) viewed.broken.items) }
-    ensures nothing { OnErr result (D.state drain.new ≡ D.state drain.old) }
+    ensures { (table : NamesValue) → ShowsOctets request.now table octets.now
+        (D.state drain.old) (D.state drain.new) (report_value_of result.report) result.broken.items }
 {
-    let offsets = opened(alloc, octets, request.padding)?;
-    let report = match write_offsets(offsets.as_slice(), drain) {
-        Ok(()) => indef_report(ending_of(octets, request.padding)),
-        Err(_) => device_report(DeviceFault::WriteFailed),
+    let Ok(offsets) = opened(alloc, octets, request.padding) else {
+        return no_memory(alloc);
     };
-    Ok(Viewed {
-        report,
+    let written = write_offsets(offsets.as_slice(), drain);
+    Viewed {
+        report: offsets_report(written, octets, request.padding),
         broken: Vec::new(alloc),
-    })
+    }
+}
+
+/// What is reported of a list of offsets: that it could not be written, or else the fault of the input.
+fn offsets_report(written: Result<(), WriteFault>, octets: &[u8], padding: bool) -> Report
+    requires { length octets.now ≤ input_limit }
+    ensures { (ending : Ending) × IsEnding (closed_framing padding) octets.now ending
+        × (report_value_of result ≡ offsets_report ending written) }
+{
+    let ending = ending_of(octets, padding);
+    match written {
+        Ok(()) => indef_report(ending),
+        Err(_) => device_report(DeviceFault::WriteFailed),
+    }
 }

@@ -1,0 +1,20 @@
+use Rattle.std.proofs.Common.{rules}
+use Rattle.tlv_view_program.proofs.Items.{all_three, first_fails, second_fails}
+use Rattle.tlv_view_program.proofs.lines.put_block_line.Goals as goal
+
+pub returns-in_err-put : goal.returns-in_err-put
+returns-in_err-put g c =
+    first_fails g.D.Drain.state _ _ _ _ _ _ _
+    (rw (c.as_slice.ensures.value, c.block_start.ensures) at c.in_err-put.ensures.puts) (search rules)
+
+pub returns-in_err-put_shown_name : goal.returns-in_err-put_shown_name
+returns-in_err-put_shown_name g c =
+    second_fails g.D.Drain.state _ _ _ _ _ _ _ _
+    (rw (c.as_slice.ensures.value, c.block_start.ensures) at c.in_ok-put.ensures.puts)
+    c.in_err-put_shown_name.ensures (search rules)
+
+pub returns : goal.returns
+returns g c =
+    all_three g.D.Drain.state _ _ _ _ _ _ _ _
+    (rw (c.as_slice.ensures.value, c.block_start.ensures) at c.in_ok-put.ensures.puts)
+    c.in_ok-put_shown_name.ensures c.put-2.ensures.puts
