@@ -1,5 +1,5 @@
 //! Sound elements in octets that are at hand.
-ghost use Rattle.std.specs.Prelude.{◌≡◌, ◌+◌, ◌<◌, ◌^◌, MatchOption, ◌↔◌, IsTrue, false, length};
+ghost use Rattle.std.specs.Prelude.{◌≡◌, ◌+◌, ◌<◌, ◌^◌, MatchOption, ◌↔◌, IsTrue, false, length, slice_index};
 ghost use Rattle.tlv_head.specs.Header.{announced_length};
 ghost use Rattle.tlv_head.specs.HeaderFields.{IsHeaderSized, new_header};
 ghost use Rattle.tlv_head.specs.ReadHeader.{BeginsWithFields};
@@ -13,6 +13,14 @@ use tlv_show::has_basic_findings;
 
 /// The most elements that hold others, inside one another.
 pub(crate) const DEPTH_LIMIT: u8 = 128;
+
+/// The first octet, or 0 if there is none.
+#[inline]
+pub(crate) fn first_octet(octets: &[u8]) -> u8
+    ensures { result ≡ slice_index octets.now 0 }
+{
+    if octets.is_empty() { 0 } else { octets[0] }
+}
 
 /// The header with which the octets begin, at this offset, and how many octets it has. `None` if they begin with none.
 #[inline]

@@ -10,7 +10,7 @@ ghost use Rattle.tlv_value.specs.Types.{has_segments, is_a, is_string};
 ghost use Rattle.tlv_walk.specs.Forest.{Forest};
 ghost use Rattle.tlv_walk.specs.Place.{Place};
 
-use crate::elements::{header_at, is_elements_end};
+use crate::elements::{first_octet, header_at, is_elements_end};
 use tlv_head::{Class, HeaderFields, Size, universal};
 
 /// Where elements are that are read by themselves.
@@ -143,6 +143,11 @@ fn begin_extension(octets: &[u8], offset: u64) -> bool
     ensures { (p : Place) (f : Forest) (depth : ℕ) (end_octets : Bool) (rest : List ℕ)
         → IsReadAt p f depth offset end_octets octets.now rest → result ≡ begin_extension f }
 {
+    // Its first octet is 06, or in the high form 1f; so few headers are read here.
+    let first = first_octet(octets);
+    if first != 6 && first != 0x1f {
+        return false;
+    }
     let Some((fields, count)) = header_at(octets, offset) else {
         return false;
     };
