@@ -91,8 +91,8 @@ fn have_announced_size(octets: &[u8]) -> bool
     length <= rest + MOST_APART && rest <= length + MOST_APART
 }
 
-/// The fault of a string, header and contents, if it breaks: its offset is counted from the start of the octets around it.
-/// `depth` is how many elements hold it.
+/// The fault of a string, header and contents, if it breaks. Its offset is counted from the start of the octets around
+/// the string. `depth` is how many elements hold it.
 fn fault_in(string: &[u8], depth: u8) -> Option<Fault>
     requires { length string.now ≤ input_limit }
     ensures { MatchOption result ((f : Fault) → BreaksAt depth string.now f → ⊥)

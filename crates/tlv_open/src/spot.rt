@@ -69,8 +69,8 @@ pub(crate) fn is_value_before(spot: Spot, octets: &[u8], end_octets: bool) -> bo
     spot.in_extension && is_elements_end(octets, end_octets)
 }
 
-/// Whether strings in an element with these fields and contents may be opened: they are no segments, or the only one of a
-/// whole string.
+/// Whether strings in an element with these fields and contents may be opened: they are no segments, or the only one of
+/// a whole string.
 fn may_open_in(fields: &HeaderFields, octets: &[u8], offset: u64, end_octets: bool) -> bool
     ensures { (header : List ℕ) (p : Place) (f : Forest) (depth : ℕ) (rest : List ℕ)
         → p.padding ≡ false → IsReadAt p f depth offset end_octets octets.now rest
