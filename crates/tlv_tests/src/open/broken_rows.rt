@@ -157,11 +157,7 @@ pub(super) static EXTENSIONS: [Row<'static>; 17] = [
         ],
     ),
     // not below 2.5.29
-    (
-        b"\x30\x09\x06\x02\x55\x1d\x04\x03\x03\x02\x05",
-        &[],
-        &[],
-    ),
+    (b"\x30\x09\x06\x02\x55\x1d\x04\x03\x03\x02\x05", &[], &[]),
     // below 1.3.6.1.5.5.7.1
     (
         b"\x30\x0f\x06\x08\x2b\x06\x01\x05\x05\x07\x01\x01\x04\x03\x03\x02\x05",
@@ -195,11 +191,7 @@ pub(super) static EXTENSIONS: [Row<'static>; 17] = [
         &[],
     ),
     // a value without octets
-    (
-        b"\x30\x07\x06\x03\x55\x1d\x0f\x04\x00",
-        &[],
-        &[],
-    ),
+    (b"\x30\x07\x06\x03\x55\x1d\x0f\x04\x00", &[], &[]),
     // its header cut at the end
     (
         b"\x30\x08\x06\x03\x55\x1d\x0f\x04\x01\x30",
