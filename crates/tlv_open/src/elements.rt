@@ -74,7 +74,7 @@ pub(crate) fn is_elements_end(octets: &[u8], end_octets: bool) -> bool
 
 /// How many octets the sound element has with which the octets begin, at this offset and depth.
 #[cycle(sound)]
-fn element_size(octets: &[u8], offset: u64, depth: u8, likely: bool) -> Option<usize>
+pub(crate) fn element_size(octets: &[u8], offset: u64, depth: u8, likely: bool) -> Option<usize>
     requires { offset + length octets.now < 2 ^ 64 }
     ensures { MatchOption result (BeginsWithNoElement (place_at offset depth) likely octets.now)
         (λ n. BeginsWithElement (place_at offset depth) likely octets.now n) }

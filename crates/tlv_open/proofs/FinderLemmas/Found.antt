@@ -169,7 +169,7 @@ pub record IsLast (w : Spot) (g : Forest) (left : List ℕ) : Type 0 where
   pub size : is_whole g ≡ true → length (spelling g) ≡ 0
   pub unfinished : is_whole g ≡ false → is_elements_end true left ≡ false
 
-drop-end : (octets : List ℕ) (at : ℕ) → length octets ≤ at → drop at octets ≡ []
+pub drop-end : (octets : List ℕ) (at : ℕ) → length octets ≤ at → drop at octets ≡ []
 drop-end octets at h = nil (drop at octets) (omega (arith, length-drop at octets))
   where
     nil : (xs : List ℕ) → length xs ≤ 0 → xs ≡ []
