@@ -3,7 +3,7 @@ ghost use Rattle.std.specs.Prelude.{◌≡◌, ◌≤◌, ◌+◌, IsTrue, lengt
 ghost use Rattle.tlv_head.specs.InputLimit.{input_limit};
 ghost use Rattle.tlv_open.specs.Opens.{closed_framing};
 ghost use Rattle.tlv_open.specs.Private.Elements.{ArePaddedElements};
-ghost use Rattle.tlv_open.specs.Private.Walks.{HasWalkedOver, WalksOver};
+ghost use Rattle.tlv_open.specs.Private.Walks.{HasWalkedOver, WalksOverMore};
 ghost use Rattle.tlv_walk.specs.Forest.{Forest, spelling};
 ghost use Rattle.tlv_walk.specs.Reading.{IsReading};
 ghost use Rattle.tlv_walk.specs.WalkerState.{IsWithinInputLimit, new_walker};
@@ -68,7 +68,7 @@ fn walk_over<'f>(octets: &[u8], framing: &'f Framing<'_>) -> Walker<'f>
 /// Walks over octets after those that the walker has walked over, up to one that is refused.
 pub(crate) fn walk_on(walker: &mut Walker<'_>, octets: &[u8])
     requires { IsWithinInputLimit walker.old octets.now }
-    ensures walks { WalksOver walker.old walker.new octets.now }
+    ensures walks { WalksOverMore walker.old walker.new octets.now }
     ensures within { walker.new.offset ≤ walker.old.offset + length octets.now }
 {
     let mut rest: &[u8] = octets;
