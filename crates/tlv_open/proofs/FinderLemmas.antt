@@ -7,3 +7,4 @@ pub mod OneSegment
 pub mod Extensions
 pub mod Strings
 pub mod Inputs
+pub mod Padded

@@ -11,7 +11,8 @@ use Rattle.tlv_open.specs.declared.strings.BrokenString.{BrokenString}
 use Rattle.tlv_open.specs.declared.strings.Suspicion.{Suspicion}
 use Rattle.tlv_open.specs.declared.strings.Suspicion.TheVariants.{Extension, Sequence, Set}
 use Rattle.tlv_open.specs.Held.{HoldsEncodings, inner_octets}
-use Rattle.tlv_open.specs.Opens.{Where, closed_framing, is_one_primitive, where_at_top, where_of_children, where_of_held}
+use Rattle.tlv_open.specs.Opens.{Where, closed_framing, is_one_primitive, where_at_top, where_of_children}
+use Rattle.tlv_open.specs.Opens.{where_of_held}
 use Rattle.tlv_value.specs.Types.{is_a}
 use Rattle.tlv_walk.specs.declared.ending.Ending.TheVariants as ending
 use Rattle.tlv_walk.specs.declared.framing.Framing.{Framing}
@@ -38,8 +39,8 @@ pub record BeginsAs (first : ℕ) (octets : List ℕ) : Type 0 where
   pub first_octet : slice_index octets 0 ≡ first
   pub size : HaveAnnouncedSize octets
 
--- why a string looks like encodings, by its inner octets, and by whether it is the value of an extension: a line for each
--- reason. 8.9.1, 8.11.1: SEQUENCE begins with 30, SET with 31
+-- why a string looks like encodings, by its inner octets, and by whether it is the value of an extension: a line for
+-- each reason. 8.9.1, 8.11.1: SEQUENCE begins with 30, SET with 31
 pub data LooksEncoded (octets : List ℕ) (is_value : Bool) : Suspicion → Type 0 where
   sequence : BeginsAs 0x30 octets → LooksEncoded octets is_value Sequence
   set : BeginsAs 0x31 octets → LooksEncoded octets is_value Set
@@ -65,8 +66,8 @@ abbrev pub begin_extension : Forest → Bool
 begin_extension (Primitive id contents rest) = is_a universal.object_identifier id && names_extension contents
 begin_extension f = false
 
--- an element with this header, which holds these others, is an extension: a SEQUENCE that begins so. Its last element is
--- its value
+-- an element with this header, which holds these others, is an extension: a SEQUENCE that begins so. Its last element
+-- is its value
 abbrev pub is_extension : HeaderValue → Forest → Bool
 is_extension h children = is_a universal.sequence h && begin_extension children
 
@@ -91,8 +92,8 @@ octets_around depth string = sequence_starts depth ++ (string ++ 5 ∷ 0 ∷ [])
 abbrev pub framing_around : ℕ → Framing
 framing_around depth = record { inside = 2 * depth ∷ []; padding = false }
 
--- a string that is so many elements deep breaks when it is read as encodings: among the octets around it there is a fault,
--- which is not beyond its end. These octets are an input, and so no more than an input may have
+-- a string that is so many elements deep breaks when it is read as encodings: the octets around it end in a fault that
+-- is not beyond the end of the string. These octets are an input, and so no more than an input may have
 pub record BreaksAt (depth : ℕ) (string : List ℕ) (fault : Fault) : Type 0 where
   pub within_limit : length (octets_around depth string) ≤ input_limit
   pub is_ending : IsEnding (framing_around depth) (octets_around depth string) (ending.Fault fault)
@@ -112,8 +113,8 @@ pub record IsBrokenString
   pub breaks_at : BreaksAt depth string fault
   pub fault_is : broken.fault ≡ fault_of_string offset depth fault
 
--- a primitive among elements at a place is a string that is broken: it may be opened there, is not, looks like encodings,
--- and breaks
+-- a primitive among elements at a place is a string that is broken: it may be opened there, is not, looks like
+-- encodings, and breaks
 pub record IsBroken
     (w : Where) (is_value : Bool) (h : HeaderValue) (contents : List ℕ) (broken : BrokenString)
     : Type 0 where
@@ -150,7 +151,8 @@ pub data Breaks : Where → Bool → Forest → List BrokenString → Type 0 whe
   open_holder : {w : Where} {e : Bool} {h : HeaderValue} {children : Forest} {xs : List BrokenString}
       → Breaks (where_of_children w h false) false children xs → Breaks w e (OpenHolder h children) xs
   -- what is unfinished is not looked at
-  open_primitive : {w : Where} {e : Bool} {h : HeaderValue} {contents : List ℕ} → Breaks w e (OpenPrimitive h contents) []
+  open_primitive : {w : Where} {e : Bool} {h : HeaderValue} {contents : List ℕ}
+      → Breaks w e (OpenPrimitive h contents) []
   open_bit_string : {w : Where} {e : Bool} {h : HeaderValue} → Breaks w e (OpenBitString h) []
   open_header : {w : Where} {e : Bool} {octets : List ℕ} → Breaks w e (OpenHeader octets) []
   open_end_octets : {w : Where} {e : Bool} → Breaks w e OpenEndOctets []

@@ -5,7 +5,7 @@ ghost use Rattle.tlv_open.specs.Breaks.{BeginsAs, BreaksAt, HaveAnnouncedSize, I
 ghost use Rattle.tlv_open.specs.Breaks.{octets_around};
 ghost use Rattle.tlv_walk.specs.Ending.{IsEnding};
 
-use crate::elements::header_at;
+use crate::elements::{first_octet, header_at};
 use crate::reading::walk_on;
 use crate::{BrokenString, Suspicion};
 use tlv_head::{Fault, Size};
@@ -72,13 +72,6 @@ fn begin_as(first: u8, octets: &[u8]) -> bool
     first_octet(octets) == first && have_announced_size(octets)
 }
 
-/// The first octet, or 0 if there is none.
-fn first_octet(octets: &[u8]) -> u8
-    ensures { result ≡ slice_index octets.now 0 }
-{
-    if octets.is_empty() { 0 } else { octets[0] }
-}
-
 /// Whether the octets are more than 24, and begin with the header of an element that ends at most 8 octets before or
 /// after them.
 fn have_announced_size(octets: &[u8]) -> bool
@@ -98,8 +91,8 @@ fn have_announced_size(octets: &[u8]) -> bool
     length <= rest + MOST_APART && rest <= length + MOST_APART
 }
 
-/// The fault of a string, header and contents, if it breaks: its offset is counted from the start of the octets around it.
-/// `depth` is how many elements hold it.
+/// The fault of a string, header and contents, if it breaks. Its offset is counted from the start of the octets around
+/// the string. `depth` is how many elements hold it.
 fn fault_in(string: &[u8], depth: u8) -> Option<Fault>
     requires { length string.now ≤ input_limit }
     ensures { MatchOption result ((f : Fault) → BreaksAt depth string.now f → ⊥)

@@ -1,5 +1,5 @@
 //! Sound elements in octets that are at hand.
-ghost use Rattle.std.specs.Prelude.{◌≡◌, ◌+◌, ◌<◌, ◌^◌, IfSome, MatchOption, ◌↔◌, IsTrue, false, length};
+ghost use Rattle.std.specs.Prelude.{◌≡◌, ◌+◌, ◌<◌, ◌^◌, IfSome, MatchOption, ◌↔◌, IsTrue, false, length, slice_index};
 ghost use Rattle.tlv_head.specs.Header.{announced_length};
 ghost use Rattle.tlv_head.specs.HeaderFields.{IsHeaderSized, new_header};
 ghost use Rattle.tlv_head.specs.ReadHeader.{BeginsWithFields};
@@ -27,6 +27,14 @@ pub(crate) fn two_octet_header(octets: &[u8], offset: u64) -> Option<(HeaderFiel
         }
         _ => None,
     }
+}
+
+/// The first octet, or 0 if there is none.
+#[inline]
+pub(crate) fn first_octet(octets: &[u8]) -> u8
+    ensures { result ≡ slice_index octets.now 0 }
+{
+    if octets.is_empty() { 0 } else { octets[0] }
 }
 
 /// The header with which the octets begin, at this offset, and how many octets it has. `None` if they begin with none.
@@ -82,7 +90,7 @@ pub(crate) fn is_elements_end(octets: &[u8], end_octets: bool) -> bool
 /// How many octets the sound element has with which the octets begin, at this offset and depth.
 #[cycle(sound)]
 #[inline(always)]
-fn element_size(octets: &[u8], offset: u64, depth: u8, likely: bool) -> Option<usize>
+pub(crate) fn element_size(octets: &[u8], offset: u64, depth: u8, likely: bool) -> Option<usize>
     requires { offset + length octets.now < 2 ^ 64 }
     ensures { MatchOption result (BeginsWithNoElement (place_at offset depth) likely octets.now)
         (λ n. BeginsWithElement (place_at offset depth) likely octets.now n) }

@@ -1,5 +1,6 @@
 //! Finds the strings that are opened, and those that break.
-ghost use Rattle.std.specs.Prelude.{◌≡◌, ◌≢◌, ◌≤◌, ◌+◌, ◌<◌, IfOk, List, OnOk, ◌++◌, drop, false, length, slice_index, take, true, ℕ};
+ghost use Rattle.std.specs.Prelude.{◌≡◌, ◌≢◌, ◌≤◌, ◌+◌, ◌<◌, ◌++◌, IfOk, OnOk, drop, false, length, slice_index};
+ghost use Rattle.std.specs.Prelude.{take, true};
 ghost use Rattle.tlv_head.specs.DepthLimit.{depth_limit};
 ghost use Rattle.tlv_head.specs.HeaderFields.{new_header};
 ghost use Rattle.tlv_head.specs.InputLimit.{input_limit};
@@ -34,8 +35,8 @@ pub fn opened(alloc: Global, octets: &[u8], padding: bool) -> Result<Vec<u64>, A
 
 /// The strings of an input that are opened, as [`opened`] has them, and those that are broken: they look like encodings
 /// ([`Suspicion`](crate::Suspicion)), are not opened, and break when they are read as encodings. In a string that is
-/// opened both are looked for, and in one that is broken neither. With `padding`, octets `00` are allowed at the top. The
-/// input may be sound or damaged; of a damaged one it is said of what is read before the fault.
+/// opened both are looked for, and in one that is broken neither. With `padding`, octets `00` are allowed at the top.
+/// The input may be sound or damaged; of a damaged one it is said of what is read before the fault.
 ///
 /// # Errors
 ///
@@ -88,8 +89,8 @@ fn add_strings(
     Ok(at)
 }
 
-/// Adds the strings that are found in the element with which the octets begin, which may itself be one. Returns how many
-/// octets it has; if it has not ended, these are all.
+/// Adds the strings that are found in the element with which the octets begin, which may itself be one. Returns how
+/// many octets it has; if it has not ended, these are all.
 #[cycle(find)]
 fn add_strings_in(
     octets: &[u8],

@@ -1,14 +1,15 @@
 //! How much of an input is read.
-ghost use Rattle.std.specs.Prelude.{◌≡◌, ◌≤◌, ◌+◌, length};
+ghost use Rattle.std.specs.Prelude.{◌≡◌, ◌≤◌, ◌+◌, IsTrue, length};
 ghost use Rattle.tlv_head.specs.InputLimit.{input_limit};
 ghost use Rattle.tlv_open.specs.Opens.{closed_framing};
-ghost use Rattle.tlv_open.specs.Private.Walks.{HasWalkedOver, WalksOver};
+ghost use Rattle.tlv_open.specs.Private.Elements.{ArePaddedElements};
+ghost use Rattle.tlv_open.specs.Private.Walks.{HasWalkedOver, WalksOverMore};
 ghost use Rattle.tlv_walk.specs.Ending.{IsEnding};
 ghost use Rattle.tlv_walk.specs.Forest.{Forest, spelling};
 ghost use Rattle.tlv_walk.specs.Reading.{IsReading};
 ghost use Rattle.tlv_walk.specs.WalkerState.{IsWithinInputLimit, new_walker};
 
-use crate::elements::elements_size;
+use crate::elements::{element_size, elements_size};
 use tlv_walk::{Ending, Framing, Inside, Step, Walker};
 
 /// How many octets of the input are read with no string named: all, or those before the octet that is refused.
@@ -18,7 +19,11 @@ pub(crate) fn count_read(octets: &[u8], padding: bool) -> usize
         → result ≡ length (spelling f) }
 {
     // Most inputs are sound, and to see that takes less time than a walk.
-    if elements_size(octets, 0, 0, false, false).is_some() {
+    if padding {
+        if are_padded_elements(octets) {
+            return octets.len();
+        }
+    } else if elements_size(octets, 0, 0, false, false).is_some() {
         return octets.len();
     }
     match ending_of(octets, padding) {
@@ -39,6 +44,25 @@ pub fn ending_of(octets: &[u8], padding: bool) -> Ending
     walk_over(octets, &framing).finish()
 }
 
+/// Whether the octets are sound elements and octets `00` before, between and after them, or nothing.
+fn are_padded_elements(octets: &[u8]) -> bool
+    requires { length octets.now ≤ input_limit }
+    ensures { IsTrue result → ArePaddedElements 0 octets.now }
+{
+    let mut at = 0;
+    while at < octets.len() {
+        if octets[at] == 0 {
+            at += 1;
+        } else {
+            let Some(size) = element_size(&octets[at..], at as u64, 0, false) else {
+                return false;
+            };
+            at += size;
+        }
+    }
+    true
+}
+
 /// The walker that has walked over the octets, read so.
 fn walk_over<'f>(octets: &[u8], framing: &'f Framing<'_>) -> Walker<'f>
     requires { length octets.now ≤ input_limit }
@@ -52,7 +76,7 @@ fn walk_over<'f>(octets: &[u8], framing: &'f Framing<'_>) -> Walker<'f>
 /// Walks over octets after those that the walker has walked over, up to one that is refused.
 pub(crate) fn walk_on(walker: &mut Walker<'_>, octets: &[u8])
     requires { IsWithinInputLimit walker.old octets.now }
-    ensures walks { WalksOver walker.old walker.new octets.now }
+    ensures walks { WalksOverMore walker.old walker.new octets.now }
     ensures within { walker.new.offset ≤ walker.old.offset + length octets.now }
 {
     let mut rest: &[u8] = octets;

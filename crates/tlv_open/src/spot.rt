@@ -2,7 +2,6 @@
 ghost use Rattle.std.specs.Prelude.{◌≡◌, ◌<◌, ◌&&◌, Bool, List, false, ℕ};
 ghost use Rattle.tlv_head.specs.DepthLimit.{depth_limit};
 ghost use Rattle.tlv_head.specs.HeaderFields.{new_header};
-ghost use Rattle.tlv_head.specs.ReadHeader.{BeginsWithFields};
 ghost use Rattle.tlv_open.specs.Breaks.{begin_extension, is_extension, names_extension};
 ghost use Rattle.tlv_open.specs.Opens.{is_one_primitive, may_open_in};
 ghost use Rattle.tlv_open.specs.Private.Elements.{is_elements_end};
@@ -11,7 +10,7 @@ ghost use Rattle.tlv_value.specs.Types.{has_segments, is_a, is_string};
 ghost use Rattle.tlv_walk.specs.Forest.{Forest};
 ghost use Rattle.tlv_walk.specs.Place.{Place};
 
-use crate::elements::{header_at, is_elements_end, two_octet_header};
+use crate::elements::{first_octet, header_at, is_elements_end};
 use tlv_head::{Class, HeaderFields, Size, universal};
 
 /// Where elements are that are read by themselves.
@@ -70,8 +69,8 @@ pub(crate) fn is_value_before(spot: Spot, octets: &[u8], end_octets: bool) -> bo
     spot.in_extension && is_elements_end(octets, end_octets)
 }
 
-/// Whether strings in an element with these fields and contents may be opened: they are no segments, or the only one of a
-/// whole string.
+/// Whether strings in an element with these fields and contents may be opened: they are no segments, or the only one of
+/// a whole string.
 fn may_open_in(fields: &HeaderFields, octets: &[u8], offset: u64, end_octets: bool) -> bool
     ensures { (header : List ℕ) (p : Place) (f : Forest) (depth : ℕ) (rest : List ℕ)
         → p.padding ≡ false → IsReadAt p f depth offset end_octets octets.now rest
@@ -144,37 +143,20 @@ fn begin_extension(octets: &[u8], offset: u64) -> bool
     ensures { (p : Place) (f : Forest) (depth : ℕ) (end_octets : Bool) (rest : List ℕ)
         → IsReadAt p f depth offset end_octets octets.now rest → result ≡ begin_extension f }
 {
-    match two_octet_header(octets, offset) {
-        Some((fields, count)) => begin_extension_with(octets, offset, &fields, count),
-        None => begin_extension_after_long(octets, offset),
+    // Its first octet is 06, or in the high form 1f; so few headers are read here.
+    let first = first_octet(octets);
+    if first != 6 && first != 0x1f {
+        return false;
     }
-}
-
-/// [`begin_extension`], whatever the header of the first element.
-#[inline(never)]
-fn begin_extension_after_long(octets: &[u8], offset: u64) -> bool
-    ensures { (p : Place) (f : Forest) (depth : ℕ) (end_octets : Bool) (rest : List ℕ)
-        → IsReadAt p f depth offset end_octets octets.now rest → result ≡ begin_extension f }
-{
-    match header_at(octets, offset) {
-        Some((fields, count)) => begin_extension_with(octets, offset, &fields, count),
-        None => false,
-    }
-}
-
-/// [`begin_extension`], if the header of the first element has these fields and so many octets.
-#[inline(always)]
-fn begin_extension_with(octets: &[u8], offset: u64, fields: &HeaderFields, count: usize) -> bool
-    requires { BeginsWithFields octets.now offset false fields.now count }
-    ensures { (p : Place) (f : Forest) (depth : ℕ) (end_octets : Bool) (rest : List ℕ)
-        → IsReadAt p f depth offset end_octets octets.now rest → result ≡ begin_extension f }
-{
+    let Some((fields, count)) = header_at(octets, offset) else {
+        return false;
+    };
     let rest = &octets[count..];
     let length = fields.size.announced_length();
     if fields.constructed || length > rest.len() as u64 {
         return false;
     }
-    is_a(universal::OBJECT_IDENTIFIER, fields) && names_extension(&rest[..length as usize])
+    is_a(universal::OBJECT_IDENTIFIER, &fields) && names_extension(&rest[..length as usize])
 }
 
 /// Whether these are the contents of an OBJECT IDENTIFIER below 2.5.29 or 1.3.6.1.5.5.7.1.

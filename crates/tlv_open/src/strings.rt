@@ -9,8 +9,8 @@ use tlv_head::Fault;
 /// Why a string that is not opened looks like encodings.
 #[derive(Clone, Copy, PartialEq, Eq, Debug)]
 pub enum Suspicion {
-    /// Its inner octets are more than 24, begin with `30`, as a SEQUENCE does, and announce a length with which they end
-    /// at most 8 octets too early or too late.
+    /// Its inner octets are more than 24, begin with `30`, as a SEQUENCE does, and are at most 8 octets more or fewer
+    /// than their header announces.
     Sequence,
     /// The same, and they begin with `31`, as a SET does.
     Set,
@@ -56,8 +56,8 @@ impl Suspicion {
     }
 }
 
-/// The line of a broken string, in ASCII, without its end: where it is, why it looks like encodings, and where it breaks, by
-/// which fault. Offsets are decimal, in octets from the start of the input.
+/// The line of a broken string, in ASCII, without its end: where it is, why it looks like encodings, and where it
+/// breaks, by which fault. Offsets are decimal, in octets from the start of the input.
 pub fn broken_line(broken: &BrokenString) -> ArrayVec<u8, 256>
     ensures { result.items ≡ broken_line broken.now }
 {

@@ -1,9 +1,12 @@
 -- Whether octets are read as what an extension begins with.
+use Rattle.std.proofs.Common.{◌∷◌, [], ◌≢◌, eqb, eqb-true, get_or}
+use Rattle.std.proofs.lemmas.Bool.{and_parts, cases_Bool}
 use Rattle.std.proofs.Common.{◌≡◌, ◌⊎◌, inl, inr, ℕ, ◌<◌, ◌≤◌, Bool, true, false, ◌&&◌, List, ◌++◌, length, take}
 use Rattle.std.proofs.Common.{drop, refl, sym, ap, ap₂, ◌∙◌, arith, length-append}
 use Rattle.std.proofs.Math.Seq.{take-append_seam}
 use Rattle.tlv_head.specs.declared.header.HeaderFields.{HeaderFields}
-use Rattle.tlv_head.specs.Header.{HeaderValue, announced_length, octets_of}
+use Rattle.tlv_head.specs.Header.{HeaderValue, IsHeader, announced_length, class_bits, identifier_octet, is_universal}
+use Rattle.tlv_head.specs.Header.{octets_of}
 use Rattle.tlv_head.specs.HeaderFields.{new_header}
 use Rattle.tlv_head.specs.ReadHeader.{BeginsWithFields}
 use Rattle.tlv_head.specs.Refusal.{BeginsWithNoHeader}
@@ -16,7 +19,7 @@ use Rattle.tlv_open.specs.Breaks.{begin_extension, names_extension}
 use Rattle.tlv_open.specs.Private.Finds.{IsReadAt}
 use Rattle.tlv_open.proofs.ElementLemmas.OneElement.{regroup-3}
 use Rattle.tlv_open.proofs.FinderLemmas.FirstRead.{IsReadFirst, first_holder, first_open_holder, first_open_primitive}
-use Rattle.tlv_open.proofs.FinderLemmas.FirstRead.{first_primitive, first-read}
+use Rattle.tlv_open.proofs.FinderLemmas.FirstRead.{first_primitive, first-read, unnamed-form}
 
 -- no header is there
 pub none-begin_extension : (p : Place) (f : Forest) (depth offset : ℕ) (ends : Bool) (octets rest : List ℕ)
@@ -32,6 +35,48 @@ none-begin_extension p (OpenHolder k inside) depth offset ends octets rest r non
 none-begin_extension p (OpenBitString k) depth offset ends octets rest r none = refl
 none-begin_extension p (OpenHeader o) depth offset ends octets rest r none = refl
 none-begin_extension p OpenEndOctets depth offset ends octets rest r none = refl
+
+-- 8.1.2: what the octets of an element begin with that has the universal number 6 and is primitive
+first_in : (a b c x octets : List ℕ) (n : ℕ) → a ≡ n ∷ x → (a ++ b) ++ c ≡ octets → get_or octets 0 0 ≡ n
+first_in a b c x octets n e d =
+    ap (λ (o : List ℕ). get_or o 0 0) (sym d) ∙ ap (λ (o : List ℕ). get_or ((o ++ b) ++ c) 0 0) e
+
+object-first : (k : HeaderValue) (more octets : List ℕ) → IsHeader k → k.constructed ≡ false
+    → is_a universal.object_identifier k ≡ true → octets_of k ++ more ≡ octets
+    → (get_or octets 0 0 ≢ 6) → (get_or octets 0 0 ≢ 0x1f) → ⊥
+object-first k more octets v form is e six high =
+    let parts : (is_universal k.class ≡ true) × (eqb k.number 6 ≡ true) = and_parts _ _ is in
+    let class : class_bits k.class ≡ 0 = eqb-true (class_bits k.class) 0 parts.0 in
+    let number : k.number ≡ 6 = eqb-true k.number 6 parts.1 in
+    elim v.identifier [
+      | inl low ↦
+          six (first_in k.identifier k.lengths more [] octets _ low.octets_are e
+          ∙ (ap₂ (λ (b : Bool) (n : ℕ). identifier_octet k.class b n) form number ∙ omega (arith, class)))
+      | inr long ↦
+          high (first_in k.identifier k.lengths more _ octets _ long.octets_are e
+          ∙ (ap (λ (b : Bool). identifier_octet k.class b 31) form ∙ omega (arith, class)))
+    ]
+
+-- no primitive OBJECT IDENTIFIER is there
+pub other-begin_extension : (p : Place) (f : Forest) (depth offset : ℕ) (ends : Bool) (octets rest : List ℕ)
+    → IsReadAt p f depth offset ends octets rest → get_or octets 0 0 ≢ 6 → get_or octets 0 0 ≢ 0x1f
+    → false ≡ begin_extension f
+other-begin_extension p (Primitive k c g) depth offset ends octets rest r six high =
+    elim (cases_Bool (is_a universal.object_identifier k)) [
+      | inl is ↦
+          absurd (object-first k (c ++ (spelling g ++ rest)) octets r.obeys_grammar.0.0.header.valid
+          (unnamed-form p false k r.none_named r.obeys_grammar.0.0.header) is
+          (sym (regroup-3 (octets_of k) c (spelling g) rest) ∙ r.spelled) six high)
+      | inr other ↦ ap (λ (b : Bool). b && names_extension c) (sym other)
+    ]
+other-begin_extension p NoMore depth offset ends octets rest r six high = refl
+other-begin_extension p (PaddingOctet g) depth offset ends octets rest r six high = refl
+other-begin_extension p (Holder k inside g) depth offset ends octets rest r six high = refl
+other-begin_extension p (OpenPrimitive k c) depth offset ends octets rest r six high = refl
+other-begin_extension p (OpenHolder k inside) depth offset ends octets rest r six high = refl
+other-begin_extension p (OpenBitString k) depth offset ends octets rest r six high = refl
+other-begin_extension p (OpenHeader o) depth offset ends octets rest r six high = refl
+other-begin_extension p OpenEndOctets depth offset ends octets rest r six high = refl
 
 module _ (octets : List ℕ) (offset : ℕ) (f : HeaderFields) (count : ℕ)
     (b : BeginsWithFields octets offset false f count) where

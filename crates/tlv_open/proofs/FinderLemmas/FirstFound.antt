@@ -21,7 +21,7 @@ use Rattle.tlv_open.specs.Breaks.{is_extension, is_no_more}
 use Rattle.tlv_open.specs.Opens.{is_one_primitive}
 use Rattle.tlv_open.specs.Private.Elements.{is_elements_end}
 use Rattle.tlv_open.specs.Private.Finds.{AddsAll, AddsFirst, AddsPrimitive, AddsStrings, AddsUpTo, EndsBefore, Finds}
-use Rattle.tlv_open.specs.Private.Finds.{FindsUpTo, FoundStrings, IsReadAt, found_both, goes_on, nothing_found}
+use Rattle.tlv_open.specs.Private.Finds.{FindsUpTo, FoundStrings, IsReadAt, found_in_turn, goes_on, nothing_found}
 use Rattle.tlv_open.specs.Private.Finds.{spot_before, spot_inside, spot_lacking, stops}
 use Rattle.tlv_open.proofs.ElementLemmas.FirstElement.{lead-none}
 use Rattle.tlv_open.proofs.FinderLemmas.FirstRead.{IsReadFirst, first_holder, first_open_holder}
@@ -192,7 +192,7 @@ module _ (octets : List ℕ) (offset : ℕ) (f : HeaderFields) (count : ℕ)
           (read-on p (primitive_extent h c) (count + m) g w.depth offset ends octets rest
           (Primitive h c g) number r obeys left refl)
           (λ ys o.
-          subst (λ (x : List ℕ). Finds (spot_before w ends rest) (Primitive h x g) (found_both a.found ys)) front
+          subst (λ (x : List ℕ). Finds (spot_before w ends rest) (Primitive h x g) (found_in_turn a.found ys)) front
           (a.finds (w.in_extension && is_elements_end ends rest) g ys value o))
           refl (omega (arith, length-primitive h c g, number))
       found_in _ r (first_holder c few size closed obeys spelled more) =

@@ -12,7 +12,7 @@ use Rattle.tlv_walk.proofs.GrammarLemmas.Readings.{unique-empty}
 use Rattle.tlv_open.specs.declared.spot.Spot.{Spot}
 use Rattle.tlv_open.specs.Private.Elements.{is_elements_end}
 use Rattle.tlv_open.specs.Private.Finds.{AddsAll, AddsFirst, AddsStrings, AddsUpTo, Finds, FindsUpTo, FoundStrings}
-use Rattle.tlv_open.specs.Private.Finds.{IsReadAt, found_both, goes_on, nothing_found, spot_before, stops}
+use Rattle.tlv_open.specs.Private.Finds.{IsReadAt, found_in_turn, goes_on, nothing_found, spot_before, stops}
 use Rattle.tlv_open.proofs.FinderLemmas.FoundBoth.{both-assoc, both-nothing, finds-no_more, finds-open_end_octets}
 use Rattle.tlv_open.proofs.FinderLemmas.FoundBoth.{finds-padded}
 use Rattle.tlv_open.proofs.ElementLemmas.OneElement.{regroup-3, regroup-4, zero-no_header}
@@ -54,15 +54,15 @@ module _ (w : Spot) (p : Place) (f : Forest) (offset : ℕ) (ends : Bool) (octet
       → AddsUpTo (spot_before w ends rest) p f offset ends octets rest old new (at + n)
   finds-more old mid new at n less a next = by_cases a.found a.added a.finds
     where
-      from : (found more : FoundStrings) (g : Forest) → mid ≡ found_both old found → new ≡ found_both mid more
+      from : (found more : FoundStrings) (g : Forest) → mid ≡ found_in_turn old found → new ≡ found_in_turn mid more
           → ((ys : FoundStrings) → Finds (spot_before w ends rest) g ys
-          → Finds (spot_before w ends rest) f (found_both found ys)) → is_whole f ≡ is_whole g
+          → Finds (spot_before w ends rest) f (found_in_turn found ys)) → is_whole f ≡ is_whole g
           → length (spelling f) ≡ at + length (spelling g)
           → FindsUpTo (spot_before w ends rest) (place_after p at) g (offset + at) ends (drop at octets) rest more n
           → AddsUpTo (spot_before w ends rest) p f offset ends octets rest old new (at + n)
       from found more g e d finds whole size (goes_on k r finds2 whole2 size2) = record {
-        found = found_both found more;
-        added = d ∙ (ap (λ (o : FoundStrings). found_both o more) e ∙ both-assoc old found more);
+        found = found_in_turn found more;
+        added = d ∙ (ap (λ (o : FoundStrings). found_in_turn o more) e ∙ both-assoc old found more);
         finds =
             goes_on k
             (read-moved p ((p.offset + at) + n) (p.offset + (at + n)) k w.depth ((offset + at) + n) (offset + (at + n))
@@ -70,16 +70,16 @@ module _ (w : Spot) (p : Place) (f : Forest) (offset : ℕ) (ends : Bool) (octet
             (drop-drop n at octets) r)
             (λ ys o.
             subst (Finds (spot_before w ends rest) f) (sym (both-assoc found more ys))
-            (finds (found_both more ys) (finds2 ys o)))
+            (finds (found_in_turn more ys) (finds2 ys o)))
             (whole ∙ whole2) (omega (arith, size, size2));
       }
       from found more g e d finds whole size (stops o open_ all) = record {
-        found = found_both found more;
-        added = d ∙ (ap (λ (o : FoundStrings). found_both o more) e ∙ both-assoc old found more);
+        found = found_in_turn found more;
+        added = d ∙ (ap (λ (o : FoundStrings). found_in_turn o more) e ∙ both-assoc old found more);
         finds = stops (finds more o) (whole ∙ open_) (omega (arith, all, length-drop at octets));
       }
 
-      by_cases : (found : FoundStrings) → mid ≡ found_both old found
+      by_cases : (found : FoundStrings) → mid ≡ found_in_turn old found
           → FindsUpTo (spot_before w ends rest) p f offset ends octets rest found at
           → AddsUpTo (spot_before w ends rest) p f offset ends octets rest old new (at + n)
       by_cases found e (goes_on g r finds whole size) =
@@ -169,7 +169,7 @@ pub record IsLast (w : Spot) (g : Forest) (left : List ℕ) : Type 0 where
   pub size : is_whole g ≡ true → length (spelling g) ≡ 0
   pub unfinished : is_whole g ≡ false → is_elements_end true left ≡ false
 
-drop-end : (octets : List ℕ) (at : ℕ) → length octets ≤ at → drop at octets ≡ []
+pub drop-end : (octets : List ℕ) (at : ℕ) → length octets ≤ at → drop at octets ≡ []
 drop-end octets at h = nil (drop at octets) (omega (arith, length-drop at octets))
   where
     nil : (xs : List ℕ) → length xs ≤ 0 → xs ≡ []
@@ -180,7 +180,7 @@ adds-last : (w : Spot) (p : Place) (f : Forest) (offset : ℕ) (ends : Bool) (oc
     (at : ℕ)
     → ((g : Forest) → IsReadAt (place_after p at) g w.depth (offset + at) ends (drop at octets) rest
     → IsLast w g (drop at octets))
-    → new ≡ found_both old found → FindsUpTo w p f offset ends octets rest found at → AddsStrings w f octets old new at
+    → new ≡ found_in_turn old found → FindsUpTo w p f offset ends octets rest found at → AddsStrings w f octets old new at
 adds-last w p f offset ends octets rest old new found at last e (goes_on g r finds whole size) =
     let l : IsLast w g (drop at octets) = last g r in
     record {

@@ -10,12 +10,12 @@ use Rattle.tlv_open.specs.Breaks as breaks
 use Rattle.tlv_open.specs.Breaks.{Breaks, IsBroken, is_extension, is_no_more}
 use Rattle.tlv_open.specs.Opens as opens
 use Rattle.tlv_open.specs.Opens.{Where, is_one_primitive, may_open_in}
-use Rattle.tlv_open.specs.Private.Finds.{Finds, FoundStrings, found_both, nothing_found, spot_with}
+use Rattle.tlv_open.specs.Private.Finds.{Finds, FoundStrings, found_in_turn, nothing_found, spot_with}
 
-pub both-nothing : (a : FoundStrings) → found_both a nothing_found ≡ a
+pub both-nothing : (a : FoundStrings) → found_in_turn a nothing_found ≡ a
 both-nothing a = λ i. record { opened = append-nil a.opened i; broken = append-nil a.broken i }
 
-pub both-assoc : (a b c : FoundStrings) → found_both (found_both a b) c ≡ found_both a (found_both b c)
+pub both-assoc : (a b c : FoundStrings) → found_in_turn (found_in_turn a b) c ≡ found_in_turn a (found_in_turn b c)
 both-assoc a b c = λ i. record {
   opened = append_assoc a.opened b.opened c.opened i;
   broken = append_assoc a.broken b.broken c.broken i;
@@ -38,7 +38,7 @@ finds-padded s rest xs a = record { opens = opens.padded a.opens; breaks = break
 
 pub finds-holder : (s : Spot) (h : HeaderValue) (children rest : Forest) (xs ys : FoundStrings)
     → Finds (spot_of_children s h (is_one_primitive children) (is_extension h children)) children xs
-    → Finds s rest ys → Finds s (Holder h children rest) (found_both xs ys)
+    → Finds s rest ys → Finds s (Holder h children rest) (found_in_turn xs ys)
 finds-holder s h children rest xs ys a o = record {
   opens = opens.holder a.opens o.opens;
   breaks = breaks.holder a.breaks o.breaks;

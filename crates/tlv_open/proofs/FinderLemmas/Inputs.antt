@@ -57,7 +57,7 @@ are-found padding octets new f m n r count a =
     )
 
 -- sound elements without padding are sound where padding is allowed
-sound-padded : (p q : Place) (f : Forest) → p.padding ≡ false → q.offset ≡ p.offset → q.depth ≡ p.depth
+pub sound-padded : (p q : Place) (f : Forest) → p.padding ≡ false → q.offset ≡ p.offset → q.depth ≡ p.depth
     → q.inside ≡ p.inside → IsSound p f → IsSound q f
 sound-padded p q NoMore z o d i s = tt
 sound-padded p q (PaddingOctet rest) z o d i s = let w : true ≡ false = sym s.0 ∙ z in absurd (cc (w))

@@ -20,7 +20,7 @@ use Rattle.tlv_open.specs.Breaks.{Breaks, IsBroken, IsBrokenString}
 use Rattle.tlv_open.specs.Held.{HoldsEncodings, after_unused_bits, inner_octets, place_by_itself}
 use Rattle.tlv_open.specs.Opens as opens
 use Rattle.tlv_open.specs.Opens.{Opens, Where, where_of_held}
-use Rattle.tlv_open.specs.Private.Finds.{AddsAll, AddsPrimitive, AddsStrings, FoundStrings, IsReadAt, found_both}
+use Rattle.tlv_open.specs.Private.Finds.{AddsAll, AddsPrimitive, AddsStrings, FoundStrings, IsReadAt, found_in_turn}
 use Rattle.tlv_open.specs.Private.Finds.{list_of, nothing_found, spot_before, where_of}
 use Rattle.tlv_open.specs.Private.Held.{inner_octets_of}
 use Rattle.tlv_open.proofs.FinderLemmas.FoundBoth.{both-assoc, both-nothing}
@@ -73,7 +73,7 @@ module _ (w : Spot) (v : Bool) (h : HeaderValue) (contents octets : List ℕ) (o
 
   adds-fault : (x : BrokenString) → w.may_open ≡ true
       → IsBrokenString (w.start + h.offset) w.depth (octets_of h ++ contents) octets v x
-      → new ≡ found_both old (record { opened = []; broken = x ∷ [] }) → AddsPrimitive w v h contents old new
+      → new ≡ found_in_turn old (record { opened = []; broken = x ∷ [] }) → AddsPrimitive w v h contents old new
   adds-fault x may b e = record {
     found = record { opened = []; broken = x ∷ [] };
     added = e;
@@ -148,7 +148,7 @@ pub adds-opened : (w u : Spot) (v : Bool) (h : HeaderValue) (contents octets : L
     (count n : ℕ) (b : Bool)
     → w.may_open ≡ true → h.constructed ≡ false → length (octets_of h) ≡ count
     → inner_octets h contents ≡ Some octets → IsTrue b ↔ ((inner : Forest) × HoldsEncodings w.depth h contents inner)
-    → b ≡ true → mid ≡ found_both old (record { opened = (w.start + h.offset) ∷ []; broken = [] })
+    → b ≡ true → mid ≡ found_in_turn old (record { opened = (w.start + h.offset) ∷ []; broken = [] })
     → u.start ≡ w.start + h.offset + ((count + length contents) - length octets) → u.depth ≡ w.depth + 1
     → u.may_open ≡ true → u.in_extension ≡ false → AddsAll u 0 false octets mid new n
     → AddsPrimitive w v h contents old new
@@ -181,9 +181,9 @@ adds-opened w u v h contents octets old mid new count n b may primitive size inn
     } in
     let none : (u.in_extension && true) ≡ false = ap (λ (k : Bool). k && true) no_e in
     record {
-      found = found_both (record { opened = (w.start + h.offset) ∷ []; broken = [] }) r.found;
+      found = found_in_turn (record { opened = (w.start + h.offset) ∷ []; broken = [] }) r.found;
       added =
-          r.added ∙ (ap (λ (o : FoundStrings). found_both o r.found) pushed
+          r.added ∙ (ap (λ (o : FoundStrings). found_in_turn o r.found) pushed
           ∙ both-assoc old (record { opened = (w.start + h.offset) ∷ []; broken = [] }) r.found);
       finds = λ k g ys last o. record {
         opens = opens.opened may s.0 s.1 (subst (λ (x : Where). Opens x s.0 r.found.opened) where_is r.finds.opens) o.opens;

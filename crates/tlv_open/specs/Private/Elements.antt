@@ -53,3 +53,13 @@ pub record BeginsWithElements (p : Place) (likely end_octets : Bool) (octets : L
 -- they do not
 abbrev pub BeginsWithNoElements : Place → Bool → Bool → List ℕ → Type 0
 BeginsWithNoElements p likely end_octets octets = (n : ℕ) → BeginsWithElements p likely end_octets octets n → ⊥
+
+-- where padding may be, so many octets further on
+abbrev pub padded_place : ℕ → Place
+padded_place offset = record (place_at offset 0) { padding = true }
+
+-- the octets are sound elements and padding, or nothing
+pub record ArePaddedElements (offset : ℕ) (octets : List ℕ) : Type 0 where
+  pub elements : Forest
+  pub sound : IsSound (padded_place offset) elements
+  pub spelled : spelling elements ≡ octets

@@ -26,8 +26,8 @@ abbrev pub nothing_found : FoundStrings
 nothing_found = record { opened = []; broken = [] }
 
 -- strings that are found, and others after them
-abbrev pub found_both : FoundStrings → FoundStrings → FoundStrings
-found_both a b = record { opened = a.opened ++ b.opened; broken = a.broken ++ b.broken }
+abbrev pub found_in_turn : FoundStrings → FoundStrings → FoundStrings
+found_in_turn a b = record { opened = a.opened ++ b.opened; broken = a.broken ++ b.broken }
 
 -- these strings are found among the elements at a spot
 pub record Finds (s : Spot) (f : Forest) (found : FoundStrings) : Type 0 where
@@ -76,7 +76,7 @@ pub data FindsUpTo
     (n : ℕ)
     : Type 0 where
   goes_on : (g : Forest) → IsReadAt (place_after p n) g s.depth (offset + n) end_octets (drop n octets) rest
-      → ((others : FoundStrings) → Finds s g others → Finds s f (found_both found others)) → is_whole f ≡ is_whole g
+      → ((others : FoundStrings) → Finds s g others → Finds s f (found_in_turn found others)) → is_whole f ≡ is_whole g
       → length (spelling f) ≡ n + length (spelling g)
       → FindsUpTo s p f offset end_octets octets rest found n
   stops : Finds s f found → is_whole f ≡ false → n ≡ length octets
@@ -88,7 +88,7 @@ pub record AddsUpTo
     (old new : FoundStrings) (n : ℕ)
     : Type 0 where
   pub found : FoundStrings
-  pub added : new ≡ found_both old found
+  pub added : new ≡ found_in_turn old found
   pub finds : FindsUpTo s p f offset end_octets octets rest found n
 
 -- whatever the octets are read as
@@ -100,7 +100,7 @@ AddsFirst s offset end_octets octets old new n = (p : Place) (f : Forest) (rest 
 -- what is found in all elements f is added to what was found before, and n says where they end if they are whole
 pub record AddsStrings (s : Spot) (f : Forest) (octets : List ℕ) (old new : FoundStrings) (n : ℕ) : Type 0 where
   pub found : FoundStrings
-  pub added : new ≡ found_both old found
+  pub added : new ≡ found_in_turn old found
   pub finds : Finds s f found
   pub size : is_whole f ≡ true → length (spelling f) ≡ n
   pub unfinished : is_whole f ≡ false → is_elements_end true (drop n octets) ≡ false
@@ -120,10 +120,10 @@ pub record AddsPrimitive
     (s : Spot) (is_value : Bool) (h : HeaderValue) (contents : List ℕ) (old new : FoundStrings)
     : Type 0 where
   pub found : FoundStrings
-  pub added : new ≡ found_both old found
+  pub added : new ≡ found_in_turn old found
   pub finds : (e : Bool) (g : Forest) (others : FoundStrings) → (e && is_no_more g) ≡ is_value
       → Finds (spot_with s e) g others
-      → Finds (spot_with s e) (Primitive h contents g) (found_both found others)
+      → Finds (spot_with s e) (Primitive h contents g) (found_in_turn found others)
 
 -- what there is, as a list
 abbrev pub list_of : Option BrokenString → List BrokenString

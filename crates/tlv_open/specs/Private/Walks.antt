@@ -14,6 +14,6 @@ pub record HasWalkedOver (framing : Framing) (octets : List ℕ) (w : WalkerStat
   pub idle : IsIdle w
 
 -- whatever it had walked over, it has now walked over these octets too
-abbrev pub WalksOver : WalkerState → WalkerState → List ℕ → Type 0
-WalksOver old new piece = (framing : Framing) (octets : List ℕ) → HasWalkedOver framing octets old
+abbrev pub WalksOverMore : WalkerState → WalkerState → List ℕ → Type 0
+WalksOverMore old new piece = (framing : Framing) (octets : List ℕ) → HasWalkedOver framing octets old
     → HasWalkedOver framing (octets ++ piece) new

@@ -1,4 +1,4 @@
-use Rattle.std.proofs.Common.{◌≡◌, ◌+◌, ◌≤◌, ℕ, Bool, List, Option, ap, arith, get_or, length, map, subst, sym, ◌∙◌}
+use Rattle.std.proofs.Common.{◌≡◌, ◌+◌, ◌≤◌, ℕ, Bool, List, [], ◌∷◌, Option, None, ap, arith, get_or, length, map, subst, sym, ◌∙◌}
 use Rattle.tlv_value.specs.Names.{NamesValue}
 use Rattle.tlv_view_words.specs.declared.request.Request.{Request}
 use Rattle.tlv_program.specs.System.{Allows}
@@ -20,6 +20,12 @@ module _ {S : Type 0} (allows : Allows S) (request : Request) (table : NamesValu
       (subst (λ (n : ℕ). ShowsFiles allows request table n 1 (map file_of_word words) old new status)
       (sym (same-count words)) x)
 
+  -- of no words
+  no-words : (words : List (List ℕ)) (old new : StreamsValue S) (status : ℕ) → words ≡ []
+      → ShowsFiles allows request table 1 1 (None ∷ []) old new status
+      → ShowsFiles allows request table (length (files_of_words words)) 1 (files_of_words words) old new status
+  no-words words old new status e x = rw e x
+
   -- the same file, of as many
   at-file : (number : ℕ) (count many : ℕ) (file other : Option (List ℕ)) (old new : StreamsValue S) (failed : Bool)
       (status : ℕ) → count ≡ many → file ≡ other → ShowsBlock allows request table number count file old new failed status
@@ -30,7 +36,7 @@ pub returns-then-is_empty : goal.returns-then-is_empty
 returns-then-is_empty g c =
     let none = no-files c.args.request.now.files c.is_empty.result
     (rw (← c.as_slice-files.ensures) c.is_empty.ensures) c.if-is_empty.true in
-    rw none
+    no-words g.S.System.allows c.args.request.now c.args.names.now c.args.request.now.files _ _ _ none
     (one-file g.S.System.allows c.args.request.now c.args.names.now _ _ _ c.block.result.has_failed
     c.block.result.status c.block.ensures)
 
