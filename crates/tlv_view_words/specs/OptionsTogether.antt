@@ -1,6 +1,6 @@
 -- Which options go together, of what `clap` matches: the texts of each option given, and the names of files.
-use Rattle.std.specs.Prelude.{Bool, List, [], ◌∷◌, Option, Some, None, ◌&&◌, codes, find, if◌then◌else◌, is_some, length}
-use Rattle.std.specs.Prelude.{nat_lt, not, option_and_then, option_map, unwrap_or}
+use Rattle.std.specs.Prelude.{Bool, List, [], ◌∷◌, Option, Some, None, ◌&&◌, codes, find, if◌then◌else◌, is_some}
+use Rattle.std.specs.Prelude.{length, nat_lt, not, option_and_then, option_map, unwrap_or}
 use Rattle.std.specs.Option.{option_or}
 use Rattle.clap.specs.Words.{Row, Text, all_of, first_of}
 use Rattle.tlv_words.specs.Matches.{has_flag}

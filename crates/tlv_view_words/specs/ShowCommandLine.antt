@@ -1,5 +1,5 @@
--- The command line of `tlvdump-show`, as the help has it. To `clap` a value is a text, and each option may be given with
--- each other one.
+-- The command line of `tlvdump-show`, as the help has it. To `clap` a value is a text, and each option may be given
+-- with each other one.
 use Rattle.std.specs.Prelude.{List, [], ◌∷◌, ◌++◌, Some, codes, true}
 use Rattle.clap.specs.Words.{App, Rule}
 use Rattle.clap.specs.Simple.{new_rule, new_shape}

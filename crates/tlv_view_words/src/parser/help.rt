@@ -6,24 +6,24 @@ tlvdump-show [OPTIONS] [FILE]...
        tlvdump-show --offset N [--contents] [--padding] [FILE]
        tlvdump-show --offsets [--padding] [FILE]";
 
-pub(super) const ABOUT: &str =
-    "Show BER, CER and DER encodings with the strings opened that hold some";
+pub(super) const ABOUT: &str = "\
+Show BER, CER and DER encodings, and those in strings, without their ASN.1 module";
 
 pub(super) const MORE: &str = "\
-Shows BER, CER and DER encodings (ITU-T X.690) without their ASN.1 module, for people: each
-element on a line of its own, as \"tlvdump dump\" shows it, with the OCTET STRINGs and BIT
-STRINGs opened that hold encodings, however deep in one another. Where a value is shown as
-pairs of digits, a text of printable ASCII stands beside them. With --check the findings are
-shown alone, with --offset the octets of one element are written, and with --offsets the
-offsets of the strings that are opened.";
+Shows BER, CER and DER encodings (ITU-T X.690) without their ASN.1 module: each element on a
+line of its own, as \"tlvdump dump\" writes it. OCTET STRINGs and BIT STRINGs that hold
+encodings are opened, however deep in one another, and what they hold is shown below them.
+Where a value is shown as pairs of digits, a text of printable ASCII stands beside them.
+
+With --check the findings alone are shown, with --offset the octets of one element are
+written, and with --offsets the offsets of the strings that are opened.";
 
 pub(super) const AFTER: &str = "\
 Examples:
   tlvdump-show cert.der
   tlvdump-show --check *.der
   tlvdump-show --offset 703 cert.der | tlvdump dump
-  tlvdump dump --inside \"$(tlvdump-show --offsets cert.der)\" cert.der
-
+  
 Exit status, the highest of several files:
   0  the input is one or more whole encodings, and nothing else
   1  findings, or no element at the offset of --offset (E4)
@@ -49,8 +49,8 @@ With --offset: write the element's contents alone, without its header and its
 end-of-contents octets";
 
 pub(super) const OFFSETS: &str = "\
-Write the offsets of the strings that are opened, with commas between them, as --inside
-of tlvdump takes them";
+Write the offsets of the strings that are opened, with commas between them: --inside of
+tlvdump takes up to 16 of them";
 
 pub(super) const RULES: &str = "\
 Show what violates the rules of BER, DER or CER: ber, der or cer; those of DER and CER
