@@ -2,7 +2,8 @@
 import os
 import re
 
-CRATES = ("tlv_head", "tlv_io", "tlv_walk", "tlv_value", "tlv_show", "tlv_cut", "tlv_run", "tlv_words")
+CRATES = ("tlv_head", "tlv_io", "tlv_walk", "tlv_value", "tlv_show", "tlv_cut", "tlv_run", "tlv_words", "tlv_open", "tlv_program",
+          "tlv_view")
 IMPL = re.compile(r"^(?:impl(?:<[^>]*>)? (\w+)(?:<[^{]*>)?|pub trait (\w+)) \{$", re.M)
 
 

@@ -1,4 +1,6 @@
-//! Views of octets with the strings opened that hold encodings.
+//! Views of octets with the strings opened that hold encodings, and inputs that are read into memory.
+mod whole;
+
 use crate::expect::expect_eq_of;
 use std::alloc::{AllocError, Global};
 use std::process::Abort;
