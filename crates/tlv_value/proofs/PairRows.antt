@@ -1,14 +1,14 @@
 -- Text beside pairs of digits, on short contents.
-use Rattle.std.proofs.Common.{◌≡◌, true, false, List, ℕ, [], ◌∷◌, ◌++◌, refl}
+use Rattle.std.proofs.Common.{◌≡◌, true, false, ℕ, [], ◌∷◌, ◌++◌, refl}
 use Rattle.std.specs.Fmt.{digits}
 use Rattle.std.specs.Prelude.{None, Some, codes}
 use Rattle.hex.specs.Hex.{encode_with}
-use Rattle.tlv_head.specs.declared.header.Class.TheVariants.{Context, Universal}
+use Rattle.tlv_head.specs.declared.header.Class.TheVariants.{Context}
 use Rattle.tlv_head.specs.declared.header.Size.TheVariants.{Definite}
 use Rattle.tlv_head.specs.Header.{HeaderValue}
-use Rattle.tlv_value.specs.declared.kind.Kind.TheVariants.{Integer, Octets, Text}
+use Rattle.tlv_value.specs.declared.kind.Kind.TheVariants.{Integer, Text}
 use Rattle.tlv_value.specs.declared.layout.Layout.{Layout}
-use Rattle.tlv_value.specs.ValueLines.{open_lines_with, whole_lines, whole_lines_with}
+use Rattle.tlv_value.specs.ValueLines.{open_lines_with, row_lines, whole_lines, whole_lines_with}
 use Rattle.tlv_value.specs.Value.{no_names, octets_value, row_text}
 
 three-letters : (octets_value true (codes "abc")).text ≡ codes " 61 62 63  |abc|"
@@ -65,7 +65,7 @@ abbrev all_rows : Layout
 all_rows = record { level = 0; limit = None; pure = false }
 
 abbrev one_row : Layout
-one_row = record { level = 0; limit = Some 1; pure = true }
+one_row = record { level = 0; limit = Some 1; pure = false }
 
 on-the-line : whole_lines_with true no_names (zero_header 9) all_rows (codes "a.example")
     ≡ codes "       0      9: [0] 61 2e 65 78 61 6d 70 6c 65  |a.example|\n"
@@ -84,11 +84,9 @@ in-rows : whole_lines_with true no_names (zero_header 17) all_rows (codes "01234
 unfolding encode_with digits
 in-rows = refl
 
-rows-left-out : whole_lines_with true no_names (zero_header 19) one_row (codes "0123456789abcdefghi")
-    ≡ codes "[0]\n"
-    ++ codes "  30 31 32 33 34 35 36 37 38 39 61 62 63 64 65 66  |0123456789abcdef|\n"
-    ++ codes "  ...\n"
-unfolding encode_with digits
+rows-left-out : row_lines true Integer one_row 0 (codes "abc" ∷ codes "def" ∷ codes "ghi" ∷ [])
+    ≡ codes "                   61 62 63  |abc|\n" ++ codes "                   ...\n"
+unfolding encode_with
 rows-left-out = refl
 
 -- the first row is known before the last octet
