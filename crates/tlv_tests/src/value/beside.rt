@@ -1,4 +1,6 @@
 //! Text beside pairs of digits: of an element in pieces, and at once.
+ghost use Rattle.std.specs.Prelude.{◌≤◌};
+
 use super::{OneName, PLAIN, Pieces, Row, are_shown, cut_at, put_pieces};
 use crate::expect::expect_of;
 use crate::inputs::element_at;
