@@ -54,13 +54,13 @@ fn a_dump_is_written_with_text(rt: HostRuntime) {
     let with_text = b"       0     10: SEQUENCE {
        2      3:   OCTET STRING 61 62 63  |abc|
        7      3:   BOOLEAN 64 65 66  |def|
-       7    B06: BOOLEAN is not one octet
+       7    B06:   BOOLEAN is not one octet
                  }
 ";
     let without = b"       0     10: SEQUENCE {
        2      3:   OCTET STRING 61 62 63
        7      3:   BOOLEAN 64 65 66
-       7    B06: BOOLEAN is not one octet
+       7    B06:   BOOLEAN is not one octet
                  }
 ";
     expect_dump(&rt, true, with_text);
