@@ -1,4 +1,5 @@
 //! Values and their lines, whatever pieces the contents come in, what is found on them, and names.
+mod beside;
 mod checks;
 mod drains;
 mod found_rows;

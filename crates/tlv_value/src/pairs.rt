@@ -20,6 +20,18 @@ pub(crate) fn write_pairs(held: &mut HeldOctets, with_text: bool, octets: &[u8])
     }
 }
 
+/// Adds a full row of pairs of digits, each after a space, and the text of its octets behind them, if it is wanted.
+#[inline(always)]
+pub(crate) fn write_full_row<const WITH_TEXT: bool>(held: &mut HeldOctets, row: &[u8; 16])
+    requires { HasRoomFor held.old 68 }
+    ensures { held.new ≡ held.old ++ line_pairs WITH_TEXT row.now }
+{
+    held.spaced_row(row);
+    if WITH_TEXT {
+        write_text_behind(held, row);
+    }
+}
+
 /// Adds a row of pairs of digits after a space, with spaces between them, and the text of its octets behind them, if it
 /// is wanted.
 pub(crate) fn write_row_pairs(held: &mut HeldOctets, with_text: bool, row: &[u8])

@@ -1,5 +1,5 @@
 //! A primitive by what its header says.
-ghost use Rattle.std.specs.Prelude.{◌≡◌, ◌<◌, ◌≤◌, ◌++◌, [], IsTrue, None, OnOk, false, length, true, ◌↔◌};
+ghost use Rattle.std.specs.Prelude.{◌≡◌, ◌<◌, ◌≤◌, ◌++◌, [], IsTrue, None, OnOk, length, true, ◌↔◌};
 ghost use Rattle.tlv_io.specs.OutLimits.{line_room};
 ghost use Rattle.tlv_io.specs.LineTexts.{AddsAtMost, HasRoomFor};
 ghost use Rattle.tlv_io.specs.Out.{Puts, held_octets};
@@ -62,14 +62,13 @@ impl Primitive {
         self.size > most
     }
 
-    /// Whether its rows are pairs of digits without text, and their number is not limited.
+    /// Whether its rows are pairs of digits, and their number is not limited.
     #[inline(always)]
     pub fn has_unlimited_pairs(&self) -> bool
         ensures { IsTrue result
-            ↔ ((row_size self.now.kind ≡ 16) × (self.now.layout.limit ≡ None)
-            × (self.now.with_text ≡ false)) }
+            ↔ ((row_size self.now.kind ≡ 16) × (self.now.layout.limit ≡ None)) }
     {
-        row_size(self.kind) == 16 && self.layout.limit.is_none() && !self.with_text
+        row_size(self.kind) == 16 && self.layout.limit.is_none()
     }
 
     /// Begins its line, up to its tag text.

@@ -1,6 +1,6 @@
 //! The lines of a primitive of which all contents are at hand. Those of a value that is on its line, or in rows of
 //! pairs of digits without a limit, are made at once: no contents are copied, and its type is asked for once.
-ghost use Rattle.std.specs.Prelude.{◌≡◌, ◌++◌, None, false, length, true};
+ghost use Rattle.std.specs.Prelude.{◌≡◌, ◌++◌, None, length, true};
 ghost use Rattle.tlv_head.specs.Header.{HasAllContents, announced_length};
 ghost use Rattle.tlv_io.specs.Out.{Puts};
 ghost use Rattle.tlv_value.specs.RowSizes.{row_size};
@@ -109,8 +109,8 @@ fn put_long_lines<N: NameTable, D: Drain>(
     }
 }
 
-/// Puts the lines of a primitive whose value is in rows of pairs of digits without text, from where its contents are.
-/// This saves the state of a [`ValueText`].
+/// Puts the lines of a primitive whose value is in rows of pairs of digits, from where its contents are. This
+/// saves the state of a [`ValueText`].
 #[inline(always)]
 fn put_pairs<D: Drain>(
     primitive: &Primitive,
@@ -119,7 +119,6 @@ fn put_pairs<D: Drain>(
 ) -> Result<(), WriteFault>
     requires pairs { row_size primitive.now.kind ≡ 16 }
     requires unlimited { primitive.now.layout.limit ≡ None }
-    requires without_text { primitive.now.with_text ≡ false }
     requires long { is_long_primitive primitive.now ≡ true }
     ensures { Puts D.state out.old out.new
         (long_value_line primitive.now contents.now
@@ -127,7 +126,8 @@ fn put_pairs<D: Drain>(
         (rows_of primitive.now.kind (row_octets primitive.now.kind contents.now))) result }
 {
     primitive.put_long_line(contents, out)?;
-    put_pair_rows(primitive.layout, row_octets(primitive.kind, contents), out)
+    let rows = row_octets(primitive.kind, contents);
+    put_pair_rows(primitive.layout, primitive.with_text, rows, out)
 }
 
 /// The contents octets that are in rows: of a BIT STRING all but the first, if that can be read.

@@ -1,7 +1,8 @@
 //! The calls of `tlv_show` by themselves: what they write and return.
 use super::plain;
 use crate::expect::expect_eq;
-use tlv_show::{Check, Outcome, Rules, check, dump};
+use std::process::Abort;
+use tlv_show::{Check, Outcome, Rules, check, dump, dump_with};
 use tlv_value::Names;
 use tlv_walk::{Ending, Framing, MemDrain, MemSource, drive};
 
@@ -27,6 +28,43 @@ fn a_dump_is_written(rt: HostRuntime) {
         b"       0      2: INTEGER 127\n       0    B08: integer is padded\n".as_slice(),
     );
     expect_eq(&rt, outcome, Ok(OUTCOME));
+}
+
+/// A SEQUENCE of an OCTET STRING and a BOOLEAN that cannot be read: something is found in it.
+const TEXTS: &[u8] = b"\x30\x0a\x04\x03abc\x01\x03def";
+
+/// Expects a dump of these with text, or without it, to be written so.
+fn expect_dump(rt: &impl Abort, with_text: bool, want: &[u8]) {
+    let mut room = [0; 200];
+    let mut source = MemSource::new(TEXTS, &[], None);
+    let mut drain = MemDrain::new(&mut room, 7);
+    let outcome = dump_with(
+        &mut source,
+        &mut drain,
+        &plain(),
+        with_text,
+        &Names::empty(),
+    );
+    expect_eq(rt, drain.written(), want);
+    expect_eq(rt, outcome, Ok(OUTCOME));
+}
+
+#[test]
+fn a_dump_is_written_with_text(rt: HostRuntime) {
+    let with_text = b"       0     10: SEQUENCE {
+       2      3:   OCTET STRING 61 62 63  |abc|
+       7      3:   BOOLEAN 64 65 66  |def|
+       7    B06:   BOOLEAN is not one octet
+                 }
+";
+    let without = b"       0     10: SEQUENCE {
+       2      3:   OCTET STRING 61 62 63
+       7      3:   BOOLEAN 64 65 66
+       7    B06:   BOOLEAN is not one octet
+                 }
+";
+    expect_dump(&rt, true, with_text);
+    expect_dump(&rt, false, without);
 }
 
 #[test]

@@ -20,7 +20,8 @@ use Rattle.tlv_value.specs.Private.Rows.{pair_row_line, pair_row_lines}
 use Rattle.tlv_value.specs.Rows.{rows_of}
 use Rattle.tlv_value.proofs.RowLemmas.FilledRows.{row_begun, rows-filled, rows_filled}
 use Rattle.tlv_value.specs.ValueLines.{row_lines}
-use Rattle.tlv_value.specs.Value.{row_text, spaced_pairs}
+use Rattle.tlv_value.specs.Private.UndottedText.{line_pairs}
+use Rattle.tlv_value.specs.Value.{row_text}
 use Rattle.tlv_value.proofs.TextLemmas.RowLines.{row_lines-append}
 use Rattle.tlv_value.proofs.RowLemmas.RowSteps.{rest-stays_in_row, next_row}
 
@@ -92,20 +93,20 @@ module _ (kind : Kind) (short : row_size kind ≡ 16) where
       (t.0 ∙ ap (λ (r : List (List ℕ)). first_chunks 16 n octets ++ r) k.0 ∙ append-nil (first_chunks 16 n octets))
       ∙ ap (λ (r : List ℕ). first_chunks 16 n octets ++ last_rows r) (t.1 ∙ k.1)
 
-  module _ (with_text : Bool) (plain : with_text ≡ false) (layout : Layout) (endless : layout.limit ≡ None) where
-    -- their lines, if there is no limit to rows, and no text beside pairs
-    lines_of : (i : ℕ) (rows : List (List ℕ)) → row_lines with_text kind layout i rows ≡ pair_row_lines layout rows
+  module _ (with_text : Bool) (layout : Layout) (endless : layout.limit ≡ None) where
+    -- their lines, if there is no limit to rows
+    lines_of : (i : ℕ) (rows : List (List ℕ)) → row_lines with_text kind layout i rows ≡ pair_row_lines with_text layout rows
     lines_of i [] = refl
     lines_of i (row ∷ rows) =
-        let one : row_line layout i (row_text with_text kind row) ≡ pair_row_line layout row =
-        rw (endless, plain, not_text kind short) refl in
+        let one : row_line layout i (row_text with_text kind row) ≡ pair_row_line with_text layout row =
+        rw (endless, not_text kind short) refl in
         ap₂ (λ (k l : List ℕ). k ++ l) one (lines_of (i + 1) rows)
 
     -- the full rows of octets, and what is left of them
     abbrev pub SplitsFullRows : ℕ → List ℕ → List (List ℕ) → List ℕ → Type 0
     SplitsFullRows i octets rows more =
         (row_lines with_text kind layout i (rows_filled kind [] octets)
-        ≡ pair_row_lines layout rows ++ row_lines with_text kind layout (i + length rows) (rows_filled kind [] more))
+        ≡ pair_row_lines with_text layout rows ++ row_lines with_text kind layout (i + length rows) (rows_filled kind [] more))
         × (row_begun kind [] octets ≡ row_begun kind [] more)
         × (length (rows_filled kind [] octets) ≡ length rows + length (rows_filled kind [] more))
 
@@ -123,27 +124,29 @@ module _ (kind : Kind) (short : row_size kind ≡ 16) where
         )
 
 -- the lines of all rows, if there is no limit to them
-pub pair_lines : (kind : Kind) → row_size kind ≡ 16 → (with_text : Bool) → with_text ≡ false → (layout : Layout) → layout.limit ≡ None → (octets : List ℕ)
-    → pair_row_lines layout (rows_of Octets octets) ≡ row_lines with_text kind layout 0 (rows_of kind octets)
-pair_lines kind short with_text plain layout endless octets =
-    ap (pair_row_lines layout) (rows_cut Octets refl octets ∙ sym (rows_cut kind short octets))
-    ∙ sym (lines_of kind short with_text plain layout endless 0 (rows_of kind octets))
+pub pair_lines : (kind : Kind) → row_size kind ≡ 16 → (with_text : Bool) (layout : Layout) → layout.limit ≡ None → (octets : List ℕ)
+    → pair_row_lines with_text layout (rows_of Octets octets) ≡ row_lines with_text kind layout 0 (rows_of kind octets)
+pair_lines kind short with_text layout endless octets =
+    ap (pair_row_lines with_text layout) (rows_cut Octets refl octets ∙ sym (rows_cut kind short octets))
+    ∙ sym (lines_of kind short with_text layout endless 0 (rows_of kind octets))
 
 -- ---- the line of a full row
 
 -- pairs, each after a space, and pairs with spaces between them
-pairs_joined : (x : ℕ) (xs : List ℕ) → spaced_pairs (x ∷ xs) ≡ 32 ∷ row_text false Octets (x ∷ xs)
-pairs_joined x xs = refl
+pairs_joined : (with_text : Bool) (x : ℕ) (xs : List ℕ)
+    → line_pairs with_text (x ∷ xs) ≡ 32 ∷ row_text with_text Octets (x ∷ xs)
+pairs_joined false x xs = refl
+pairs_joined true x xs = refl
 
-pub full_line_added : (layout : Layout) (old row : List ℕ) (n : ℕ)
+pub full_line_added : (with_text : Bool) (layout : Layout) (old row : List ℕ) (n : ℕ)
     → spaces n ≡ margin layout.pure blank_columns (layout.level + 1) → 2 ≤ n → length row ≡ 16
-    → old ++ spaces (n - 1) ++ spaced_pairs row ++ 10 ∷ [] ≡ old ++ pair_row_line layout row
-full_line_added layout old [] n e some whole = absurd (omega (arith, whole))
-full_line_added layout old (x ∷ xs) n e some whole =
-    let text : List ℕ = row_text false Octets (x ∷ xs) in
+    → old ++ spaces (n - 1) ++ line_pairs with_text row ++ 10 ∷ [] ≡ old ++ pair_row_line with_text layout row
+full_line_added with_text layout old [] n e some whole = absurd (omega (arith, whole))
+full_line_added with_text layout old (x ∷ xs) n e some whole =
+    let text : List ℕ = row_text with_text Octets (x ∷ xs) in
     let indent : spaces (n - 1) ++ 32 ∷ [] ≡ margin layout.pure blank_columns (layout.level + 1) =
     replicate_more (n - 1) 32 ∙ ap spaces (omega (arith, some)) ∙ e in
-    ap (λ (l : List ℕ). old ++ spaces (n - 1) ++ l ++ 10 ∷ []) (pairs_joined x xs)
+    ap (λ (l : List ℕ). old ++ spaces (n - 1) ++ l ++ 10 ∷ []) (pairs_joined with_text x xs)
     ∙ joined (spaces (n - 1)) text
     ∙ ap (λ (l : List ℕ). old ++ (l ++ text ++ 10 ∷ [])) indent
   where
@@ -152,41 +155,41 @@ full_line_added layout old (x ∷ xs) n e some whole =
     joined indent text = simp append_assoc refl
 
 -- the lines of the full rows, and that of the last
-pub lines_cut : (layout : Layout) (octets : List ℕ) (rows : List (List ℕ)) (more : List ℕ)
+pub lines_cut : (with_text : Bool) (layout : Layout) (octets : List ℕ) (rows : List (List ℕ)) (more : List ℕ)
     → rows ≡ first_chunks 16 (length octets / 16) octets → more ≡ drop (length octets / 16 * 16) octets
-    → pair_row_lines layout rows ++ pair_row_lines layout (last_rows more)
-    ≡ pair_row_lines layout (rows_of Octets octets)
-lines_cut layout octets rows more e f =
-    sym (flat_map-append (pair_row_line layout) rows (last_rows more))
-    ∙ ap (pair_row_lines layout) (rw (e, f) (sym (rows_cut Octets refl octets)))
+    → pair_row_lines with_text layout rows ++ pair_row_lines with_text layout (last_rows more)
+    ≡ pair_row_lines with_text layout (rows_of Octets octets)
+lines_cut with_text layout octets rows more e f =
+    sym (flat_map-append (pair_row_line with_text layout) rows (last_rows more))
+    ∙ ap (pair_row_lines with_text layout) (rw (e, f) (sym (rows_cut Octets refl octets)))
 
 -- the line of the last, if there is one
-pub last_line : (layout : Layout) (row : List ℕ) → eqb (length row) 0 ≡ false
-    → pair_row_line layout row ≡ pair_row_lines layout (last_rows row)
-last_line layout [] some = absurd (grind (arith, nat_tests))
-last_line layout (x ∷ xs) some = sym (append-nil (pair_row_line layout (x ∷ xs)))
+pub last_line : (with_text : Bool) (layout : Layout) (row : List ℕ) → eqb (length row) 0 ≡ false
+    → pair_row_line with_text layout row ≡ pair_row_lines with_text layout (last_rows row)
+last_line with_text layout [] some = absurd (grind (arith, nat_tests))
+last_line with_text layout (x ∷ xs) some = sym (append-nil (pair_row_line with_text layout (x ∷ xs)))
 
-pub no_last_line : (layout : Layout) (shown row : List ℕ) → eqb (length row) 0 ≡ true
-    → shown ≡ shown ++ pair_row_lines layout (last_rows row)
-no_last_line layout shown [] none = sym (append-nil shown)
-no_last_line layout shown (x ∷ xs) none = absurd (grind (arith, nat_tests))
+pub no_last_line : (with_text : Bool) (layout : Layout) (shown row : List ℕ) → eqb (length row) 0 ≡ true
+    → shown ≡ shown ++ pair_row_lines with_text layout (last_rows row)
+no_last_line with_text layout shown [] none = sym (append-nil shown)
+no_last_line with_text layout shown (x ∷ xs) none = absurd (grind (arith, nat_tests))
 
 -- ---- line by line
 
-module _ (layout : Layout) where
+module _ (with_text : Bool) (layout : Layout) where
   -- one row more
   pub lines_more : (rows : List (List ℕ)) (i : ℕ) → i < length rows
-      → pair_row_lines layout (take i rows) ++ pair_row_line layout (get_or rows i [])
-      ≡ pair_row_lines layout (take (i + 1) rows)
+      → pair_row_lines with_text layout (take i rows) ++ pair_row_line with_text layout (get_or rows i [])
+      ≡ pair_row_lines with_text layout (take (i + 1) rows)
   lines_more rows i h =
-      sym (ap (pair_row_lines layout) (take_more rows i [] h)
-      ∙ flat_map-append (pair_row_line layout) (take i rows) (get_or rows i [] ∷ [])
-      ∙ ap (λ (l : List ℕ). pair_row_lines layout (take i rows) ++ l)
-      (append-nil (pair_row_line layout (get_or rows i []))))
+      sym (ap (pair_row_lines with_text layout) (take_more rows i [] h)
+      ∙ flat_map-append (pair_row_line with_text layout) (take i rows) (get_or rows i [] ∷ [])
+      ∙ ap (λ (l : List ℕ). pair_row_lines with_text layout (take i rows) ++ l)
+      (append-nil (pair_row_line with_text layout (get_or rows i []))))
 
   -- the first rows, and those after them
   pub lines_split : (rows : List (List ℕ)) (i : ℕ)
-      → pair_row_lines layout (take i rows) ++ pair_row_lines layout (drop i rows) ≡ pair_row_lines layout rows
+      → pair_row_lines with_text layout (take i rows) ++ pair_row_lines with_text layout (drop i rows) ≡ pair_row_lines with_text layout rows
   lines_split rows i =
-      sym (flat_map-append (pair_row_line layout) (take i rows) (drop i rows))
-      ∙ ap (pair_row_lines layout) (take-append-drop i rows)
+      sym (flat_map-append (pair_row_line with_text layout) (take i rows) (drop i rows))
+      ∙ ap (pair_row_lines with_text layout) (take-append-drop i rows)

@@ -193,10 +193,14 @@ pub row-pairs-short : (with_text : Bool) (octets : List ℕ) → length octets �
 row-pairs-short with_text octets h =
     omega (arith, with-text-short with_text octets (joined_pairs octets), joined-short octets)
 
+pub row-short : (with_text : Bool) (octets : List ℕ) → length (line_pairs with_text octets) ≤ 4 * length octets + 4
+row-short with_text octets =
+    omega (arith, with-text-short with_text octets (spaced_pairs octets), pairs-size octets)
+
 pub pairs-short : (with_text : Bool) (octets : List ℕ) → length octets ≤ 64
     → length (line_pairs with_text octets) ≤ 330
 pairs-short with_text octets h =
-    omega (arith, with-text-short with_text octets (spaced_pairs octets), pairs-size octets)
+    omega (arith, row-short with_text octets, h)
 
 octets-text-short : (with_text : Bool) (octets : List ℕ) → length (octets_value with_text octets).text ≤ 330
 octets-text-short with_text octets =

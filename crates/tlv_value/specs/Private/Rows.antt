@@ -1,5 +1,5 @@
 -- Where a row is, and the lines of rows of pairs of digits.
-use Rattle.std.specs.Prelude.{ℕ, ◌+◌, ◌*◌, false, if◌then◌else◌, List, flat_map}
+use Rattle.std.specs.Prelude.{ℕ, ◌+◌, ◌*◌, Bool, if◌then◌else◌, List, flat_map}
 use Rattle.tlv_value.specs.declared.kind.Kind.TheVariants.{Octets}
 use Rattle.tlv_value.specs.declared.layout.Layout.{Layout}
 use Rattle.tlv_value.specs.Layout.{inner_line}
@@ -9,9 +9,10 @@ use Rattle.tlv_value.specs.Value.{row_text}
 abbrev pub row_indent : Layout → ℕ
 row_indent layout = (if layout.pure then 0 else 17) + 2 * (layout.level + 1)
 
--- the line of a row of pairs of digits without text, if there is no limit to rows
-abbrev pub pair_row_line : Layout → List ℕ → List ℕ
-pair_row_line layout row = inner_line layout (row_text false Octets row)
+-- the line of a row of pairs of digits, if there is no limit to rows. The first argument says whether text is beside
+-- them
+abbrev pub pair_row_line : Bool → Layout → List ℕ → List ℕ
+pair_row_line with_text layout row = inner_line layout (row_text with_text Octets row)
 
-abbrev pub pair_row_lines : Layout → List (List ℕ) → List ℕ
-pair_row_lines layout rows = flat_map (pair_row_line layout) rows
+abbrev pub pair_row_lines : Bool → Layout → List (List ℕ) → List ℕ
+pair_row_lines with_text layout rows = flat_map (pair_row_line with_text layout) rows

@@ -1,6 +1,6 @@
 //! Rows on their way to an [`Out`].
 ghost use Rattle.std.specs.Prelude.{◌≡◌, ◌+◌, ◌<◌, ◌≤◌, ◌^◌, ◌++◌, [], codes, if◌then◌else◌, length, IsTrue};
-ghost use Rattle.std.specs.Prelude.{None, OnOk, false, ◌↔◌};
+ghost use Rattle.std.specs.Prelude.{None, OnOk, ◌↔◌};
 ghost use Rattle.tlv_io.specs.OutLimits.{line_room};
 ghost use Rattle.tlv_io.specs.Cuts.{last_rows};
 ghost use Rattle.tlv_io.specs.LineTexts.{HasRoomFor};
@@ -15,6 +15,7 @@ ghost use Rattle.tlv_value.specs.ValueLines.{row_lines};
 use crate::Layout;
 use crate::kind::Kind;
 use crate::line_starts::row_indent;
+use crate::pairs::write_full_row;
 use crate::row_form::RowForm;
 use crate::row_sizes::{fitting_length, row_size};
 use crate::value::write_row;
@@ -68,11 +69,11 @@ pub(crate) fn put_rows<D: Drain>(
     let mut rest = octets;
     while !rest.is_empty() {
         let begun = row.len();
-        if has_full_rows(form, size, begun, rest) {
+        if has_full_rows(form.layout, size, begun, rest) {
             let (full, more) = rest.as_chunks::<16>();
             rest = more;
             *row_count += full.len() as u64;
-            put_full_rows(form.layout, full, out)?;
+            put_full_rows(form.layout, form.with_text, full, out)?;
             continue;
         }
         let (part, more) = rest.split_at(fitting_length(form.kind, begun, rest));
@@ -88,47 +89,63 @@ pub(crate) fn put_rows<D: Drain>(
     Ok(())
 }
 
-/// Whether the octets begin with full rows of pairs of digits without text, while no row has begun and their number is
-/// not limited.
+/// Whether the octets begin with full rows of pairs of digits, while no row has begun and their number is not limited.
 #[inline(always)]
-fn has_full_rows(form: &RowForm, size: usize, begun: usize, octets: &[u8]) -> bool
+fn has_full_rows(layout: Layout, size: usize, begun: usize, octets: &[u8]) -> bool
     ensures { IsTrue result
-        ↔ ((begun ≡ 0) × (size ≡ 16) × (form.now.layout.limit ≡ None) × (form.now.with_text ≡ false)
-        × (16 ≤ length octets.now)) }
+        ↔ ((begun ≡ 0) × (size ≡ 16) × (layout.limit ≡ None) × (16 ≤ length octets.now)) }
 {
-    begun == 0 && size == 16 && form.layout.limit.is_none() && !form.with_text && octets.len() >= 16
+    begun == 0 && size == 16 && layout.limit.is_none() && octets.len() >= 16
 }
 
-/// Puts full rows of pairs of digits without text, from where their octets are. There is no limit to them.
+/// Puts full rows of pairs of digits, from where their octets are. There is no limit to them.
 #[inline(always)]
 fn put_full_rows<D: Drain>(
+    layout: Layout,
+    with_text: bool,
+    rows: &[[u8; 16]],
+    out: &mut Out<'_, D>,
+) -> Result<(), WriteFault>
+    ensures { Puts D.state out.old out.new (pair_row_lines with_text layout rows.now) result }
+{
+    if with_text {
+        put_each_row::<true, D>(layout, rows, out)
+    } else {
+        put_each_row::<false, D>(layout, rows, out)
+    }
+}
+
+/// Puts full rows of pairs of digits: none of them asks whether text is wanted.
+#[inline(always)]
+fn put_each_row<const WITH_TEXT: bool, D: Drain>(
     layout: Layout,
     rows: &[[u8; 16]],
     out: &mut Out<'_, D>,
 ) -> Result<(), WriteFault>
-    ensures { Puts D.state out.old out.new (pair_row_lines layout rows.now) result }
+    ensures { Puts D.state out.old out.new (pair_row_lines WITH_TEXT layout rows.now) result }
 {
     // A row is much shorter than what `make_room` makes room for, so the drain takes more with each write.
-    let size = row_indent(layout) + 64;
+    let size = row_indent(layout) + 68;
     for row in rows {
         out.make_room_for(size)?;
-        write_pair_row_line(&mut out.held, layout, row);
+        write_pair_row_line::<WITH_TEXT>(&mut out.held, layout, row);
     }
     Ok(())
 }
 
-/// Puts rows of pairs of digits without text, of all of the octets, from where they are. There is no limit to them.
+/// Puts rows of pairs of digits, of all of the octets, from where they are. There is no limit to them.
 #[inline(always)]
 pub(crate) fn put_pair_rows<D: Drain>(
     layout: Layout,
+    with_text: bool,
     octets: &[u8],
     out: &mut Out<'_, D>,
 ) -> Result<(), WriteFault>
     ensures { Puts D.state out.old out.new
-        (pair_row_lines layout (rows_of Kind.Octets octets.now)) result }
+        (pair_row_lines with_text layout (rows_of Kind.Octets octets.now)) result }
 {
     let (full, last) = octets.as_chunks::<16>();
-    put_full_rows(layout, full, out)?;
+    put_full_rows(layout, with_text, full, out)?;
     if last.is_empty() {
         return Ok(());
     }
@@ -136,7 +153,7 @@ pub(crate) fn put_pair_rows<D: Drain>(
     let form = RowForm {
         kind: Kind::Octets,
         layout,
-        with_text: false,
+        with_text,
     };
     write_line(&mut out.held, &form, last);
     Ok(())
@@ -238,13 +255,13 @@ fn write_line(held: &mut HeldOctets, form: &RowForm, row: &[u8])
 
 /// Adds the line of a full row of pairs of digits.
 #[inline(always)]
-fn write_pair_row_line(held: &mut HeldOctets, layout: Layout, row: &[u8; 16])
-    requires { HasRoomFor held.old (row_indent layout + 64) }
-    ensures { held.new ≡ held.old ++ pair_row_line layout row.now }
+fn write_pair_row_line<const WITH_TEXT: bool>(held: &mut HeldOctets, layout: Layout, row: &[u8; 16])
+    requires { HasRoomFor held.old (row_indent layout + 68) }
+    ensures { held.new ≡ held.old ++ pair_row_line WITH_TEXT layout row.now }
 {
     // Each pair brings the space before it.
     held.spaces(row_indent(layout) - 1);
-    held.spaced_row(row);
+    write_full_row::<WITH_TEXT>(held, row);
     held.add(b"\n");
 }
 

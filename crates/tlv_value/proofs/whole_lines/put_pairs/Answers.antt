@@ -14,7 +14,7 @@ returns g c =
     let p = c.args.primitive.now in
     let line : List ℕ = long_value_line p c.args.contents.now in
     let rows =
-    pair_lines p.kind c.requires.pairs p.with_text c.requires.without_text p.layout c.requires.unlimited c.row_octets.result.now
-    ∙ ap (λ (octets : List ℕ). row_lines p.with_text p.kind p.layout 0 (rows_of p.kind octets)) c.row_octets.ensures in
+    pair_lines p.kind c.requires.pairs p.with_text p.layout c.requires.unlimited c.row_octets-rows.result.now
+    ∙ ap (λ (octets : List ℕ). row_lines p.with_text p.kind p.layout 0 (rows_of p.kind octets)) c.row_octets-rows.ensures in
     puts_then_as g.D.Drain.state _ _ _ _ _ _ _ _ c.in_ok-put_long_line.ensures c.put_pair_rows.ensures
     (ap (λ (t : List ℕ). line ++ t) rows)

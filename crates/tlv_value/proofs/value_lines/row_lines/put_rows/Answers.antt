@@ -164,12 +164,12 @@ loop-rest-preserved-then-has_full_rows g c =
     let f = c.has_full_rows.ensures.0 c.if-has_full_rows.true in
     let none : c.loop-rest.row.items ≡ [] = nil_from_length _ (omega (arith, c.len-begun.ensures.value, f.0)) in
     let t =
-    splits-full_rows kind (sym c.row_size-size.ensures ∙ f.1) c.args.form.now.with_text f.3 c.args.form.now.layout f.2 c.loop-rest.row_count
+    splits-full_rows kind (sym c.row_size-size.ensures ∙ f.1) c.args.form.now.with_text c.args.form.now.layout f.2 c.loop-rest.row_count
     c.loop-rest.rest.now
     c.as_chunks.result.0.now more c.as_chunks.ensures.front c.as_chunks.ensures.back in
     let put = rw none at i.put.2 in
     let rows = rw none at i.rows in
-    let all : List ℕ = pair_row_lines c.args.form.now.layout c.as_chunks.result.0.now in
+    let all : List ℕ = pair_row_lines c.args.form.now.with_text c.args.form.now.layout c.as_chunks.result.0.now in
     let rest : List ℕ =
     row_lines c.args.form.now.with_text kind c.args.form.now.layout (c.loop-rest.row_count + length c.as_chunks.result.0.now) (rows_filled kind [] more) in
     record {
@@ -192,11 +192,11 @@ returns-in_err-put_full_rows-clause-puts g c =
     let f = c.has_full_rows.ensures.0 c.if-has_full_rows.true in
     let none : c.loop-rest.row.items ≡ [] = nil_from_length _ (omega (arith, c.len-begun.ensures.value, f.0)) in
     let t =
-    splits-full_rows kind (sym c.row_size-size.ensures ∙ f.1) c.args.form.now.with_text f.3 c.args.form.now.layout f.2 c.loop-rest.row_count
+    splits-full_rows kind (sym c.row_size-size.ensures ∙ f.1) c.args.form.now.with_text c.args.form.now.layout f.2 c.loop-rest.row_count
     c.loop-rest.rest.now
     c.as_chunks.result.0.now more c.as_chunks.ensures.front c.as_chunks.ensures.back in
     let put = rw none at i.put.2 in
-    let all : List ℕ = pair_row_lines c.args.form.now.layout c.as_chunks.result.0.now in
+    let all : List ℕ = pair_row_lines c.args.form.now.with_text c.args.form.now.layout c.as_chunks.result.0.now in
     let rest : List ℕ =
     row_lines c.args.form.now.with_text kind c.args.form.now.layout (c.loop-rest.row_count + length c.as_chunks.result.0.now) (rows_filled kind [] more) in
     puts_failed_in g.D.Drain.state _ _ (i.put.0 ++ all)
