@@ -34,11 +34,21 @@ NO_NAMES = "no names file was found: object identifiers have no names"
 REFUSED = [
     "--nonsense", "-x", "-h", "--rules", "--limit", "--names", "--offset", "--rules ber --rules ber", "--pure --pure",
     "--closed --closed", "--no-text --no-text", "--padding --padding", "--closed=1", "--check --check", "--offsets --offsets",
-    "--offset 0 --offset 0", "--limits 1", "--inside 0", "--check --limit 1", "--check --pure", "--check --names n",
-    "--check --no-text", "--check --offset 0", "--check --offsets", "--check --contents", "--contents", "--offsets --rules ber",
-    "--offsets --closed", "--offsets --limit 1", "--offsets --offset 0", "--offsets --contents", "--offsets a b",
-    "--offset 0 --rules ber", "--offset 0 --closed", "--offset 0 --pure", "--offset 0 --no-text", "--offset 0 a b",
-    "--offset 0 --limit 1", "--offset 0 --names n", "--limit -1",
+    "--offset 0 --offset 0", "--limits 1", "--inside 0", "--limit -1",
+]
+# Options that are not for each other.
+ALONE = [
+    ("--check --limit 1", "not with --check: --limit"), ("--pure --check", "not with --check: --pure"),
+    ("--check --names n", "not with --check: --names"), ("--check --no-text", "not with --check: --no-text"),
+    ("--check --offset 0", "not with --check: --offset"), ("--offsets --check", "not with --check: --offsets"),
+    ("--contents", "only with --offset: --contents"), ("--check --contents", "only with --offset: --contents"),
+    ("--offsets --contents", "only with --offset: --contents"), ("--offsets --rules ber", "not with --offsets: --rules"),
+    ("--offsets --closed", "not with --offsets: --closed"), ("--offsets --limit 1", "not with --offsets: --limit"),
+    ("--offsets --offset 0", "not with --offset: --offsets"), ("--offsets a b", "one FILE with --offsets"),
+    ("--offset 0 --rules ber", "not with --offset: --rules"), ("--offset 0 --closed", "not with --offset: --closed"),
+    ("--offset 0 --pure", "not with --offset: --pure"), ("--offset 0 --no-text", "not with --offset: --no-text"),
+    ("--offset 0 --limit 1", "not with --offset: --limit"), ("--offset 0 --names n", "not with --offset: --names"),
+    ("--offset 0 a b", "one FILE with --offset"),
 ]
 RULES, LIMIT, OFFSET = "--rules (ber, der or cer)", "--limit (0 to 4294967295)", "--offset (0 to 1099511627776)"
 NO_NUMBERS = ("", "x", "+5", "-5", " 5", "5.0", "0x10", "00000000000005")
@@ -53,6 +63,8 @@ def words(part, program):
     """Which words are taken, and which are refused."""
     for text in REFUSED:
         program.refuses(text.split(), NULL)
+    for text, said in ALONE:
+        program.gives(text.split(), NULL, 4, err=f"U4 {said}")
     for option, given in VALUES:
         program.gives(given, NULL, 4, err=f"U2 value out of range: {option}")
     program.gives([b"\xff"], NULL, 4, err="U1 an argument is not UTF-8", what="a word that is not UTF-8")
@@ -93,9 +105,9 @@ def several(part, program):
     found = b"# block 1 of 2: found\n0 B08 integer is padded\n# block 2 of 2: null\n"
     part.write("found", b"\x02\x02\x00\x05")
     program.gives(["--check", "found", "null"], b"", 1, found, "found: findings: 1")
-    standard = b"# block 1 of 2: -\n" + NULL_LINE + b"# block 2 of 2: sound\n" + LINES
+    standard = b"# block 1 of 2: standard input\n" + NULL_LINE + b"# block 2 of 2: sound\n" + LINES
     program.gives(["-", "sound"], NULL, 0, standard)
-    program.gives(["--check", "-", "sound"], b"\x02\x02\x00\x05", 1, b"# block 1 of 2: -\n0 B08 integer is padded\n"
+    program.gives(["--check", "-", "sound"], b"\x02\x02\x00\x05", 1, b"# block 1 of 2: standard input\n0 B08 integer is padded\n"
                   b"# block 2 of 2: sound\n", "findings: 1")
     missing = b"# block 1 of 2: missing\n# block 2 of 2: null\n" + NULL_LINE
     program.gives(["missing", "null"], b"", 3, missing, f"missing: {OPEN}")

@@ -4,8 +4,10 @@ tests/parts/refuse.c does that for this program too (parts/memory_requests.py). 
 file is read, then each FILE is opened, read whole, and shown. Then the memory that it takes in all.
 """
 import os
+import re
 import resource
 import subprocess
+import time
 
 from parts.harness import Done
 from parts.memory_requests import LAST, Requests
@@ -17,7 +19,9 @@ OCTETS = bytes.fromhex("0404040205 00 300b0603551d0f0404030305a0 0603550403".rep
 # Lines of words, whether the run on OCTETS reads FILE, and whether it reads a names file.
 TAKEN = ["", "--check --rules der", "--offsets", "--offset 4", "--closed a.der", "--names names a.der", "--pure --padding a.der"]
 TAKEN += ["many.der", "--offsets many.der", "--check many.der a.der", "a.der many.der", "--names names - a.der"]
-PRINTED = ["--help", "--version", "--nonsense", "--limit", "--check --pure"]
+PRINTED = ["--help", "--version", "--limit", "--check --pure"]
+# Words for which it looks for others that are alike: if one request alone is refused there, it may say so otherwise.
+ALIKE = ["--nonsense", "--lim 1"]
 WORDS, NAMES, INPUT = "U3 out of memory", "N6 out of memory", "E8 out of memory"
 MB = 1_000_000
 
@@ -30,6 +34,8 @@ class Line:
         self.words, self.log = text.split(), part.path("log")
         self.own, log = self.run(0, 0)
         self.opened, self.requests = log.opened, log.requests or 0
+        files = [word for word in self.words if word == "-" or word.endswith(".der")] or ["-"]
+        self.messages = ["" if word == "-" else f"{word}: " for word in files]
 
     def run(self, first, last):
         """Runs it with these requests refused, and returns what it did, and what was reported."""
@@ -40,33 +46,34 @@ class Line:
         got = self.program.run(self.words, OCTETS, env=env)
         return got, Requests(self.log)
 
-    def messages(self, number):
-        """Returns what may be reported if this request is refused."""
-        if "-" in self.words and len(self.words) > 3:
-            names = ["", "a.der: "]
-        else:
-            names = [f"{word}: " for word in self.words if word.endswith(".der")] or [""]
-        before = [name for name, count in self.opened if count < number]
-        if not before:
-            return [WORDS, NAMES] if self.opened else [WORDS, *(f"{name}{INPUT}" for name in names)]
-        if before[-1].endswith(("names", "names.txt")):
-            return [NAMES, f"{names[0]}{INPUT}"]
-        return [f"{name}{INPUT}" for name in names]
-
     def is_fine(self, got, number):
-        """Returns whether a run with this request refused did what it may."""
-        *said, last = got.err.decode().splitlines() or [""]
-        own = self.own.err.decode().splitlines()
-        return got.status == 5 and last in self.messages(number) and said == own[: len(said)] and self.own.out.startswith(got.out)
+        """Returns whether a run with this request refused did what it may.
 
-    def refuse_each(self):
+        Before a file is opened the whole run ends. Then it ends for one FILE, and the others are shown.
+        """
+        before = [name for name, count in self.opened if count < number]
+        ends = [] if before else [WORDS]
+        if not before or before[-1].endswith(("names", "names.txt")):
+            ends.append(NAMES)
+        return got in [Done(5, b"", f"{end}\n".encode()) for end in ends] or self.is_part(got)
+
+    def is_part(self, got):
+        """Returns whether it wrote part of each block, and reported E8 or what it reports otherwise."""
+        refused = [f"{name}{INPUT}" for name in self.messages]
+        said, own = got.err.decode().splitlines(), self.own.err.decode().splitlines()
+        written, blocks = got.out.split(b"# block "), self.own.out.split(b"# block ")
+        is_prefix = len(written) == len(blocks) and all(map(bytes.startswith, blocks, written))
+        return got.status == 5 and is_prefix and set(said) <= {*refused, *own} and not set(said).isdisjoint(refused)
+
+    def refuse_each(self, may_pass=False):
         """Refuses each request in turn, alone, and with all after it."""
         for is_alone in (True, False):
             wrong = []
             for number in range(1, self.requests + 1):
                 got, log = self.run(number, number if is_alone else LAST)
-                if not log.refused or not self.is_fine(got, number):
-                    wrong += [f"request {number}: wanted {self.messages(number)}", *got.lines()]
+                passes = may_pass and is_alone and got == self.own
+                if not log.refused or not passes and not self.is_fine(got, number):
+                    wrong += [f"request {number} of {self.opened}", *got.lines()]
             how = "alone" if is_alone else "and all after it"
             self.part.expect(f"{self.text}: each of {self.requests} requests refused, {how}", not wrong, *wrong[:12])
 
@@ -79,21 +86,45 @@ def requests(part, program):
     part.write("a.der", OCTETS)
     part.write("many.der", b"\x04\x02\x05\x00" * 3000)
     part.write("names", b"2.5.4.3 commonName\n")
-    for text in TAKEN + PRINTED:
+    # A names file of one line, since each line takes some requests.
+    part.write("prefix/share/tlvdump/names.txt", b"2.5.4.3 commonName\n")
+    total = 0
+    for text in TAKEN + PRINTED + ALIKE:
         line = Line(part, program, refusing, text)
-        got = program.run(line.words, OCTETS)
-        part.same(f"{line.text}: no request refused", line.own, got)
-        part.expect(f"{line.text}: it takes memory", line.requests > 0)
-        line.refuse_each()
-        part.note(f"{line.text}: {line.requests} requests")
+        part.same(f"{line.text}: no request refused", line.own, program.run(line.words, OCTETS))
+        line.refuse_each(text in ALIKE)
+        total += line.requests
+    part.expect("requests for memory", total > 100)
+    part.note(f"{len(TAKEN + PRINTED + ALIKE)} lines of words, {total} requests")
 
 
-def most_memory(part, program, name):
-    """Returns the most resident memory of a run on this file, in octets."""
-    child = part.start([name], program=program.path, stdout=subprocess.DEVNULL, stderr=subprocess.DEVNULL)
-    _, _, used = os.wait4(child.pid, 0)
-    child.returncode = 0
-    return used.ru_maxrss * 1024
+def resident(pid):
+    """Returns the most resident memory of a process so far, in octets; 0 if it has ended."""
+    try:
+        with open(f"/proc/{pid}/status", encoding="ascii") as file:
+            found = re.search(r"VmHWM:\s*(\d+) kB", file.read())
+    except (FileNotFoundError, ProcessLookupError):
+        return 0
+    return int(found[1]) * 1024 if found else 0
+
+
+def most_memory(part, program, words):
+    """Returns the most resident memory of a run, in octets: its lines are taken one piece after another.
+
+    What the system reports of a process that has ended counts the one that started it too.
+    """
+    child = part.start(words, program=program.path, stdin=subprocess.PIPE, stdout=subprocess.PIPE, stderr=subprocess.DEVNULL)
+    most, piece = 0, True
+    if not words:
+        time.sleep(0.3)
+        most = resident(child.pid)
+    child.stdin.close()
+    while piece:
+        piece = child.stdout.read(1 << 16)
+        most = max(most, resident(child.pid))
+    child.stdout.close()
+    child.wait()
+    return most
 
 
 def string(octets):
@@ -103,15 +134,14 @@ def string(octets):
 
 def in_all(part, program):
     """At most twice the input, 8 octets for each opened string, and 2 MB, beside what a small input takes."""
-    part.write("small", b"\x05\x00")
-    small = most_memory(part, program, "small")
+    small = most_memory(part, program, [])
     for what, octets, strings in (
         ("a long string", b"\x04" + shortest(20 * MB) + bytes(20 * MB), 0),
         ("a million strings", b"\x04\x02\x05\x00" * MB, MB),
         ("strings of 120 levels", nested(120, 8 * MB), 120),
     ):
         part.write("large", octets)
-        taken = most_memory(part, program, "large") - small
+        taken = most_memory(part, program, ["large"]) - small
         most = 2 * len(octets) + 8 * strings + 2 * MB
         part.expect(f"{what}: memory", taken <= most, f"{taken} octets, and at most {most}")
         part.note(f"{what}, {len(octets) / MB:.0f} MB: {taken / MB:.1f} MB beside {small / MB:.1f}")

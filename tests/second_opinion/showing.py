@@ -18,6 +18,8 @@ class File:
 
     def shown(self):
         """Returns the word, with ? for each octet that is not printable ASCII."""
+        if self.is_standard_input:
+            return "standard input"
         return "".join(chr(it) if 0x20 <= it <= 0x7E else "?" for it in self.word.encode("utf-8", "surrogateescape"))
 
 
