@@ -14,13 +14,16 @@ def words_of(part):
     return options
 
 
+def show_options(program):
+    """The options of the program tlvdump-show, by its help."""
+    return set(re.findall(r"^ +(?:-\w, )?(--[a-z-]+)", program.run(["--help"]).out.decode(), re.M))
+
+
 def script_options(part, name):
     """The options of a script, by its help."""
     got = subprocess.run([os.path.join(part.root, name), "--help"], capture_output=True, text=True)
-    options = set(re.findall(r"--[a-z]+", got.stdout)) - {"--inside"} | {"--help"}
-    if name == "tlvdump-show":
-        options |= words_of(part)["dump"]
-    return options
+    options = set(re.findall(r"--[a-z]+(?:-[a-z]+)*", got.stdout)) | {"--help"}
+    return options | {"--version"} if name == "tlvdump-show" else options - {"--inside"}
 
 
 def bash(part, options):
