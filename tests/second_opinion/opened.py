@@ -9,6 +9,7 @@ OBJECT_IDENTIFIER, SEQUENCE = 6, 16
 EXTENSIONS = (bytes.fromhex("551d"), bytes.fromhex("2b060105050701"))
 HOLDERS = {0x30: "SEQUENCE", 0x31: "SET"}
 MOST_SMALL, MOST_OFF = 24, 8
+NULL = b"\x05\x00"
 
 
 @dataclass
@@ -41,21 +42,21 @@ class Strings:
     def string(self, string, parent, base, level):
         """Opens a whole string and looks at what it holds, or keeps it if it is broken."""
         inner = inner_octets(string)
-        if inner is None:
+        if inner is None or is_segment(parent) and not is_only_segment(parent):
             return
         reading = Reading(inner, around=level + 1)
-        if level < MOST_OPEN and is_openable(reading) and (not is_segment(parent) or is_only_segment(parent)):
+        if level < MOST_OPEN and is_openable(reading):
             self.opened.append(base + string.offset)
             self.look(reading.items, None, base + string.end - len(inner), level + 1)
-        elif inner and not is_segment(parent) and (reading.fault or level == MOST_OPEN):
+        elif inner and (reading.fault or level == MOST_OPEN):
             looks = look_of(inner) or extension_value(string, parent)
             if looks:
                 self.broken.append(Broken(base + string.offset, looks))
 
     def faults(self):
-        """Gives each broken string with the fault that the input has if that one is named too."""
+        """Gives each broken string with the fault that the input has if that one is named too, and octets follow it."""
         for broken in self.broken:
-            yield broken, Reading(self.octets, [*self.opened, broken.offset], self.padding).fault
+            yield broken, Reading(self.octets + NULL, [*self.opened, broken.offset], self.padding).fault
 
 
 def inner_octets(string):
