@@ -215,6 +215,9 @@ def shown(script):
     script.gives("twenty strings", ["--offsets"], many, 0, (",".join(map(str, range(0, 80, 4))) + "\n").encode())
     part.write(b"caf\xe9".decode("utf-8", "surrogateescape"), NULL.hex().encode())
     script.gives("a name that is not UTF-8", [b"caf\xe9"], b"", 0, b"       0      0: NULL\n", HEX)
+    part.write(b"caf\xe8".decode("utf-8", "surrogateescape"), FOUND)
+    out = program.run([], FOUND).out
+    script.gives("a name that is not UTF-8, of octets", [b"caf\xe8"], b"", 1, out, ":findings: 1")
     part.write("-x", NULL)
     script.gives("a file after --", ["--", "-x"], b"", 0, b"       0      0: NULL\n")
     script.gives("no file", ["missing"], b"", 3, b"", ":missing: E5 cannot open the file")
