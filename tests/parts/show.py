@@ -390,6 +390,25 @@ def reasons(script):
     part.expect("why, if it parses", (status, out) == (0, said), out)
 
 
+def strings(script):
+    """Why a string breaks, with the offsets of the input, at the top and in another string."""
+    sound = "It parses: {0} octets, which are whole encodings. By the rules of BER: findings: 0."
+    for octets, place in ((BREAKS, 0), (element(0x30, string(BREAKS) + NULL), 4)):
+        first, last = 9 + place, 13 + place
+        wanted = [
+            sound.format(len(octets)),
+            f"But the string at {7 + place} is the value of an extension and breaks at {10 + place}:"
+            " F11 element runs past the enclosing length.",
+            f"The octet at offset {first + 1} completes the header of the BIT STRING at offset {first}. "
+            + header(first, "03 03", "3 octets"),
+            f"It would end at offset {last + 1}, but the OCTET STRING at offset {7 + place} ends at offset {last}."
+            f" Missing there: 1 octet. {header(7 + place, '04 04', '4 octets')}",
+            WRONG, "Try: fetch the input anew, in binary.",
+        ]
+        status, out = script.why(octets)
+        script.part.expect(f"why a string breaks, {place}", (status, out.splitlines()) == (1, wanted), str(status), out)
+
+
 def hints(script):
     """What to try: another form, a wrong start, a copy as a text, a file of another kind."""
     part = script.part
@@ -502,6 +521,7 @@ def test(part):
     handed_on(script)
     check_refusals(script)
     reasons(script)
+    strings(script)
     hints(script)
     cuts(script)
     made(script)
