@@ -164,5 +164,9 @@ def test(part):
     large_crl(part, program)
     octets = certificate(part)
     program.agrees("a certificate", octets)
+    names = part.path("prefix/share/tlvdump/names.txt")
+    listed = program.run(["--offsets"], octets).out.decode().strip()
+    part.same("a certificate by both programs", program.run(["--no-text"], octets),
+              part.run(["dump", "--names", names, "--inside", listed], octets))
     damaged_certificates(part, program, octets)
     stores(part, program)
