@@ -393,7 +393,7 @@ def reasons(script):
 def strings(script):
     """Why a string breaks, with the offsets of the input, at the top and in another string."""
     sound = "It parses: {0} octets, which are whole encodings. By the rules of BER: findings: 0."
-    for octets, place in ((BREAKS, 0), (element(0x30, string(BREAKS) + NULL), 4)):
+    for octets, place in ((BREAKS, 0), (element(0x30, string(BREAKS) + NULL), 4), (NULL * 9 + BREAKS + NULL, 18)):
         first, last = 9 + place, 13 + place
         wanted = [
             sound.format(len(octets)),
