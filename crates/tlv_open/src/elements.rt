@@ -1,5 +1,5 @@
 //! Sound elements in octets that are at hand.
-ghost use Rattle.std.specs.Prelude.{◌≡◌, ◌+◌, ◌<◌, ◌^◌, MatchOption, ◌↔◌, IsTrue, false, length};
+ghost use Rattle.std.specs.Prelude.{◌≡◌, ◌+◌, ◌<◌, ◌^◌, IfSome, MatchOption, ◌↔◌, IsTrue, false, length};
 ghost use Rattle.tlv_head.specs.Header.{announced_length};
 ghost use Rattle.tlv_head.specs.HeaderFields.{IsHeaderSized, new_header};
 ghost use Rattle.tlv_head.specs.ReadHeader.{BeginsWithFields};
@@ -14,8 +14,23 @@ use tlv_show::has_basic_findings;
 /// The most elements that hold others, inside one another.
 pub(crate) const DEPTH_LIMIT: u8 = 128;
 
+/// The header with which the octets begin, at this offset, if it has two octets, as most have. `None` if they begin with
+/// no header, or with a longer one, which [`header_at`] finds. It is apart, since few instructions read so short a
+/// header where it is asked for.
+#[inline(always)]
+pub(crate) fn two_octet_header(octets: &[u8], offset: u64) -> Option<(HeaderFields, usize)>
+    ensures { IfSome result (λ (fields, count). BeginsWithFields octets.now offset false fields count) }
+{
+    match octets {
+        [identifier, length, ..] if *identifier & 0x1f != 0x1f && *length < 0x80 => {
+            read_short(offset, false, octets)
+        }
+        _ => None,
+    }
+}
+
 /// The header with which the octets begin, at this offset, and how many octets it has. `None` if they begin with none.
-#[inline]
+#[inline(never)]
 pub(crate) fn header_at(octets: &[u8], offset: u64) -> Option<(HeaderFields, usize)>
     ensures { MatchOption result (BeginsWithNoHeader octets.now)
         (λ (fields, count). BeginsWithFields octets.now offset false fields count) }
@@ -66,12 +81,46 @@ fn is_elements_end(octets: &[u8], end_octets: bool) -> bool
 
 /// How many octets the sound element has with which the octets begin, at this offset and depth.
 #[cycle(sound)]
+#[inline(always)]
 fn element_size(octets: &[u8], offset: u64, depth: u8, likely: bool) -> Option<usize>
     requires { offset + length octets.now < 2 ^ 64 }
     ensures { MatchOption result (BeginsWithNoElement (place_at offset depth) likely octets.now)
         (λ n. BeginsWithElement (place_at offset depth) likely octets.now n) }
 {
+    match two_octet_header(octets, offset) {
+        Some((fields, count)) => size_with(octets, offset, &fields, count, depth, likely),
+        None => long_element_size(octets, offset, depth, likely),
+    }
+}
+
+/// [`element_size`], whatever the header.
+#[cycle(sound)]
+#[inline(never)]
+fn long_element_size(octets: &[u8], offset: u64, depth: u8, likely: bool) -> Option<usize>
+    requires { offset + length octets.now < 2 ^ 64 }
+    ensures { MatchOption result (BeginsWithNoElement (place_at offset depth) likely octets.now)
+        (λ n. BeginsWithElement (place_at offset depth) likely octets.now n) }
+{
     let (fields, count) = header_at(octets, offset)?;
+    size_with(octets, offset, &fields, count, depth, likely)
+}
+
+/// [`element_size`], of an element whose header has these fields and so many octets.
+#[cycle(sound)]
+#[inline(always)]
+fn size_with(
+    octets: &[u8],
+    offset: u64,
+    fields: &HeaderFields,
+    count: usize,
+    depth: u8,
+    likely: bool,
+) -> Option<usize>
+    requires limit { offset + length octets.now < 2 ^ 64 }
+    requires begins { BeginsWithFields octets.now offset false fields.now count }
+    ensures { MatchOption result (BeginsWithNoElement (place_at offset depth) likely octets.now)
+        (λ n. BeginsWithElement (place_at offset depth) likely octets.now n) }
+{
     if fields.constructed && depth >= DEPTH_LIMIT {
         return None;
     }
@@ -84,7 +133,7 @@ fn element_size(octets: &[u8], offset: u64, depth: u8, likely: bool) -> Option<u
             let contents = &rest[..length as usize];
             if fields.constructed {
                 elements_size(contents, offset + count as u64, depth + 1, false, false)?;
-            } else if likely && !is_clear_primitive(&fields, header, contents) {
+            } else if likely && !is_clear_primitive(fields, header, contents) {
                 return None;
             }
             Some(count + contents.len())

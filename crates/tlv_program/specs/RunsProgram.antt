@@ -55,10 +55,11 @@ module _ {S : Type 0} (allows : Allows S) where
     -- the names file does not open
     unopened : (name : List ℕ) → names_file_of command ≡ Some name → allows.opens old new name None
         → GetsNames command old new (Err names.ReadFailed)
-    -- the names file is opened and read
-    read : (name : List ℕ) (before after : SourceState) (result : Result NamesValue NamesFault)
-        → names_file_of command ≡ Some name → allows.opens old new name (Some before) → IsUnread before
-        → ReadsFrom before after result → GetsNames command old new result
+    -- the names file is opened and read, and given back as it is after that
+    read : (name : List ℕ) (between : S) (before after : SourceState) (result : Result NamesValue NamesFault)
+        → names_file_of command ≡ Some name → allows.opens old between name (Some before) → IsUnread before
+        → ReadsFrom before after result → allows.closes between new after
+        → GetsNames command old new result
 
   -- a command is run over its input, with these names, and this is reported: a line for each case
   pub data RunsOverInput (command : Command) (table : NamesValue) (old new : ProgramStates S)
@@ -70,12 +71,13 @@ module _ {S : Type 0} (allows : Allows S) where
     -- the file does not open, and nothing is read or written
     unopened : (name : List ℕ) → file_of command ≡ Some name → allows.opens old.system new.system name None
         → new.standard ≡ old.standard → RunsOverInput command table old new unopened_report
-    -- the input is the file, and nothing is read of standard input
-    file : (name : List ℕ) (before after : SourceState) (report : ReportValue) → file_of command ≡ Some name
-        → allows.opens old.system new.system name (Some before) → IsUnread before
+    -- the input is the file, which is opened, and given back as it is after the run; nothing is read of standard input
+    file : (name : List ℕ) (between : S) (before after : SourceState) (report : ReportValue)
+        → file_of command ≡ Some name → allows.opens old.system between name (Some before) → IsUnread before
         → new.standard.source ≡ old.standard.source
         → RunsAndReports (command_job command table) (device_states before old.standard.drain)
         (device_states after new.standard.drain) report
+        → allows.closes between new.system after
         → RunsOverInput command table old new report
 
   -- a command is run, and this is reported: first it gets its names, and then it runs over its input

@@ -7,6 +7,8 @@ use Rattle.tlv_io.specs.Device.{SourceState, new_source}
 pub record Allows (S : Type 0) : Type 1 where
   -- it opens the file of this name as this source, or does not open it
   pub opens : S → S → List ℕ → Option SourceState → Type 0
+  -- it is given back a file that is in this state
+  pub closes : S → S → SourceState → Type 0
   -- it prints what `clap` has to say, or does not get it all out
   pub prints : S → S → Error → Bool → Type 0
 
@@ -18,5 +20,6 @@ IsUnread source = source ≡ new_source source.left
 abbrev pub unknown_system : {S : Type 0} → Allows S
 unknown_system = record {
   opens = λ old new name source. ⊤;
+  closes = λ old new source. ⊤;
   prints = λ old new error printed. ⊤;
 }

@@ -115,7 +115,11 @@ fn names_for<S: System>(
         return Ok(Names::empty());
     };
     match system.open(name) {
-        Some(mut file) => Names::read(alloc, &mut file),
+        Some(mut file) => {
+            let names = Names::read(alloc, &mut file);
+            system.close(file);
+            names
+        }
         None => Err(NamesFault::ReadFailed),
     }
 }
@@ -137,7 +141,11 @@ fn run_over_input<S: System, I: Source, O: Drain>(
         return run(command, names, input, output);
     };
     match system.open(name) {
-        Some(mut file) => run(command, names, &mut file, output),
+        Some(mut file) => {
+            let report = run(command, names, &mut file, output);
+            system.close(file);
+            report
+        }
         None => unopened_report(),
     }
 }

@@ -4,7 +4,8 @@ ghost use Rattle.tlv_program.specs.System.{Allows, IsUnread};
 
 use tlv_walk::Source;
 
-/// What the program asks of the system that it runs on: to open files, and to print what `clap` has to say.
+/// What the program asks of the system that it runs on: to open files and to close them, and to print what `clap` has to
+/// say.
 pub trait System {
     /// A file that is open for reading.
     type File: Source + Drop;
@@ -16,6 +17,10 @@ pub trait System {
     fn open(&mut self, name: &str) -> Option<Self::File>
         ensures opens { allows.opens self.old self.new name.now (option_map Self.File.state result) }
         ensures unread { IfSome result (λ file. IsUnread (Self.File.state file)) };
+
+    /// Takes back a file that it opened, of which nothing more is read.
+    fn close(&mut self, file: Self::File)
+        ensures { allows.closes self.old self.new (Self.File.state file) };
 
     /// Prints what `clap` has to say of words that it does not take: to standard output if they ask for help or for the
     /// version, and else to standard error. Returns whether all of it is printed.

@@ -14,7 +14,8 @@ use Rattle.tlv_walk.specs.Reading.{AreOctets}
 use Rattle.tlv_run.proofs.Results.{stays_for, text_on}
 use Rattle.tlv_run.specs.declared.command.Command.{Command}
 use Rattle.tlv_run.specs.Private.MemoryDevices.{FailingSourceState, failing_last_read, failing_source_state}
-use Rattle.tlv_run.specs.Private.MemoryDevices.{octets_left, unfailing_source_state}
+use Rattle.tlv_run.specs.Private.MemoryDevices.{octets_left}
+use Rattle.tlv_run.specs.UnfailingSource.{unfailing_source_state}
 use Rattle.tlv_run.specs.RunsOctets.{RunsOctets}
 use Rattle.tlv_run.specs.Report.{ReportValue}
 use Rattle.tlv_run.specs.Results.{command_job}

@@ -5,4 +5,5 @@ pub mod Report
 pub mod Results
 pub mod RunsAndReports
 pub mod RunsOctets
+pub mod UnfailingSource
 pub mod Private

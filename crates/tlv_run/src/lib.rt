@@ -10,6 +10,7 @@ mod report;
 mod run_call;
 mod run_octets_call;
 mod text;
+mod unfailing_source;
 
 pub use command::Command;
 pub use command_runs::{run_check, run_dump, run_extract, run_indef};
@@ -18,3 +19,4 @@ pub use report::{Report, device_report, names_report, unopened_report};
 pub use run_call::run;
 pub use run_octets_call::{OctetsRun, run_octets};
 pub use text::Text;
+pub use unfailing_source::UnfailingSource;

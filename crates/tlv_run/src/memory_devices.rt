@@ -1,48 +1,11 @@
-//! The devices of `run_octets`: a source that ends, one that fails after its octets, and a drain with room for so many
-//! octets.
+//! Devices of `run_octets`: a source that fails after its octets, and a drain with room for so many octets.
 ghost use Rattle.std.specs.Prelude.{◌≡◌, ◌<◌, ◌≤◌, [], Some, length};
 ghost use Rattle.tlv_io.specs.Device.{new_source};
-ghost use Rattle.tlv_run.specs.Private.MemoryDevices.{failing_source_state, unfailing_source_state};
+ghost use Rattle.tlv_run.specs.Private.MemoryDevices.{failing_source_state};
 
 use arrayvec::ArrayVec;
 use std::marker::Model;
 use tlv_walk::{Drain, MemSource, ReadFault, Source, WriteFault};
-
-/// Octets in memory as a source of which no read fails.
-#[derive(Drop)]
-pub(crate) struct UnfailingSource<'a> {
-    source: MemSource<'a>,
-}
-
-impl<'a> Model for UnfailingSource<'a> {
-    ghost use Rattle.std.specs.Prelude.{◌≡◌, None};
-    ghost use Rattle.tlv_io.specs.MemSource.{MemSourceState};
-
-    ghost Value = { MemSourceState };
-
-    ghost view = { λ s. s.source };
-
-    ghost invariant = { λ s. s.source.fail_at ≡ None };
-}
-
-impl<'a> UnfailingSource<'a> {
-    /// A source that gives the octets, in pieces of at most `cuts`, and then ends.
-    pub(crate) fn new(octets: &'a [u8], cuts: &'a [u64]) -> UnfailingSource<'a>
-        ensures { unfailing_source_state result ≡ new_source (Some octets.now) }
-    {
-        UnfailingSource {
-            source: MemSource::new(octets, cuts, None),
-        }
-    }
-}
-
-impl Source for UnfailingSource<'_> {
-    ghost state = { unfailing_source_state };
-
-    fn read(&mut self, to: &mut [u8]) -> Result<usize, ReadFault> {
-        self.source.read(to)
-    }
-}
 
 /// Octets in memory as a source whose reads fail once all octets are given.
 #[derive(Drop)]

@@ -4,9 +4,10 @@ ghost use Rattle.tlv_run.specs.RunsOctets.{RunsOctets, octets_run_value_of};
 ghost use Rattle.tlv_run.specs.Results.{command_job};
 
 use crate::command::Command;
-use crate::memory_devices::{BoundedDrain, FailingSource, UnfailingSource};
+use crate::memory_devices::{BoundedDrain, FailingSource};
 use crate::report::Report;
 use crate::run_call::run;
+use crate::unfailing_source::UnfailingSource;
 use arrayvec::ArrayVec;
 use tlv_value::Names;
 

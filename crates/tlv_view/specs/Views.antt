@@ -26,15 +26,18 @@ abbrev pub AreOpenedUnless : Bool → Bool → List ℕ → List ℕ → Type 0
 AreOpenedUnless true padding octets offsets = offsets ≡ []
 AreOpenedUnless false padding octets offsets = AreOpened padding octets offsets
 
--- the view is what the command writes and reports, of these octets from a source of which nothing was read, with these
--- strings named
+-- the view is what the command writes and reports, with these strings named, of these octets: the source has them, nothing
+-- of it was read before, and no read of it failed
 pub record Views
     (view : View) (names : NamesValue) (closed padding : Bool) (octets : List ℕ) (old new : DrainState)
     (report : ReportValue)
     : Type 0 where
   pub offsets : List ℕ
   pub are_opened : AreOpenedUnless closed padding octets offsets
+  -- the source after the run
   pub source : SourceState
+  -- so it is not reported that a read failed (E1)
+  pub no_failures : source.failures ≡ 0
   pub runs :
       RunsAndReports (command_job (command_of_view view (opened_framing padding offsets)) names)
       (device_states (new_source (Some octets)) old) (device_states source new) report

@@ -10,9 +10,9 @@ ghost use Rattle.tlv_view.specs.Views.{AreOpenedUnless, Views, command_of_view};
 
 use std::alloc::{AllocError, Global};
 use tlv_open::{laws, opened};
-use tlv_run::{Report, run_check, run_dump, run_extract};
+use tlv_run::{Report, UnfailingSource, run_check, run_dump, run_extract};
 use tlv_show::{FiniteNames, Options, Rules};
-use tlv_walk::{Drain, Framing, Inside, MemSource, Source};
+use tlv_walk::{Drain, Framing, Inside, Source};
 
 /// What is shown of octets.
 #[derive(Clone, Copy, Debug, PartialEq, Eq)]
@@ -66,7 +66,7 @@ pub fn view_octets<N: FiniteNames, D: Drain>(
         unreachable!();
     };
     let framing = Framing { inside, padding };
-    let mut source = MemSource::new(octets, &[], None);
+    let mut source = UnfailingSource::new(octets, &[]);
     Ok(run_view(view, framing, names, &mut source, drain))
 }
 

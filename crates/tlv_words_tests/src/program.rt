@@ -21,8 +21,8 @@ static FILES: [(&str, &[u8]); 4] = [
 /// Standard input: a NULL.
 const INPUT: &[u8] = b"\x05\x00";
 
-/// A system whose files are in memory, and what it was asked for: the first octet of the name of each file, and `!` for
-/// what `clap` has to say.
+/// A system whose files are in memory, and what it was asked for: the first octet of the name of each file, `;` for a file
+/// that it is given back, and `!` for what `clap` has to say.
 #[derive(Drop)]
 struct MemSystem {
     can_print: bool,
@@ -43,6 +43,10 @@ impl System for MemSystem {
             }
         }
         None
+    }
+
+    fn close(&mut self, _file: MemSource<'static>) {
+        let _ = self.asked.try_push(b';');
     }
 
     fn print(&mut self, _error: &clap::Error) -> bool {
@@ -119,19 +123,19 @@ fn files_are_read(rt: HostRuntime) -> Result<(), Fail> {
         },
         ProgramRow {
             words: &["dump", "integer"],
-            asked: b"i",
+            asked: b"i;",
             written: b"       0      1: INTEGER 5\n",
             ..NOTHING
         },
         ProgramRow {
             words: &["dump", "--names", "names", "object"],
-            asked: b"no",
+            asked: b"n;o;",
             written: b"       0      2: OBJECT IDENTIFIER 1.2.3 (word)\n",
             ..NOTHING
         },
         ProgramRow {
             words: &["extract", "--offset", "0", "--contents", "integer"],
-            asked: b"i",
+            asked: b"i;",
             written: b"\x05",
             ..NOTHING
         },
@@ -152,7 +156,7 @@ fn first_refusal_is_reported(rt: HostRuntime) -> Result<(), Fail> {
         },
         ProgramRow {
             words: &["dump", "--names", "names", "missing"],
-            asked: b"nm",
+            asked: b"n;m",
             status: 3,
             message: b"E5 cannot open the file",
             ..NOTHING
@@ -166,7 +170,7 @@ fn first_refusal_is_reported(rt: HostRuntime) -> Result<(), Fail> {
         },
         ProgramRow {
             words: &["dump", "--names", "bad names", "missing"],
-            asked: b"b",
+            asked: b"b;",
             status: 4,
             message: b"N1 line 1: not an object identifier",
             ..NOTHING

@@ -63,6 +63,10 @@ impl System for Host<'_> {
         }
     }
 
+    fn close(&mut self, file: InputFile) {
+        drop(file);
+    }
+
     fn print(&mut self, error: &clap::Error) -> bool {
         error.print(self.rt).is_ok()
     }

@@ -1,11 +1,7 @@
--- Sources over octets in memory, as contracts see them.
+-- A source over octets in memory that fails after them, as contracts see it.
 use Rattle.std.specs.Prelude.{ℕ, zero, suc, List, [], Some}
 use Rattle.tlv_io.specs.Device.{LastReadValue, SourceState, failed, gave, never}
 use Rattle.tlv_io.specs.MemSource.{MemSourceState, source_state_of}
-
--- a source of which no read fails shows no failures
-abbrev pub unfailing_source_state : MemSourceState → SourceState
-unfailing_source_state source = record (source_state_of source) { failures = 0 }
 
 -- a source that fails after its octets: the source of its octets, and how many reads have failed
 pub record FailingSourceState : Type 0 where

@@ -7,84 +7,84 @@ use Rattle.tlv_open.proofs.ElementLemmas.FirstElement.{no_header-none}
 use Rattle.tlv_open.proofs.ElementLemmas.Elements.{element-within, elements-nil, elements-next, elements-none, elements-rest, elements-start, elements-started, elements-stop, no_element-at_end, no_element-at_zero, tail-all}
 use Rattle.tlv_open.proofs.elements.+sound.Goals.{elements_size-then-loop-at-test+else-octets-at-ne0}
 use Rattle.tlv_open.proofs.elements.+sound.Goals.{elements_size-else-loop-at-test}
-use Rattle.tlv_open.proofs.elements.+sound.Goals.{element_size-then-fields-2+in_ok-elements_size-in-Definite}
-use Rattle.tlv_open.proofs.elements.+sound.Goals.{element_size-else-fields-2+else-likely}
-use Rattle.tlv_open.proofs.elements.+sound.Goals.{element_size-else-fields-via-then-fields+else-depth-ge-DEPTH_LIMIT}
-use Rattle.tlv_open.proofs.elements.+sound.Goals.{element_size-else-fields-via-else-fields}
-use Rattle.tlv_open.proofs.elements.+sound.Goals.{element_size-else-likely-via-then-likely+else-not-is_clear_primitive}
-use Rattle.tlv_open.proofs.elements.+sound.Goals.{element_size-else-likely-via-else-likely}
+use Rattle.tlv_open.proofs.elements.+sound.Goals.{size_with-then-fields-2+in_ok-elements_size-in-Definite}
+use Rattle.tlv_open.proofs.elements.+sound.Goals.{size_with-else-fields-2+else-likely}
+use Rattle.tlv_open.proofs.elements.+sound.Goals.{size_with-else-fields-via-then-fields+else-depth-ge-DEPTH_LIMIT}
+use Rattle.tlv_open.proofs.elements.+sound.Goals.{size_with-else-fields-via-else-fields}
+use Rattle.tlv_open.proofs.elements.+sound.Goals.{size_with-else-likely-via-then-likely+else-not-is_clear_primitive}
+use Rattle.tlv_open.proofs.elements.+sound.Goals.{size_with-else-likely-via-else-likely}
 use Rattle.tlv_open.proofs.elements.+sound.Goals as goal
 
-pub element_size-returns-in_err-fields : goal.element_size-returns-in_err-fields
-element_size-returns-in_err-fields t c =
+pub long_element_size-returns-in_err-fields : goal.long_element_size-returns-in_err-fields
+long_element_size-returns-in_err-fields t c =
     rw c.from_residual.ensures (no_header-none _ _ c.args.octets.now c.in_err-fields.ensures)
 
-pub element_size-returns-then-depth-ge-DEPTH_LIMIT : goal.element_size-returns-then-depth-ge-DEPTH_LIMIT
-element_size-returns-then-depth-ge-DEPTH_LIMIT t c =
-    first-too_deep c.args.octets.now c.args.offset c.args.depth c.args.likely c.in_ok-fields.fields c.in_ok-fields.count
-    c.in_ok-fields.ensures c.if-fields.true c.if-depth-ge-DEPTH_LIMIT.true
+pub size_with-returns-then-depth-ge-DEPTH_LIMIT : goal.size_with-returns-then-depth-ge-DEPTH_LIMIT
+size_with-returns-then-depth-ge-DEPTH_LIMIT t c =
+    first-too_deep c.args.octets.now c.args.offset c.args.depth c.args.likely c.args.fields.now c.args.count
+    c.requires.begins c.if-fields.true c.if-depth-ge-DEPTH_LIMIT.true
 
-pub element_size-returns-then-length-rest : goal.element_size-returns-then-length-rest
-element_size-returns-then-length-rest t c =
-    first-too_long c.args.octets.now c.args.offset c.args.depth c.args.likely c.in_ok-fields.fields c.in_ok-fields.count
-    c.in_ok-fields.ensures c.in-Definite.length c.in-Definite.is
+pub size_with-returns-then-length-rest : goal.size_with-returns-then-length-rest
+size_with-returns-then-length-rest t c =
+    first-too_long c.args.octets.now c.args.offset c.args.depth c.args.likely c.args.fields.now c.args.count
+    c.requires.begins c.in-Definite.length c.in-Definite.is
     (omega (arith, ap length c.split_at.ensures.back))
 
-pub element_size-returns-in_err-elements_size-in-Definite :
-    goal.element_size-returns-in_err-elements_size-in-Definite
-element_size-returns-in_err-elements_size-in-Definite t c =
-    rw c.from_residual-in_err-elements_size-in-Definite.ensures
-    (first-no_list c.args.octets.now c.args.offset c.args.depth c.args.likely c.in_ok-fields.fields c.in_ok-fields.count
-    c.in_ok-fields.ensures c.in-Definite.length c.if-fields-2.true c.in-Definite.is
+pub size_with-returns-in_err-elements_size-in-Definite :
+    goal.size_with-returns-in_err-elements_size-in-Definite
+size_with-returns-in_err-elements_size-in-Definite t c =
+    rw c.from_residual.ensures
+    (first-no_list c.args.octets.now c.args.offset c.args.depth c.args.likely c.args.fields.now c.args.count
+    c.requires.begins c.in-Definite.length c.if-fields-2.true c.in-Definite.is
     (rw (← c.split_at.ensures.back) c.in_err-elements_size-in-Definite.ensures))
 
-pub element_size-returns-then-not-is_clear_primitive :
-    goal.element_size-returns-then-not-is_clear_primitive
-element_size-returns-then-not-is_clear_primitive t c =
-    first-unclear c.args.octets.now c.args.offset c.args.depth c.args.likely c.in_ok-fields.fields c.in_ok-fields.count
-    c.in_ok-fields.ensures c.in-Definite.length c.if-fields-2.false c.in-Definite.is c.if-likely.true
+pub size_with-returns-then-not-is_clear_primitive :
+    goal.size_with-returns-then-not-is_clear_primitive
+size_with-returns-then-not-is_clear_primitive t c =
+    first-unclear c.args.octets.now c.args.offset c.args.depth c.args.likely c.args.fields.now c.args.count
+    c.requires.begins c.in-Definite.length c.if-fields-2.false c.in-Definite.is c.if-likely.true
     (rw (← c.split_at.ensures.back, ← c.split_at.ensures.front)
     (λ k. absurd (cc (c.is_clear_primitive.ensures.1 k, c.if-not-is_clear_primitive.true))))
 
-pub element_size-returns-in_err-size-in-Indefinite :
-    goal.element_size-returns-in_err-size-in-Indefinite
-element_size-returns-in_err-size-in-Indefinite t c =
+pub size_with-returns-in_err-size-in-Indefinite :
+    goal.size_with-returns-in_err-size-in-Indefinite
+size_with-returns-in_err-size-in-Indefinite t c =
     rw c.from_residual-in_err-size-in-Indefinite.ensures
-    (first-no_end c.args.octets.now c.args.offset c.args.depth c.args.likely c.in_ok-fields.fields c.in_ok-fields.count
-    c.in_ok-fields.ensures c.in-Indefinite.is
+    (first-no_end c.args.octets.now c.args.offset c.args.depth c.args.likely c.args.fields.now c.args.count
+    c.requires.begins c.in-Indefinite.is
     (rw (← c.split_at.ensures.back) c.in_err-size-in-Indefinite.ensures))
 
-pub element_size-returns-after-fields-2 : goal.element_size-returns-after-fields-2
-element_size-returns-after-fields-2 t c = elim c.if-fields-2.branch [
-  | element_size-then-fields-2+in_ok-elements_size-in-Definite w ↦
+pub size_with-returns-after-fields-2 : goal.size_with-returns-after-fields-2
+size_with-returns-after-fields-2 t c = elim c.if-fields-2.branch [
+  | size_with-then-fields-2+in_ok-elements_size-in-Definite w ↦
       rw c.split_at.ensures.back
-      (first-definite c.args.octets.now c.args.offset c.args.depth c.args.likely c.in_ok-fields.fields
-      c.in_ok-fields.count c.in_ok-fields.ensures c.in-Definite.length w.in_ok-elements_size-in-Definite.field-0
+      (first-definite c.args.octets.now c.args.offset c.args.depth c.args.likely c.args.fields.now
+      c.args.count c.requires.begins c.in-Definite.length w.in_ok-elements_size-in-Definite.field-0
       w.if-fields-2.true c.in-Definite.is (omega (arith, ap length c.split_at.ensures.back))
       (elim c.else-fields.branch [
-        | element_size-else-fields-via-then-fields+else-depth-ge-DEPTH_LIMIT v ↦ v.if-depth-ge-DEPTH_LIMIT.false
-        | element_size-else-fields-via-else-fields v ↦ absurd (cc (w.if-fields-2.true, v.if-fields.false))
+        | size_with-else-fields-via-then-fields+else-depth-ge-DEPTH_LIMIT v ↦ v.if-depth-ge-DEPTH_LIMIT.false
+        | size_with-else-fields-via-else-fields v ↦ absurd (cc (w.if-fields-2.true, v.if-fields.false))
       ])
       (rw (← c.split_at.ensures.back) w.in_ok-elements_size-in-Definite.ensures))
-  | element_size-else-fields-2+else-likely w ↦
+  | size_with-else-fields-2+else-likely w ↦
       rw c.split_at.ensures.back
-      (first-primitive c.args.octets.now c.args.offset c.args.depth c.args.likely c.in_ok-fields.fields
-      c.in_ok-fields.count c.in_ok-fields.ensures c.in-Definite.length
+      (first-primitive c.args.octets.now c.args.offset c.args.depth c.args.likely c.args.fields.now
+      c.args.count c.requires.begins c.in-Definite.length
       w.if-fields-2.false c.in-Definite.is (omega (arith, ap length c.split_at.ensures.back))
       (rw (← c.split_at.ensures.back, ← c.split_at.ensures.front) (elim w.else-likely.branch [
-        | element_size-else-likely-via-then-likely+else-not-is_clear_primitive u ↦
+        | size_with-else-likely-via-then-likely+else-not-is_clear_primitive u ↦
             λ _. u.is_clear_primitive.ensures.0 u.if-not-is_clear_primitive.false
-        | element_size-else-likely-via-else-likely u ↦ λ e. absurd (cc (e, u.if-likely.false))
+        | size_with-else-likely-via-else-likely u ↦ λ e. absurd (cc (e, u.if-likely.false))
       ])))
 ]
 
-pub element_size-returns-in_ok-size-in-Indefinite :
-    goal.element_size-returns-in_ok-size-in-Indefinite
-element_size-returns-in_ok-size-in-Indefinite t c =
-    first-indefinite c.args.octets.now c.args.offset c.args.depth c.args.likely c.in_ok-fields.fields
-    c.in_ok-fields.count c.in_ok-fields.ensures c.in_ok-size-in-Indefinite.size c.in-Indefinite.is (λ k. elim c.else-fields.branch [
-      | element_size-else-fields-via-then-fields+else-depth-ge-DEPTH_LIMIT v ↦ v.if-depth-ge-DEPTH_LIMIT.false
-      | element_size-else-fields-via-else-fields v ↦ absurd (cc (k, v.if-fields.false))
+pub size_with-returns-in_ok-size-in-Indefinite :
+    goal.size_with-returns-in_ok-size-in-Indefinite
+size_with-returns-in_ok-size-in-Indefinite t c =
+    first-indefinite c.args.octets.now c.args.offset c.args.depth c.args.likely c.args.fields.now
+    c.args.count c.requires.begins c.in_ok-size-in-Indefinite.size c.in-Indefinite.is (λ k. elim c.else-fields.branch [
+      | size_with-else-fields-via-then-fields+else-depth-ge-DEPTH_LIMIT v ↦ v.if-depth-ge-DEPTH_LIMIT.false
+      | size_with-else-fields-via-else-fields v ↦ absurd (cc (k, v.if-fields.false))
     ])
     (rw (← c.split_at.ensures.back) c.in_ok-size-in-Indefinite.ensures)
 

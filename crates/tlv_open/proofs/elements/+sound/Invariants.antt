@@ -3,10 +3,16 @@ use Rattle.tlv_open.specs.Private.Elements.{BeginsWithElements, place_at}
 use Rattle.tlv_open.proofs.elements.+sound.Given as goal
 
 abbrev pub decreases-element_size : goal.decreases-element_size
-decreases-element_size l = 2 * length l.octets.now
+decreases-element_size l = 4 * length l.octets.now + 2
+
+abbrev pub decreases-long_element_size : goal.decreases-long_element_size
+decreases-long_element_size l = 4 * length l.octets.now + 1
+
+abbrev pub decreases-size_with : goal.decreases-size_with
+decreases-size_with l = 4 * length l.octets.now
 
 abbrev pub decreases-elements_size : goal.decreases-elements_size
-decreases-elements_size l = 2 * length l.octets.now + 1
+decreases-elements_size l = 4 * length l.octets.now + 3
 
 abbrev pub invariant-elements_size-loop-at : goal.invariant-elements_size-loop-at
 invariant-elements_size-loop-at l = record {

@@ -8,9 +8,9 @@ returns-in_default g c = standard_input (report_value_of c.run.result) (search r
 
 pub returns-in-Some-open : goal.returns-in-Some-open
 returns-in-Some-open g c =
-    file c.in-Some.name.now (g.S.File.Source.state c.in-Some-open.file)
-    (g.S.File.Source.state c.run-in-Some-open.new.source) (report_value_of c.run-in-Some-open.result) (search rules)
-    c.in-Some-open.ensures.opens c.in-Some-open.ensures.unread refl c.run-in-Some-open.ensures
+    file c.in-Some.name.now c.«open».new.self (g.S.File.Source.state c.in-Some-open.file)
+    (g.S.File.Source.state c.run-report.new.source) (report_value_of c.run-report.result) (search rules)
+    c.in-Some-open.ensures.opens c.in-Some-open.ensures.unread refl c.run-report.ensures c.close.ensures
 
 pub returns-in-None : goal.returns-in-None
 returns-in-None g c =
