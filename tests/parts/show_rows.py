@@ -4,6 +4,8 @@ Each row is run on a pipe, on a file as standard input, and on FILE. Rows of tes
 --no-text, which gives what the row says, and without, which gives what the second opinion says. Then strings of
 each size, and strings within strings.
 """
+import os
+import re
 import subprocess
 
 from parts.harness import Done, message
@@ -47,6 +49,25 @@ def words_of(row):
         return None
     command, *rest = row.words
     return {"dump": [*rest, "--no-text", "--closed"], "check": ["--check", *rest, "--closed"]}.get(command)
+
+
+def octets_of(text):
+    """Returns the octets that a cell of a table of docs/FORMAT.md has: `30 80` 127 times, `05 00`."""
+    found = re.findall(r"`([0-9a-f ]+)`(?: (\d+) times)?", text)
+    return b"".join(bytes.fromhex(octets) * int(times or 1) for octets, times in found)
+
+
+def page(part, program):
+    """The table of docs/FORMAT.md that says which strings are opened."""
+    with open(os.path.join(part.root, "docs", "FORMAT.md"), encoding="utf-8") as file:
+        table = file.read().partition("| Octets | Opened |\n|---|---|\n")[2].partition("\n\n")[0]
+    part.expect("the table of docs/FORMAT.md", table.count("\n") > 10, table)
+    for line in table.splitlines():
+        octets, offsets = line.strip("| ").split(" | ")
+        for one, listed in zip(octets.split(" \u00b7 "), offsets.split(" \u00b7 "), strict=True):
+            got = program.run(["--offsets"], octets_of(one))
+            wanted = b"" if listed == "none" else listed.replace(" ", "").encode() + b"\n"
+            part.expect(f"docs/FORMAT.md: {one}", got.out == wanted, *got.lines())
 
 
 def rows_of_tlvdump(part, program):
@@ -103,6 +124,7 @@ def test(part):
     for rows in files(part.root, "show_rows").values():
         for row in rows:
             run_row(part, program, row)
+    page(part, program)
     rows_of_tlvdump(part, program)
     sizes(part, program)
     depths(part, program)
