@@ -73,7 +73,22 @@ _tlvdump_script() {
     COMPREPLY=()
     case ${COMP_WORDS[0]##*/} in
     tlvdump-inside) _tlvdump_complete "--option --padding --help" ;;
-    *) _tlvdump_complete "--as --raw --why --rules --limit --pure --names --inside --padding --help" ;;
+    *) _tlvdump_complete "$(_tlvdump_show_options)" ;;
+    esac
+}
+
+# The options of tlvdump-show that go with what it is to do, which is said by a word before.
+_tlvdump_show_options() {
+    case " ${COMP_WORDS[*]:1:COMP_CWORD-1} " in
+    *" --check "*) echo "--as --rules --closed --padding --help" ;;
+    *" --offset"[\ =]*) echo "--as --contents --padding --help" ;;
+    *" --offsets "*) echo "--as --padding --help" ;;
+    *" --raw "*) echo "--as --help" ;;
+    *" --why "*) echo "--as --inside --padding --help" ;;
+    *)
+        echo "--as --rules --limit --pure --names --closed --no-text --padding --check --offset --contents --offsets --raw" \
+            "--why --inside --help --version"
+        ;;
     esac
 }
 

@@ -13,7 +13,6 @@ from concurrent.futures import ThreadPoolExecutor
 
 from parts.allocators import uses
 
-PROGRAMS = ("tlv_without_heap", "tlvdump")
 REACHED = re.compile(r"^  (\w+(?:::\w+)+) +reached$", re.M)
 PROVED = re.compile(r"^logic=proved .* axioms=(\d+) ", re.M)
 
@@ -59,6 +58,11 @@ def listed(part, crate):
     return (sorted(found) if proved and int(proved[1]) == len(found) else None), text, time.time() - began
 
 
+def programs(part):
+    """Returns the programs that have a file in tests/axioms."""
+    return sorted(name.removesuffix(".txt") for name in os.listdir(os.path.join(part.root, "tests", "axioms")))
+
+
 def committed(part, crate):
     with open(os.path.join(part.root, "tests", "axioms", f"{crate}.txt"), encoding="utf-8") as file:
         return file.read().splitlines()
@@ -93,9 +97,10 @@ def test(part):
     if not part.has("rt") or not part.has("nm"):
         return
     page(part)
-    with ThreadPoolExecutor(len(PROGRAMS)) as pool:
-        results = list(pool.map(lambda crate: listed(part, crate), PROGRAMS))
-    for crate, (found, text, seconds) in zip(PROGRAMS, results):
+    crates = programs(part)
+    with ThreadPoolExecutor(len(crates)) as pool:
+        results = list(pool.map(lambda crate: listed(part, crate), crates))
+    for crate, (found, text, seconds) in zip(crates, results):
         wanted = committed(part, crate)
         others = sorted(set(wanted) ^ set(found or wanted))
         part.note(f"{crate}: {len(found or [])} functions, listed in {seconds:.0f} s")

@@ -10,7 +10,7 @@ import signal
 import subprocess
 import time
 
-from parts.fake_kit import RT, await_file, await_waiters, begin_of, builds_of, end_of, environment, has_ended
+from parts.fake_kit import BEGINS, RT, await_file, await_waiters, begin_of, builds_of, end_of, environment, has_ended
 from parts.fake_kit import has_old, left_of, log_of, make_clone, program_of, put_old, run, runs, start, start_waiting
 from parts.fake_kit import top_of, wait_for
 
@@ -280,6 +280,27 @@ def two_at_once(part):
         part.expect(f"{name}: the next run", got == (0, wanted.out, ""), *map(str, got))
 
 
+def the_other_program(part):
+    """./tlvdump-show builds its program so too, and the one that it reads with; then it says nothing of a build."""
+    top = top_of(make_clone(part, "show"))
+    part.write("show/crates.txt", b"tlvdump: tlv_low\ntlv_low: hex\ntlvdump_show: tlv_low tlvdump\n")
+    script, env = os.path.join(top, "tlvdump-show"), environment(part, "quick", RT_PROGRAM=part.suite.show_program)
+    wanted = part.run(["--version"], program=part.suite.show_program)
+    crates = [os.path.join(top, "crates", name) for name in ("tlvdump", "tlvdump_show")]
+    printed = "".join(f"{name}: {BEGINS} ({crate}/out/build.log)\n{name}: built, N s\n"
+                      for name, crate in zip(("tlvdump", "tlvdump-show"), crates))
+    status, out, err = run(part, script, ["--version"], env=env)
+    fine = (status, out, re.sub(r"\d+ s\b", "N s", err)) == (0, wanted.out, printed)
+    part.expect("./tlvdump-show builds both", fine, str(status), str(out), err)
+    got = run(part, script, ["--version"], env=env)
+    part.expect("./tlvdump-show again", got == (0, wanted.out, ""), *map(str, got))
+    os.remove(os.path.join(crates[1], "out", "tlvdump_show"))
+    env["RT_HOW"] = "fails"
+    status, out, err = run(part, script, ["--version"], env=env)
+    fine = (status, out) == (70, b"") and err.endswith("\ntlvdump-show: not built\n")
+    part.expect("./tlvdump-show, not built", fine, str(status), err)
+
+
 def test(part):
     os.mkdir(part.path("kit"))
     os.chmod(part.write("kit/rt", RT.encode()), 0o755)
@@ -292,3 +313,4 @@ def test(part):
     signals(part)
     killed(part)
     two_at_once(part)
+    the_other_program(part)

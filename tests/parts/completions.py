@@ -14,13 +14,16 @@ def words_of(part):
     return options
 
 
+def show_options(program):
+    """The options of the program tlvdump-show, by its help."""
+    return set(re.findall(r"^ +(?:-\w, )?(--[a-z-]+)", program.run(["--help"]).out.decode(), re.M))
+
+
 def script_options(part, name):
     """The options of a script, by its help."""
     got = subprocess.run([os.path.join(part.root, name), "--help"], capture_output=True, text=True)
-    options = set(re.findall(r"--[a-z]+", got.stdout)) - {"--inside"} | {"--help"}
-    if name == "tlvdump-show":
-        options |= words_of(part)["dump"]
-    return options
+    options = set(re.findall(r"--[a-z]+(?:-[a-z]+)*", got.stdout)) | {"--help"}
+    return options | {"--version"} if name == "tlvdump-show" else options - {"--inside"}
 
 
 def bash(part, options):
@@ -57,6 +60,17 @@ def bash(part, options):
         printed = completed_by(name, "--")
         part.expect(f"bash: options of {name}", printed == script_options(part, name), str(printed))
         part.expect(f"bash: FILE of {name}", completed_by(name, "str") == {"string"})
+    for words, wanted in (
+        (["--check"], {"--as", "--rules", "--closed", "--padding", "--help"}),
+        (["--offset", "5"], {"--as", "--contents", "--padding", "--help"}),
+        (["--offset=5"], {"--as", "--contents", "--padding", "--help"}),
+        (["a.der", "--offsets"], {"--as", "--padding", "--help"}),
+        (["--raw"], {"--as", "--help"}),
+        (["--why"], {"--as", "--inside", "--padding", "--help"}),
+    ):
+        printed = completed_by("tlvdump-show", *words, "--")
+        part.expect(f"bash: tlvdump-show {words}", printed == wanted, str(printed))
+    part.expect("bash: --offset", completed_by("tlvdump-show", "--offset", "") == set())
     part.expect("bash: --as", completed_by("tlvdump-show", "--as", "") == {"ber", "pem", "base64", "hex", "dump"})
 
 
@@ -79,5 +93,6 @@ def zsh(part, options):
         part.expect(f"zsh: options of {name}", set(re.findall(r"--[a-z]+", printed)) == wanted and "1:file:_files" in printed, printed)
     for name in ("tlvdump-inside", "tlvdump-show"):
         printed = completions(name, "--")
-        fine = set(re.findall(r"--[a-z]+", printed)) == script_options(part, name) and "1:file:_files" in printed
+        options = set(re.findall(r"^(?:\(- \*\))?(--[a-z-]+)", printed, re.M))
+        fine = options == script_options(part, name) and re.search(r"^[1*]:file:_files$", printed, re.M)
         part.expect(f"zsh: options of {name}", fine, printed)

@@ -17,7 +17,7 @@ RT = r"""#!/bin/sh
 cat >/dev/null
 echo begun >>../../builds
 put_program() {
-    cp "$RT_PROGRAM" out/new && mv out/new out/tlvdump
+    cp "$RT_PROGRAM" out/new && mv out/new "out/${PWD##*/}"
 }
 case ${RT_HOW-} in
 fails)
@@ -77,8 +77,8 @@ def make_clone(part, name):
 
 
 def environment(part, how="", **more):
-    more = dict(more, PATH=f"{part.path('kit')}:{os.environ['PATH']}", RT_PROGRAM=part.program, RT_HOW=how)
-    return dict(os.environ, **more)
+    own = {"PATH": f"{part.path('kit')}:{os.environ['PATH']}", "RT_PROGRAM": part.program, "RT_HOW": how}
+    return dict(os.environ, **{**own, **more})
 
 
 def run(part, script, words, given=b"", how="", **more):
@@ -182,9 +182,10 @@ def builds_of(script):
 
 
 def begin_of(script):
-    return f"tlvdump: building; the first time this takes 10 to 30 minutes, since each crate is proved ({log_of(script)})\n"
+    return f"tlvdump: {BEGINS} ({log_of(script)})\n"
 
 
+BEGINS = "building; the first time this takes 10 to 30 minutes, since each crate is proved"
 OLD = b"#!/bin/sh\necho the old program\n"
 
 

@@ -1,4 +1,5 @@
 """Runs the program, compares what it did with what is wanted, and counts."""
+import functools
 import os
 import shutil
 import signal
@@ -45,10 +46,10 @@ def message(text):
 
 
 class Suite:
-    """Counts over all parts, and owns the temporary folder."""
+    """Counts over all parts, and owns the temporary folder. `find_show` returns the path of the program tlvdump-show."""
 
-    def __init__(self, program, root, may_be_missing):
-        self.program, self.root, self.may_be_missing = program, root, may_be_missing
+    def __init__(self, program, find_show, root, may_be_missing):
+        self.program, self.find_show, self.root, self.may_be_missing = program, find_show, root, may_be_missing
         self.passed = self.failed = 0
 
     def __enter__(self):
@@ -57,6 +58,11 @@ class Suite:
 
     def __exit__(self, *_):
         shutil.rmtree(self.folder, ignore_errors=True)
+
+    @functools.cached_property
+    def show_program(self):
+        """The path of tlvdump-show, which is built if a part asks for it."""
+        return self.find_show()
 
     def part(self, name):
         folder = os.path.join(self.folder, name)

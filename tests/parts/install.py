@@ -10,22 +10,26 @@ import time
 
 from parts.completions import bash, words_of, zsh
 
+SHOW = "lib/tlvdump/tlvdump-show"
 PLACES = {
     "bin/tlvdump": None,
     "bin/tlvdump-inside": "tlvdump-inside",
     "bin/tlvdump-show": "tlvdump-show",
+    SHOW: None,
     "share/man/man1/tlvdump.1": "man/tlvdump.1",
     "share/man/man1/tlvdump-inside.1": "man/tlvdump-inside.1",
     "share/man/man1/tlvdump-show.1": "man/tlvdump-show.1",
     "share/tlvdump/names.txt": "data/names.txt",
     "share/bash-completion/completions/tlvdump": "completions/tlvdump.bash",
+    "share/bash-completion/completions/tlvdump-inside": "completions/tlvdump.bash",
+    "share/bash-completion/completions/tlvdump-show": "completions/tlvdump.bash",
     "share/zsh/site-functions/_tlvdump": "completions/_tlvdump",
 }
 
 
 def install(part, *words, program=None, **how):
-    """Runs the script with the program of the tests, or another, and returns its status, its output and its errors."""
-    env = dict(os.environ, TLVDUMP=program or part.program)
+    """Runs the script with the programs of the tests, or another one, and returns its status, its output and its errors."""
+    env = dict(os.environ, TLVDUMP=program or part.program, TLVDUMP_SHOW=part.suite.show_program)
     script = os.path.join(part.root, "install")
     how = {"cwd": part.folder, "env": env, "capture_output": True, "text": True, "timeout": 60, **how}
     got = subprocess.run([script, *words], **how)
@@ -53,8 +57,9 @@ def places(part, prefix):
     part.expect(f"files below {prefix}", files_below(part.path(prefix)) == sorted(PLACES), *files_below(part.path(prefix)))
     for place, source in PLACES.items():
         path = os.path.join(part.folder, prefix, place)
-        wanted = os.path.join(part.root, source) if source else part.program
-        mode = 0o755 if place.startswith("bin/") else 0o644
+        program = part.suite.show_program if place == SHOW else part.program
+        wanted = os.path.join(part.root, source) if source else program
+        mode = 0o755 if place.startswith("bin/") or place == SHOW else 0o644
         fine = content(path) == content(wanted) and stat.S_IMODE(os.stat(path).st_mode) == mode
         part.expect(f"{prefix}/{place}", fine)
 
@@ -76,8 +81,11 @@ def check_install(part):
     got = subprocess.run(["tlvdump-inside", "string"], cwd=part.folder, env=env, capture_output=True)
     part.expect("the installed script", (got.returncode, got.stdout, got.stderr) == (0, b"0\n", b""))
     got = subprocess.run(["tlvdump-show", octets], cwd=part.folder, env=env, capture_output=True)
-    fine = got.returncode == 0 and b"2.5.4.3 (commonName)" in got.stdout and got.stderr.count(b"\n") == 1
+    fine = (got.returncode, got.stderr) == (0, b"") and b"2.5.4.3 (commonName)" in got.stdout
     part.expect("tlvdump-show, installed", fine, str(got))
+    got = subprocess.run(["tlvdump-show"], input=content(octets).hex().encode(), cwd=part.folder, env=env, capture_output=True)
+    fine = got.returncode == 0 and b"2.5.4.3 (commonName)" in got.stdout and got.stderr.count(b"\n") == 1
+    part.expect("tlvdump-show, installed, of a text", fine, str(got))
     part.write("there/share/tlvdump/mine.txt", b"2.5.4.3 cn\n")
     got = install(part, "--remove", "there")
     printed = "".join(f"removed there/{place}\n" for place in PLACES)
@@ -95,7 +103,7 @@ def check_install(part):
 
 def check_folders(part):
     """Folders of others stay, and links to folders; those of a system stay, also if they are empty."""
-    for folder in ("shared/bin", "shared/share/zsh/mine", "elsewhere/man1", "shared/lib"):
+    for folder in ("shared/bin", "shared/share/zsh/mine", "elsewhere/man1", "shared/lib/tlvdump/mine"):
         os.makedirs(part.path(folder))
     part.write("shared/bin/other", b"")
     os.symlink("../../elsewhere", part.path("shared/share/man"))
@@ -103,18 +111,19 @@ def check_folders(part):
     part.expect("a folder by a link", "elsewhere/man1/tlvdump.1" in files_below(part.folder))
     got = install(part, "--remove", "shared")
     part.expect("remove among others", got[0] == 0 and not got[2], *map(str, got))
-    stays = ["bin", "bin/other", "lib", "share", "share/man", "share/zsh", "share/zsh/mine"]
+    stays = ["bin", "bin/other", "lib", "lib/tlvdump", "lib/tlvdump/mine", "share", "share/man", "share/zsh", "share/zsh/mine"]
     part.expect("what others have stays", all_below(part.path("shared")) == stays, *all_below(part.path("shared")))
     # Standing in for /usr/local: a folder of that name in a system of its own, which root alone can make.
     script = 'mount -t tmpfs none /usr/local && "$0" && "$0" --remove && cd /usr/local && find . | LC_ALL=C sort'
     if os.geteuid() or subprocess.run(["unshare", "-m", "true"], capture_output=True).returncode:
         part.note("no root, or no unshare: /usr/local is not tried")
         return
-    env = dict(os.environ, TLVDUMP=shutil.copy(part.program, part.path("copy")))
+    copies = {"TLVDUMP": part.program, "TLVDUMP_SHOW": part.suite.show_program}
+    env = dict(os.environ, **{name: shutil.copy(path, part.path(f"copy-{name}")) for name, path in copies.items()})
     how = {"cwd": part.folder, "env": env, "capture_output": True, "text": True, "timeout": 60}
     got = subprocess.run(["unshare", "-m", "sh", "-c", script, os.path.join(part.root, "install")], **how)
     left = [line for line in got.stdout.splitlines() if line.startswith(".")]
-    fine = got.returncode == 0 and left == [".", "./bin", "./share", "./share/man"]
+    fine = got.returncode == 0 and left == [".", "./bin", "./lib", "./share", "./share/man"]
     part.expect("/usr/local", fine, got.stdout, got.stderr)
 
 
@@ -173,7 +182,7 @@ def check_failures(part):
     os.makedirs(part.path("no-folder/share"))
     part.write("no-folder/share/man", b"")
     status, out, err = install(part, "no-folder")
-    part.expect("a file in place of a folder", status == 1 and out.count("\n") == 6 and err, str(status), out, err)
+    part.expect("a file in place of a folder", status == 1 and out.count("\n") == len(PLACES) - 3 and err, str(status), out, err)
     # What goes wrong while the program is written: the one that is there stays.
     part.expect("install before that", install(part, "full")[0] == 0)
     for what, how in (
@@ -209,7 +218,7 @@ def check_running(part):
 def check_signals(part):
     """A signal while a file is written: nothing is left of it. The program is read from a pipe that gives nothing."""
     os.mkfifo(part.path("slow"))
-    env = dict(os.environ, TLVDUMP=part.path("slow"))
+    env = dict(os.environ, TLVDUMP=part.path("slow"), TLVDUMP_SHOW=part.suite.show_program)
     for name, wanted in (("TERM", 143), ("INT", 130), ("HUP", 129)):
         usual = lambda: [signal.signal(it, signal.SIG_DFL) for it in (signal.SIGHUP, signal.SIGINT, signal.SIGTERM)]
         how = {"cwd": part.folder, "env": env, "start_new_session": True, "preexec_fn": usual}
@@ -240,21 +249,23 @@ def check_umask(part):
 
 
 def clone(part, name, built):
-    """A clone with what the script needs; its program is newer than its sources, or missing."""
+    """A clone with what the script needs; its programs are newer than their sources, or missing."""
     root = part.path(name)
-    for place in ("crates/tlvdump/src", "crates/tlvdump/specs", "crates/tlvdump/proofs", "crates/tlvdump/out"):
-        os.makedirs(os.path.join(root, place))
+    for place in ("src", "specs", "proofs", "out"):
+        for crate in ("tlvdump", "tlvdump_show"):
+            os.makedirs(os.path.join(root, "crates", crate, place))
     for place in ("install", "tlvdump", "tlvdump-inside", "tlvdump-show", "crates.txt"):
         shutil.copy(os.path.join(part.root, place), root)
-    for place in ("man", "data", "completions"):
+    for place in ("man", "data", "completions", "packaging"):
         shutil.copytree(os.path.join(part.root, place), os.path.join(root, place))
     if built:
         shutil.copy(part.program, os.path.join(root, "crates", "tlvdump", "out", "tlvdump"))
+        shutil.copy(part.suite.show_program, os.path.join(root, "crates", "tlvdump_show", "out", "tlvdump_show"))
     return os.path.join(root, "install")
 
 
 def builds(part):
-    """Without TLVDUMP the program of the clone is taken; if it cannot be built nothing is put."""
+    """Without TLVDUMP the programs of the clone are taken; if one cannot be built nothing is put."""
     # On the PATH the kit of this machine comes after one that builds nothing.
     part.write("rt", b"#!/bin/sh\nexit 1\n")
     os.chmod(part.path("rt"), 0o755)
@@ -270,6 +281,11 @@ def builds(part):
     got = subprocess.run([clone(part, "unbuilt", False), "nowhere"], **how)
     fine = got.returncode == 70 and "tlvdump: not built" in got.stderr and not os.path.exists(part.path("nowhere"))
     part.expect("a program that cannot be built", fine, str(got.returncode), got.stderr)
+    script = clone(part, "half-built", True)
+    os.remove(part.path("half-built/crates/tlvdump_show/out/tlvdump_show"))
+    got = subprocess.run([script, "nowhere"], **how)
+    fine = got.returncode == 70 and "tlvdump-show: not built" in got.stderr and not os.path.exists(part.path("nowhere"))
+    part.expect("the other program, which cannot be built", fine, str(got.returncode), got.stderr)
 
 
 def check_refusals(part):

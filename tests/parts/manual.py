@@ -6,18 +6,18 @@ import shutil
 import subprocess
 
 from parts.inside import command, element, expected_list
-from parts.completions import words_of
-from parts.install import install
+from parts.completions import script_options, words_of
+from parts.install import SHOW, install
 
 NULL = b"\x05\x00"
-SCRIPTS = {"tlvdump-inside": {"--option", "--padding"}, "tlvdump-show": {"--as", "--raw", "--why"}}
+SCRIPTS = ("tlvdump-inside", "tlvdump-show")
 # What the manual has for other programs: inputs that tests/make-data makes, and the offset of an element in each.
 DATA = {"certificate.der": 4, "signed.ber": 20, "keys.p12": 4, "revoked.der": 4, "snmp.ber": 13, "ldap.ber": 7, "tap.ber": 58}
 # The codes of docs/USE.md and docs/FINDINGS.md, as the program writes them.
-MESSAGES = [f"F{number:02}" for number in range(1, 13)] + [f"E{number}" for number in (1, 2, 3, 4, 5, 7)]
+MESSAGES = [f"F{number:02}" for number in range(1, 13)] + [f"E{number}" for number in (1, 2, 3, 4, 5, 7, 8)]
 MESSAGES += [f"B{number:02}" for number in range(1, 20)] + [f"S{number:02}" for number in range(1, 5)]
 MESSAGES += ["D01", "D02"] + [f"C{number:02}" for number in range(1, 7)]
-MESSAGES += [f"N{number}" for number in range(1, 7)] + [f"U{number}" for number in (1, 2, 3)]
+MESSAGES += [f"N{number}" for number in range(1, 7)] + [f"U{number}" for number in (1, 2, 3, 4)]
 
 
 def check_rendering(part, page):
@@ -37,16 +37,17 @@ def complete(part, text):
     options = words_of(part)
     for name in options:
         part.expect(f"the command {name}", f".Cm {name}" in text and f".Ss {name}\n" in text)
-    known = set().union(*options.values(), *SCRIPTS.values()) | {"--version"}
-    shown = {f"-{option}" for option in re.findall(r"Fl (-[a-z]+)", text)}
+    scripts = {name: script_options(part, name) - {"--help", "--version"} for name in SCRIPTS}
+    known = set().union(*options.values(), *scripts.values()) | {"--version"}
+    shown = {f"-{option}" for option in re.findall(r"Fl (-[a-z-]+)", text)}
     part.expect("the options", shown == known, *sorted(shown ^ known))
     for name, wanted in options.items():
         section = text.split(f".Ss {name}\n")[1].split("\n.Ss ")[0]
         listed = {f"-{option}" for option in re.findall(r"^\.It Fl (-[a-z]+)", section, re.M)}
         part.expect(f"the options of {name}", listed == wanted - {"--help"}, str(listed))
-    for name, wanted in SCRIPTS.items():
+    for name, wanted in scripts.items():
         section = re.split(r"\n\.S[sh] ", text.split(f".Ss {name}\n")[1])[0]
-        listed = {f"-{option}" for option in re.findall(r"^\.It Fl (-[a-z]+)", section, re.M)}
+        listed = {f"-{option}" for option in re.findall(r"^\.It Fl (-[a-z-]+)", section, re.M)}
         part.expect(f"the options of {name}", listed == wanted, str(listed))
     codes = re.findall(r"^\.It ([A-Z]\d+)$", text.split(".Sh DIAGNOSTICS\n")[1], re.M)
     part.expect("the codes", sorted(codes) == sorted(MESSAGES), *codes)
@@ -106,6 +107,10 @@ def dump_of(part, octets, *words):
     return part.run(["dump", *words], octets).out
 
 
+def shown_of(part, octets, *words):
+    return part.run(list(words), octets, program=part.path(f"there/{SHOW}")).out
+
+
 WHY = """\
 It does not parse: fault at 10: F11 element runs past the enclosing length.
 The octet at offset 10 completes the header of the INTEGER at offset 9. The header at offset 9, 02 02, says that its contents are 2 octets.
@@ -143,18 +148,23 @@ def wanted_of(part, record):
     data = p12[30 : 30 + int.from_bytes(p12[28:30], "big")]
     inside, _ = expected_list(cert)
     names = part.path("there/share/tlvdump/names.txt")
-    shown = dump_of(part, cert, "--names", names, "--inside", inside)
+    shown = shown_of(part, cert)
+    part.expect("strings that are opened", shown.count(b" wraps {") == inside.count(",") + 1)
     lines = b"".join(b"line %03d of the content\n" % number for number in range(210))
     long = ("long.txt", dump_of(part, record * 300_000))
     fault = b"certs/a.der: fault at 3: F11 element runs past the enclosing length\n"
+    checked = b"# block 1 of 3: certs/a.der\n# block 2 of 3: certs/b.der\n# block 3 of 3: certs/c.der\n"
+    checked += b"2 S01 length is not the shortest\n6 S02 TRUE is not ff\n"
     return [
         (0, shown * 5, None),
         (0, b"", None),
+        (2, checked, None),
         (2, WHY.encode(), None),
         (0, shown, None),
         (0, dump_of(part, cert) * 2, None),
         (0, dump_of(part, cert, "--names", names, "--limit", "2"), None),
         (0, dump_of(part, cert, "--inside", inside), None),
+        (0, dump_of(part, data[: 4 + int.from_bytes(data[2:4], "big")]), None),
         (0, dump_of(part, data) + dump_of(part, p12, "--inside", "26"), None),
         (0, b"", ("joined", lines)),
         (0, dump_of(part, record), None),
@@ -192,7 +202,7 @@ def recipes(part, text):
     before = part.run(["dump", "damaged.ber"])
     part.expect("the damage that the manual has", before.status == 2 and before.err.startswith(b"fault at 10: F11"))
     name = b"OBJECT IDENTIFIER 2.5.4.3 (commonName)"
-    part.expect("the names that the manual has", name in wanted[5][1])
+    part.expect("the names that the manual has", name in wanted[6][1])
 
 
 def in_shell(part, script):
@@ -214,16 +224,17 @@ def replacements(part, text):
     part.write("octets", element(4, NULL))
     part.write("bits", element(3, b"\0" + NULL))
     part.write("plain", NULL)
+    part.write("text", element(4, b"abc"))
     part.write("nested", element(0x30, element(0x30, NULL)))
     null = b"       0      0: NULL\n"
     # What those write that do not show a NULL: the file, N and M, and the output.
     special = {
-        "tlvdump dump $(tlvdump-inside --option F) F": ("octets", "0", "1", dump_of(part, element(4, NULL), "--inside", "0")),
+        "tlvdump-show --no-text F": ("octets", "0", "1", dump_of(part, element(4, NULL), "--inside", "0")),
+        "tlvdump-show --closed F": ("text", "0", "1", b"       0      3: OCTET STRING 61 62 63  |abc|\n"),
         "tlvdump dump --limit 0 F | grep '[{}]$'": ("nested", "0", "1", dump_of(part, element(0x30, element(0x30, NULL))).replace(
             b"       4      0:     NULL\n", b"")),
         "xxd -s N -l 16 F": ("plain", "0", "1", b"00000000: 0500" + b" " * 37 + b"..\n"),
         r"tlvdump dump F | grep -v '^.\{17\} \{M\}'": ("nested", "1", "2", b"       0      4: SEQUENCE {\n                 }\n"),
-        "tlvdump extract --offset N --contents F | xxd": ("octets", "0", "1", b"00000000: 0500" + b" " * 37 + b"..\n"),
         "tlvdump dump F | cut -c -N": ("plain", "21", "1", null),
     }
     part.expect("the special ones are there", set(special) <= set(commands), *sorted(set(special) - set(commands)))
@@ -236,15 +247,13 @@ def replacements(part, text):
         file, number, more, wanted = special.get(line, plain)
         script = replace_names(line, F=file, N=number, M=more, hex="0500")
         got = in_shell(part, script)
-        said = b"tlvdump-show: taken for octets as they stand\n" if "tlvdump-show" in line else b""
-        part.expect(line, (got.returncode, got.stdout, got.stderr) == (0, wanted, said), script, str(got))
+        part.expect(line, (got.returncode, got.stdout, got.stderr) == (0, wanted, b""), script, str(got))
     part.expect("what extract wrote", read(part, "out") == NULL)
 
 
 def by_task(part, octets, offset):
     """What the command here gives for each task, in their order, from the program itself."""
-    inside, names = in_shell(part, "tlvdump-inside --option F").stdout.decode().split(), part.path("there/share/tlvdump/names.txt")
-    shown, short = dump_of(part, octets, "--names", names, *inside), dump_of(part, octets, "--limit", "0")
+    shown, short = shown_of(part, octets), dump_of(part, octets, "--limit", "0")
     cut = part.run(["extract", "--offset", str(offset)], octets).out
     outline = b"".join(line for line in short.splitlines(True) if line.endswith((b"{\n", b"}\n")))
     plain = dump_of(part, octets)

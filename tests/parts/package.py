@@ -10,7 +10,8 @@ import stat
 import subprocess
 import time
 
-from parts.install import all_below, clone, content, files_below, install
+from parts.install import SHOW, all_below, clone, content, files_below, install
+from parts.show_program import Program
 
 TOOLS = ("dpkg-deb", "dpkg", "gzip", "strip", "readelf")
 DOCUMENTS = ["usr/share/doc/tlvdump/changelog.gz", "usr/share/doc/tlvdump/copyright"]
@@ -18,6 +19,7 @@ DOCUMENTS = ["usr/share/doc/tlvdump/changelog.gz", "usr/share/doc/tlvdump/copyri
 
 def environment(part, program=None, **more):
     """Temporary files go to a folder of their own."""
+    more = {"TLVDUMP_SHOW": part.suite.show_program, **more}
     return dict(os.environ, TLVDUMP=program or part.program, TMPDIR=part.path("work"), **more)
 
 
@@ -55,7 +57,7 @@ def holds(part, made):
     found = [path for path in files_below(part.path("tree")) if not path.startswith("DEBIAN/")]
     part.expect("the files of the package", found == wanted, *sorted({*found} ^ {*wanted}))
     for path in put:
-        if path == "bin/tlvdump":
+        if path in ("bin/tlvdump", SHOW):
             continue
         octets, other = content(part.path(f"there/{path}")), content(part.path(f"tree/{place_of(path)}"))
         if path.startswith("share/man/"):
@@ -67,7 +69,8 @@ def holds(part, made):
     part.expect("the manual of the package names its files", named)
     for path in found:
         mode = stat.S_IMODE(os.stat(part.path(f"tree/{path}")).st_mode)
-        part.expect(f"the mode of {path}", mode == (0o755 if path.startswith("usr/bin/") else 0o644), oct(mode))
+        is_run = path.startswith("usr/bin/") or path == f"usr/{SHOW}"
+        part.expect(f"the mode of {path}", mode == (0o755 if is_run else 0o644), oct(mode))
     owners = {line.split()[1] for line in said_by("dpkg-deb", "-c", made).splitlines()}
     part.expect("owners", owners == {"root/root"}, *owners)
     sums = [f"{hashlib.md5(content(part.path(f'tree/{path}'))).hexdigest()}  {path}\n" for path in found]
@@ -78,16 +81,16 @@ def control(part, made, version):
     fields = dict(line.split(": ", 1) for line in said_by("dpkg-deb", "-f", made).splitlines() if not line.startswith(" "))
     wanted = {"Package": "tlvdump", "Version": version, "Architecture": "amd64"}
     part.expect("fields of the package", {key: fields[key] for key in wanted} == wanted, str(fields))
-    depends(part, fields["Depends"], part.path("tree/usr/bin/tlvdump"))
+    depends(part, fields["Depends"], part.path("tree/usr/bin/tlvdump"), part.path(f"tree/usr/{SHOW}"))
     # As dpkg-gencontrol has it: kilobytes of each file, rounded up, and one for each folder.
     tree = [part.path(f"tree/{path}") for path in all_below(part.path("tree")) if path.split("/")[0] == "usr"]
     size = sum(1 if os.path.isdir(path) else math.ceil(os.path.getsize(path) / 1024) for path in tree)
     part.expect("Installed-Size", fields["Installed-Size"] == str(size), fields["Installed-Size"], str(size))
 
 
-def depends(part, field, program):
-    """The field names the highest version of the C library of which the program has a symbol."""
-    found = re.findall(r"\bGLIBC_([0-9.]+)\b", said_by("objdump", "-T", program))
+def depends(part, field, *programs):
+    """The field names the highest version of the C library of which a program has a symbol."""
+    found = re.findall(r"\bGLIBC_([0-9.]+)\b", said_by("objdump", "-T", *programs))
     highest = max(found, key=lambda version: [int(number) for number in version.split(".")])
     fine = len(set(found)) > 1 and field == f"libc6 (>= {highest})"
     part.expect("the C library that it needs", fine, field, *sorted(set(found)))
@@ -113,7 +116,7 @@ def depends_of_another(part, version):
     made = part.path("other-program")
     said_by("cc", "-O0", "-fstack-protector-all", f'-DVERSION="{version}"', "-o", made, part.path("other.c"))
     os.mkdir(part.path("of another"))
-    got = package(part, "of another", program=made)
+    got = package(part, "of another", program=made, TLVDUMP_SHOW=made)
     part.expect("package of another program", got[0] == 0, *map(str, got))
     fields = said_by("dpkg-deb", "-f", part.path(f"of another/tlvdump_{version}_amd64.deb"), "Depends")
     highest = depends(part, fields.strip(), made)
@@ -179,10 +182,14 @@ def check_signals(part):
 
 
 def works(part):
-    """The program of the package, from which strip took the symbols, does what that of the tests does."""
+    """The programs of the package, from which strip took the symbols, do what those of the tests do."""
     path = part.path("tree/usr/bin/tlvdump")
     for words, octets in ((["--help"], b""), (["dump"], b"\x30\x05\x02\x01\x05\x05\x00"), (["check"], b"\x30\x80\x00\x00"), (["dump"], b"\x30\x03\x02")):
         part.same(f"the package: {' '.join(words)}", part.run(words, octets, program=path), part.run(words, octets))
+    show = Program(part)
+    for words, octets in ((["--help"], b""), ([], b"\x04\x08\x30\x06\x80\x04text"), (["--check"], b"\x30\x03\x02")):
+        got = part.run(words, octets, program=part.path(f"tree/usr/{SHOW}"))
+        part.same(f"the package: tlvdump-show {' '.join(words)}", got, show.run(words, octets))
 
 
 def installs(part, made):

@@ -1,4 +1,4 @@
-"""Reads the rows of tests/rows: words, octets, and what is written and reported.
+"""Reads the rows of tests/rows and tests/show_rows: words, octets, and what is written and reported.
 
 A row is some lines, and ends before an empty line. The first character of a line says what it is:
 
@@ -8,7 +8,7 @@ A row is some lines, and ends before an empty line. The first character of a lin
     < 30 80 (00)*3 "a" octets of the input: in hexadecimal, text in quotation marks, repeated
     | text             a line that is written
     > 30 80            octets that are written
-    ! text             the message on standard error
+    ! text             the message on standard error, or a line of it
     % 1                the number of findings, if neither the lines nor the message have it
     = 2                the status (0 if the row has no such line)
 
@@ -79,7 +79,7 @@ class Row:
         elif kind == "<":
             self.parts += parts_of(rest)
         elif kind == "!":
-            self.message = rest
+            self.message += f"\n{rest}" if self.message else rest
         elif kind == "%":
             self.counted = int(rest)
         elif kind == "=":
@@ -141,8 +141,8 @@ def rows_of(path):
     return rows
 
 
-def files(root):
-    """Returns the files of rows, by name, and the rows of each."""
-    folder = os.path.join(root, "tests", "rows")
+def files(root, folder="rows"):
+    """Returns the files of rows of a folder of tests, by name, and the rows of each."""
+    folder = os.path.join(root, "tests", folder)
     names = sorted(os.listdir(folder))
     return {name.removesuffix(".rows"): rows_of(os.path.join(folder, name)) for name in names}

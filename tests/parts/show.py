@@ -1,21 +1,28 @@
-"""tlvdump-show: the forms of input, what is shown of each, and why an input does not parse."""
+"""The script tlvdump-show: the forms of input, what is shown of each, and why an input does not parse.
+
+What the program shows is compared with what it shows by itself (parts/show_rows.py and the others test that).
+"""
 import base64
 import os
 import re
 import shutil
 import subprocess
 
+from parts.completions import show_options
 from parts.harness import Done
-from parts.inside import command, element, expected_list, string
-from parts.completions import words_of
+from parts.inside import command, element, string
+from parts.show_program import Program
 
 NULL = b"\x05\x00"
 PLAIN = "taken for octets as they stand"
 HEX = "taken for hexadecimal"
 MORE = "it does not parse: tlvdump-show --why says more"
-# Encodings with a name and with a string that holds encodings.
+# Encodings with a name, with a string that holds encodings, and with text; others with a finding.
 SOUND = element(0x30, b"\x06\x03\x55\x04\x03" + string(NULL) + b"\x0c\x03abc")
-SHOWN = ["dump", "--inside", "7", "--names"]
+FOUND = element(0x30, b"\x02\x02\x00\x05")
+# A string that is the value of an extension, and breaks.
+BREAKS = bytes.fromhex("300b0603551d0f0404030305a0")
+BROKEN = "string at 7 is the value of an extension and breaks at 10: F11 element runs past the enclosing length"
 
 
 def pem(label, octets, head=b""):
@@ -25,12 +32,12 @@ def pem(label, octets, head=b""):
 
 class Script:
     def __init__(self, part):
-        self.part = part
+        self.part, self.program = part, Program(part)
         self.path = os.path.join(part.root, "tlvdump-show")
-        self.names = os.path.join(part.root, "data", "names.txt")
 
     def run(self, words, given=b"", **more):
-        env = {**os.environ, "TLVDUMP": self.part.program, "TMPDIR": self.part.path("temporary"), **more}
+        env = {**os.environ, "TLVDUMP": self.part.program, "TLVDUMP_SHOW": self.program.path}
+        env |= {"TMPDIR": self.part.path("temporary"), **more}
         how = {"cwd": self.part.folder, "env": env, "input": given, "capture_output": True, "timeout": 120}
         got = subprocess.run([self.path, *words], **how)
         return Done(got.returncode, got.stdout, got.stderr)
@@ -49,13 +56,13 @@ class Script:
 def forms(script):
     """Each form of input, from a pipe and from a file, shown and as octets."""
     part = script.part
-    out = part.run([*SHOWN, script.names], SOUND).out
+    out = script.program.run([], SOUND).out
     part.expect("names and an open string", b"(commonName)" in out and b" wraps {" in out)
     digits, text = SOUND.hex(), base64.b64encode(SOUND)
     urls = base64.urlsafe_b64encode(b"\x04\x05\xfb\xff\xbf\x3e\x3f").rstrip(b"=")
     part.expect("signs of URLs", b"-" in urls or b"_" in urls)
     for what, given, *said in [
-        ("octets", SOUND, PLAIN),
+        ("octets", SOUND),
         ("hexadecimal", digits.encode(), HEX),
         ("capitals in lines", "\r\n".join(re.findall("..?.?.?", digits.upper())).encode(), HEX),
         ("hexadecimal with colons", SOUND.hex(":").encode() + b"\n", HEX),
@@ -151,14 +158,18 @@ def choices(script):
     part.expect("digits that parse as they stand", plain.status == 0 and len(both) == 50, *plain.lines())
     too = "it parses as octets as they stand too: --as ber"
     script.gives("both parse", ["--raw"], both, 0, bytes.fromhex(both.decode()), HEX, too)
-    script.gives("--as ber", ["--raw", "--as", "ber"], both, 0, both, PLAIN)
-    script.gives("--as=ber", ["--as=ber", "--raw"], both, 0, both, PLAIN)
+    script.gives("--as ber", ["--raw", "--as", "ber"], both, 0, both)
+    script.gives("--as=ber", ["--as=ber", "--raw"], both, 0, both)
+    script.gives("--as ber, shown", ["--as=ber"], both, 0, script.program.run([], both).out)
     script.gives("--as base64", ["--raw", "--as", "base64"], b"0500", 0, b"\xd3\x9d\x34", "taken for base64")
     wrapped = element(12, pem(b"CMS", NULL))
     got = script.run(["--as", "ber", "--raw"], wrapped)
     part.expect("an encoding that holds PEM, --as ber", (got.status, got.out) == (0, wrapped))
     got = script.run([], wrapped)
     part.expect("an encoding that holds PEM: both are reported", b"octets as they stand too: --as ber" in got.err, *got.lines())
+    wrapped = element(0x30, NULL + element(12, pem(b"CMS", NULL)))
+    part.write("wrapped", wrapped)
+    script.gives("octets that hold PEM, in a file", ["wrapped"], b"", 0, script.program.run([], wrapped).out)
     broken = b"-----BEGIN A-----\nBQA\n*\n-----END A-----\n"
     got = script.run(["--raw"], broken)
     part.expect("base64 that is broken", b"the base64 is broken or cut after " in got.err, *got.lines())
@@ -169,73 +180,103 @@ def choices(script):
 
 
 def shown(script):
-    """Options of dump, several blocks, the status, and names that are not UTF-8."""
-    part = script.part
-    blocks = pem(b"A", SOUND) + pem(b"B", element(0x30, b"\x02\x02\x00\x05")) + pem(b"C", NULL)
-    out = b"".join([
-        part.run([*SHOWN, script.names], SOUND).out, part.run(["dump"], element(0x30, b"\x02\x02\x00\x05")).out,
-        part.run(["dump"], NULL).out,
-    ])
+    """Options of the program, several blocks, the status, and names that are not UTF-8."""
+    part, program = script.part, script.program
+    blocks = pem(b"A", SOUND) + pem(b"B", FOUND) + pem(b"C", NULL)
+    shows = [program.run([], octets).out for octets in (SOUND, FOUND, NULL)]
+    out = b"".join(b"# block %d of 3: %c\n%s" % (number, 64 + number, of) for number, of in enumerate(shows, 1))
     said = ["taken for PEM, blocks: 3", "block 1: A", "block 2: B", ":findings: 1", "block 3: C"]
     script.gives("three blocks", [], blocks, 1, out, *said)
-    raw = SOUND + element(0x30, b"\x02\x02\x00\x05") + NULL
-    script.gives("three blocks, --raw", ["--raw"], blocks, 0, raw, *said[:3], said[4])
+    script.gives("three blocks, --raw", ["--raw"], blocks, 0, SOUND + FOUND + NULL, *said[:3], said[4])
+    script.gives("three blocks, --offset", ["--offset", "0"], blocks, 0, SOUND + FOUND + NULL, *said[:3], said[4])
+    label = pem(b"\x1b[31mX", NULL)
+    script.gives("a label that is not printable", ["--raw"], label, 0, NULL, "taken for PEM, blocks: 1", "block 1: ?[31mX")
     part.write("mine", b"2.5.4.3 cn\n")
     long = element(0x30, b"\x06\x03\x55\x04\x03" + string(b"\x05" * 99))
-    wanted = part.run(["dump", "--limit", "2", "--rules", "cer", "--pure", "--names", "mine"], long)
     words = ["--limit", "2", "--rules=cer", "--pure", "--names", "mine"]
-    script.gives("options", words, long, 1, wanted.out, PLAIN, ":findings: 1")
+    wanted = program.run(words, long)
+    script.gives("options", words, long, 1, wanted.out, ":findings: 1")
     part.expect("these options count", b"(cn)" in wanted.out and b"..." in wanted.out)
-    named = element(0x30, string(NULL) + string(NULL))
-    wanted = part.run(["dump", "--inside", "6"], named).out
-    script.gives("--inside", ["--inside", "6"], named, 0, wanted, PLAIN)
-    padded = b"\0\0" + named + b"\0"
-    wanted = part.run(["dump", "--padding", "--inside", "4,8"], padded).out
-    script.gives("--padding", ["--padding"], padded, 0, wanted, PLAIN)
+    padded = b"\0\0" + SOUND + b"\0"
+    script.gives("--padding", ["--padding"], padded, 0, program.run(["--padding"], padded).out)
+    for words in (["--closed"], ["--no-text"], ["--check"], ["--offsets"], ["--offset", "7"], ["--offset=7", "--contents"]):
+        wanted = program.run(words, SOUND)
+        for what, given, *lines in (("octets", SOUND), ("text", SOUND.hex().encode(), HEX)):
+            script.gives(f"{' '.join(words)}, {what}", words, given, 0, wanted.out, *lines)
     fault = ":fault at 3: F02 input ends inside an encoding"
     script.gives("a fault", [], NULL + b"\x04", 2, part.run(["dump"], NULL).out, PLAIN, fault, MORE)
+    part.write("cut", NULL + b"\x04")
+    named = f":cut{fault.replace(':', ': ', 1)}"
+    script.gives("a fault, a file", ["cut"], b"", 2, part.run(["dump"], NULL).out, PLAIN, named, MORE)
+    script.gives("a string that breaks", ["--check"], BREAKS, 1, b"", f":{BROKEN}")
+    part.write("breaks", BREAKS)
+    script.gives("a string that breaks, a file", ["--check", "breaks"], b"", 1, b"", f":breaks: {BROKEN}")
     many = string(NULL) * 20
-    got = script.run([], many)
-    fine = got.out.count(b" wraps {") == 16 and b"left out: 64,68,72,76\n" in got.err
-    fine = fine and b"at most 16 strings are opened: --inside LIST chooses others\n" in got.err
-    part.expect("what is left out is reported", fine, *got.lines())
-    part.write(b"caf\xe9".decode("utf-8", "surrogateescape"), NULL)
-    script.gives("a name that is not UTF-8", [b"caf\xe9"], b"", 0, b"       0      0: NULL\n", PLAIN)
+    script.gives("twenty strings", ["--offsets"], many, 0, (",".join(map(str, range(0, 80, 4))) + "\n").encode())
+    part.write(b"caf\xe9".decode("utf-8", "surrogateescape"), NULL.hex().encode())
+    script.gives("a name that is not UTF-8", [b"caf\xe9"], b"", 0, b"       0      0: NULL\n", HEX)
+    part.write(b"caf\xe8".decode("utf-8", "surrogateescape"), FOUND)
+    out = program.run([], FOUND).out
+    script.gives("a name that is not UTF-8, of octets", [b"caf\xe8"], b"", 1, out, ":findings: 1")
     part.write("-x", NULL)
-    script.gives("a file after --", ["--", "-x"], b"", 0, b"       0      0: NULL\n", PLAIN)
-    script.gives("no file", ["missing"], b"", 3, b"", "missing is not a file that can be read")
-    script.gives("a folder", ["."], b"", 3, b"", ". is not a file that can be read")
+    script.gives("a file after --", ["--", "-x"], b"", 0, b"       0      0: NULL\n")
+    script.gives("no file", ["missing"], b"", 3, b"", ":missing: E5 cannot open the file")
+    script.gives("no file, --raw", ["--raw", "missing"], b"", 3, b"", "missing is not a file that can be read")
+    script.gives("a folder, --raw", ["--raw", "."], b"", 3, b"", ". is not a file that can be read")
+    part.expect("no file is left", os.listdir(part.path("temporary")) == [], *os.listdir(part.path("temporary")))
+
+
+def several(script):
+    """Several FILEs: octets go to the program as they are; if one is a text, the script writes the lines between."""
+    part, program = script.part, script.program
+    for name, octets in (("a.der", SOUND), ("b.der", NULL), ("a text", SOUND.hex().encode()), ("it's.pem", pem(b"X", NULL) * 2)):
+        part.write(name, octets)
+    wanted = program.run(["a.der", "--no-text", "b.der"])
+    part.expect("two files", wanted.out.startswith(b"# block 1 of 2: a.der\n") and b"# block 2 of 2: b.der\n" in wanted.out)
+    script.gives("two files of octets", ["a.der", "--no-text", "b.der"], b"", 0, wanted.out)
+    one, null = program.run([], SOUND).out, b"       0      0: NULL\n"
+    out = b"# block 1 of 4: a text\n" + one + b"# block 2 of 4: it's.pem: X\n" + null
+    out += b"# block 3 of 4: it's.pem: X\n" + null + b"# block 4 of 4: b.der\n" + null
+    said = ["a text: taken for hexadecimal", "it's.pem: taken for PEM, blocks: 2", "it's.pem: block 1: X", "it's.pem: block 2: X"]
+    script.gives("texts and octets", ["a text", "it's.pem", "b.der"], b"", 0, out, *said)
+    raw = SOUND + NULL * 3
+    script.gives("texts and octets, --raw", ["--raw", "a text", "it's.pem", "b.der"], b"", 0, raw, *said)
+    script.gives("standard input among them", ["b.der", "-", "--check"], SOUND, 0,
+                 b"# block 1 of 2: b.der\n# block 2 of 2: standard input\n")
+    script.gives("octets of files, --as ber", ["--as", "ber", "b.der", "a.der"], b"", 0, program.run(["b.der", "a.der"]).out)
     part.expect("no file is left", os.listdir(part.path("temporary")) == [], *os.listdir(part.path("temporary")))
 
 
 def handed_on(script):
-    """Each option of dump is one of the script too."""
-    values = {"--rules": "ber", "--limit": "1", "--names": script.names, "--inside": "0"}
-    for option in words_of(script.part)["dump"] - {"--help"}:
+    """Each option of the program is one of the script too."""
+    values = {"--rules": "ber", "--limit": "1", "--names": os.path.join(script.part.root, "data", "names.txt"), "--offset": "0"}
+    for option in show_options(script.program) - {"--help", "--version"}:
         words = [option, values[option]] if option in values else [option]
-        octets = string(NULL) if option == "--inside" else NULL
-        wanted = script.part.run(["dump", *words], octets)
-        got = script.run(words, octets)
-        fine = (got.status, got.out) == (0, wanted.out) and wanted.status == 0
-        script.part.expect(f"handed on: {option}", fine, *got.lines())
+        words += ["--offset", "0"] * (option == "--contents")
+        wanted = script.program.run(words, SOUND)
+        script.part.same(f"handed on: {option}", script.run(words, SOUND), wanted)
+        script.part.expect(f"taken: {option}", wanted.status == 0, *wanted.lines())
+    script.part.same("--version", script.run(["--version"]), script.program.run(["--version"]))
 
 
 def check_refusals(script):
     part = script.part
-    for words in (["--nothing"], ["-x"], ["a", "b"], ["--as"], ["--as", "xml"], ["--raw", "--why"], ["--raw", "--pure"],
-                  ["--why", "--limit", "3"], ["--raw", "--padding"], ["--rules"], ["--raw=1"]):
+    for words in (["--nothing"], ["-x"], ["--as"], ["--as", "xml"], ["--raw", "--why"], ["--raw", "--pure"], ["--why", "a", "b"],
+                  ["--why", "--limit", "3"], ["--why", "--check"], ["--raw", "--padding"], ["--rules"], ["--raw=1"],
+                  ["--inside", "0"], ["--raw", "--inside", "0"]):
         got = script.run(words)
         part.expect(f"refused: {words}", got.status == 4 and not got.out and got.err.startswith(b"usage: "), *got.lines())
-    got = script.run(["--limit", "x"], NULL)
-    fine = got.status == 4 and not got.out and b"U2 value out of range: --limit" in got.err
-    part.expect("refused by the program", fine, *got.lines())
+    for words, code in ((["--limit", "x"], b"U2 "), (["--check", "--pure"], b"U4 "), (["--offsets", "a", "b"], b"U4 ")):
+        got = script.run(words, NULL)
+        part.expect(f"refused by the program: {words}", got.status == 4 and not got.out and code in got.err, *got.lines())
     for offsets, status, code in (("5,4", 4, "U2"), ("0", 1, "E7")):
         got = script.run(["--as", "ber", "--why", "--inside", offsets], NULL)
         part.expect(f"why, with {code}", got.status == status and code.encode() in got.out, *got.lines())
     got = script.run(["--help"])
     part.expect("--help", got.status == 0 and not got.err and got.out.startswith(b"usage: "), *got.lines())
-    got = script.run([], NULL, TLVDUMP="/nowhere/tlvdump")
-    part.expect("no program", got.status == 70 and b"there is no program tlvdump" in got.err, *got.lines())
+    for name, said in (("TLVDUMP", b"there is no program tlvdump\n"), ("TLVDUMP_SHOW", b"there is no program tlvdump-show\n")):
+        got = script.run([], NULL, **{name: "/nowhere/tlvdump"})
+        part.expect(f"no program: {name}", got.status == 70 and said in got.err, *got.lines())
 
 
 def header(offset, octets, contents):
@@ -349,6 +390,25 @@ def reasons(script):
     part.expect("why, if it parses", (status, out) == (0, said), out)
 
 
+def strings(script):
+    """Why a string breaks, with the offsets of the input, at the top and in another string."""
+    sound = "It parses: {0} octets, which are whole encodings. By the rules of BER: findings: 0."
+    for octets, place in ((BREAKS, 0), (element(0x30, string(BREAKS) + NULL), 4), (NULL * 9 + BREAKS + NULL, 18)):
+        first, last = 9 + place, 13 + place
+        wanted = [
+            sound.format(len(octets)),
+            f"But the string at {7 + place} is the value of an extension and breaks at {10 + place}:"
+            " F11 element runs past the enclosing length.",
+            f"The octet at offset {first + 1} completes the header of the BIT STRING at offset {first}. "
+            + header(first, "03 03", "3 octets"),
+            f"It would end at offset {last + 1}, but the OCTET STRING at offset {7 + place} ends at offset {last}."
+            f" Missing there: 1 octet. {header(7 + place, '04 04', '4 octets')}",
+            WRONG, "Try: fetch the input anew, in binary.",
+        ]
+        status, out = script.why(octets)
+        script.part.expect(f"why a string breaks, {place}", (status, out.splitlines()) == (1, wanted), str(status), out)
+
+
 def hints(script):
     """What to try: another form, a wrong start, a copy as a text, a file of another kind."""
     part = script.part
@@ -411,27 +471,43 @@ def made(script):
     command(part, "openssl x509 -in cert.pem -text -out text.pem")
     with open(part.path("cert.der"), "rb") as file:
         octets = file.read()
-    inside, _ = expected_list(octets)
-    wanted = part.run(["dump", "--names", script.names, "--inside", inside, "cert.der"]).out
+    wanted = script.program.run([], octets)
+    part.expect("a certificate with strings", wanted.status == 0 and wanted.out.count(b" wraps {") >= 4)
     for name in ("cert.der", "cert.pem", "text.pem"):
         got = script.run([name])
-        part.expect(f"openssl: {name}", (got.status, got.out) == (0, wanted), *got.lines())
+        part.expect(f"openssl: {name}", (got.status, got.out) == (0, wanted.out), *got.lines())
     line = f"'{script.path}' --raw cert.pem | '{part.program}' check"
-    env = dict(os.environ, TLVDUMP=part.program)
+    env = dict(os.environ, TLVDUMP=part.program, TLVDUMP_SHOW=script.program.path)
     got = subprocess.run(["sh", "-c", line], cwd=part.folder, env=env, capture_output=True)
     part.expect("--raw into check", (got.returncode, got.stdout) == (0, b""), str(got))
 
 
-def without_names(script):
-    """A copy without a names file says so."""
+def in_a_clone(script):
+    """In a clone both programs are asked for once; with one that is not built the status is 70."""
     part = script.part
-    os.mkdir(part.path("alone"))
-    for name in ("tlvdump-show", "tlvdump-inside"):
-        shutil.copy(os.path.join(part.root, name), part.path("alone"))
-    script.path = part.path("alone/tlvdump-show")
-    wanted = part.run(["dump", "--inside", "7"], SOUND).out
-    said = "no file of names was found: object identifiers have none"
-    script.gives("no names", [], SOUND, 0, wanted, PLAIN, said)
+    for crate, path in (("tlvdump", part.program), ("tlvdump_show", script.program.path)):
+        os.makedirs(part.path(f"tree/crates/{crate}/out"))
+        shutil.copy(path, part.path(f"tree/crates/{crate}/out/{crate}"))
+    os.mkdir(part.path("tree/packaging"))
+    os.mkdir(part.path("tree/data"))
+    shutil.copy(os.path.join(part.root, "data", "names.txt"), part.path("tree/data"))
+    part.write("tree/crates.txt", b"")
+    path = shutil.copy(script.path, part.path("tree"))
+    part.write("tree/packaging/run-built", b"#!/bin/sh\necho \"$@\" >> asked\n")
+    os.chmod(part.path("tree/packaging/run-built"), 0o755)
+    env = {name: value for name, value in os.environ.items() if not name.startswith("TLVDUMP")}
+
+    def run():
+        how = {"cwd": part.folder, "env": env, "input": SOUND.hex().encode(), "capture_output": True, "timeout": 60}
+        return subprocess.run([path], **how)
+
+    got = run()
+    fine = (got.returncode, got.stdout) == (0, script.program.run([], SOUND).out)
+    part.expect("in a clone", fine, str(got))
+    with open(part.path("asked"), encoding="ascii") as file:
+        part.expect("one look at each program", file.read() == "tlvdump --version\ntlvdump_show --version\n")
+    part.write("tree/packaging/run-built", b"#!/bin/sh\n[ $1 = tlvdump ] || exit 70\n")
+    part.expect("a program that is not built", run().returncode == 70)
 
 
 def test(part):
@@ -441,10 +517,12 @@ def test(part):
     dumps(script)
     choices(script)
     shown(script)
+    several(script)
     handed_on(script)
     check_refusals(script)
     reasons(script)
+    strings(script)
     hints(script)
     cuts(script)
     made(script)
-    without_names(script)
+    in_a_clone(script)

@@ -42,6 +42,7 @@ class Options:
     contents: bool = False
     inside: str | None = None
     padding: bool = False
+    text: bool = False
     names_open: bool = True
     file_opens: bool = True
 
@@ -98,6 +99,11 @@ def run(options, octets, names):
         return Result(4, b"", str(refused))
     if not options.file_opens:
         return Result(3, b"", "E5 cannot open the file")
+    return answer(options, given, known, octets)
+
+
+def answer(options, given, known, octets):
+    """Returns the result of a command whose options have these values, on an input; `known` has names by arcs."""
     reading = Reading(octets, given.inside, options.padding)
     if options.command == "extract":
         return extract(reading, given.offset, options.contents)
@@ -126,7 +132,7 @@ def ending(reading, inside, found, out):
     """Returns the result: a fault takes precedence over E7 and findings, and E7 over findings."""
     if reading.fault:
         return Result(2, out, fault_text(reading.fault))
-    wrappers = [element.offset for element in reading.elements() if element.wraps]
+    wrappers = {element.offset for element in reading.elements() if element.wraps}
     missing = [offset for offset in inside if offset not in wrappers]
     if missing:
         return Result(1, out, f"E7 no string to read at offset {missing[0]}")
@@ -138,7 +144,7 @@ class Report:
 
     def __init__(self, options, given, known):
         """Begins a report by the options, their values, and the names."""
-        self.is_check, self.pure = options.command == "check", options.pure
+        self.is_check, self.pure, self.text = options.command == "check", options.pure, options.text
         self.rules, self.limit, self.known = given.rules, given.limit, known
         self.lines, self.found = [], 0
 
@@ -193,6 +199,8 @@ class Report:
         text, rows = values.shown(element, self.known)
         if text is None:
             return
+        if self.text:
+            text, rows = values.with_text(text), [values.with_text(row) for row in rows]
         tag = values.tag_text(element)
         self.line(level, f"{tag} {text}" if text else tag, element.offset, element.length)
         for row in rows[: self.limit]:

@@ -56,9 +56,9 @@ class Reading:
     are in whole headers, in contents, and in whole pairs 00 00; not in an unfinished header or a lone 00.
     """
 
-    def __init__(self, octets, inside=(), padding=False):
-        """Reads the octets, with the strings at the offsets `inside` as wrappers."""
-        self.octets, self.inside, self.padding = octets, set(inside), padding
+    def __init__(self, octets, inside=(), padding=False, around=0):
+        """Reads the octets, with the strings at the offsets `inside` as wrappers, and so many elements open around."""
+        self.octets, self.inside, self.padding, self.around = octets, set(inside), padding, around
         self.at = self.kept = 0
         self.items, self.fault = [], None
         try:
@@ -70,7 +70,7 @@ class Reading:
         """Case 5 at the top: 00 is padding, with that option, else F03. F01 if there is no element."""
         while self.at < len(self.octets):
             if self.octets[self.at] != 0:
-                self.read_element(self.items, None, 0)
+                self.read_element(self.items, None, self.around)
             elif self.padding:
                 self.read_padding()
             else:
@@ -201,10 +201,14 @@ class Reading:
         self.at += 1
         self.kept = self.at
 
-    def elements(self, items=None):
+    def elements(self):
         """Returns all elements, each before what it holds."""
-        found = []
-        for item in self.items if items is None else items:
-            if isinstance(item, Element):
-                found += [item, *self.elements(item.children)]
-        return found
+        return list(in_order(self.items))
+
+
+def in_order(items):
+    """Gives the elements among these and in them, each before what it holds."""
+    for item in items:
+        if isinstance(item, Element):
+            yield item
+            yield from in_order(item.children)

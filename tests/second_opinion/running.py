@@ -1,10 +1,10 @@
 """Runs the program on the cases of seeds, and compares what it did with what the pages say."""
 import os
 import shlex
+import shutil
 import subprocess
 
-from second_opinion.cases import case_of
-from second_opinion.commands import run
+from second_opinion import cases, commands, show_cases, showing
 from second_opinion.names import read_names
 
 SECONDS = 120
@@ -12,6 +12,8 @@ SECONDS = 120
 
 class Runner:
     """Runs the program in a folder, in which the input and the names file of a case are."""
+
+    name = "tlvdump"
 
     def __init__(self, program, folder):
         """Keeps the path of the program, and the folder."""
@@ -46,18 +48,54 @@ class Runner:
                 child.communicate()
             return child.returncode, read_whole(out), read_whole(err)
 
+    def case_of(self, seed):
+        """Returns the case of a seed."""
+        return cases.case_of(seed)
+
+    def wanted(self, it, case):
+        """Returns the status, output and message that a run is to have."""
+        wanted = commands.run(it.options, case.octets, lambda: read_names(case.names))
+        return wanted.status, wanted.out, wanted.message.encode() + b"\n" * bool(wanted.message)
+
     def differences(self, seed):
         """Runs the case of a seed, and returns a text of each difference."""
-        case = case_of(seed)
+        case = self.case_of(seed)
         self.write_files(case)
         texts = []
         for it in case.runs:
-            wanted = run(it.options, case.octets, lambda: read_names(case.names))
-            wanted = wanted.status, wanted.out, wanted.message.encode() + b"\n" * bool(wanted.message)
+            wanted = self.wanted(it, case)
             got = self.run(it.words, case.octets if it.by_pipe else None)
             if got != wanted:
-                texts.append(difference(case, it, wanted, got))
+                texts.append(difference(self.name, case, it, wanted, got))
         return texts
+
+
+class ShowRunner(Runner):
+    """Runs tlvdump-show in a folder, as one that was installed below "prefix" with the file of names `names`."""
+
+    name = "tlvdump-show"
+
+    def __init__(self, program, folder, names):
+        """Puts the program and the names file below the prefix."""
+        super().__init__(program, folder)
+        self.program = put(program, self.path("prefix/lib/tlvdump/tlvdump-show"))
+        with open(put(names, self.path("prefix/share/tlvdump/names.txt")), "rb") as file:
+            self.names = read_names(file.read())
+
+    def case_of(self, seed):
+        """Returns the case of a seed."""
+        return show_cases.case_of(seed)
+
+    def wanted(self, it, case):
+        """Returns the status, output and messages that a run is to have."""
+        wanted = showing.run(it.options, lambda: read_names(case.names) if it.options.names else self.names)
+        return wanted.status, wanted.out, wanted.err
+
+
+def put(source, target):
+    """Copies a file into a folder, which is made if it is missing, and returns the path of the copy."""
+    os.makedirs(os.path.dirname(target), exist_ok=True)
+    return shutil.copy(source, target)
 
 
 def read_whole(file):
@@ -66,10 +104,10 @@ def read_whole(file):
     return file.read()
 
 
-def difference(case, it, wanted, got):
+def difference(name, case, it, wanted, got):
     """Returns the text of a difference: the seed, the words, the input, and the first line that differs."""
     words = shlex.join(word if len(word) < 200 else f"{word[:40]}..({len(word)})" for word in it.words)
-    lines = [f"seed {case.seed}: tlvdump {words}", f"input {case.octets.hex()}"]
+    lines = [f"seed {case.seed}: {name} {words}", f"input {case.octets.hex()}"]
     if it.options.names:
         lines.append(f"names {case.names[:5000]!r}")
     if wanted[0] != got[0]:

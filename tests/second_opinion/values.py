@@ -15,6 +15,7 @@ BOOLEAN, INTEGER, BIT_STRING, OBJECT_IDENTIFIER, ENUMERATED, UTF8, RELATIVE_OID 
 UNIVERSAL_STRING, BMP_STRING = 28, 30
 CHARACTERS = {7, UTF8, *range(18, 29), BMP_STRING}
 PAIRS_IN_A_ROW, OCTETS_IN_A_ROW = 16, 64
+LEAST_TEXT = len("61 62 63")  # three pairs
 
 
 def tag_text(element):
@@ -78,9 +79,25 @@ def long_value(element):
     return "", pair_rows(contents, whole)
 
 
+class Pairs(str):
+    """A value, or a row of one, that is shown as pairs: each octet as two digits, with a space between two."""
+
+    def __new__(cls, octets):
+        """Returns the pairs of these octets, and keeps the octets with them."""
+        made = super().__new__(cls, octets.hex(" "))
+        made.octets = octets
+        return made
+
+
 def pairs(octets):
     """Returns each octet as two digits, with a space between two (Pairs)."""
-    return octets.hex(" ")
+    return Pairs(octets)
+
+
+def with_text(value):
+    """Returns a value or a row, with the text beside it if it is pairs of 3 or more printable octets."""
+    is_text = isinstance(value, Pairs) and len(value) >= LEAST_TEXT and all(0x20 <= it <= 0x7E for it in value.octets)
+    return f"{value}  |{value.octets.decode('ascii')}|" if is_text else value
 
 
 def cut(octets, size, whole):

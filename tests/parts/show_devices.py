@@ -1,0 +1,99 @@
+"""The calls of read and write that tlvdump-show makes: none again after one that failed, and what is done then.
+
+tests/parts/calls.c is loaded before the C library (parts/device_calls.py). After a read that failed nothing of that input
+is shown; before a write that failed the lines are right.
+"""
+import errno
+
+from parts.device_calls import Calls, null_lines
+from parts.harness import Done, message
+from parts.show_program import Program
+
+NULL = b"\x05\x00"
+GIVEN = NULL * 5000
+STRINGS = b"\x04\x02\x05\x00" * 2000
+READ, WRITE = "E1 read failed", "E2 write failed"
+ERRORS = (errno.EAGAIN, errno.EINTR, errno.EIO, errno.ENOSPC)
+JOBS = (["--names", "none"], ["--check"], ["--offsets"], ["--offset", "4"])
+
+
+class ShowCalls(Calls):
+    """tlvdump-show with calls.c in front of the C library."""
+
+    def __init__(self, part, loaded, program):
+        super().__init__(part, loaded)
+        self.path = program.path
+
+    def run(self, words, given=b"", fail=None, most=None):
+        """Runs it with its words as the other program is run, and returns what it did and its calls."""
+        part, path = self.part, self.path
+        start = part.start
+        part.start = lambda words, program=None, **how: start(words, program=path, **how)
+        try:
+            return super().run(words, given, fail, most)
+        finally:
+            part.start = start
+
+
+def of(calls, name, descriptor):
+    """Returns the calls of this name and descriptor."""
+    return [call for call in calls if call[:2] == (name, descriptor)]
+
+
+def reads(part, calls):
+    """Each read that fails: E1, nothing of the input is shown, and it is not read again."""
+    for words in JOBS:
+        got, own = calls.run(words, GIVEN)
+        count = len(of(own, "read", 0))
+        part.expect(f"{words}: several reads", got.status == 0 and count > 2, *got.lines())
+        for number in range(1, count + 1):
+            for error in ERRORS:
+                got, made = calls.run(words, GIVEN, fail=("read", 0, number, error))
+                what = f"{' '.join(words)}: read {number} fails with {errno.errorcode[error]}"
+                part.same(what, got, Done(3, b"", message(READ)))
+                part.expect(f"{what}: no read after it", len(of(made, "read", 0)) == number, *map(str, made))
+    part.write("input", GIVEN)
+    part.write("null", NULL)
+    got, own = calls.run(["--names", "none", "input", "null"])
+    blocks = [b"# block 1 of 2: input\n", null_lines(len(GIVEN)), b"# block 2 of 2: null\n", null_lines(2)]
+    part.same("two files", got, Done(0, b"".join(blocks), b""))
+    file = of(own, "read", own[-1][1])[0][1] if own[-1][0] == "read" else max(call[1] for call in own if call[0] == "read")
+    got, _ = calls.run(["--names", "none", "input", "null"], fail=("read", file, len(of(own, "read", file)) - 4, errno.EIO))
+    fine = got.status == 3 and got.err.startswith(b"input: E1 read failed\n") and got.out.endswith(b"".join(blocks[2:]))
+    part.expect("the first of two files fails", fine, *got.lines())
+
+
+def writes(part, calls):
+    """Each write that fails, or takes nothing: E2, the lines before it are right, and there is no write after it."""
+    for words, given in ((["--names", "none"], GIVEN), (["--names", "none"], STRINGS), (["--offsets"], STRINGS),
+                         (["--offset", "0"], b"\x04\x82\x27\x10" + GIVEN), (["--check"], b"\x02\x02\x00\x05" * 500)):
+        whole, own = calls.run(words, given)
+        count, taken = len(of(own, "write", 1)), 0
+        part.expect(f"{words}: writes", count > 0, *whole.lines())
+        for number in range(1, count + 1):
+            for error in (*ERRORS, 0):
+                got, made = calls.run(words, given, fail=("write", 1, number, error))
+                what = f"{' '.join(words)}: write {number} fails with {errno.errorcode.get(error, 'nothing')}"
+                part.same(what, got, Done(3, whole.out[:taken], message(WRITE)))
+                part.expect(f"{what}: no write after it", len(of(made, "write", 1)) == number)
+            taken += of(own, "write", 1)[number - 1][3]
+
+
+def small_pieces(part, calls):
+    """Reads and writes of one octet, of three, and of many give the same."""
+    for words, given in ((["--names", "none"], STRINGS[:400]), (["--check"], b"\x02\x02\x00\x05" * 5), (["--offsets"], STRINGS[:400])):
+        wanted, _ = calls.run(words, given)
+        for most in (1, 3, 1000):
+            got, _ = calls.run(words, given, most=most)
+            part.same(f"{' '.join(words)}: {most} octets at once", got, wanted)
+
+
+def test(part):
+    loaded = part.made_of("calls.c")
+    if not loaded:
+        return
+    calls = ShowCalls(part, loaded, Program(part))
+    part.write("none", b"# no names\n")
+    reads(part, calls)
+    writes(part, calls)
+    small_pieces(part, calls)

@@ -1,0 +1,173 @@
+"""Each request of tlvdump-show for memory refused in turn: it reports U3, N6 or E8, and writes nothing wrong.
+
+tests/parts/refuse.c does that for this program too (parts/memory_requests.py). The words come first, then the names
+file is read, then each FILE is opened, read whole, and shown. Then the memory that it takes in all.
+"""
+import os
+import re
+import resource
+import subprocess
+import time
+
+from parts.harness import Done
+from parts.memory_requests import LAST, Requests
+from parts.show_program import Program
+from second_opinion.findings import shortest
+
+# A string that holds a string, a broken one, and an object identifier with a name.
+OCTETS = bytes.fromhex("0404040205 00 300b0603551d0f0404030305a0 0603550403".replace(" ", ""))
+# Lines of words, whether the run on OCTETS reads FILE, and whether it reads a names file.
+TAKEN = ["", "--check --rules der", "--offsets", "--offset 4", "--closed a.der", "--names names a.der", "--pure --padding a.der"]
+TAKEN += ["many.der", "--offsets many.der", "--check many.der a.der", "a.der many.der", "--names names - a.der"]
+PRINTED = ["--help", "--version", "--limit", "--check --pure"]
+# Words for which it looks for others that are alike: if one request alone is refused there, it may say so otherwise.
+ALIKE = ["--nonsense", "--lim 1"]
+WORDS, NAMES, INPUT = "U3 out of memory", "N6 out of memory", "E8 out of memory"
+MB = 1_000_000
+
+
+class Line:
+    """A line of words: what comes of it if no request is refused, and the files that it opens."""
+
+    def __init__(self, part, program, refusing, text):
+        self.part, self.program, self.refusing, self.text = part, program, refusing, text or "no words"
+        self.words, self.log = text.split(), part.path("log")
+        self.own, log = self.run(0, 0)
+        self.opened, self.requests = log.opened, log.requests or 0
+        files = [word for word in self.words if word == "-" or word.endswith(".der")] or ["-"]
+        self.messages = ["" if word == "-" else f"{word}: " for word in files]
+
+    def run(self, first, last):
+        """Runs it with these requests refused, and returns what it did, and what was reported."""
+        env = dict(os.environ, LD_PRELOAD=self.refusing, REFUSE_LOG=self.log)
+        env |= {"REFUSE_FIRST": str(first), "REFUSE_LAST": str(last)}
+        if os.path.exists(self.log):
+            os.remove(self.log)
+        got = self.program.run(self.words, OCTETS, env=env)
+        return got, Requests(self.log)
+
+    def is_fine(self, got, number):
+        """Returns whether a run with this request refused did what it may.
+
+        Before a file is opened the whole run ends. Then it ends for one FILE, and the others are shown.
+        """
+        before = [name for name, count in self.opened if count < number]
+        ends = [] if before else [WORDS]
+        if not before or before[-1].endswith(("names", "names.txt")):
+            ends.append(NAMES)
+        return got in [Done(5, b"", f"{end}\n".encode()) for end in ends] or self.is_part(got)
+
+    def is_part(self, got):
+        """Returns whether it wrote part of each block, and reported E8 or what it reports otherwise."""
+        refused = [f"{name}{INPUT}" for name in self.messages]
+        said, own = got.err.decode().splitlines(), self.own.err.decode().splitlines()
+        written, blocks = got.out.split(b"# block "), self.own.out.split(b"# block ")
+        is_prefix = len(written) == len(blocks) and all(map(bytes.startswith, blocks, written))
+        return got.status == 5 and is_prefix and set(said) <= {*refused, *own} and not set(said).isdisjoint(refused)
+
+    def refuse_each(self, may_pass=False):
+        """Refuses each request in turn, alone, and with all after it."""
+        for is_alone in (True, False):
+            wrong = []
+            for number in range(1, self.requests + 1):
+                got, log = self.run(number, number if is_alone else LAST)
+                passes = may_pass and is_alone and got == self.own
+                if not log.refused or not passes and not self.is_fine(got, number):
+                    wrong += [f"request {number} of {self.opened}", *got.lines()]
+            how = "alone" if is_alone else "and all after it"
+            self.part.expect(f"{self.text}: each of {self.requests} requests refused, {how}", not wrong, *wrong[:12])
+
+
+def requests(part, program):
+    """Each request of each line of words."""
+    refusing = part.made_of("refuse.c")
+    if not refusing:
+        return
+    part.write("a.der", OCTETS)
+    part.write("many.der", b"\x04\x02\x05\x00" * 3000)
+    part.write("names", b"2.5.4.3 commonName\n")
+    # A names file of one line, since each line takes some requests.
+    part.write("prefix/share/tlvdump/names.txt", b"2.5.4.3 commonName\n")
+    total = 0
+    for text in TAKEN + PRINTED + ALIKE:
+        line = Line(part, program, refusing, text)
+        part.same(f"{line.text}: no request refused", line.own, program.run(line.words, OCTETS))
+        line.refuse_each(text in ALIKE)
+        total += line.requests
+    part.expect("requests for memory", total > 100)
+    part.note(f"{len(TAKEN + PRINTED + ALIKE)} lines of words, {total} requests")
+
+
+def resident(pid):
+    """Returns the most resident memory of a process so far, in octets; 0 if it has ended."""
+    try:
+        with open(f"/proc/{pid}/status", encoding="ascii") as file:
+            found = re.search(r"VmHWM:\s*(\d+) kB", file.read())
+    except (FileNotFoundError, ProcessLookupError):
+        return 0
+    return int(found[1]) * 1024 if found else 0
+
+
+def most_memory(part, program, words):
+    """Returns the most resident memory of a run, in octets: its lines are taken one piece after another.
+
+    What the system reports of a process that has ended counts the one that started it too.
+    """
+    child = part.start(words, program=program.path, stdin=subprocess.PIPE, stdout=subprocess.PIPE, stderr=subprocess.DEVNULL)
+    most, piece = 0, True
+    if not words:
+        time.sleep(0.3)
+        most = resident(child.pid)
+    child.stdin.close()
+    while piece:
+        piece = child.stdout.read(1 << 16)
+        most = max(most, resident(child.pid))
+    child.stdout.close()
+    child.wait()
+    return most
+
+
+def string(octets):
+    """Returns an OCTET STRING that holds these octets."""
+    return b"\x04" + shortest(len(octets)) + octets
+
+
+def in_all(part, program):
+    """At most twice the input, 8 octets for each opened string, and 2 MB, beside what a small input takes."""
+    small = most_memory(part, program, [])
+    for what, octets, strings in (
+        ("a long string", b"\x04" + shortest(20 * MB) + bytes(20 * MB), 0),
+        ("a million strings", b"\x04\x02\x05\x00" * MB, MB),
+        ("strings of 120 levels", nested(120, 8 * MB), 120),
+    ):
+        part.write("large", octets)
+        taken = most_memory(part, program, ["large"]) - small
+        most = 2 * len(octets) + 8 * strings + 2 * MB
+        part.expect(f"{what}: memory", taken <= most, f"{taken} octets, and at most {most}")
+        part.note(f"{what}, {len(octets) / MB:.0f} MB: {taken / MB:.1f} MB beside {small / MB:.1f}")
+
+
+def nested(levels, size):
+    """Returns strings, each in the one before, the innermost with about so many octets."""
+    octets = b"\x05\x00" * (size // 2)
+    for _ in range(levels):
+        octets = string(octets)
+    return octets
+
+
+def limited(part, program):
+    """With a limit on all memory the run ends with E8, or with its lines."""
+    part.write("large", b"\x04\x02\x05\x00" * 5 * MB)
+
+    def limit():
+        resource.setrlimit(resource.RLIMIT_AS, (16 * MB, 16 * MB))
+
+    got = program.run(["large"], stdin=subprocess.DEVNULL, preexec_fn=limit)
+    part.same("a file of 20 MB in a space of 16 MB", got, Done(5, b"", f"large: {INPUT}\n".encode()))
+
+
+def test(part):
+    program = Program(part)
+    requests(part, program)
+    in_all(part, program)
+    limited(part, program)

@@ -1,0 +1,130 @@
+"""tlvdump-show on octets, by rows: those of tests/show_rows, and those of tests/rows.
+
+Each row is run on a pipe, on a file as standard input, and on FILE. Rows of tests/rows are run with --closed and
+--no-text, which gives what the row says, and without, which gives what the second opinion says. Then strings of
+each size, and strings within strings.
+"""
+import os
+import re
+import subprocess
+
+from parts.harness import Done, message
+from parts.row_files import files
+from parts.show_program import Program
+from second_opinion.findings import shortest
+from second_opinion.opened import Strings
+
+NULL = b"\x05\x00"
+# Options of rows that choose something that tlvdump-show has not.
+FOREIGN = ("--inside",)
+MOST_SIZE = 300
+
+
+def string(octets, tag=4):
+    """Returns a string that holds these octets."""
+    return bytes([tag]) + shortest(len(octets)) + octets
+
+
+def by_file(row):
+    """Returns what a row gives if its input is FILE: each line of standard error has the name in front."""
+    lines = "".join(f"input: {line}\n" for line in row.message.splitlines())
+    return Done(row.status, row.out, lines.encode())
+
+
+def run_row(part, program, row):
+    """Runs a row of tests/show_rows."""
+    if row.names is not None:
+        part.write("names", row.names)
+    what, wanted = f"{row.place} {' '.join(row.words)}", Done(row.status, row.out, message(row.message))
+    part.same(f"{what}, a pipe", program.run(row.words, row.given), wanted)
+    path = part.write("input", row.given)
+    with open(path, "rb") as file:
+        part.same(f"{what}, a file as standard input", program.run(row.words, stdin=file), wanted)
+    part.same(f"{what}, a FILE", program.run([*row.words, "input"], stdin=subprocess.DEVNULL), by_file(row))
+
+
+def words_of(row):
+    """Returns the words by which tlvdump-show does what a row of tests/rows does, or None."""
+    if any(word.startswith(FOREIGN) for word in row.words) or row.message.startswith("U"):
+        return None
+    command, *rest = row.words
+    return {"dump": [*rest, "--no-text", "--closed"], "check": ["--check", *rest, "--closed"]}.get(command)
+
+
+def octets_of(text):
+    """Returns the octets that a cell of a table of docs/FORMAT.md has: `30 80` 127 times, `05 00`."""
+    found = re.findall(r"`([0-9a-f ]+)`(?: (\d+) times)?", text)
+    return b"".join(bytes.fromhex(octets) * int(times or 1) for octets, times in found)
+
+
+def page(part, program):
+    """The table of docs/FORMAT.md that says which strings are opened."""
+    with open(os.path.join(part.root, "docs", "FORMAT.md"), encoding="utf-8") as file:
+        table = file.read().partition("| Octets | Opened |\n|---|---|\n")[2].partition("\n\n")[0]
+    part.expect("the table of docs/FORMAT.md", table.count("\n") > 10, table)
+    for line in table.splitlines():
+        octets, offsets = line.strip("| ").split(" | ")
+        for one, listed in zip(octets.split(" \u00b7 "), offsets.split(" \u00b7 "), strict=True):
+            got = program.run(["--offsets"], octets_of(one))
+            wanted = b"" if listed == "none" else listed.replace(" ", "").encode() + b"\n"
+            part.expect(f"docs/FORMAT.md: {one}", got.out == wanted, *got.lines())
+
+
+def rows_of_tlvdump(part, program):
+    """The rows of tests/rows: closed, where they give what the row says, and open."""
+    for rows in files(part.root).values():
+        for row in rows:
+            if row.names is not None:
+                part.write("names", row.names)
+            words, wanted = words_of(row), Done(row.status, row.out, message(row.message))
+            if words:
+                part.same(f"{row.place} {' '.join(words)}", program.run(words, row.given), wanted)
+            strings = Strings(row.given, "--padding" in row.words)
+            if words and not strings.opened and not strings.broken:
+                words.remove("--closed")
+                part.same(f"{row.place} {' '.join(words)}", program.run(words, row.given), wanted)
+            program.agrees(f"{row.place}, opened", row.given)
+
+
+def sizes(part, program):
+    """Strings of each size: with encodings, and with encodings of which the last octet is wrong."""
+    for size in range(2, MOST_SIZE + 1):
+        sound = NULL * (size // 2) if size % 2 == 0 else NULL * (size // 2 - 1) + b"\x02\x01\x05"
+        wrong = NULL * (size // 2 - 1) + b"\x05\x01" if size % 2 == 0 else NULL * (size // 2) + b"\x05"
+        program.gives(["--offsets"], string(sound), 0, b"0\n", what=f"{size} octets that are sound")
+        program.gives(["--offsets"], string(wrong), 0, what=f"{size} octets, the last of which is wrong")
+        program.agrees(f"a SEQUENCE of {size} octets, the last of which is wrong", string(string(wrong, 0x30)), "check")
+
+
+def depths(part, program):
+    """Strings within strings: 128 are opened, and no more."""
+    for count in (1, 2, 127, 128, 129, 200):
+        octets, offsets = NULL, []
+        for _ in range(count):
+            octets = string(octets)
+        place = 0
+        for number in range(min(count, 128)):
+            offsets.append(place)
+            place += 1 + len(shortest(inner_size(count - number)))
+        out = ",".join(map(str, offsets)).encode() + b"\n"
+        program.gives(["--offsets"], octets, 0, out, what=f"{count} strings, each in the one before")
+        program.agrees(f"{count} strings, each in the one before", octets)
+
+
+def inner_size(count):
+    """Returns how many octets the outermost of so many strings holds."""
+    size = len(NULL)
+    for _ in range(count - 1):
+        size += 1 + len(shortest(size))
+    return size
+
+
+def test(part):
+    program = Program(part)
+    for rows in files(part.root, "show_rows").values():
+        for row in rows:
+            run_row(part, program, row)
+    page(part, program)
+    rows_of_tlvdump(part, program)
+    sizes(part, program)
+    depths(part, program)
