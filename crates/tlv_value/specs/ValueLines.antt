@@ -51,12 +51,9 @@ has_line Bits [] = false
 has_line kind octets = true
 
 -- the lines of a primitive of whose contents these octets have come, and others are still to come: of a long value
--- those that are known; and the same without text beside pairs
+-- those that are known
 abbrev pub open_lines_with : Bool → HeaderValue → Layout → List ℕ → List ℕ
 open_lines_with with_text h layout octets =
     if is_long (header_kind h) (announced_length h.size) && has_line (header_kind h) octets
     then value_lines with_text h layout (long_value false (header_kind h) (announced_length h.size) octets)
     else []
-
-abbrev pub open_lines : HeaderValue → Layout → List ℕ → List ℕ
-open_lines h layout octets = open_lines_with false h layout octets
