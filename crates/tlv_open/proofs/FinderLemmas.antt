@@ -1,4 +1,5 @@
 pub mod Walks
+pub mod NothingFound
 pub mod FoundBoth
 pub mod FirstRead
 pub mod FirstFound

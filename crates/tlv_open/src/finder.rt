@@ -10,7 +10,7 @@ ghost use Rattle.tlv_open.specs.Opens.{AreOpened};
 ghost use Rattle.tlv_open.specs.Private.Finds.{AddsAll, AddsFirst, AddsPrimitive, found_of, list_of};
 
 use crate::breaking::broken_string;
-use crate::elements::{DEPTH_LIMIT, header_at, two_octet_header, is_elements_end};
+use crate::elements::{DEPTH_LIMIT, header_at, is_elements_end, two_octet_header};
 use crate::held::{are_held, held_octets};
 use crate::reading::count_read;
 use crate::spot::{Spot, inside, inside_lacking, is_value_before};

@@ -41,8 +41,8 @@ abbrev pub AreBrokenUnless : Bool → Bool → List ℕ → List BrokenString �
 AreBrokenUnless true padding octets broken = broken ≡ []
 AreBrokenUnless false padding octets broken = AreBroken padding octets broken
 
--- the view is what the command writes and reports, with these strings named, of these octets: the source has them, nothing
--- of it was read before, and no read of it failed
+-- the view is what the command writes and reports, with these strings named, of these octets: the source has them,
+-- nothing of it was read before, and no read of it failed
 pub record Views
     (view : View) (names : NamesValue) (closed padding : Bool) (octets : List ℕ) (old new : DrainState)
     (report : ReportValue)

@@ -20,13 +20,13 @@ pub enum InputFault {
     Memory,
 }
 
-/// Reads the source to its end, and returns its octets. A read gives at most 4096 octets. The memory asked for is doubled as
-/// the octets come.
+/// Reads the source to its end, and returns its octets. A read gives at most 4096 octets. The memory asked for is
+/// doubled as the octets come.
 ///
 /// # Errors
 ///
-/// `ReadFailed` exactly if a read failed, and `TooLong` once the source gave more than 2^40 octets. `Memory` after any read
-/// that gave octets, if memory for them is refused. Nothing is read after these, and nothing after the end.
+/// `ReadFailed` exactly if a read failed, and `TooLong` once the source gave more than 2^40 octets. `Memory` after any
+/// read that gave octets, if memory for them is refused. Nothing is read after these, and nothing after the end.
 pub fn read_whole<A: Allocator, S: Source>(
     alloc: A,
     source: &mut S,

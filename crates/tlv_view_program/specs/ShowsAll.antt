@@ -112,8 +112,8 @@ module _ {S : Type 0} (allows : Allows S) where
   -- ---- the program
 
   -- a message is written to standard error, or a write of it failed, and all else is as it was
-  abbrev pub Says : List ℕ → StreamsValue S → StreamsValue S → Type 0
-  Says message old new =
+  abbrev pub IsSaid : List ℕ → StreamsValue S → StreamsValue S → Type 0
+  IsSaid message old new =
       WritesMessage (message_line message) old.messages new.messages × (new ≡ record old { messages = new.messages })
 
   -- the names are got, and the files are shown; `typed` says whether standard input is a terminal; the status comes
@@ -123,12 +123,12 @@ module _ {S : Type 0} (allows : Allows S) where
     -- there are no names, and no file is opened
     no_names : (fault : NamesFault) (between : S)
         → GetsTable request.wanted places old.system between false (Err fault)
-        → Says (names_report fault).message (record old { system = between }) new
+        → IsSaid (names_report fault).message (record old { system = between }) new
         → ShowsRequest places typed request old new (names_report fault).status
     shows : (table : NamesValue) (noted : Bool) (between : S) (warned ready : StreamsValue S) (status : ℕ)
         → GetsTable request.wanted places old.system between noted (Ok table)
-        → Says (if noted then no_names_note else []) (record old { system = between }) warned
-        → Says (note_of_input typed request.files) warned ready
+        → IsSaid (if noted then no_names_note else []) (record old { system = between }) warned
+        → IsSaid (note_of_input typed request.files) warned ready
         → ShowsFiles request table (length (files_of_words request.files)) 1 (files_of_words request.files) ready new
         status
         → ShowsRequest places typed request old new status
@@ -142,15 +142,15 @@ module _ {S : Type 0} (allows : Allows S) where
   pub data RunsShow (places : List (List ℕ)) (typed : Bool) (old new : StreamsValue S)
       : Result (List Text) NoWords → ℕ → Type 0 where
     -- a word is not UTF-8
-    not_utf8 : Says not_utf8_report.message old new
+    not_utf8 : IsSaid not_utf8_report.message old new
         → RunsShow places typed old new (Err NotUtf8) not_utf8_report.status
     -- memory for the words is refused
-    no_memory : Says (request_report fault.Memory).message old new
+    no_memory : IsSaid (request_report fault.Memory).message old new
         → RunsShow places typed old new (Err Memory) (request_report fault.Memory).status
     -- the words ask for nothing that can be shown: no file is opened, and nothing is read
     refused : (words : List Text) (why : RequestFault) (printed : Bool) (between : S) → IsRequestFaultOf words why
         → PrintsRefusal old.system between why printed
-        → Says (refused_report why printed).message (record old { system = between }) new
+        → IsSaid (refused_report why printed).message (record old { system = between }) new
         → RunsShow places typed old new (Ok words) (refused_report why printed).status
     runs : (words : List Text) (request : Request) (status : ℕ) → AreAskedAs words (Ok request)
         → ShowsRequest places typed request old new status → RunsShow places typed old new (Ok words) status

@@ -3,6 +3,7 @@ ghost use Rattle.std.specs.Prelude.{◌≡◌, length, max};
 ghost use Rattle.tlv_run.specs.BorrowedText.{text_in};
 ghost use Rattle.tlv_view_program.specs.ShowsAll.{ShowsFiles, file_of_word, files_of_words};
 ghost use Rattle.tlv_view_program.specs.Streams.{streams_value};
+
 use crate::block::Task;
 use crate::streams::Streams;
 use std::alloc::Global;

@@ -4,6 +4,7 @@ ghost use Rattle.std.specs.Option.{is_none};
 ghost use Rattle.std.specs.Prelude.{◌≡◌, option_map};
 ghost use Rattle.tlv_view_program.specs.Private.Tables.{OpensNames, is_noted, result_without_file, table_result};
 ghost use Rattle.tlv_view_program.specs.ShowsAll.{GetsTable, OpensFirst};
+
 use std::alloc::Global;
 use tlv_program::System;
 use tlv_run::Text;
@@ -70,11 +71,7 @@ fn no_table(is_missing: bool) -> Table
 }
 
 /// Opens the file of this name, or else the first of these that opens.
-fn open_names<S: System>(
-    name: &Option<Text>,
-    places: &FileNames,
-    system: &mut S,
-) -> Option<S::File>
+fn open_names<S: System>(name: &Option<Text>, places: &FileNames, system: &mut S) -> Option<S::File>
     ensures { OpensNames S.allows name.now places.now system.old system.new (option_map S.File.state result) }
 {
     match name {

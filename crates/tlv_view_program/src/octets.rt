@@ -104,12 +104,7 @@ fn show_view<N: FiniteNames, D: Drain>(
 }
 
 /// Writes the offsets of the strings that are opened.
-fn list_offsets<D: Drain>(
-    alloc: Global,
-    request: &Request,
-    octets: &[u8],
-    drain: &mut D,
-) -> Viewed
+fn list_offsets<D: Drain>(alloc: Global, request: &Request, octets: &[u8], drain: &mut D) -> Viewed
     requires short { length octets.now ≤ input_limit }
     requires wanted { view_of request.now.wanted ≡ None }
     ensures { (table : NamesValue) → ShowsOctets request.now table octets.now

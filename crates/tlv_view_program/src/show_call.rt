@@ -5,6 +5,7 @@ ghost use Rattle.tlv_view_program.specs.Lines.{no_names_note};
 ghost use Rattle.tlv_view_program.specs.ShowsAll.{PrintsRefusal, RunsShow, ShowsRequest, asks_for_help, note_of_input};
 ghost use Rattle.tlv_view_program.specs.ShowsAll.{refused_report};
 ghost use Rattle.tlv_view_program.specs.Streams.{streams_value};
+
 use crate::files::show_files;
 use crate::names::table_for;
 use crate::streams::Streams;
@@ -36,7 +37,10 @@ pub fn run_show<S: System, I: Source, O: Drain, M: Drain>(
         Ok(words) => words,
         Err(NoWords::NotUtf8) => return write_message(&not_utf8_report(), &mut streams.messages),
         Err(NoWords::Memory) => {
-            return write_message(&request_report(&RequestFault::Memory), &mut streams.messages);
+            return write_message(
+                &request_report(&RequestFault::Memory),
+                &mut streams.messages,
+            );
         }
     };
     match request_of(alloc, words) {
@@ -108,7 +112,10 @@ fn names_note(is_missing: bool) -> Report
     ensures { report_value_of result ≡ report_with 0 (if is_missing then no_names_note else []) }
 {
     if is_missing {
-        Report::with_message(0, b"no names file was found: object identifiers have no names")
+        Report::with_message(
+            0,
+            b"no names file was found: object identifiers have no names",
+        )
     } else {
         Report::without_message(0)
     }

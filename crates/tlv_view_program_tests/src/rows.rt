@@ -187,7 +187,8 @@ fn several_files_are_shown(rt: HostRuntime) -> Result<(), Fail> {
 /// A broken string has a line, and the status is then 1 at least.
 #[test]
 fn broken_strings_are_named(rt: HostRuntime) -> Result<(), Fail> {
-    let line = b"broken: string at 7 is the value of an extension and breaks at 10: F11 element runs past the enclosing length\n";
+    let line =
+        b"broken: string at 7 is the value of an extension and breaks at 10: F11 element runs past the enclosing length\n";
     let rows = [
         ShowRow {
             words: &["--check", "broken"],

@@ -30,13 +30,7 @@ fn main(rt: HostRuntime) -> ExitCode {
         messages: WriteDrain::new(rt.stderr()),
     };
     let typed = rt.stdin().is_terminal();
-    ExitCode::from(run_show(
-        rt.alloc(),
-        &words,
-        &places,
-        typed,
-        &mut streams,
-    ))
+    ExitCode::from(run_show(rt.alloc(), &words, &places, typed, &mut streams))
 }
 
 /// The arguments, and the places of the file of names.

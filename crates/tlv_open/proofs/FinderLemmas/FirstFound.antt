@@ -21,7 +21,8 @@ use Rattle.tlv_open.specs.Breaks.{is_extension, is_no_more}
 use Rattle.tlv_open.specs.Opens.{is_one_primitive}
 use Rattle.tlv_open.specs.Private.Elements.{is_elements_end}
 use Rattle.tlv_open.specs.Private.Finds.{AddsAll, AddsFirst, AddsPrimitive, AddsStrings, AddsUpTo, EndsBefore, Finds}
-use Rattle.tlv_open.specs.Private.Finds.{FindsUpTo, FoundStrings, IsReadAt, found_in_turn, goes_on, nothing_found}
+use Rattle.tlv_open.specs.Private.Finds.{FindsUpTo, FoundStrings, IsReadAt, found_in_turn, goes_on}
+use Rattle.tlv_open.proofs.FinderLemmas.NothingFound.{nothing_found}
 use Rattle.tlv_open.specs.Private.Finds.{spot_before, spot_inside, spot_lacking, stops}
 use Rattle.tlv_open.proofs.ElementLemmas.FirstElement.{lead-none}
 use Rattle.tlv_open.proofs.FinderLemmas.FirstRead.{IsReadFirst, first_holder, first_open_holder}

@@ -24,7 +24,8 @@ use Rattle.tlv_walk.proofs.GrammarLemmas.Spellings.{length-opening}
 use Rattle.tlv_open.specs.declared.spot.Spot.{Spot}
 use Rattle.tlv_open.specs.Opens.{is_one_primitive}
 use Rattle.tlv_open.specs.Private.Elements.{is_elements_end}
-use Rattle.tlv_open.specs.Private.Finds.{EndsBefore, FindsUpTo, IsReadAt, nothing_found, stops}
+use Rattle.tlv_open.specs.Private.Finds.{EndsBefore, FindsUpTo, IsReadAt, stops}
+use Rattle.tlv_open.proofs.FinderLemmas.NothingFound.{nothing_found}
 use Rattle.tlv_open.proofs.ElementLemmas.FirstElement.{lead-none, length-led, unnamed-holds}
 use Rattle.tlv_open.proofs.ElementLemmas.OneElement.{end-no_header, header-one, regroup-3, regroup-4, zero-no_header}
 use Rattle.tlv_open.proofs.FinderLemmas.FoundBoth.{finds-open_header}

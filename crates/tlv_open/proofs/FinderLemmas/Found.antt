@@ -12,7 +12,8 @@ use Rattle.tlv_walk.proofs.GrammarLemmas.Readings.{unique-empty}
 use Rattle.tlv_open.specs.declared.spot.Spot.{Spot}
 use Rattle.tlv_open.specs.Private.Elements.{is_elements_end}
 use Rattle.tlv_open.specs.Private.Finds.{AddsAll, AddsFirst, AddsStrings, AddsUpTo, Finds, FindsUpTo, FoundStrings}
-use Rattle.tlv_open.specs.Private.Finds.{IsReadAt, found_in_turn, goes_on, nothing_found, spot_before, stops}
+use Rattle.tlv_open.specs.Private.Finds.{IsReadAt, found_in_turn, goes_on, spot_before, stops}
+use Rattle.tlv_open.proofs.FinderLemmas.NothingFound.{nothing_found}
 use Rattle.tlv_open.proofs.FinderLemmas.FoundBoth.{both-assoc, both-nothing, finds-no_more, finds-open_end_octets}
 use Rattle.tlv_open.proofs.FinderLemmas.FoundBoth.{finds-padded}
 use Rattle.tlv_open.proofs.ElementLemmas.OneElement.{regroup-3, regroup-4, zero-no_header}

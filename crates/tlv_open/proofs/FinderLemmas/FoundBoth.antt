@@ -10,7 +10,8 @@ use Rattle.tlv_open.specs.Breaks as breaks
 use Rattle.tlv_open.specs.Breaks.{Breaks, IsBroken, is_extension, is_no_more}
 use Rattle.tlv_open.specs.Opens as opens
 use Rattle.tlv_open.specs.Opens.{Where, is_one_primitive, may_open_in}
-use Rattle.tlv_open.specs.Private.Finds.{Finds, FoundStrings, found_in_turn, nothing_found, spot_with}
+use Rattle.tlv_open.specs.Private.Finds.{Finds, FoundStrings, found_in_turn, spot_with}
+use Rattle.tlv_open.proofs.FinderLemmas.NothingFound.{nothing_found}
 
 pub both-nothing : (a : FoundStrings) → found_in_turn a nothing_found ≡ a
 both-nothing a = λ i. record { opened = append-nil a.opened i; broken = append-nil a.broken i }

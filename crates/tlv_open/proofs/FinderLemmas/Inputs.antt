@@ -16,7 +16,8 @@ use Rattle.tlv_open.specs.declared.spot.Spot.{Spot}
 use Rattle.tlv_open.specs.Breaks.{AreBroken}
 use Rattle.tlv_open.specs.Opens.{AreOpened, closed_framing}
 use Rattle.tlv_open.specs.Private.Elements.{BeginsWithElements, BeginsWithNoElements, is_elements_end, place_at}
-use Rattle.tlv_open.specs.Private.Finds.{AddsAll, AddsStrings, FoundStrings, nothing_found, spot_before}
+use Rattle.tlv_open.specs.Private.Finds.{AddsAll, AddsStrings, FoundStrings, spot_before}
+use Rattle.tlv_open.proofs.FinderLemmas.NothingFound.{nothing_found}
 
 -- if each number of a slice fits an octet, they are octets
 pub octets-fit : (xs : List ℕ) → ((i : ℕ) → Fits w8 (slice_index_or xs i 0)) → AreOctets xs

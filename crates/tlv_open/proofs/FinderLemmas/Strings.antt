@@ -21,7 +21,8 @@ use Rattle.tlv_open.specs.Held.{HoldsEncodings, after_unused_bits, inner_octets,
 use Rattle.tlv_open.specs.Opens as opens
 use Rattle.tlv_open.specs.Opens.{Opens, Where, where_of_held}
 use Rattle.tlv_open.specs.Private.Finds.{AddsAll, AddsPrimitive, AddsStrings, FoundStrings, IsReadAt, found_in_turn}
-use Rattle.tlv_open.specs.Private.Finds.{list_of, nothing_found, spot_before, where_of}
+use Rattle.tlv_open.specs.Private.Finds.{list_of, spot_before, where_of}
+use Rattle.tlv_open.proofs.FinderLemmas.NothingFound.{nothing_found}
 use Rattle.tlv_open.specs.Private.Held.{inner_octets_of}
 use Rattle.tlv_open.proofs.FinderLemmas.FoundBoth.{both-assoc, both-nothing}
 

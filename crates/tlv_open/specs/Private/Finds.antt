@@ -22,9 +22,6 @@ pub record FoundStrings : Type 0 where
 abbrev pub found_of : Strings → FoundStrings
 found_of s = record { opened = s.opened.items; broken = s.broken.items }
 
-abbrev pub nothing_found : FoundStrings
-nothing_found = record { opened = []; broken = [] }
-
 -- strings that are found, and others after them
 abbrev pub found_in_turn : FoundStrings → FoundStrings → FoundStrings
 found_in_turn a b = record { opened = a.opened ++ b.opened; broken = a.broken ++ b.broken }

@@ -3,7 +3,8 @@ use Rattle.std.proofs.Common.{◌∙◌, arith, length-drop}
 use Rattle.std.proofs.lemmas.Bool.{not-true}
 use Rattle.tlv_head.specs.HeaderFields.{new_header}
 use Rattle.tlv_open.specs.Private.Elements.{is_elements_end}
-use Rattle.tlv_open.specs.Private.Finds.{found_of, nothing_found}
+use Rattle.tlv_open.specs.Private.Finds.{found_of}
+use Rattle.tlv_open.proofs.FinderLemmas.NothingFound.{nothing_found}
 use Rattle.tlv_open.proofs.ElementLemmas.Elements.{tail-all, tail-of_tail}
 use Rattle.tlv_open.proofs.FinderLemmas.FirstFound.{adds-ended_holder, adds-holder, adds-open_holder, adds-primitive}
 use Rattle.tlv_open.proofs.FinderLemmas.FirstFound.{adds-too_deep, adds-unended_holder, adds-unfinished, indefinite-constructed}
