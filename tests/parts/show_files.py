@@ -72,7 +72,8 @@ def words(part, program):
     of_tlvdump = part.run(["--version"]).out.replace(b"tlvdump ", b"tlvdump-show ")
     part.same("--version", version, Done(0, of_tlvdump, b""))
     shown = program.run(["--help"])
-    part.expect("--help", shown.status == 0 and not shown.err and b"--closed" in shown.out, *shown.lines())
+    with open(os.path.join(part.root, "tests", "help", "tlvdump-show.txt"), "rb") as file:
+        part.same("--help is tests/help/tlvdump-show.txt", shown, Done(0, file.read(), b""))
     part.write("-x", SOUND)
     for given in (["--", "-x"], ["./-x"], ["--limit", "4294967295", "--", "-x"], ["--rules=der", "--", "-x"]):
         program.gives(given, b"", 0, LINES)

@@ -26,12 +26,12 @@ Examples:
   
 Exit status, the highest of several files:
   0  the input is one or more whole encodings, and nothing else
-  1  findings, or no element at the offset of --offset (E4)
+  1  findings, a string that breaks when it is opened, or no element at --offset (E4)
   2  an octet is refused, or the input ends too early (F01 to F12)
   3  a read or a write failed (E1, E2), more than 2^40 octets (E3), FILE does not open (E5)
   4  the command line (U1, U2, U4) or the file of names (N1 to N5) is refused
-  5  memory was refused (U3, N6)
-The message goes to standard error: one line, or several on a refused command line.";
+  5  memory was refused (U3, N6, E8)
+Messages go to standard error. One that concerns a FILE has its name before it.";
 
 pub(super) const FILE: &str =
     "The files to read, one after another [default: standard input]; \"-\" is standard input";
