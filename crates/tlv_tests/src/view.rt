@@ -14,9 +14,10 @@ const DUMP: View = View::Dump {
     rules: Rules::Ber,
     limit: None,
     pure: false,
+    text: true,
 };
 
-/// Expects the view of these octets to write this, and to report this status.
+/// Expects the view of these octets to write this, to report this status, and to find so many broken strings.
 fn expect_view(
     rt: &impl Abort,
     alloc: Global,
@@ -25,11 +26,12 @@ fn expect_view(
     octets: &[u8],
     written: &[u8],
     status: u8,
+    broken: usize,
 ) -> Result<(), AllocError> {
     assert!(rt; octets.len() as u64 <= INPUT_LIMIT, "too long");
     let mut room = [0; 256];
     let mut drain = MemDrain::new(&mut room, 4096);
-    let report = view_octets(
+    let viewed = view_octets(
         alloc,
         view,
         &Names::empty(),
@@ -39,7 +41,8 @@ fn expect_view(
         &mut drain,
     )?;
     expect_eq_of(rt, octets, drain.written(), written);
-    expect_eq_of(rt, octets, report.status, status);
+    expect_eq_of(rt, octets, viewed.report.status, status);
+    expect_eq_of(rt, octets, viewed.broken.len(), broken);
     Ok(())
 }
 
@@ -55,10 +58,10 @@ fn strings_are_shown_opened(rt: HostRuntime) -> Result<(), Fail> {
         contents: false,
     };
     let check = View::Check { rules: Rules::Der };
-    expect_view(&rt, rt.alloc(), &DUMP, false, octets, opened, 0)?;
-    expect_view(&rt, rt.alloc(), &DUMP, true, octets, closed, 0)?;
-    expect_view(&rt, rt.alloc(), &inner, false, octets, b"\x05\x00", 0)?;
-    expect_view(&rt, rt.alloc(), &inner, true, octets, b"", 1)?;
+    expect_view(&rt, rt.alloc(), &DUMP, false, octets, opened, 0, 0)?;
+    expect_view(&rt, rt.alloc(), &DUMP, true, octets, closed, 0, 0)?;
+    expect_view(&rt, rt.alloc(), &inner, false, octets, b"\x05\x00", 0, 0)?;
+    expect_view(&rt, rt.alloc(), &inner, true, octets, b"", 1, 0)?;
     expect_view(
         &rt,
         rt.alloc(),
@@ -67,7 +70,20 @@ fn strings_are_shown_opened(rt: HostRuntime) -> Result<(), Fail> {
         b"\x04\x06\x30\x80\x05\x00\x00\x00",
         found,
         1,
+        0,
     )?;
+    Ok(())
+}
+
+/// Text is beside pairs of digits, and strings that break are found, unless all are to stay closed.
+#[test]
+fn text_and_broken_strings_are_found(rt: HostRuntime) -> Result<(), Fail> {
+    let text: &[u8] = b"       0      3: [0] 61 62 63  |abc|\n";
+    let broken: &[u8] = b"\x30\x0a\x06\x03\x55\x1d\x0f\x04\x03\x03\x02\x05";
+    let check = View::Check { rules: Rules::Ber };
+    expect_view(&rt, rt.alloc(), &DUMP, false, b"\x80\x03abc", text, 0, 0)?;
+    expect_view(&rt, rt.alloc(), &check, false, broken, b"", 0, 1)?;
+    expect_view(&rt, rt.alloc(), &check, true, broken, b"", 0, 0)?;
     Ok(())
 }
 
