@@ -11,7 +11,7 @@ use Rattle.tlv_io.proofs.Pieces.{PiecesSoFar, pieces_so_far_more, pieces_all, to
 use Rattle.tlv_value.specs.declared.names.fault.NamesFault.{NamesFault}
 use Rattle.tlv_value.specs.declared.names.fault.NamesFault.TheVariants.{BadOid, BadName, Repeated, TooLarge, ReadFailed}
 use Rattle.tlv_value.specs.declared.names.fault.NamesFault.TheVariants.{Memory}
-use Rattle.std.specs.BTreeMap.{BTreeMap}
+use Rattle.std.specs.HashMap.{HashMap}
 use Rattle.tlv_value.specs.Names.{NamesValue, names_of}
 use Rattle.tlv_value.specs.NamesReading.{IsWholeFile, ReadsFrom, file_limit}
 use Rattle.tlv_value.specs.NamesFields.{table_in}
@@ -120,8 +120,8 @@ result-is_whole_file : {Z : Type 0} (new : SourceState) (octets : List ℕ) (v :
     → GivesAll new octets (Ok v) → names_of v.items ≡ r → IsWholeFile new octets r
 result-is_whole_file new octets v r x n = record { ends = x.1; result_is = ap names_of x.0 ∙ n }
 
-pub reads-from_table : {Y Z : Type 0} (old new : SourceState) (v : Vec ℕ Y)
-    (result : Result (BTreeMap (Vec ℕ Z) (Vec ℕ Z)) NamesFault)
+pub reads-from_table : {Y Z S : Type 0} (old new : SourceState) (v : Vec ℕ Y)
+    (result : Result (HashMap (Vec ℕ Z) (Vec ℕ Z) S) NamesFault)
     → Gives old new (Ok v) → IsTableOf v.items result → ReadsFrom old new (result_in result)
 reads-from_table old new v (Ok m) x n = record {
   pieces = x.pieces;

@@ -3,11 +3,9 @@ use Rattle.std.specs.Prelude.{◌≡◌, ℕ, ◌+◌, ◌<◌, ◌≤◌, true,
 use Rattle.std.specs.Prelude.{Ok, Err, Vec}
 use Rattle.std.specs.Option.{option_map}
 use Rattle.std.specs.Result.{IsOk, IsErrOf}
-use Rattle.std.specs.Ordering.{nat_cmp}
-use Rattle.std.specs.Cmp.Lexicographic.{slice_cmp}
 use Rattle.std.specs.FinMap as finite
 use Rattle.std.specs.Borrow.{Bor}
-use Rattle.std.specs.BTreeMap.{BTreeMap}
+use Rattle.std.specs.HashMap.{HashMap}
 use Rattle.tlv_io.specs.Device.{Pieces, SourceState, octets_given}
 use Rattle.tlv_value.specs.Names.{Entry, NamesLine, NamesValue, entry, has_entry, long_line, entry_limit}
 use Rattle.tlv_value.specs.Names.{names_of, no_entry, no_name, no_object_identifier}
@@ -15,7 +13,7 @@ use Rattle.tlv_value.specs.NamesReading.{EndsWithin, FailsWithin, IsTooLong, nam
 use Rattle.tlv_value.specs.declared.names.fault.NamesFault.{NamesFault}
 use Rattle.tlv_value.specs.declared.names.fault.NamesFault.TheVariants.{BadOid, BadName, Repeated, TooLarge}
 use Rattle.tlv_value.specs.declared.names.fault.NamesFault.TheVariants.{ReadFailed, Memory}
-use Rattle.tlv_value.specs.NamesFields.{table_in}
+use Rattle.tlv_value.specs.NamesFields.{table_in, table_with}
 
 abbrev pub texts_of :
     Result (Option (Bor (List ℕ) × Bor (List ℕ))) NamesFault → Result (Option Entry) NamesFault
@@ -36,7 +34,7 @@ abbrev pub Adds : {T : Type 0}
 Adds number dotted name old new (Ok done) =
     (has_entry dotted old ≡ false)
     × (length old < entry_limit)
-    × (new ≡ finite.put (slice_cmp nat_cmp) dotted name old)
+    × (table_with new ≡ finite.insert (table_with old) dotted name)
     × (length new ≡ length old + 1)
 Adds number dotted name old new (Err (Repeated n)) = (has_entry dotted old ≡ true) × (n ≡ number)
 Adds number dotted name old new (Err TooLarge) = (has_entry dotted old ≡ false) × (entry_limit ≤ length old)
@@ -52,15 +50,15 @@ AddsLine number no_name old new result = IsErrOf result (BadName number)
 AddsLine number long_line old new result = IsErrOf result TooLarge
 
 -- the octets come to this table or refusal; memory may be refused at any time
-abbrev pub IsTableOf : {Z : Type 0}
-    → List ℕ → Result (BTreeMap (Vec ℕ Z) (Vec ℕ Z)) NamesFault → Type 0
+abbrev pub IsTableOf : {Z S : Type 0}
+    → List ℕ → Result (HashMap (Vec ℕ Z) (Vec ℕ Z) S) NamesFault → Type 0
 IsTableOf octets (Ok table) = names_of octets ≡ Ok (table_in table)
 IsTableOf octets (Err ReadFailed) = ⊥
 IsTableOf octets (Err Memory) = Unit {0}
 IsTableOf octets (Err fault) = names_of octets ≡ Err fault
 
-abbrev pub result_in : {Z : Type 0}
-    → Result (BTreeMap (Vec ℕ Z) (Vec ℕ Z)) NamesFault → Result NamesValue NamesFault
+abbrev pub result_in : {Z S : Type 0}
+    → Result (HashMap (Vec ℕ Z) (Vec ℕ Z) S) NamesFault → Result NamesValue NamesFault
 result_in (Ok m) = Ok (table_in m)
 result_in (Err fault) = Err fault
 

@@ -8,10 +8,11 @@ ghost use Rattle.tlv_value.specs.Private.NamesSteps.{Adds, AddsLine, IsTableOf};
 use super::NamesFault;
 use super::names_line::{end_before, entry_or_refusal, rest_after};
 use std::alloc::Allocator;
-use std::collections::BTreeMap;
+use std::collections::HashMap;
+use std::hash::{BuildHasherDefault, FoldHasher};
 
 /// From dotted texts to names.
-pub(super) type Table<A> = BTreeMap<Vec<u8, A>, Vec<u8, A>, A>;
+pub(super) type Table<A> = HashMap<Vec<u8, A>, Vec<u8, A>, BuildHasherDefault<FoldHasher>, A>;
 
 /// The most entries of a table.
 const ENTRY_LIMIT: usize = 65_536;
@@ -21,7 +22,7 @@ pub(super) fn names_of<A: Allocator + Copy>(alloc: A, octets: &[u8]) -> Result<T
     requires { length octets.now ≤ file_limit }
     ensures { IsTableOf octets.now result }
 {
-    let mut table = BTreeMap::new(alloc);
+    let mut table = HashMap::new(alloc);
     let mut rest = octets;
     let mut number = 0;
     while !rest.is_empty() {

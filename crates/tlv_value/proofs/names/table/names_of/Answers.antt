@@ -44,9 +44,9 @@ returns-in_err-add_line g c =
     let line = next_line c.loop-rest.rest.now c.end_before-end.result (omega arith) c.end_before-end.ensures.value in
     let p = err_from_is_err_and c.from_residual.result c.from_residual.ensures.1 in
     rw (p.1, p.2)
-    (line-refused_table g.row.A.Denot (Unit {0}) c.args.octets.now c.loop-rest.rest.now
+    (line-refused_table (Unit {0}) c.args.octets.now c.loop-rest.rest.now
     (drop (c.end_before-end.result + 1) c.loop-rest.rest.now) c.loop-rest.number
-    (texts_in c.loop-rest.table) (texts_in c.add_line.new.table) c.in_err-add_line.field-0.0
+    c.loop-rest.table c.add_line.new.table c.in_err-add_line.field-0.0
     (names_line (take c.end_before-end.result c.loop-rest.rest.now))
     c.loop-rest.invariant.standing line c.in_err-add_line.ensures)
 
