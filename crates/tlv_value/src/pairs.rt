@@ -1,6 +1,6 @@
 //! Pairs of digits, and the text beside them.
 ghost use Rattle.std.specs.List.{list_all};
-ghost use Rattle.std.specs.Prelude.{◌≡◌, ◌+◌, ◌*◌, ◌≤◌, ◌++◌, ◌∷◌, length};
+ghost use Rattle.std.specs.Prelude.{◌≡◌, ◌+◌, ◌*◌, ◌≤◌, ◌++◌, ◌∷◌, codes, length};
 ghost use Rattle.tlv_io.specs.LineTexts.{HasRoomFor};
 ghost use Rattle.tlv_value.specs.Private.UndottedText.{line_pairs};
 ghost use Rattle.tlv_value.specs.Units.{is_printable};
@@ -59,17 +59,27 @@ fn write_joined_pairs(held: &mut HeldOctets, octets: &[u8])
     }
 }
 
-/// Adds the text of three or more octets that are all printable, between bars.
-#[inline(never)]
+/// Adds the text of three or more octets that are all printable, between bars. Most random octets are not, and are not
+/// worth a call.
+#[inline(always)]
 fn write_text_behind(held: &mut HeldOctets, octets: &[u8])
     requires { HasRoomFor held.old (length octets.now + 4) }
     ensures { held.new ≡ held.old ++ text_behind octets.now }
 {
     if octets.len() >= 3 && are_printable(octets) {
-        held.add(b"  |");
-        held.add(octets);
-        held.add(b"|");
+        write_between_bars(held, octets);
     }
+}
+
+/// Adds octets between bars, after two spaces.
+#[inline(never)]
+fn write_between_bars(held: &mut HeldOctets, octets: &[u8])
+    requires { HasRoomFor held.old (length octets.now + 4) }
+    ensures { held.new ≡ held.old ++ codes "  |" ++ octets.now ++ codes "|" }
+{
+    held.add(b"  |");
+    held.add(octets);
+    held.add(b"|");
 }
 
 /// Whether all of the octets are printable ASCII.
