@@ -5,6 +5,7 @@ pub mod FollowedEvents
 pub mod FollowSteps
 pub mod Jobs
 pub mod MadeAll
+pub mod OneEvent
 pub mod Prefixes
 pub mod Pauses
 pub mod WalkSoFar

@@ -2,7 +2,8 @@
 ghost use Rattle.std.specs.Prelude.{◌≡◌, [], IfOk};
 ghost use Rattle.tlv_walk.specs.HasEffect.{ReturnsEffect};
 ghost use Rattle.tlv_walk.specs.Private.ResultOfPause.{IsResultOfPause, run_of};
-ghost use Rattle.tlv_walk.specs.Private.FollowsPiece.{FollowsAndFlushes, FollowsPrefix, FollowsPiece, follow_states};
+ghost use Rattle.tlv_walk.specs.Private.FollowsPiece.{FollowsAndFlushes, FollowsOneOrNone, FollowsPiece};
+ghost use Rattle.tlv_walk.specs.Private.FollowsPiece.{FollowsPrefix, follow_states};
 ghost use Rattle.tlv_walk.specs.Private.WalkerCalls.{CanPass};
 ghost use Rattle.tlv_walk.specs.Stands.{IsReady};
 ghost use Rattle.tlv_walk.specs.WalkerState.{IsWithinInputLimit};
@@ -10,7 +11,7 @@ ghost use Rattle.tlv_io.specs.Out.{held_octets, drain_of};
 ghost use Rattle.tlv_walk.specs.Events.{event_value_of};
 ghost use Rattle.tlv_walk.specs.OneTurn.{CanTurn, FollowsOneRead, turn_states};
 
-use crate::walker::WholePrimitive;
+use crate::walker::{HolderEnd, WholePrimitive};
 use crate::{
     DeviceFault, Drain, Ending, Event, Follow, Go, Out, Run, Source, Step, Turn, Walker, WriteFault,
 };
@@ -163,7 +164,8 @@ fn follow<F: Follow, D: Drain>(
             continue;
         }
         let go = match walker.close(&mut rest) {
-            Some(offset) => follower.on(&Event::Close(offset), out)?,
+            Some(HolderEnd::Close(offset)) => follower.on(&Event::Close(offset), out)?,
+            Some(HolderEnd::Leave) => follow_event(follower, &Event::Leave, out)?,
             None => match walker.constructed(&mut rest) {
                 Some((fields, octets)) => follower.open(&fields, octets, out)?,
                 None => match walker.contents_event(&mut rest) {
@@ -171,13 +173,16 @@ fn follow<F: Follow, D: Drain>(
                     None => {
                         // A copy is lent, so that `rest` itself stays in registers.
                         let mut left = rest;
-                        let next = walker.step(&mut left);
+                        let go = match follow_string(walker, follower, &mut left, out)? {
+                            Some(go) => go,
+                            None => match walker.step(&mut left) {
+                                Step::Event(event) => follow_event(follower, &event, out)?,
+                                Step::NeedMore => return Ok(Pause::UsedUp),
+                                Step::Fault(fault) => return Ok(Pause::Fault(fault)),
+                            },
+                        };
                         rest = left;
-                        match next {
-                            Step::Event(event) => follow_event(follower, &event, out)?,
-                            Step::NeedMore => return Ok(Pause::UsedUp),
-                            Step::Fault(fault) => return Ok(Pause::Fault(fault)),
-                        }
+                        go
                     }
                 },
             },
@@ -238,6 +243,33 @@ fn follow_found<F: Follow, D: Drain>(
     }
     walker.pass(primitive, piece);
     Ok(true)
+}
+
+/// Follows the header of a string that holds encodings, or the first contents octet of such a BIT STRING, if the piece
+/// begins with it. Returns whether the follower wants more, if it was followed; otherwise nothing is taken. It is a
+/// function of its own, so that the loop of [`follow`] stays small.
+#[inline(never)]
+fn follow_string<F: Follow, D: Drain>(
+    walker: &mut Walker<'_>,
+    follower: &mut F,
+    piece: &mut &[u8],
+    out: &mut Out<'_, D>,
+) -> Result<Option<Go>, WriteFault>
+    requires { IsWithinInputLimit walker.old piece.old.now }
+    ensures { FollowsOneOrNone F.next D.state
+        (follow_states walker.old follower.old out.old)
+        (follow_states walker.new follower.new out.new)
+        piece.old.now piece.new.now result }
+{
+    if walker.no_unused_bits(piece) {
+        let go = follower.on(&Event::Unused, out)?;
+        return Ok(Some(go));
+    }
+    if let Some((fields, octets)) = walker.wrapper(piece) {
+        let go = follower.on(&Event::Enter(Header::new(&fields, octets)), out)?;
+        return Ok(Some(go));
+    }
+    Ok(None)
 }
 
 /// Lets the follower follow an event. It is a function of its own for the events that seldom come, so that the follower

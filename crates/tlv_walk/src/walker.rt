@@ -11,7 +11,7 @@ mod short_way;
 use crate::cursor::{Cursor, offset_at};
 use crate::stack::Stack;
 use crate::{Ending, Event, Framing, Step};
-pub(crate) use short_way::WholePrimitive;
+pub(crate) use short_way::{HolderEnd, WholePrimitive};
 use std::marker::Model;
 use tlv_head::{Fault, FaultCode, HeadReader};
 

@@ -290,6 +290,17 @@ pub yields_closed : (w : WalkerState) → w.phase ≡ Between → IsFilled w.sta
     → Continues w (record w { stack = drop 1 w.stack; events = w.events + 1 }) [] (Close None ∷ [])
 yields_closed w e full n = yields_popped w false e full (wraps_none w.stack w.offset full n)
 
+-- the innermost element, which is filled and is a wrapper, wraps something
+wraps_some : (stack : List FrameValue) (offset : ℕ) → IsFilled stack offset → IsInWrapper stack
+    → innermost_wraps stack ≡ Some true
+wraps_some [] offset full i = absurd full
+wraps_some (f ∷ fs) offset full i = ap Some i
+
+-- the same, of a wrapper
+pub yields_left : (w : WalkerState) → w.phase ≡ Between → IsFilled w.stack w.offset → IsInWrapper w.stack
+    → Continues w (record w { stack = drop 1 w.stack; events = w.events + 1 }) [] (Leave ∷ [])
+yields_left w e full i = yields_popped w true e full (wraps_some w.stack w.offset full i)
+
 -- an end before the bound
 within_less : (b : Option ℕ) (m n : ℕ) → m ≤ n → IsWithin b n → IsWithin b m
 within_less None m n h w = tt

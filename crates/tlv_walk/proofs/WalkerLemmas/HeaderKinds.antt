@@ -6,7 +6,7 @@ use Rattle.std.proofs.lemmas.List.{take-append-drop}
 use Rattle.tlv_head.specs.declared.header.HeaderFields.{HeaderFields}
 use Rattle.tlv_head.specs.declared.header.Size.TheVariants.{Definite}
 use Rattle.tlv_head.specs.HeaderFields.{new_header}
-use Rattle.tlv_head.specs.Header.{HeaderValue, announced_length, holds, is_wrapper, octets_of}
+use Rattle.tlv_head.specs.Header.{HeaderValue, announced_length, fields_wrap, holds, is_wrapper, octets_of}
 use Rattle.tlv_head.specs.HeadReaderState.{HeadReaderState}
 use Rattle.tlv_walk.specs.declared.walker.headers.HeaderKind.{HeaderKind}
 use Rattle.tlv_walk.specs.declared.walker.headers.HeaderKind.TheVariants as kind
@@ -248,3 +248,11 @@ constructed_kind w v f offset kind.Constructed c e = refl
 constructed_kind w v f offset kind.Primitive c e =
     absurd (true≢false (sym (ap (λ (k : Bool). k || is_wrapper f.named f.class f.constructed f.number f.size) c) ∙ e.0))
 constructed_kind w v f offset kind.Wrapper c e = absurd (true≢false (sym c ∙ e.0))
+
+-- the header of a wrapper begins a wrapper
+pub wrapper_kind : (w v : WalkerState) (f : HeaderFields) (offset : ℕ) (k : HeaderKind) → f.constructed ≡ false
+    → fields_wrap f ≡ true → TakesHeader w v f offset k → k ≡ kind.Wrapper
+wrapper_kind w v f offset kind.Wrapper c wraps e = refl
+wrapper_kind w v f offset kind.Primitive c wraps e =
+    absurd (true≢false (sym (or-right f.constructed _ c wraps) ∙ e.0))
+wrapper_kind w v f offset kind.Constructed c wraps e = absurd (true≢false (sym e.0 ∙ c))

@@ -1,23 +1,27 @@
 -- What a follower comes to that follows a walker over a piece.
-use Rattle.std.specs.Prelude.{◌≡◌, ℕ, ◌+◌, Bool, true, false, List, [], ◌∷◌, ◌++◌, Result, Ok, Err, OnOk, length}
+use Rattle.std.specs.Prelude.{◌≡◌, ℕ, ◌+◌, Bool, true, false, List, [], ◌∷◌, ◌++◌, Option, Some, None, length}
+use Rattle.std.specs.Prelude.{Result, Ok, Err, OnOk}
 use Rattle.tlv_head.specs.declared.fault.Fault.{Fault}
 use Rattle.tlv_io.specs.declared.drain.WriteFault.{WriteFault}
 use Rattle.tlv_io.specs.declared.out.Out.{Out}
 use Rattle.tlv_io.specs.Device.{DrainState}
 use Rattle.tlv_io.specs.Out.{Puts, Sends, held_octets, drain_of}
+use Rattle.tlv_walk.specs.declared.event.Event.{Event}
 use Rattle.tlv_walk.specs.declared.follow.Go.{Go}
 use Rattle.tlv_walk.specs.declared.follow.Go.TheVariants as go
 use Rattle.tlv_walk.specs.declared.framing.Framing.{Framing}
 use Rattle.tlv_walk.specs.declared.one_turn.Pause.{Pause}
 use Rattle.tlv_walk.specs.declared.one_turn.Pause.TheVariants as pause
-use Rattle.tlv_walk.specs.Events.{AreEqualJoined, EventValue, events}
+use Rattle.tlv_walk.specs.Events.{AreEqualJoined, EventValue, event_value_of, events}
 use Rattle.tlv_walk.specs.Follow.{Effect, effect_of}
 use Rattle.tlv_walk.specs.Forest.{Forest}
 use Rattle.tlv_walk.specs.Phase.{IsAfterEvent}
 use Rattle.tlv_walk.specs.WalkerState.{WalkerState}
 use Rattle.tlv_walk.specs.Private.WalkerCalls.{Passes}
+use Rattle.tlv_walk.specs.Private.Yields.{StepsAtOnce}
 use Rattle.tlv_walk.specs.Reading.{AreOctets, IsReading}
 use Rattle.tlv_walk.specs.Stands.{IfStands, IsReady, StandsForMore}
+use Rattle.tlv_walk.specs.HasEffect.{ReturnsEffect}
 use Rattle.tlv_walk.specs.HasRead.{StandsRefused}
 use Rattle.tlv_walk.specs.FollowsEvents.{FollowsEvents}
 
@@ -134,3 +138,20 @@ module _ {S D : Type 0} (next : S → EventValue → Effect S) (state_of : D →
     pub more : List EventValue
     pub takes : TakesPrefixOrNone next old new piece rest more result
     pub puts : Puts state_of old.out new.out (effect_of next old.follower more).put result
+
+  -- by the event that was taken, if one was: the follower followed it, and nothing else
+  abbrev pub FollowsIfTaken : Option Event → Result (Option Go) WriteFault → Type 0
+  FollowsIfTaken (Some e) (Ok (Some go)) =
+      ReturnsEffect state_of (next old.follower (event_value_of e)) old.out new.out new.follower (Ok go)
+  FollowsIfTaken (Some e) (Ok None) = ⊥
+  FollowsIfTaken (Some e) (Err f) =
+      ReturnsEffect state_of (next old.follower (event_value_of e)) old.out new.out new.follower (Err f)
+  FollowsIfTaken None (Ok (Some go)) = ⊥
+  FollowsIfTaken None (Ok None) = (new.follower ≡ old.follower) × (new.out ≡ old.out)
+  FollowsIfTaken None (Err f) = ⊥
+
+  -- one event of a piece was taken and followed, or nothing was
+  pub record FollowsOneOrNone (piece rest : List ℕ) (result : Result (Option Go) WriteFault) : Type 0 where
+    pub event : Option Event
+    pub steps : StepsAtOnce old.walker new.walker piece rest event
+    pub follows : FollowsIfTaken event result

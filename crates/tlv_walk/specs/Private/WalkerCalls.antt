@@ -1,5 +1,5 @@
 -- What the walker's own functions require and return.
-use Rattle.std.specs.Prelude.{◌≡◌, ◌≢◌, ◌⊎◌, ℕ, ◌+◌, ◌<◌, ◌≤◌, true, false, eqb, if◌then◌else◌}
+use Rattle.std.specs.Prelude.{◌≡◌, ◌≢◌, ◌⊎◌, ℕ, ◌+◌, ◌<◌, ◌≤◌, Bool, true, false, eqb, if◌then◌else◌}
 use Rattle.std.specs.Prelude.{List, [], ◌∷◌, length, take, Option, Some, None}
 use Rattle.tlv_head.specs.DepthLimit.{depth_limit}
 use Rattle.tlv_head.specs.declared.fault.Fault.{Fault}
@@ -18,6 +18,8 @@ use Rattle.tlv_walk.specs.declared.event.Step.TheVariants as step
 use Rattle.tlv_walk.specs.declared.walker.headers.HeaderKind.{HeaderKind}
 use Rattle.tlv_walk.specs.declared.walker.headers.HeaderKind.TheVariants as kind
 use Rattle.tlv_head.specs.declared.header.HeaderFields.{HeaderFields}
+use Rattle.tlv_walk.specs.declared.walker.short_way.HolderEnd.{HolderEnd}
+use Rattle.tlv_walk.specs.declared.walker.short_way.HolderEnd.TheVariants as end
 use Rattle.tlv_walk.specs.declared.walker.short_way.WholePrimitive.{WholePrimitive}
 use Rattle.tlv_walk.specs.Inside.{is_among}
 use Rattle.tlv_walk.specs.Phase.{Between, InBitString, InEndOctets, InHeader, InPrimitive, PhaseValue, Refused}
@@ -157,10 +159,22 @@ header_at p piece = new_header p.fields (take p.header_length piece)
 abbrev pub open_event_if_taken : Option (HeaderFields × Bor (List ℕ)) → Option Event
 open_event_if_taken found = option_map (λ f. event.Open (new_header f.0 f.1.now)) found
 
--- the event of the end of a constructed element that was taken, if one was: where its end-of-contents octets are, if it
--- has any
-abbrev pub close_event_if_taken : Option (Option ℕ) → Option Event
-close_event_if_taken found = option_map event.Close found
+-- the event of the header of a wrapper that was taken, if one was
+abbrev pub enter_event_if_taken : Option (HeaderFields × Bor (List ℕ)) → Option Event
+enter_event_if_taken found = option_map (λ f. event.Enter (new_header f.0 f.1.now)) found
+
+-- the event of the end of an element that holds others
+abbrev pub end_event : HolderEnd → Event
+end_event (end.Close offset) = event.Close offset
+end_event end.Leave = event.Leave
+
+-- the event of such an end that was taken, if one was
+abbrev pub end_event_if_taken : Option HolderEnd → Option Event
+end_event_if_taken found = option_map end_event found
+
+-- the event of the first contents octet of a wrapping BIT STRING, if it was taken
+abbrev pub unused_event_if_taken : Bool → Option Event
+unused_event_if_taken taken = if taken then Some event.Unused else None
 
 -- a prefix of a piece was taken, and some events were yielded
 pub record Passes (old new : WalkerState) (piece rest : List ℕ) : Type 0 where

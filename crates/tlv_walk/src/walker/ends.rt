@@ -3,10 +3,10 @@ ghost use Rattle.std.specs.Prelude.{◌≡◌};
 ghost use Rattle.tlv_walk.specs.Phase.{Between, InEndOctets};
 ghost use Rattle.tlv_walk.specs.Private.Stack.{IsFilled};
 ghost use Rattle.tlv_walk.specs.WalkerState.{IsWithinInputLimit};
-ghost use Rattle.tlv_walk.specs.Private.WalkerCalls.{close_event_if_taken};
+ghost use Rattle.tlv_walk.specs.Private.WalkerCalls.{end_event_if_taken};
 ghost use Rattle.tlv_walk.specs.Private.Yields.{EndsElement, Steps, StepsAtOnce};
 
-use super::{Phase, Walker};
+use super::{HolderEnd, Phase, Walker};
 use crate::{Event, Step};
 use tlv_head::FaultCode;
 
@@ -60,11 +60,11 @@ impl Walker<'_> {
 
     /// Takes end-of-contents octets that lie whole in the piece, if they may be here.
     #[inline(always)]
-    pub(super) fn take_end_octets<'a>(&mut self, piece: &mut &'a [u8]) -> Option<Option<u64>>
+    pub(super) fn take_end_octets<'a>(&mut self, piece: &mut &'a [u8]) -> Option<HolderEnd>
         requires phase { self.old.phase ≡ Between }
         requires limit { IsWithinInputLimit self.old piece.old.now }
         ensures { StepsAtOnce self.old self.new piece.old.now piece.new.now
-            (close_event_if_taken result) }
+            (end_event_if_taken result) }
     {
         let octets: &'a [u8] = *piece;
         let [first, second, rest @ ..] = octets else {
@@ -81,7 +81,7 @@ impl Walker<'_> {
         self.stack.pop();
         self.offset += 2;
         self.events += 1;
-        Some(Some(offset))
+        Some(HolderEnd::Close(Some(offset)))
     }
 
     /// Takes the second of the end-of-contents octets.

@@ -3,8 +3,8 @@ ghost use Rattle.std.specs.Prelude.{◌≡◌, IfSome, take, true};
 ghost use Rattle.tlv_head.specs.HeaderFields.{IsHeaderSized};
 ghost use Rattle.tlv_walk.specs.Follow.{whole_events};
 ghost use Rattle.tlv_walk.specs.WalkerState.{IsWithinInputLimit};
-ghost use Rattle.tlv_walk.specs.Private.WalkerCalls.{CanPass, Passes, close_event_if_taken, header_at};
-ghost use Rattle.tlv_walk.specs.Private.WalkerCalls.{open_event_if_taken};
+ghost use Rattle.tlv_walk.specs.Private.WalkerCalls.{CanPass, Passes, end_event_if_taken, enter_event_if_taken};
+ghost use Rattle.tlv_walk.specs.Private.WalkerCalls.{header_at, open_event_if_taken, unused_event_if_taken};
 ghost use Rattle.tlv_walk.specs.Private.Yields.{StepsAtOnce, YieldsEvents};
 
 use super::{Phase, Walker};
@@ -20,6 +20,15 @@ pub(crate) struct WholePrimitive {
     pub header_length: usize,
     /// How many octets it has, contents and all.
     pub octet_count: usize,
+}
+
+/// The end of an element that holds others.
+#[derive(Clone, Copy)]
+pub(crate) enum HolderEnd {
+    /// Of a constructed element, with the offset of its end-of-contents octets, if it has any.
+    Close(Option<u64>),
+    /// Of a string that holds encodings.
+    Leave,
 }
 
 impl Walker<'_> {
@@ -123,14 +132,13 @@ impl Walker<'_> {
         Some((fields, front))
     }
 
-    /// Takes the end of the innermost element, if it is constructed and ends here: its contents have all come, or its
-    /// end-of-contents octets lie whole in the piece. Returns where these octets are, if it has any. Otherwise
-    /// nothing is taken.
+    /// Takes the end of the innermost element, if it ends here: its contents have all come, or its end-of-contents
+    /// octets lie whole in the piece. Otherwise nothing is taken.
     #[inline(always)]
-    pub(crate) fn close<'a>(&mut self, piece: &mut &'a [u8]) -> Option<Option<u64>>
+    pub(crate) fn close<'a>(&mut self, piece: &mut &'a [u8]) -> Option<HolderEnd>
         requires { IsWithinInputLimit self.old piece.old.now }
         ensures { StepsAtOnce self.old self.new piece.old.now piece.new.now
-            (close_event_if_taken result) }
+            (end_event_if_taken result) }
     {
         if !matches!(self.phase, Phase::Between) {
             return None;
@@ -138,12 +146,13 @@ impl Walker<'_> {
         if !self.stack.is_filled(self.offset) {
             return self.take_end_octets(piece);
         }
+        self.events += 1;
         if self.stack.is_in_wrapper() {
-            return None;
+            self.stack.pop();
+            return Some(HolderEnd::Leave);
         }
         self.stack.pop();
-        self.events += 1;
-        Some(None)
+        Some(HolderEnd::Close(None))
     }
 
     /// Takes contents of a primitive, or its end, if a primitive is open. Otherwise nothing is taken, and
@@ -163,6 +172,60 @@ impl Walker<'_> {
             return None;
         }
         Some(self.contents(left, piece))
+    }
+
+    /// Takes the header with which the piece begins, if it is one of few octets of a string that holds encodings, and
+    /// may be here. Otherwise nothing is taken.
+    #[inline(always)]
+    pub(crate) fn wrapper<'a>(&mut self, piece: &mut &'a [u8]) -> Option<(HeaderFields, &'a [u8])>
+        requires { IsWithinInputLimit self.old piece.old.now }
+        ensures steps { StepsAtOnce self.old self.new piece.old.now piece.new.now
+            (enter_event_if_taken result) }
+        ensures sized { IfSome result (λ found. IsHeaderSized found.0 found.1.now) }
+    {
+        if !matches!(self.phase, Phase::Between) {
+            return None;
+        }
+        if !self.cursor.is_at(self.inside, self.offset) {
+            return None;
+        }
+        let octets: &'a [u8] = *piece;
+        let (fields, count) = read_short(self.offset, true, octets)?;
+        if fields.constructed || !fields.wraps() {
+            return None;
+        }
+        let (front, rest) = octets.split_at(count);
+        if !self.fits_there(&fields, front) {
+            return None;
+        }
+        *piece = rest;
+        self.take_header(&fields, front);
+        Some((fields, front))
+    }
+
+    /// Takes the first contents octet of a BIT STRING that holds encodings, if it comes next and is `00`. Returns
+    /// whether it did; otherwise nothing is taken.
+    #[inline(always)]
+    pub(crate) fn no_unused_bits<'a>(&mut self, piece: &mut &'a [u8]) -> bool
+        requires { IsWithinInputLimit self.old piece.old.now }
+        ensures { StepsAtOnce self.old self.new piece.old.now piece.new.now
+            (unused_event_if_taken result) }
+    {
+        if !matches!(self.phase, Phase::InBitString) {
+            return false;
+        }
+        let octets: &'a [u8] = *piece;
+        let [octet, rest @ ..] = octets else {
+            return false;
+        };
+        if *octet != 0 {
+            return false;
+        }
+        *piece = rest;
+        self.offset += 1;
+        self.events += 1;
+        self.phase = Phase::Between;
+        true
     }
 }
 

@@ -1,25 +1,31 @@
 use Rattle.std.proofs.Common.{rules, ◌≡◌, ℕ, ◌+◌, List, [], ◌∷◌, length, refl, sym, ap₂, ◌∙◌, subst}
 use Rattle.std.proofs.lemmas.Result.{err_from_is_err_and}
-use Rattle.tlv_walk.specs.declared.event.Step.{Step}
-use Rattle.tlv_walk.specs.declared.event.Step.TheVariants as step
 use Rattle.tlv_walk.specs.declared.follow.Go.{Go}
 use Rattle.tlv_walk.specs.declared.follow.Go.TheVariants as go
-use Rattle.tlv_walk.specs.Events.{EventValue}
+use Rattle.tlv_walk.specs.declared.walker.short_way.HolderEnd.{HolderEnd}
+use Rattle.tlv_walk.specs.declared.walker.short_way.HolderEnd.TheVariants as end
+use Rattle.tlv_walk.specs.Events.{EventValue, event_value_of}
 use Rattle.tlv_walk.specs.WalkerState.{WalkerState}
-use Rattle.tlv_walk.specs.StepsTo.{StepsTo}
 use Rattle.tlv_walk.specs.Private.FollowsPiece.{WalksOver}
+use Rattle.tlv_walk.specs.Private.WalkerCalls.{end_event}
 use Rattle.tlv_walk.proofs.FollowerLemmas.FollowSteps.{fails_event, follows_event, follows_none, pauses_enough}
 use Rattle.tlv_walk.proofs.FollowerLemmas.FollowSteps.{pauses_fault, pauses_used_up}
+use Rattle.tlv_walk.proofs.FollowerLemmas.OneEvent.{fails_one, follows_no_more, follows_one, follows_same}
+use Rattle.tlv_walk.proofs.FollowerLemmas.OneEvent.{no_more_walked, one_counts}
 use Rattle.tlv_walk.proofs.FollowerLemmas.Prefixes.{fails_prefix, follows_left, follows_prefix, left_walked}
 use Rattle.tlv_walk.proofs.FollowerLemmas.Prefixes.{prefix_passes}
 use Rattle.tlv_walk.proofs.WalkerLemmas.StepStands.{event_offset, stands_all, walked_event}
-use Rattle.tlv_walk.proofs.one_turn.follow.Goals.{in-Some+in_ok-go-in-Some}
-use Rattle.tlv_walk.proofs.one_turn.follow.Goals.{in-None+in-Some-constructed+in_ok-go-in-Some-constructed}
+use Rattle.tlv_walk.proofs.one_turn.follow.Goals.{in-Some-Close+in_ok-go-in-Some-Close}
+use Rattle.tlv_walk.proofs.one_turn.follow.Goals.{in-Some-Leave+in_ok-go-in-Some-Leave}
+use Rattle.tlv_walk.proofs.one_turn.follow.Goals.{in-None+in-Some+in_ok-go-in-Some}
 use Rattle.tlv_walk.proofs.one_turn.follow.Goals.{
   in-None+in-None-constructed+in-Some-contents_event+in_ok-go-in-Some-contents_event,
 }
 use Rattle.tlv_walk.proofs.one_turn.follow.Goals.{
-  in-None+in-None-constructed+in-None-contents_event+in-Event+in_ok-go-in-Event,
+  in-None+in-None-constructed+in-None-contents_event+in_ok-go-in-None-contents_event+in-Some-2,
+}
+use Rattle.tlv_walk.proofs.one_turn.follow.Goals.{
+  in-None+in-None-constructed+in-None-contents_event+in_ok-go-in-None-contents_event+in-None-2+in-Event+in_ok-go-in-Event,
 }
 use Rattle.tlv_walk.proofs.one_turn.follow.Goals as goal
 
@@ -34,10 +40,12 @@ unmoved_event v w u xs ys rest e p q t =
     subst (λ (o : List ℕ). WalksOver w u o rest (e ∷ [])) q
     (subst (λ (m : WalkerState). WalksOver m u xs rest (e ∷ [])) p t)
 
-unmoved_step : (v w u : WalkerState) (xs ys rest : List ℕ) (s : Step) → v ≡ w → xs ≡ ys → StepsTo v u xs rest s
-    → StepsTo w u ys rest s
-unmoved_step v w u xs ys rest s p q t =
-    subst (λ (o : List ℕ). StepsTo w u o rest s) q (subst (λ (m : WalkerState). StepsTo m u xs rest s) p t)
+-- the end that was found is this one
+ended : (v u : WalkerState) (xs rest : List ℕ) (k m : HolderEnd) → k ≡ m
+    → WalksOver v u xs rest (event_value_of (end_event k) ∷ [])
+    → WalksOver v u xs rest (event_value_of (end_event m) ∷ [])
+ended v u xs rest k m is t =
+    subst (λ (e : HolderEnd). WalksOver v u xs rest (event_value_of (end_event e) ∷ [])) is t
 
 not_enough : (g : Go) → (g ≡ go.Enough → ⊥) → g ≡ go.On
 not_enough go.On n = refl
@@ -67,28 +75,41 @@ events-preserved g c =
     follows_left g.F.Follow.next g.D.Drain.state _ _ _ _ _ _ _ c.events.invariant.follows c.if-branch.false
     c.in_ok-follow_primitive.ensures in
     elim c.match-close.branch [
-      | in-Some+in_ok-go-in-Some w ↦ record {
+      | in-Some-Close+in_ok-go-in-Some-Close w ↦ record {
         follows =
             rw (w.out-is, w.follower-is, w.walker-is, w.rest-is, ← on, w.go-is)
             (follows_event g.F.Follow.next g.D.Drain.state _ _ _ _ _ _ _ _ left
-            (stands_all _ _ _ _ _ w.in-Some.ensures.yields) w.in_ok-go-in-Some.ensures);
+            (ended _ _ _ _ _ (end.Close w.in-Some-Close.offset) w.in-Some-Close.field-0-is
+            (stands_all _ _ _ _ _ w.in-Some-Close.ensures.yields)) w.in_ok-go-in-Some-Close.ensures);
         walked =
             rw (w.walker-is, w.rest-is)
-            (w.in-Some.ensures.counts.0.counts
+            (w.in-Some-Close.ensures.counts.0.counts
             ∙ left_walked g.F.Follow.next g.D.Drain.state _ _ _ _ _ c.if-branch.false
             c.in_ok-follow_primitive.ensures
             ∙ c.events.invariant.walked);
       }
-      | in-None+in-Some-constructed+in_ok-go-in-Some-constructed w ↦ record {
+      | in-Some-Leave+in_ok-go-in-Some-Leave w ↦ record {
+        follows =
+            rw (w.out-is, w.follower-is, w.walker-is, w.rest-is, ← on, w.go-is)
+            (follows_event g.F.Follow.next g.D.Drain.state _ _ _ _ _ _ _ _ left
+            (ended _ _ _ _ _ end.Leave w.in-Some-Leave.field-0-is
+            (stands_all _ _ _ _ _ w.in-Some-Leave.ensures.yields)) w.in_ok-go-in-Some-Leave.ensures);
+        walked =
+            rw (w.walker-is, w.rest-is)
+            (w.in-Some-Leave.ensures.counts.0.counts
+            ∙ left_walked g.F.Follow.next g.D.Drain.state _ _ _ _ _ c.if-branch.false
+            c.in_ok-follow_primitive.ensures
+            ∙ c.events.invariant.walked);
+      }
+      | in-None+in-Some+in_ok-go-in-Some w ↦ record {
         follows =
             rw (w.out-is, w.follower-is, w.walker-is, w.rest-is, ← on, w.go-is)
             (follows_event g.F.Follow.next g.D.Drain.state _ _ _ _ _ _ _ _ left
             (unmoved_event _ _ _ _ _ _ _ (w.in-None.ensures.counts.0) (w.in-None.ensures.counts.1)
-            (stands_all _ _ _ _ _ w.in-Some-constructed.ensures.steps.yields))
-            w.in_ok-go-in-Some-constructed.ensures);
+            (stands_all _ _ _ _ _ w.in-Some.ensures.steps.yields)) w.in_ok-go-in-Some.ensures);
         walked =
             rw (w.walker-is, w.rest-is)
-            (w.in-Some-constructed.ensures.steps.counts.0.counts
+            (w.in-Some.ensures.steps.counts.0.counts
             ∙ counts-of_none _ _ _ _ (w.in-None.ensures.counts.0) (w.in-None.ensures.counts.1)
             ∙ left_walked g.F.Follow.next g.D.Drain.state _ _ _ _ _ c.if-branch.false
             c.in_ok-follow_primitive.ensures
@@ -100,8 +121,7 @@ events-preserved g c =
             (follows_event g.F.Follow.next g.D.Drain.state _ _ _ _ _ _ _ _ left
             (unmoved_event _ _ _ _ _ _ _ (w.in-None-constructed.ensures.steps.counts.0 ∙ w.in-None.ensures.counts.0)
             (w.in-None-constructed.ensures.steps.counts.1 ∙ w.in-None.ensures.counts.1)
-            (stands_all _ _ _ _ _ w.in-Some-contents_event.ensures.yields))
-            w.in_ok-go-in-Some-contents_event.ensures);
+            (stands_all _ _ _ _ _ w.in-Some-contents_event.ensures.yields)) w.in_ok-go-in-Some-contents_event.ensures);
         walked =
             rw (w.walker-is, w.rest-is)
             (w.in-Some-contents_event.ensures.counts.0.counts
@@ -111,23 +131,46 @@ events-preserved g c =
             c.in_ok-follow_primitive.ensures
             ∙ c.events.invariant.walked);
       }
-      | in-None+in-None-constructed+in-None-contents_event+in-Event+in_ok-go-in-Event w ↦ record {
+      | in-None+in-None-constructed+in-None-contents_event+in_ok-go-in-None-contents_event+in-Some-2 w ↦ record {
         follows =
             rw (w.out-is, w.follower-is, w.walker-is, w.rest-is, ← on, w.go-is)
-            (follows_event g.F.Follow.next g.D.Drain.state _ _ _ _ _ _ _ _ left
-            (unmoved_event
-            _ _ _ _ _ _ _ (w.in-None-contents_event.ensures.counts.0
+            (follows_one g.F.Follow.next g.D.Drain.state _ _ _ _ _ _ _ _ w.in-Some-2.is
+            (follows_same g.F.Follow.next g.D.Drain.state _ _ _ _ _ _ left
+            (w.in-None-contents_event.ensures.counts.0 ∙ w.in-None-constructed.ensures.steps.counts.0
+            ∙ w.in-None.ensures.counts.0) refl refl (w.in-None-contents_event.ensures.counts.1
+            ∙ w.in-None-constructed.ensures.steps.counts.1
+            ∙ w.in-None.ensures.counts.1)) w.in_ok-go-in-None-contents_event.ensures);
+        walked =
+            rw (w.walker-is, w.rest-is)
+            ((one_counts g.F.Follow.next g.D.Drain.state _ _ _ _ _ _ w.in-Some-2.is
+            w.in_ok-go-in-None-contents_event.ensures).counts
+            ∙ counts-of_none _ _ _ _ (w.in-None-contents_event.ensures.counts.0
             ∙ w.in-None-constructed.ensures.steps.counts.0 ∙ w.in-None.ensures.counts.0)
             (w.in-None-contents_event.ensures.counts.1 ∙ w.in-None-constructed.ensures.steps.counts.1
             ∙ w.in-None.ensures.counts.1)
-            (walked_event _ _ _ _ _ w.in-Event.ensures))
+            ∙ left_walked g.F.Follow.next g.D.Drain.state _ _ _ _ _ c.if-branch.false
+            c.in_ok-follow_primitive.ensures
+            ∙ c.events.invariant.walked);
+      }
+      | in-None+in-None-constructed+in-None-contents_event+in_ok-go-in-None-contents_event+in-None-2+in-Event+in_ok-go-in-Event w ↦ record {
+        follows =
+            rw (w.out-is, w.follower-is, w.walker-is, w.rest-is, ← on, w.go-is)
+            (follows_event g.F.Follow.next g.D.Drain.state _ _ _ _ _ _ _ _
+            (follows_no_more g.F.Follow.next g.D.Drain.state _ _ _ _ _ _ _ w.in-None-2.is
+            (follows_same g.F.Follow.next g.D.Drain.state _ _ _ _ _ _ left
+            (w.in-None-contents_event.ensures.counts.0 ∙ w.in-None-constructed.ensures.steps.counts.0
+            ∙ w.in-None.ensures.counts.0) refl refl (w.in-None-contents_event.ensures.counts.1
+            ∙ w.in-None-constructed.ensures.steps.counts.1
+            ∙ w.in-None.ensures.counts.1)) w.in_ok-go-in-None-contents_event.ensures)
+            (walked_event _ _ _ _ _ w.in-Event.ensures)
             w.in_ok-go-in-Event.ensures);
         walked =
             rw (w.walker-is, w.rest-is)
             (event_offset _ _ _ _ _ w.in-Event.ensures
-            ∙ counts-of_none
-            _ _ _ _ (w.in-None-contents_event.ensures.counts.0 ∙ w.in-None-constructed.ensures.steps.counts.0
-            ∙ w.in-None.ensures.counts.0)
+            ∙ no_more_walked g.F.Follow.next g.D.Drain.state _ _ _ _ _ w.in-None-2.is
+            w.in_ok-go-in-None-contents_event.ensures
+            ∙ counts-of_none _ _ _ _ (w.in-None-contents_event.ensures.counts.0
+            ∙ w.in-None-constructed.ensures.steps.counts.0 ∙ w.in-None.ensures.counts.0)
             (w.in-None-contents_event.ensures.counts.1 ∙ w.in-None-constructed.ensures.steps.counts.1
             ∙ w.in-None.ensures.counts.1)
             ∙ left_walked g.F.Follow.next g.D.Drain.state _ _ _ _ _ c.if-branch.false
@@ -142,6 +185,31 @@ returns-in_err-follow_primitive g c =
     (fails_prefix g.F.Follow.next g.D.Drain.state _ _ _ _ _ _ _ _ c.events.invariant.follows
     c.in_err-follow_primitive.ensures)
 
+pub returns-in_err-go-in-Some-Close : goal.returns-in_err-go-in-Some-Close
+returns-in_err-go-in-Some-Close g c =
+    let p = err_from_is_err_and c.from_residual-in_err-go-in-Some-Close.result
+    c.from_residual-in_err-go-in-Some-Close.ensures.1 in
+    let left =
+    follows_left g.F.Follow.next g.D.Drain.state _ _ _ _ _ _ _ c.events.invariant.follows c.if-branch.false
+    c.in_ok-follow_primitive.ensures in
+    rw p.1
+    (fails_event g.F.Follow.next g.D.Drain.state _ _ _ _ _ _ _ _ left
+    (ended _ _ _ _ _ (end.Close c.in-Some-Close.offset) c.in-Some-Close.field-0-is
+    (stands_all _ _ _ _ _ c.in-Some-Close.ensures.yields))
+    _ _ c.in_err-go-in-Some-Close.ensures)
+
+pub returns-in_err-go-in-Some-Leave : goal.returns-in_err-go-in-Some-Leave
+returns-in_err-go-in-Some-Leave g c =
+    let p = err_from_is_err_and c.from_residual-in_err-go-in-Some-Leave.result
+    c.from_residual-in_err-go-in-Some-Leave.ensures.1 in
+    let left =
+    follows_left g.F.Follow.next g.D.Drain.state _ _ _ _ _ _ _ c.events.invariant.follows c.if-branch.false
+    c.in_ok-follow_primitive.ensures in
+    rw p.1
+    (fails_event g.F.Follow.next g.D.Drain.state _ _ _ _ _ _ _ _ left
+    (ended _ _ _ _ _ end.Leave c.in-Some-Leave.field-0-is (stands_all _ _ _ _ _ c.in-Some-Leave.ensures.yields))
+    _ _ c.in_err-go-in-Some-Leave.ensures)
+
 pub returns-in_err-go-in-Some : goal.returns-in_err-go-in-Some
 returns-in_err-go-in-Some g c =
     let p = err_from_is_err_and c.from_residual-in_err-go-in-Some.result c.from_residual-in_err-go-in-Some.ensures.1 in
@@ -149,27 +217,14 @@ returns-in_err-go-in-Some g c =
     follows_left g.F.Follow.next g.D.Drain.state _ _ _ _ _ _ _ c.events.invariant.follows c.if-branch.false
     c.in_ok-follow_primitive.ensures in
     rw p.1
-    (fails_event g.F.Follow.next g.D.Drain.state _ _ _ _ _ _ _ _ left (stands_all _ _ _ _ _ c.in-Some.ensures.yields)
-    _ _ c.in_err-go-in-Some.ensures)
-
-pub returns-in_err-go-in-Some-constructed : goal.returns-in_err-go-in-Some-constructed
-returns-in_err-go-in-Some-constructed g c =
-    let p =
-    err_from_is_err_and c.from_residual-in_err-go-in-Some-constructed.result
-    c.from_residual-in_err-go-in-Some-constructed.ensures.1 in
-    let left =
-    follows_left g.F.Follow.next g.D.Drain.state _ _ _ _ _ _ _ c.events.invariant.follows c.if-branch.false
-    c.in_ok-follow_primitive.ensures in
-    rw p.1
     (fails_event g.F.Follow.next g.D.Drain.state _ _ _ _ _ _ _ _ left
     (unmoved_event _ _ _ _ _ _ _ (c.in-None.ensures.counts.0) (c.in-None.ensures.counts.1)
-    (stands_all _ _ _ _ _ c.in-Some-constructed.ensures.steps.yields))
-    _ _ c.in_err-go-in-Some-constructed.ensures)
+    (stands_all _ _ _ _ _ c.in-Some.ensures.steps.yields))
+    _ _ c.in_err-go-in-Some.ensures)
 
 pub returns-in_err-go-in-Some-contents_event : goal.returns-in_err-go-in-Some-contents_event
 returns-in_err-go-in-Some-contents_event g c =
-    let p =
-    err_from_is_err_and c.from_residual-in_err-go-in-Some-contents_event.result
+    let p = err_from_is_err_and c.from_residual-in_err-go-in-Some-contents_event.result
     c.from_residual-in_err-go-in-Some-contents_event.ensures.1 in
     let left =
     follows_left g.F.Follow.next g.D.Drain.state _ _ _ _ _ _ _ c.events.invariant.follows c.if-branch.false
@@ -181,50 +236,70 @@ returns-in_err-go-in-Some-contents_event g c =
     (stands_all _ _ _ _ _ c.in-Some-contents_event.ensures.yields))
     _ _ c.in_err-go-in-Some-contents_event.ensures)
 
-pub returns-in_err-go-in-Event : goal.returns-in_err-go-in-Event
-returns-in_err-go-in-Event g c =
-    let p =
-    err_from_is_err_and c.from_residual-in_err-go-in-Event.result c.from_residual-in_err-go-in-Event.ensures.1 in
+pub returns-in_err-go-in-None-contents_event : goal.returns-in_err-go-in-None-contents_event
+returns-in_err-go-in-None-contents_event g c =
+    let p = err_from_is_err_and c.from_residual-in_err-go-in-None-contents_event.result
+    c.from_residual-in_err-go-in-None-contents_event.ensures.1 in
     let left =
     follows_left g.F.Follow.next g.D.Drain.state _ _ _ _ _ _ _ c.events.invariant.follows c.if-branch.false
     c.in_ok-follow_primitive.ensures in
     rw p.1
-    (fails_event g.F.Follow.next g.D.Drain.state _ _ _ _ _ _ _ _ left
-    (unmoved_event
-    _ _ _ _ _ _ _ (c.in-None-contents_event.ensures.counts.0 ∙ c.in-None-constructed.ensures.steps.counts.0
-    ∙ c.in-None.ensures.counts.0)
+    (fails_one g.F.Follow.next g.D.Drain.state _ _ _ _ _ _ _ _
+    (follows_same g.F.Follow.next g.D.Drain.state _ _ _ _ _ _ left (c.in-None-contents_event.ensures.counts.0
+    ∙ c.in-None-constructed.ensures.steps.counts.0 ∙ c.in-None.ensures.counts.0) refl refl
     (c.in-None-contents_event.ensures.counts.1 ∙ c.in-None-constructed.ensures.steps.counts.1
-    ∙ c.in-None.ensures.counts.1)
-    (walked_event _ _ _ _ _ c.in-Event.ensures))
+    ∙ c.in-None.ensures.counts.1)) c.in_err-go-in-None-contents_event.ensures)
+
+pub returns-in_err-go-in-Event : goal.returns-in_err-go-in-Event
+returns-in_err-go-in-Event g c =
+    let p = err_from_is_err_and c.from_residual-in_err-go-in-Event.result c.from_residual-in_err-go-in-Event.ensures.1
+    in
+    let left =
+    follows_left g.F.Follow.next g.D.Drain.state _ _ _ _ _ _ _ c.events.invariant.follows c.if-branch.false
+    c.in_ok-follow_primitive.ensures in
+    rw p.1
+    (fails_event g.F.Follow.next g.D.Drain.state _ _ _ _ _ _ _ _
+    (follows_no_more g.F.Follow.next g.D.Drain.state _ _ _ _ _ _ _ c.in-None-2.is
+    (follows_same g.F.Follow.next g.D.Drain.state _ _ _ _ _ _ left (c.in-None-contents_event.ensures.counts.0
+    ∙ c.in-None-constructed.ensures.steps.counts.0 ∙ c.in-None.ensures.counts.0) refl refl
+    (c.in-None-contents_event.ensures.counts.1 ∙ c.in-None-constructed.ensures.steps.counts.1
+    ∙ c.in-None.ensures.counts.1)) c.in_ok-go-in-None-contents_event.ensures)
+    (walked_event _ _ _ _ _ c.in-Event.ensures)
     _ _ c.in_err-go-in-Event.ensures)
 
 pub returns-in-NeedMore : goal.returns-in-NeedMore
 returns-in-NeedMore g c =
-    pauses_used_up g.F.Follow.next g.D.Drain.state
-    _ _ _ _ _ _ (follows_left g.F.Follow.next g.D.Drain.state _ _ _ _ _ _ _ c.events.invariant.follows
-    c.if-branch.false c.in_ok-follow_primitive.ensures)
-    (unmoved_step c.contents_event.new.self _ c.step-next.new.self c.contents_event.new.piece.now
-    _ c.step-next.new.piece.now step.NeedMore
-    (c.in-None-contents_event.ensures.counts.0 ∙ c.in-None-constructed.ensures.steps.counts.0
-    ∙ c.in-None.ensures.counts.0)
+    let left =
+    follows_left g.F.Follow.next g.D.Drain.state _ _ _ _ _ _ _ c.events.invariant.follows c.if-branch.false
+    c.in_ok-follow_primitive.ensures in
+    pauses_used_up g.F.Follow.next g.D.Drain.state _ _ _ _ _ _
+    (follows_no_more g.F.Follow.next g.D.Drain.state _ _ _ _ _ _ _ c.in-None-2.is
+    (follows_same g.F.Follow.next g.D.Drain.state _ _ _ _ _ _ left (c.in-None-contents_event.ensures.counts.0
+    ∙ c.in-None-constructed.ensures.steps.counts.0 ∙ c.in-None.ensures.counts.0) refl refl
+    (c.in-None-contents_event.ensures.counts.1 ∙ c.in-None-constructed.ensures.steps.counts.1
+    ∙ c.in-None.ensures.counts.1)) c.in_ok-go-in-None-contents_event.ensures)
+    c.in-NeedMore.ensures
+    (no_more_walked g.F.Follow.next g.D.Drain.state _ _ _ _ _ c.in-None-2.is c.in_ok-go-in-None-contents_event.ensures
+    ∙ counts-of_none _ _ _ _ (c.in-None-contents_event.ensures.counts.0
+    ∙ c.in-None-constructed.ensures.steps.counts.0 ∙ c.in-None.ensures.counts.0)
     (c.in-None-contents_event.ensures.counts.1 ∙ c.in-None-constructed.ensures.steps.counts.1
     ∙ c.in-None.ensures.counts.1)
-    c.in-NeedMore.ensures)
-    (left_walked g.F.Follow.next g.D.Drain.state _ _ _ _ _ c.if-branch.false c.in_ok-follow_primitive.ensures
+    ∙ left_walked g.F.Follow.next g.D.Drain.state _ _ _ _ _ c.if-branch.false
+    c.in_ok-follow_primitive.ensures
     ∙ c.events.invariant.walked)
 
 pub returns-in-Fault : goal.returns-in-Fault
 returns-in-Fault g c =
-    pauses_fault g.F.Follow.next g.D.Drain.state
-    _ _ _ _ _ _ _ (follows_left g.F.Follow.next g.D.Drain.state _ _ _ _ _ _ _ c.events.invariant.follows
-    c.if-branch.false c.in_ok-follow_primitive.ensures)
-    (unmoved_step c.contents_event.new.self _ c.step-next.new.self c.contents_event.new.piece.now
-    _ c.step-next.new.piece.now (step.Fault c.in-Fault.fault)
-    (c.in-None-contents_event.ensures.counts.0 ∙ c.in-None-constructed.ensures.steps.counts.0
-    ∙ c.in-None.ensures.counts.0)
+    let left =
+    follows_left g.F.Follow.next g.D.Drain.state _ _ _ _ _ _ _ c.events.invariant.follows c.if-branch.false
+    c.in_ok-follow_primitive.ensures in
+    pauses_fault g.F.Follow.next g.D.Drain.state _ _ _ _ _ _ _
+    (follows_no_more g.F.Follow.next g.D.Drain.state _ _ _ _ _ _ _ c.in-None-2.is
+    (follows_same g.F.Follow.next g.D.Drain.state _ _ _ _ _ _ left (c.in-None-contents_event.ensures.counts.0
+    ∙ c.in-None-constructed.ensures.steps.counts.0 ∙ c.in-None.ensures.counts.0) refl refl
     (c.in-None-contents_event.ensures.counts.1 ∙ c.in-None-constructed.ensures.steps.counts.1
-    ∙ c.in-None.ensures.counts.1)
-    c.in-Fault.ensures)
+    ∙ c.in-None.ensures.counts.1)) c.in_ok-go-in-None-contents_event.ensures)
+    c.in-Fault.ensures
 
 pub returns-then-eq : goal.returns-then-eq
 returns-then-eq g c =
@@ -233,37 +308,56 @@ returns-then-eq g c =
     follows_left g.F.Follow.next g.D.Drain.state _ _ _ _ _ _ _ c.events.invariant.follows c.if-branch.false
     c.in_ok-follow_primitive.ensures in
     elim c.match-close.branch [
-      | in-Some+in_ok-go-in-Some w ↦ rw (w.out-is, w.follower-is, w.walker-is)
-          (pauses_enough g.F.Follow.next g.D.Drain.state
-          _ _ _ _ _ (follows_event g.F.Follow.next g.D.Drain.state _ _ _ _ _ _ _ _ left
-          (stands_all _ _ _ _ _ w.in-Some.ensures.yields) w.in_ok-go-in-Some.ensures)
-          (sym w.go-is ∙ enough) w.in-Some.ensures.counts.0.has_yielded.after_event)
-      | in-None+in-Some-constructed+in_ok-go-in-Some-constructed w ↦ rw (w.out-is, w.follower-is, w.walker-is)
-          (pauses_enough g.F.Follow.next g.D.Drain.state
-          _ _ _ _ _ (follows_event g.F.Follow.next g.D.Drain.state _ _ _ _ _ _ _ _ left
+      | in-Some-Close+in_ok-go-in-Some-Close w ↦
+          rw (w.out-is, w.follower-is, w.walker-is)
+          (pauses_enough g.F.Follow.next g.D.Drain.state _ _ _ _ _
+          (follows_event g.F.Follow.next g.D.Drain.state _ _ _ _ _ _ _ _ left
+          (ended _ _ _ _ _ (end.Close w.in-Some-Close.offset) w.in-Some-Close.field-0-is
+          (stands_all _ _ _ _ _ w.in-Some-Close.ensures.yields)) w.in_ok-go-in-Some-Close.ensures)
+          (sym w.go-is ∙ enough) w.in-Some-Close.ensures.counts.0.has_yielded.after_event)
+      | in-Some-Leave+in_ok-go-in-Some-Leave w ↦
+          rw (w.out-is, w.follower-is, w.walker-is)
+          (pauses_enough g.F.Follow.next g.D.Drain.state _ _ _ _ _
+          (follows_event g.F.Follow.next g.D.Drain.state _ _ _ _ _ _ _ _ left
+          (ended _ _ _ _ _ end.Leave w.in-Some-Leave.field-0-is
+          (stands_all _ _ _ _ _ w.in-Some-Leave.ensures.yields)) w.in_ok-go-in-Some-Leave.ensures)
+          (sym w.go-is ∙ enough) w.in-Some-Leave.ensures.counts.0.has_yielded.after_event)
+      | in-None+in-Some+in_ok-go-in-Some w ↦
+          rw (w.out-is, w.follower-is, w.walker-is)
+          (pauses_enough g.F.Follow.next g.D.Drain.state _ _ _ _ _
+          (follows_event g.F.Follow.next g.D.Drain.state _ _ _ _ _ _ _ _ left
           (unmoved_event _ _ _ _ _ _ _ (w.in-None.ensures.counts.0) (w.in-None.ensures.counts.1)
-          (stands_all _ _ _ _ _ w.in-Some-constructed.ensures.steps.yields))
-          w.in_ok-go-in-Some-constructed.ensures)
-          (sym w.go-is ∙ enough) w.in-Some-constructed.ensures.steps.counts.0.has_yielded.after_event)
+          (stands_all _ _ _ _ _ w.in-Some.ensures.steps.yields)) w.in_ok-go-in-Some.ensures)
+          (sym w.go-is ∙ enough) w.in-Some.ensures.steps.counts.0.has_yielded.after_event)
       | in-None+in-None-constructed+in-Some-contents_event+in_ok-go-in-Some-contents_event w ↦
           rw (w.out-is, w.follower-is, w.walker-is)
-          (pauses_enough g.F.Follow.next g.D.Drain.state
-          _ _ _ _ _ (follows_event g.F.Follow.next g.D.Drain.state _ _ _ _ _ _ _ _ left
+          (pauses_enough g.F.Follow.next g.D.Drain.state _ _ _ _ _
+          (follows_event g.F.Follow.next g.D.Drain.state _ _ _ _ _ _ _ _ left
           (unmoved_event _ _ _ _ _ _ _ (w.in-None-constructed.ensures.steps.counts.0 ∙ w.in-None.ensures.counts.0)
           (w.in-None-constructed.ensures.steps.counts.1 ∙ w.in-None.ensures.counts.1)
-          (stands_all _ _ _ _ _ w.in-Some-contents_event.ensures.yields))
-          w.in_ok-go-in-Some-contents_event.ensures)
+          (stands_all _ _ _ _ _ w.in-Some-contents_event.ensures.yields)) w.in_ok-go-in-Some-contents_event.ensures)
           (sym w.go-is ∙ enough) w.in-Some-contents_event.ensures.counts.0.has_yielded.after_event)
-      | in-None+in-None-constructed+in-None-contents_event+in-Event+in_ok-go-in-Event w ↦
+      | in-None+in-None-constructed+in-None-contents_event+in_ok-go-in-None-contents_event+in-Some-2 w ↦
           rw (w.out-is, w.follower-is, w.walker-is)
-          (pauses_enough g.F.Follow.next g.D.Drain.state
-          _ _ _ _ _ (follows_event g.F.Follow.next g.D.Drain.state _ _ _ _ _ _ _ _ left
-          (unmoved_event
-          _ _ _ _ _ _ _ (w.in-None-contents_event.ensures.counts.0 ∙ w.in-None-constructed.ensures.steps.counts.0
-          ∙ w.in-None.ensures.counts.0)
+          (pauses_enough g.F.Follow.next g.D.Drain.state _ _ _ _ _
+          (follows_one g.F.Follow.next g.D.Drain.state _ _ _ _ _ _ _ _ w.in-Some-2.is
+          (follows_same g.F.Follow.next g.D.Drain.state _ _ _ _ _ _ left (w.in-None-contents_event.ensures.counts.0
+          ∙ w.in-None-constructed.ensures.steps.counts.0 ∙ w.in-None.ensures.counts.0) refl refl
           (w.in-None-contents_event.ensures.counts.1 ∙ w.in-None-constructed.ensures.steps.counts.1
-          ∙ w.in-None.ensures.counts.1)
-          (walked_event _ _ _ _ _ w.in-Event.ensures))
+          ∙ w.in-None.ensures.counts.1)) w.in_ok-go-in-None-contents_event.ensures)
+          (sym w.go-is ∙ enough)
+          (one_counts g.F.Follow.next g.D.Drain.state _ _ _ _ _ _ w.in-Some-2.is
+          w.in_ok-go-in-None-contents_event.ensures).has_yielded.after_event)
+      | in-None+in-None-constructed+in-None-contents_event+in_ok-go-in-None-contents_event+in-None-2+in-Event+in_ok-go-in-Event w ↦
+          rw (w.out-is, w.follower-is, w.walker-is)
+          (pauses_enough g.F.Follow.next g.D.Drain.state _ _ _ _ _
+          (follows_event g.F.Follow.next g.D.Drain.state _ _ _ _ _ _ _ _
+          (follows_no_more g.F.Follow.next g.D.Drain.state _ _ _ _ _ _ _ w.in-None-2.is
+          (follows_same g.F.Follow.next g.D.Drain.state _ _ _ _ _ _ left (w.in-None-contents_event.ensures.counts.0
+          ∙ w.in-None-constructed.ensures.steps.counts.0 ∙ w.in-None.ensures.counts.0) refl refl
+          (w.in-None-contents_event.ensures.counts.1 ∙ w.in-None-constructed.ensures.steps.counts.1
+          ∙ w.in-None.ensures.counts.1)) w.in_ok-go-in-None-contents_event.ensures)
+          (walked_event _ _ _ _ _ w.in-Event.ensures)
           w.in_ok-go-in-Event.ensures)
           (sym w.go-is ∙ enough) w.in-Event.ensures.has_yielded.after_event)
     ]
