@@ -1,7 +1,6 @@
 -- What was found before is still there.
-use Rattle.std.proofs.Common.{◌≡◌, ◌++◌, List, ℕ, [], length, take, refl, sym, ap, ap₂, ◌∙◌, arith}
+use Rattle.std.proofs.Common.{◌≡◌, ℕ, length, take, refl, sym, ap, ap₂, ◌∙◌}
 use Rattle.std.proofs.Math.Seq.{take-append_seam}
-use Rattle.tlv_open.specs.declared.strings.BrokenString.{BrokenString}
 use Rattle.tlv_open.specs.Private.Adds.{IsKept}
 use Rattle.tlv_open.specs.Private.Finds.{FoundStrings, found_in_turn}
 use Rattle.tlv_open.proofs.FinderLemmas.FoundBoth.{both-assoc, both-nothing}

@@ -1,10 +1,10 @@
-use Rattle.std.proofs.Common.{◌≡◌, ◌↔◌, ◌+◌, ◌&&◌, Bool, IsTrue, not, false, true, List, ℕ, [], ◌∷◌, length, take, drop, refl, sym}
+use Rattle.std.proofs.Common.{◌≡◌, ◌↔◌, ◌+◌, ◌&&◌, Bool, IsTrue, false, true, List, ℕ, [], ◌∷◌, length, take, drop, refl, sym}
 use Rattle.std.proofs.Common.{ap, append-nil, ◌∙◌, arith, length-drop, subst, vec_len}
 use Rattle.tlv_head.specs.declared.header.Size.TheVariants.{Indefinite}
 use Rattle.tlv_head.specs.HeaderFields.{new_header}
 use Rattle.tlv_open.specs.Private.Adds.{IsKept, IsPlain, SaysSound}
 use Rattle.tlv_open.specs.Private.Elements.{SaysElement, is_elements_end, place_at}
-use Rattle.tlv_open.specs.Private.Finds.{AddsAll, FoundStrings, found_in_turn, found_of, list_of, spot_held}
+use Rattle.tlv_open.specs.Private.Finds.{AddsAll, FoundStrings, found_of, list_of, spot_held}
 use Rattle.tlv_open.proofs.ElementLemmas.Elements.{element-within, tail-all, tail-of_tail}
 use Rattle.tlv_open.proofs.ElementLemmas.Extents.{says-definite, says-indefinite, says-lacking, says-primitive}
 use Rattle.tlv_open.proofs.ElementLemmas.Extents.{says-unended}
