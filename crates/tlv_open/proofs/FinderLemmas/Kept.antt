@@ -28,3 +28,8 @@ pub kept-broken : (old new : FoundStrings) (n : ℕ) → IsKept old new → n �
     → take n new.broken ≡ old.broken
 kept-broken old new n k e =
     ap₂ take e (ap (λ (o : FoundStrings). o.broken) k.added) ∙ take-append_seam old.broken k.more.broken
+
+-- a string more, and then others
+pub kept-pushed : (old mid new : FoundStrings) (more : FoundStrings) → mid ≡ found_in_turn old more → IsKept mid new
+    → IsKept old new
+kept-pushed old mid new more e k = kept-then old mid new (record { more = more; added = e }) k

@@ -6,7 +6,7 @@ use Rattle.tlv_open.specs.Private.Adds.{IsKept, IsPlain, SaysSound}
 use Rattle.tlv_open.specs.Private.Elements.{SaysElement, is_elements_end, place_at}
 use Rattle.tlv_open.specs.Private.Finds.{AddsAll, FoundStrings, found_of, list_of, spot_held}
 use Rattle.tlv_open.proofs.ElementLemmas.Elements.{element-within, tail-all, tail-of_tail}
-use Rattle.tlv_open.proofs.ElementLemmas.Extents.{says-definite, says-indefinite, says-lacking, says-primitive}
+use Rattle.tlv_open.proofs.ElementLemmas.Extents.{says-definite, says-indefinite, says-lacking}
 use Rattle.tlv_open.proofs.ElementLemmas.Extents.{says-unended}
 use Rattle.tlv_open.proofs.ElementLemmas.FirstElement.{first-too_deep, first-too_long, no_header-none}
 use Rattle.tlv_open.proofs.ElementLemmas.Held.{HoldsSome, holds-if, holds-nothing, holds-too_deep}
@@ -18,12 +18,12 @@ use Rattle.tlv_open.proofs.FinderLemmas.FirstRead.{finds-header}
 use Rattle.tlv_open.proofs.FinderLemmas.Found.{adds-all-at, adds-done, adds-ended, adds-first-at, adds-more}
 use Rattle.tlv_open.proofs.FinderLemmas.Found.{adds-padding, adds-start}
 use Rattle.tlv_open.proofs.FinderLemmas.FoundBoth.{both-nothing}
-use Rattle.tlv_open.proofs.FinderLemmas.Kept.{kept-all, kept-broken, kept-opened, kept-same, kept-then}
-use Rattle.tlv_open.proofs.FinderLemmas.Plain.{adds-plain, no-inner, plain-sound}
+use Rattle.tlv_open.proofs.FinderLemmas.Kept.{kept-all, kept-broken, kept-opened, kept-pushed, kept-same, kept-then}
+use Rattle.tlv_open.proofs.FinderLemmas.Plain.{adds-plain, no-inner, plain-sound, says-alone}
 use Rattle.tlv_open.proofs.FinderLemmas.Sounds.{adds-all_octets, says-done, says-ended, says-inside, says-unsound}
 use Rattle.tlv_open.proofs.FinderLemmas.Sounds.{so_far-element, so_far-sound, so_far-start, so_far-zero}
 use Rattle.tlv_open.proofs.FinderLemmas.Strings.{adds-held, adds-no_octets, adds-unheld, adds-unopened, begins-taken}
-use Rattle.tlv_open.proofs.FinderLemmas.Strings.{clear-taken, primitive-at, string-count, string-whole, whole-taken}
+use Rattle.tlv_open.proofs.FinderLemmas.Strings.{primitive-at, string-count, string-whole, whole-taken}
 use Rattle.tlv_open.proofs.adding.+find.Goals.{add_held-then-spot-ge-DEPTH_LIMIT-via-then-spot-ge-DEPTH_LIMIT}
 use Rattle.tlv_open.proofs.adding.+find.Goals.{add_held-then-spot-ge-DEPTH_LIMIT-via-else-spot-ge-DEPTH_LIMIT+then-is_empty}
 use Rattle.tlv_open.proofs.adding.+find.Goals as goal
@@ -210,17 +210,12 @@ add_with-returns-then-not-is_octet_or_bit_string-clause-adds t c =
 pub add_with-returns-then-not-is_octet_or_bit_string-clause-sound :
     goal.add_with-returns-then-not-is_octet_or_bit_string-clause-sound
 add_with-returns-then-not-is_octet_or_bit_string-clause-sound t c =
-    says-primitive c.args.octets.now c.args.offset c.args.spot.now.depth c.args.spot.now.likely c.args.fields.now c.args.count
-    c.requires.begins c.announced_length-length.result c.is_likely_if-sound.result c.if-fields.false
+    says-alone c.args.octets.now c.args.offset c.args.spot.now.depth c.args.spot.now.likely c.args.fields.now c.args.count
+    c.announced_length-length.result c.is_likely_if-sound.result c.requires.begins c.if-fields.false
     c.announced_length-length.ensures
     (omega (arith, c.if-length-octets.false, length-drop c.args.count c.args.octets.now))
-    c.is_likely_if-sound.ensures.unasked
-    (λ l.
-    clear-taken c.args.octets.now c.args.fields.now c.args.count c.announced_length-length.result
-    c.is_likely_if-sound.result
-    (c.is_likely_if-sound.ensures.asked l c.args.fields.now c.args.count
-    (begins-taken c.args.octets.now c.args.offset c.args.fields.now c.args.count c.announced_length-length.result
-    c.requires.begins (omega (arith, c.if-length-octets.false, c.requires.begins.within)))))
+    (omega (arith, c.if-length-octets.false, c.requires.begins.within)) c.is_likely_if-sound.ensures.unasked
+    c.is_likely_if-sound.ensures.asked
 
 pub add_with-returns-then-not-is_octet_or_bit_string-clause-kept :
     goal.add_with-returns-then-not-is_octet_or_bit_string-clause-kept
@@ -244,17 +239,12 @@ add_with-returns-clause-adds t c =
 
 pub add_with-returns-clause-sound : goal.add_with-returns-clause-sound
 add_with-returns-clause-sound t c =
-    says-primitive c.args.octets.now c.args.offset c.args.spot.now.depth c.args.spot.now.likely c.args.fields.now c.args.count
-    c.requires.begins c.announced_length-length.result c.is_likely_if-sound.result c.if-fields.false
+    says-alone c.args.octets.now c.args.offset c.args.spot.now.depth c.args.spot.now.likely c.args.fields.now c.args.count
+    c.announced_length-length.result c.is_likely_if-sound.result c.requires.begins c.if-fields.false
     c.announced_length-length.ensures
     (omega (arith, c.if-length-octets.false, length-drop c.args.count c.args.octets.now))
-    c.is_likely_if-sound.ensures.unasked
-    (λ l.
-    clear-taken c.args.octets.now c.args.fields.now c.args.count c.announced_length-length.result
-    c.is_likely_if-sound.result
-    (c.is_likely_if-sound.ensures.asked l c.args.fields.now c.args.count
-    (begins-taken c.args.octets.now c.args.offset c.args.fields.now c.args.count c.announced_length-length.result
-    c.requires.begins (omega (arith, c.if-length-octets.false, c.requires.begins.within)))))
+    (omega (arith, c.if-length-octets.false, c.requires.begins.within)) c.is_likely_if-sound.ensures.unasked
+    c.is_likely_if-sound.ensures.asked
 
 pub add_in_holder-returns-then-spot-ge-DEPTH_LIMIT-clause-adds :
     goal.add_in_holder-returns-then-spot-ge-DEPTH_LIMIT-clause-adds
@@ -536,13 +526,10 @@ add_held-returns-then-extent-clause-tries t c = record {
 
 pub add_held-returns-then-extent-clause-kept : goal.add_held-returns-then-extent-clause-kept
 add_held-returns-then-extent-clause-kept t c =
-    kept-then (found_of c.args.found.now) _ (found_of c.add_strings.new.found)
-    (record {
-      more = record { opened = c.args.offset ∷ []; broken = [] };
-      added = λ i. record {
-        opened = c.in_ok-push.ensures.items i;
-        broken = sym (append-nil c.args.found.now.broken.items) i;
-      };
+    kept-pushed _ _ _ (record { opened = c.args.offset ∷ []; broken = [] })
+    (λ i. record {
+      opened = c.in_ok-push.ensures.items i;
+      broken = sym (append-nil c.args.found.now.broken.items) i;
     })
     c.in_ok-extent.ensures.kept
 
@@ -557,13 +544,10 @@ add_held-returns-clause-held t c = λ h contents e.
 pub add_held-returns-clause-kept : goal.add_held-returns-clause-kept
 add_held-returns-clause-kept t c =
     let kept : IsKept (found_of c.args.found.now) (found_of c.add_strings.new.found) =
-    kept-then (found_of c.args.found.now) _ (found_of c.add_strings.new.found)
-    (record {
-      more = record { opened = c.args.offset ∷ []; broken = [] };
-      added = λ i. record {
-        opened = c.in_ok-push.ensures.items i;
-        broken = sym (append-nil c.args.found.now.broken.items) i;
-      };
+    kept-pushed _ _ _ (record { opened = c.args.offset ∷ []; broken = [] })
+    (λ i. record {
+      opened = c.in_ok-push.ensures.items i;
+      broken = sym (append-nil c.args.found.now.broken.items) i;
     })
     c.in_ok-extent.ensures.kept in
     let count_opened : c.len-opened.result ≡ vec_len c.args.found.now.opened = c.len-opened.ensures in
