@@ -2,7 +2,7 @@
 ghost use Rattle.std.specs.Prelude.{◌≡◌, IfSome, false, length};
 ghost use Rattle.tlv_open.specs.Private.Adds.{IsPlain};
 
-use crate::elements::{first_octet, two_octet_header};
+use crate::elements::two_octet_header;
 use crate::spot::is_octet_or_bit_string;
 
 /// How many octets elements have that are looked for among octets, and whether they are sound.
@@ -31,8 +31,7 @@ pub(crate) fn unended(octets: &[u8]) -> Extent
 pub(crate) fn plain_size(octets: &[u8], offset: u64, likely: bool) -> Option<usize>
     ensures { IfSome result (λ n. IsPlain octets.now offset likely n) }
 {
-    // Bit 6 says that it is constructed, as many are; so few headers are read here.
-    if likely || first_octet(octets) & 0x20 != 0 {
+    if likely {
         return None;
     }
     let (fields, count) = two_octet_header(octets, offset)?;
