@@ -243,7 +243,8 @@ fn add_string(
     found: &mut Strings,
 ) -> Result<(), AllocError>
     requires { spot.now.start + (offset + length octets.now) ≤ input_limit }
-    ensures adds { OnOk result (AddsAt spot.now is_value octets.now offset (found_of found.old) (found_of found.new)) }
+    ensures adds { OnOk result (AddsAt spot.now is_value octets.now offset
+        (found_of found.old) (found_of found.new)) }
     ensures kept { OnOk result (IsKept (found_of found.old) (found_of found.new)) }
 {
     if !spot.may_open {

@@ -1,6 +1,6 @@
 //! Sound elements in octets that are at hand.
-ghost use Rattle.std.specs.Prelude.{◌≡◌, ◌+◌, ◌<◌, ◌^◌, ◌↔◌, IfSome, IsTrue, MatchOption, drop, false, length, slice_index};
-ghost use Rattle.std.specs.Prelude.{take, true, ℕ};
+ghost use Rattle.std.specs.Prelude.{◌≡◌, ◌+◌, ◌<◌, ◌^◌, ◌↔◌, IfSome, IsTrue, MatchOption, drop, false, length};
+ghost use Rattle.std.specs.Prelude.{slice_index, take, true, ℕ};
 ghost use Rattle.tlv_head.specs.Header.{announced_length};
 ghost use Rattle.tlv_head.specs.HeaderFields.{IsHeaderSized, new_header};
 ghost use Rattle.tlv_head.specs.ReadHeader.{BeginsWithFields};
