@@ -6,7 +6,7 @@ ghost use Rattle.tlv_head.specs.Header.{HeaderValue};
 ghost use Rattle.tlv_head.specs.InputLimit.{input_limit};
 ghost use Rattle.tlv_head.specs.ReadHeader.{BeginsWithFields};
 ghost use Rattle.tlv_open.specs.Held.{HoldsEncodings, inner_octets};
-ghost use Rattle.tlv_open.specs.Private.Adds.{AddsAt, BeginsIndefinite, IsKept, SaysSound, Tries};
+ghost use Rattle.tlv_open.specs.Private.Adds.{AddsAt, IsKept, SaysSound, Tries};
 ghost use Rattle.tlv_open.specs.Private.Elements.{SaysElement, place_at};
 ghost use Rattle.tlv_open.specs.Private.Finds.{AddsAll, AddsFirst, found_of};
 ghost use Rattle.tlv_walk.specs.Forest.{Forest};
@@ -178,7 +178,7 @@ fn add_in_holder(
         return Ok(unended(octets));
     }
     let Size::Definite(length) = fields.size else {
-        return add_in_indefinite(octets, offset, spot, end_octets, found);
+        return add_in_indefinite(octets, offset, fields, count, spot, end_octets, found);
     };
     let rest = &octets[count..];
     let start = offset + count as u64;
@@ -195,18 +195,21 @@ fn add_in_holder(
     })
 }
 
-/// [`add_in_holder`], if the length is indefinite. The header is read again, since few elements are such.
+/// [`add_in_holder`], if the length is indefinite.
 #[cycle(find)]
-#[inline(never)]
+#[inline(always)]
 fn add_in_indefinite(
     octets: &[u8],
     offset: u64,
+    fields: &HeaderFields,
+    count: usize,
     spot: &Spot,
     end_octets: bool,
     found: &mut Strings,
 ) -> Result<Extent, AllocError>
     requires limit { spot.now.start + (offset + length octets.now) ≤ input_limit }
-    requires begins { BeginsIndefinite octets.now offset }
+    requires begins { BeginsWithFields octets.now offset false fields.now count }
+    requires indefinite { fields.now.size ≡ Size.Indefinite }
     requires shallow { spot.now.depth < depth_limit }
     ensures adds { IfOk result (λ e. AddsFirst spot.now offset end_octets octets.now
         (found_of found.old) (found_of found.new) e.size) }
@@ -215,12 +218,9 @@ fn add_in_indefinite(
     ensures some { IfOk result (λ e. 0 < e.size) }
     ensures within { IfOk result (λ e. e.size ≤ length octets.now) }
 {
-    let Some((fields, count)) = header_at(octets, offset) else {
-        return Ok(unended(octets));
-    };
     let rest = &octets[count..];
     let start = offset + count as u64;
-    let inner = inside(spot, &fields, rest, start, true);
+    let inner = inside(spot, fields, rest, start, true);
     let extent = add_strings(rest, start, &inner, true, found)?;
     if is_elements_end(&rest[extent.size..], true) {
         return Ok(Extent {
@@ -231,8 +231,8 @@ fn add_in_indefinite(
     Ok(unended(octets))
 }
 
-/// Adds the primitive that these octets are, at this offset, if it is a string that is opened or that is broken, and the
-/// strings that are found in it. Its header is read again, so that it need not be kept for all other elements.
+/// Adds the primitive that these octets are, at this offset, if it is a string that is opened or that is broken, and
+/// the strings that are found in it. Its header is read again, so that it need not be kept for all other elements.
 #[cycle(find)]
 #[inline(never)]
 fn add_string(

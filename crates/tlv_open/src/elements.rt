@@ -16,15 +16,15 @@ use tlv_show::has_basic_findings;
 /// The most elements that hold others, inside one another.
 pub(crate) const DEPTH_LIMIT: u8 = 128;
 
-/// The header with which the octets begin, at this offset, if it has two octets, as most have. `None` if they begin with
-/// no header, or with a longer one, which [`header_at`] finds. It is apart, since few instructions read so short a
-/// header where it is asked for.
+/// The header with which the octets begin, at this offset, if it has two octets, as most have. `None` if they begin
+/// with no header, or with a longer one, which [`header_at`] finds. It is apart, since few instructions read so short
+/// a header where it is asked for.
 #[inline(always)]
 pub(crate) fn two_octet_header(octets: &[u8], offset: u64) -> Option<(HeaderFields, usize)>
     ensures { IfSome result (λ (fields, count). BeginsWithFields octets.now offset false fields count) }
 {
     match octets {
-        [identifier, length, ..] if *identifier & 0x1f != 0x1f && *length < 0x80 => {
+        [identifier, length, ..] if *identifier & 0x1f != 0x1f && *length <= 0x80 => {
             read_short(offset, false, octets)
         }
         _ => None,

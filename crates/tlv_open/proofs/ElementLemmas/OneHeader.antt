@@ -37,7 +37,7 @@ module _ (octets : List ℕ) (offset : ℕ) (f g : HeaderFields) (n m : ℕ) (a 
   pub counts-one : n ≡ m
   counts-one = sym (count-of f n a) ∙ (ap (λ (h : HeaderValue). length (octets_of h)) fields-one ∙ count-of g m b)
 
-  pub sizes-one : f.size ≡ g.size
+  sizes-one : f.size ≡ g.size
   sizes-one = ap (λ (h : HeaderValue). h.size) fields-one
 
   pub forms-one : f.constructed ≡ g.constructed

@@ -1,7 +1,6 @@
 -- What is added to what was found before, and whether the octets are sound.
 use Rattle.std.specs.Prelude.{◌≡◌, ℕ, ◌+◌, ◌≤◌, Bool, true, false, List, [], ◌∷◌, length, take, drop, None}
 use Rattle.tlv_head.specs.declared.header.HeaderFields.{HeaderFields}
-use Rattle.tlv_head.specs.declared.header.Size.TheVariants.{Indefinite}
 use Rattle.tlv_head.specs.Header.{announced_length}
 use Rattle.tlv_head.specs.HeaderFields.{new_header}
 use Rattle.tlv_head.specs.ReadHeader.{BeginsWithFields}
@@ -40,13 +39,6 @@ pub record IsPlain (octets : List ℕ) (offset : ℕ) (likely : Bool) (n : ℕ) 
   pub within : announced ≤ length (drop count octets)
   pub size : n ≡ count + announced
   pub no_string : (contents : List ℕ) → inner_octets (new_header fields (take count octets)) contents ≡ None
-
--- the octets begin with a header of indefinite length
-pub record BeginsIndefinite (octets : List ℕ) (offset : ℕ) : Type 0 where
-  pub fields : HeaderFields
-  pub count : ℕ
-  pub begins : BeginsWithFields octets offset false fields count
-  pub indefinite : fields.size ≡ Indefinite
 
 -- the octets are a header, and as many others as it announces
 pub record IsWholePrimitive (octets : List ℕ) (offset : ℕ) : Type 0 where

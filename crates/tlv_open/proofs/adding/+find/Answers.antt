@@ -1,6 +1,5 @@
 use Rattle.std.proofs.Common.{◌≡◌, ◌↔◌, ◌+◌, ◌&&◌, Bool, IsTrue, false, true, List, ℕ, [], ◌∷◌, length, take, drop, refl, sym}
 use Rattle.std.proofs.Common.{ap, append-nil, ◌∙◌, arith, length-drop, subst, vec_len}
-use Rattle.tlv_head.specs.declared.header.Size.TheVariants.{Indefinite}
 use Rattle.tlv_head.specs.HeaderFields.{new_header}
 use Rattle.tlv_open.specs.Private.Adds.{IsKept, IsPlain, SaysSound}
 use Rattle.tlv_open.specs.Private.Elements.{SaysElement, is_elements_end, place_at}
@@ -10,7 +9,7 @@ use Rattle.tlv_open.proofs.ElementLemmas.Extents.{says-definite, says-indefinite
 use Rattle.tlv_open.proofs.ElementLemmas.Extents.{says-unended}
 use Rattle.tlv_open.proofs.ElementLemmas.FirstElement.{first-too_deep, first-too_long, no_header-none}
 use Rattle.tlv_open.proofs.ElementLemmas.Held.{HoldsSome, holds-if, holds-nothing, holds-too_deep}
-use Rattle.tlv_open.proofs.ElementLemmas.OneHeader.{adds-at, header-there, sizes-one}
+use Rattle.tlv_open.proofs.ElementLemmas.OneHeader.{adds-at, header-there}
 use Rattle.tlv_open.proofs.FinderLemmas.NothingFound.{nothing_found}
 use Rattle.tlv_open.proofs.FinderLemmas.FirstFound.{adds-ended_holder, adds-holder, adds-open_holder, adds-primitive}
 use Rattle.tlv_open.proofs.FinderLemmas.FirstFound.{adds-too_deep, adds-unended_holder, adds-unfinished, indefinite-constructed}
@@ -318,96 +317,67 @@ add_in_holder-returns-clause-sound t c =
     c.in_ok-extent.extent)
     (tail-all c.args.octets.now c.args.count) c.in_ok-extent.ensures.sound)))
 
-pub add_in_indefinite-returns-in_default-clause-adds : goal.add_in_indefinite-returns-in_default-clause-adds
-add_in_indefinite-returns-in_default-clause-adds t c =
-    absurd (header-there c.args.octets.now c.args.offset c.requires.begins.fields c.requires.begins.count
-    c.requires.begins.begins c.in_default.ensures)
-
-pub add_in_indefinite-returns-in_default-clause-sound : goal.add_in_indefinite-returns-in_default-clause-sound
-add_in_indefinite-returns-in_default-clause-sound t c =
-    absurd (header-there c.args.octets.now c.args.offset c.requires.begins.fields c.requires.begins.count
-    c.requires.begins.begins c.in_default.ensures)
-
-pub add_in_indefinite-returns-in_default-clause-kept : goal.add_in_indefinite-returns-in_default-clause-kept
-add_in_indefinite-returns-in_default-clause-kept t c = kept-all (found_of c.args.found.now)
-
 pub add_in_indefinite-returns-then-is_elements_end-clause-adds :
     goal.add_in_indefinite-returns-then-is_elements_end-clause-adds
 add_in_indefinite-returns-then-is_elements_end-clause-adds t c =
-    let indefinite : c.in-Some.fields.size ≡ Indefinite =
-    sizes-one c.args.octets.now c.args.offset c.in-Some.fields c.requires.begins.fields c.in-Some.count
-    c.requires.begins.count c.in-Some.ensures c.requires.begins.begins
-    ∙ c.requires.begins.indefinite in
-    adds-ended_holder c.args.octets.now c.args.offset c.in-Some.fields c.in-Some.count c.in-Some.ensures
+    adds-ended_holder c.args.octets.now c.args.offset c.args.fields.now c.args.count c.requires.begins
     c.args.spot.now (found_of c.args.found.now) (found_of c.add_strings.new.found) c.in_ok-extent.extent.size
     c.inside-inner.result
-    (indefinite-constructed c.in-Some.fields.constructed c.in-Some.fields.size indefinite
-    c.in-Some.ensures.begins.valid.allowed)
-    indefinite
-    (rw (tail-all c.args.octets.now c.in-Some.count) at (c.inside-inner.ensures.inner (take c.in-Some.count c.args.octets.now)))
-    (adds-all-at _ _ _ _ _ _ _ _ _ refl (tail-all c.args.octets.now c.in-Some.count) c.in_ok-extent.ensures.adds)
+    (indefinite-constructed c.args.fields.now.constructed c.args.fields.now.size c.requires.indefinite
+    c.requires.begins.begins.valid.allowed)
+    c.requires.indefinite
+    (rw (tail-all c.args.octets.now c.args.count) at (c.inside-inner.ensures.inner (take c.args.count c.args.octets.now)))
+    (adds-all-at _ _ _ _ _ _ _ _ _ refl (tail-all c.args.octets.now c.args.count) c.in_ok-extent.ensures.adds)
     (sym (c.is_elements_end.ensures
-    ∙ ap (is_elements_end true) (tail-of_tail c.args.octets.now c.in-Some.count c.in_ok-extent.extent.size))
+    ∙ ap (is_elements_end true) (tail-of_tail c.args.octets.now c.args.count c.in_ok-extent.extent.size))
     ∙ c.if-is_elements_end.true)
     c.args.end_octets
 
 pub add_in_indefinite-returns-then-is_elements_end-clause-sound :
     goal.add_in_indefinite-returns-then-is_elements_end-clause-sound
 add_in_indefinite-returns-then-is_elements_end-clause-sound t c =
-    let indefinite : c.in-Some.fields.size ≡ Indefinite =
-    sizes-one c.args.octets.now c.args.offset c.in-Some.fields c.requires.begins.fields c.in-Some.count
-    c.requires.begins.count c.in-Some.ensures c.requires.begins.begins
-    ∙ c.requires.begins.indefinite in
-    says-indefinite c.args.octets.now c.args.offset c.args.spot.now.depth c.args.spot.now.likely c.in-Some.fields
-    c.in-Some.count c.in-Some.ensures c.in_ok-extent.extent.size c.in_ok-extent.extent.sound indefinite
+    says-indefinite c.args.octets.now c.args.offset c.args.spot.now.depth c.args.spot.now.likely c.args.fields.now
+    c.args.count c.requires.begins c.in_ok-extent.extent.size c.in_ok-extent.extent.sound c.requires.indefinite
     c.requires.shallow
-    (says-inside c.inside-inner.result (c.args.offset + c.in-Some.count) (c.args.spot.now.depth + 1) false true
-    (drop c.in-Some.count c.args.octets.now) c.in_ok-extent.extent c.inside-inner.ensures.depth
+    (says-inside c.inside-inner.result (c.args.offset + c.args.count) (c.args.spot.now.depth + 1) false true
+    (drop c.args.count c.args.octets.now) c.in_ok-extent.extent c.inside-inner.ensures.depth
     c.inside-inner.ensures.unasked.0 c.inside-inner.ensures.unasked.1
     (subst
-    (λ (o : List ℕ). SaysSound c.inside-inner.result (c.args.offset + c.in-Some.count) true o c.in_ok-extent.extent)
-    (tail-all c.args.octets.now c.in-Some.count) c.in_ok-extent.ensures.sound))
+    (λ (o : List ℕ). SaysSound c.inside-inner.result (c.args.offset + c.args.count) true o c.in_ok-extent.extent)
+    (tail-all c.args.octets.now c.args.count) c.in_ok-extent.ensures.sound))
 
 pub add_in_indefinite-returns-clause-adds : goal.add_in_indefinite-returns-clause-adds
 add_in_indefinite-returns-clause-adds t c =
-    let indefinite : c.in-Some.fields.size ≡ Indefinite =
-    sizes-one c.args.octets.now c.args.offset c.in-Some.fields c.requires.begins.fields c.in-Some.count
-    c.requires.begins.count c.in-Some.ensures c.requires.begins.begins
-    ∙ c.requires.begins.indefinite in
     adds-all_octets c.args.spot.now c.args.offset c.args.end_octets c.args.octets.now (found_of c.args.found.now)
-    (found_of c.add_strings.new.found) c.unended-2.result c.unended-2.ensures
-    (adds-unended_holder c.args.octets.now c.args.offset c.in-Some.fields c.in-Some.count c.in-Some.ensures
+    (found_of c.add_strings.new.found) c.unended.result c.unended.ensures
+    (adds-unended_holder c.args.octets.now c.args.offset c.args.fields.now c.args.count c.requires.begins
     c.args.spot.now (found_of c.args.found.now) (found_of c.add_strings.new.found) c.in_ok-extent.extent.size
     c.inside-inner.result
-    (indefinite-constructed c.in-Some.fields.constructed c.in-Some.fields.size indefinite
-    c.in-Some.ensures.begins.valid.allowed)
-    indefinite
-    (rw (tail-all c.args.octets.now c.in-Some.count) at (c.inside-inner.ensures.inner (take c.in-Some.count c.args.octets.now)))
-    (adds-all-at _ _ _ _ _ _ _ _ _ refl (tail-all c.args.octets.now c.in-Some.count) c.in_ok-extent.ensures.adds)
+    (indefinite-constructed c.args.fields.now.constructed c.args.fields.now.size c.requires.indefinite
+    c.requires.begins.begins.valid.allowed)
+    c.requires.indefinite
+    (rw (tail-all c.args.octets.now c.args.count) at (c.inside-inner.ensures.inner (take c.args.count c.args.octets.now)))
+    (adds-all-at _ _ _ _ _ _ _ _ _ refl (tail-all c.args.octets.now c.args.count) c.in_ok-extent.ensures.adds)
     (sym (c.is_elements_end.ensures
-    ∙ ap (is_elements_end true) (tail-of_tail c.args.octets.now c.in-Some.count c.in_ok-extent.extent.size))
+    ∙ ap (is_elements_end true) (tail-of_tail c.args.octets.now c.args.count c.in_ok-extent.extent.size))
     ∙ c.if-is_elements_end.false)
     c.args.end_octets)
 
 pub add_in_indefinite-returns-clause-sound : goal.add_in_indefinite-returns-clause-sound
 add_in_indefinite-returns-clause-sound t c =
-    let indefinite : c.in-Some.fields.size ≡ Indefinite =
-    sizes-one c.args.octets.now c.args.offset c.in-Some.fields c.requires.begins.fields c.in-Some.count
-    c.requires.begins.count c.in-Some.ensures c.requires.begins.begins
-    ∙ c.requires.begins.indefinite in
     says-unsound (place_at c.args.offset c.args.spot.now.depth) c.args.spot.now.likely c.args.octets.now
-    c.unended-2.result c.unended-2.ensures
-    (says-unended c.args.octets.now c.args.offset c.args.spot.now.depth c.args.spot.now.likely c.in-Some.fields
-    c.in-Some.count c.in-Some.ensures c.in_ok-extent.extent.size c.in_ok-extent.extent.sound indefinite
+    c.unended.result c.unended.ensures
+    (says-unended c.args.octets.now c.args.offset c.args.spot.now.depth c.args.spot.now.likely c.args.fields.now
+    c.args.count c.requires.begins c.in_ok-extent.extent.size c.in_ok-extent.extent.sound c.requires.indefinite
     (sym (c.is_elements_end.ensures
-    ∙ ap (is_elements_end true) (tail-of_tail c.args.octets.now c.in-Some.count c.in_ok-extent.extent.size))
+    ∙ ap (is_elements_end true) (tail-of_tail c.args.octets.now c.args.count c.in_ok-extent.extent.size))
     ∙ c.if-is_elements_end.false)
-    (says-inside c.inside-inner.result (c.args.offset + c.in-Some.count) (c.args.spot.now.depth + 1) false true
-    (drop c.in-Some.count c.args.octets.now) c.in_ok-extent.extent c.inside-inner.ensures.depth
+    (says-inside c.inside-inner.result (c.args.offset + c.args.count) (c.args.spot.now.depth + 1) false true
+    (drop c.args.count c.args.octets.now) c.in_ok-extent.extent c.inside-inner.ensures.depth
     c.inside-inner.ensures.unasked.0 c.inside-inner.ensures.unasked.1
     (subst
-    (λ (o : List ℕ). SaysSound c.inside-inner.result (c.args.offset + c.in-Some.count) true o c.in_ok-extent.extent)
-    (tail-all c.args.octets.now c.in-Some.count) c.in_ok-extent.ensures.sound)))
+    (λ (o : List ℕ). SaysSound c.inside-inner.result (c.args.offset + c.args.count) true o c.in_ok-extent.extent)
+    (tail-all c.args.octets.now c.args.count) c.in_ok-extent.ensures.sound)))
 
 pub add_string-returns-then-not-spot-clause-adds : goal.add_string-returns-then-not-spot-clause-adds
 add_string-returns-then-not-spot-clause-adds t c = λ g m b p.
