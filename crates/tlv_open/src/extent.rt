@@ -25,8 +25,8 @@ pub(crate) fn unended(octets: &[u8]) -> Extent
     }
 }
 
-/// How many octets the primitive has with which the octets begin, if its header has two octets and it is no OCTET STRING
-/// and no BIT STRING, and if it need not be `likely`. Most primitives are such, and then nothing more is asked.
+/// How many octets the primitive has with which the octets begin, if its header has two octets and it is no OCTET
+/// STRING and no BIT STRING, and if it need not be `likely`. Most primitives are such, and then nothing more is asked.
 #[inline(always)]
 pub(crate) fn plain_size(octets: &[u8], offset: u64, likely: bool) -> Option<usize>
     ensures { IfSome result (λ n. IsPlain octets.now offset likely n) }

@@ -28,8 +28,8 @@ pub fn opened(alloc: Global, octets: &[u8], padding: bool) -> Result<Vec<u64>, A
 /// The strings of an input that are opened, as [`opened`] has them, and those that are broken: they look like encodings
 /// ([`Suspicion`](crate::Suspicion)), are not opened, and break when they are read as encodings. In a string that is
 /// opened both are looked for, and in one that is broken neither. With `padding`, octets `00` are allowed at the top.
-/// The input may be sound or damaged; of a damaged one it is said of what is read before the fault. Memory is needed for
-/// the strings that are found, and for those that are tried and then not opened.
+/// The input may be sound or damaged; of a damaged one it is said of what is read before the fault. Memory is needed
+/// for the strings that are found, and for those that are tried and then not opened.
 ///
 /// # Errors
 ///

@@ -27,8 +27,8 @@ pub(crate) struct Spot {
     pub(crate) may_open: bool,
     /// Whether they are those of an extension: the last of them is its value, if it has ended.
     pub(crate) in_extension: bool,
-    /// Whether, to be sound, each of them has to be constructed, or a primitive of the universal class in which BER finds
-    /// nothing.
+    /// Whether, to be sound, each of them has to be constructed, or a primitive of the universal class in which BER
+    /// finds nothing.
     pub(crate) likely: bool,
     /// Whether octets `00` may be before, between and after them.
     pub(crate) padding: bool,

@@ -1,5 +1,6 @@
 -- What strings hold.
-use Rattle.std.proofs.Common.{◌≡◌, ◌↔◌, ℕ, ◌+◌, ◌<◌, ◌≤◌, Bool, true, false, eqb, List, [], ◌∷◌, ◌++◌, length, Option, Some}
+use Rattle.std.proofs.Common.{◌≡◌, ◌↔◌, ℕ, ◌+◌, ◌<◌, ◌≤◌, Bool, true, false, eqb, List, [], ◌∷◌, ◌++◌, length, Option}
+use Rattle.std.proofs.Common.{Some}
 use Rattle.std.proofs.Common.{None, IsTrue, MatchOption, refl, sym, ap, ◌∙◌, arith, append-nil, eqb-true}
 use Rattle.std.specs.Option.{is_some}
 use Rattle.tlv_head.specs.Header.{HeaderValue}

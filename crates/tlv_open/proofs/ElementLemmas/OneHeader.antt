@@ -22,7 +22,8 @@ module _ (octets : List ℕ) (offset : ℕ) (f g : HeaderFields) (n m : ℕ) (a 
     (b : BeginsWithFields octets offset false g m) where
   pub fields-one : new_header f (take n octets) ≡ new_header g (take m octets)
   fields-one =
-      (one-header (new_header f (take n octets)) (new_header g (take m octets)) a.begins.rest b.begins.rest a.begins.valid
+      (one-header (new_header f (take n octets)) (new_header g (take m octets)) a.begins.rest b.begins.rest
+      a.begins.valid
       b.begins.valid
       (λ t. record {
         offset = (a.begins.offset ∙ sym b.begins.offset) t;

@@ -1,5 +1,6 @@
 -- Primitives in which no strings are.
-use Rattle.std.proofs.Common.{◌≡◌, ◌↔◌, ℕ, ◌+◌, ◌≤◌, Bool, IsTrue, length, true, false, ◌&&◌, ◌||◌, List, take, drop, Option, None, Some}
+use Rattle.std.proofs.Common.{◌≡◌, ◌↔◌, ℕ, ◌+◌, ◌≤◌, Bool, IsTrue, length, true, false, ◌&&◌, ◌||◌, List, take, drop}
+use Rattle.std.proofs.Common.{Option, None, Some}
 use Rattle.std.proofs.Common.{if◌then◌else◌, refl, sym, subst, ◌∙◌}
 use Rattle.tlv_head.specs.declared.header.HeaderFields.{HeaderFields}
 use Rattle.tlv_head.specs.Header.{HeaderValue, announced_length}

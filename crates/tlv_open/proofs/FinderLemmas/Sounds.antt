@@ -13,7 +13,8 @@ use Rattle.tlv_open.specs.Private.Elements.{BeginsWithNoElements, IfSound, SaysE
 use Rattle.tlv_open.specs.Private.Elements.{is_elements_end, place_at}
 use Rattle.tlv_open.specs.Private.Finds.{AddsFirst, FoundStrings}
 use Rattle.tlv_open.proofs.ElementLemmas.Elements.{elements-cons, elements-nil, elements-none, elements-rest}
-use Rattle.tlv_open.proofs.ElementLemmas.Elements.{elements-started, elements-stop, no_element-at_end, no_element-at_zero}
+use Rattle.tlv_open.proofs.ElementLemmas.Elements.{elements-started, elements-stop, no_element-at_end}
+use Rattle.tlv_open.proofs.ElementLemmas.Elements.{no_element-at_zero}
 use Rattle.tlv_open.proofs.FinderLemmas.Found.{drop-end}
 use Rattle.tlv_open.proofs.FinderLemmas.Inputs.{sound-padded}
 
@@ -23,7 +24,8 @@ pub record SaysSoFar (s : Spot) (offset : ℕ) (ends : Bool) (octets : List ℕ)
       → BeginsWithElements (place_in s (offset + at)) s.likely ends (drop at octets) n
       → BeginsWithElements (place_in s offset) s.likely ends octets (at + n)
   pub back : s.padding ≡ false → (n : ℕ) → BeginsWithElements (place_at offset s.depth) s.likely ends octets n
-      → (sound ≡ true) × ((m : ℕ) × BeginsWithElements (place_at (offset + at) s.depth) s.likely ends (drop at octets) m)
+      → (sound ≡ true)
+      × ((m : ℕ) × BeginsWithElements (place_at (offset + at) s.depth) s.likely ends (drop at octets) m)
 
 element-in : (s : Spot) (offset : ℕ) (octets : List ℕ) (n : ℕ)
     → BeginsWithElement (place_at offset s.depth) s.likely octets n
@@ -131,7 +133,8 @@ module _ (s : Spot) (offset : ℕ) (ends : Bool) (octets : List ℕ) where
           size = omega (arith, e'.size);
         }
 
-    pub so_far-zero : get_or octets at 0 ≡ 0 → ends ≡ false → SaysSoFar s offset ends octets (at + 1) (sound && s.padding)
+    pub so_far-zero : get_or octets at 0 ≡ 0 → ends ≡ false
+        → SaysSoFar s offset ends octets (at + 1) (sound && s.padding)
     so_far-zero z none = record {
       onward = λ t n e.
           let both : (sound ≡ true) × (s.padding ≡ true) = and_parts sound s.padding t in
@@ -168,7 +171,8 @@ module _ (s : Spot) (offset : ℕ) (ends : Bool) (octets : List ℕ) where
       → SaysSound s offset ends octets (record { size = at; sound = sound && is_elements_end true (drop at octets) })
   says-ended at sound less z e far =
       subst
-      (λ (k : Bool). SaysSound s offset ends octets (record { size = at; sound = sound && is_elements_end k (drop at octets) }))
+      (λ (k : Bool). SaysSound s offset ends octets
+      (record { size = at; sound = sound && is_elements_end k (drop at octets) }))
       e (says-end at sound far (no_element-at_zero (place_at (offset + at) s.depth) s.likely octets at less z))
 
   pub says-done : (at : ℕ) (sound : Bool) → length octets ≤ at → SaysSoFar s offset ends octets at sound

@@ -1,6 +1,7 @@
 -- What is found in a primitive.
 use Rattle.std.proofs.Common.{◌≡◌, ◌↔◌, ℕ, ◌+◌, ◌-◌, Bool, true, false, ◌&&◌, eqb, List, [], ◌∷◌, ◌++◌, length}
-use Rattle.std.proofs.Common.{Option, MatchOption, Some, None, IsTrue, if◌then◌else◌, inl, inr, refl, sym, ap, ◌∙◌, arith}
+use Rattle.std.proofs.Common.{Option, MatchOption, Some, None, IsTrue, if◌then◌else◌, inl, inr, refl, sym, ap, ◌∙◌}
+use Rattle.std.proofs.Common.{arith}
 use Rattle.std.proofs.Common.{◌≤◌, drop, subst, take}
 use Rattle.std.proofs.lemmas.List.{drop-take, length-take-le, take-append-drop, take-take}
 use Rattle.tlv_head.specs.declared.header.HeaderFields.{HeaderFields}
@@ -155,7 +156,7 @@ pub adds-opened : (w u : Spot) (v : Bool) (h : HeaderValue) (contents octets : L
     → u.start ≡ w.start + h.offset + ((count + length contents) - length octets) → u.depth ≡ w.depth + 1
     → u.may_open ≡ true → u.in_extension ≡ false → AddsAll u 0 false octets mid new n
     → AddsPrimitive w v h contents old new
-adds-opened w u v h contents octets old mid new count n b may primitive size inner held e pushed start depth open_ no_e a =
+adds-opened w u v h contents octets old mid new _ n b may primitive size inner held e pushed start depth open_ no_e a =
     let s : (f : Forest) × HoldsEncodings w.depth h contents f = held.0 e in
     let spelled : spelling s.0 ≡ octets =
     let t : Some (spelling s.0) ≡ Some octets = sym s.1.octets ∙ inner in cc (t) in
@@ -189,7 +190,8 @@ adds-opened w u v h contents octets old mid new count n b may primitive size inn
           r.added ∙ (ap (λ (o : FoundStrings). found_in_turn o r.found) pushed
           ∙ both-assoc old (record { opened = (w.start + h.offset) ∷ []; broken = [] }) r.found);
       finds = λ k g ys last o. record {
-        opens = opens.opened may s.0 s.1 (subst (λ (x : Where). Opens x s.0 r.found.opened) where_is r.finds.opens) o.opens;
+        opens =
+            opens.opened may s.0 s.1 (subst (λ (x : Where). Opens x s.0 r.found.opened) where_is r.finds.opens) o.opens;
         breaks =
             breaks.opened may s.0 s.1
             (subst (λ (x : Where). Breaks x false s.0 r.found.broken) where_is
@@ -224,7 +226,8 @@ primitive-at w v f octets count m old new a =
     (drop-take count m octets) a)
 
 -- what a string adds that was tried
-module _ (w : Spot) (v : Bool) (h : HeaderValue) (contents octets : List ℕ) (old : FoundStrings) (may : w.may_open ≡ true)
+module _ (w : Spot) (v : Bool) (h : HeaderValue) (contents octets : List ℕ) (old : FoundStrings)
+    (may : w.may_open ≡ true)
     (inner : inner_octets h contents ≡ Some octets) (offset : ℕ) (here : offset ≡ w.start + h.offset) where
   pub adds-held : (new : FoundStrings) (start count : ℕ) (b : Bool) → h.constructed ≡ false
       → length (octets_of h) ≡ count → IsTrue b ↔ ((f : Forest) × HoldsEncodings w.depth h contents f) → b ≡ true
@@ -234,7 +237,8 @@ module _ (w : Spot) (v : Bool) (h : HeaderValue) (contents octets : List ℕ) (o
       let a : AddsHeld w start offset octets old new =
       subst (λ (k : Bool). Tries w start offset octets old new k) e tries in
       adds-opened w (spot_held w start) v h contents octets old
-      (found_in_turn old (record { opened = offset ∷ []; broken = [] })) new count a.size b may primitive size inner held e
+      (found_in_turn old (record { opened = offset ∷ []; broken = [] })) new count a.size b may primitive size inner
+      held e
       (ap (λ (o : ℕ). found_in_turn old (record { opened = o ∷ []; broken = [] })) here) start_is refl refl refl a.adds
 
   pub adds-unheld : (mid new : FoundStrings) (start : ℕ) (string : List ℕ) (b : Bool) (found : Option BrokenString)
@@ -248,7 +252,8 @@ module _ (w : Spot) (v : Bool) (h : HeaderValue) (contents octets : List ℕ) (o
       adds-broken w v h contents octets old new inner
       (λ f s. let t : true ≡ false = sym (held.1 (f, s)) ∙ e in absurd (cc (t))) found may
       (subst
-      (λ (o : ℕ). MatchOption found ((x : BrokenString) → IsBrokenString o w.depth (octets_of h ++ contents) octets v x → ⊥)
+      (λ (o : ℕ). MatchOption found
+      ((x : BrokenString) → IsBrokenString o w.depth (octets_of h ++ contents) octets v x → ⊥)
       (λ x. IsBrokenString o w.depth (octets_of h ++ contents) octets v x))
       here
       (subst

@@ -1,4 +1,5 @@
-use Rattle.std.proofs.Common.{◌≡◌, ◌↔◌, ◌+◌, ◌&&◌, Bool, IsTrue, false, true, List, ℕ, [], ◌∷◌, length, take, drop, refl, sym}
+use Rattle.std.proofs.Common.{◌≡◌, ◌↔◌, ◌+◌, ◌&&◌, Bool, IsTrue, false, true, List, ℕ, [], ◌∷◌, length, take, drop}
+use Rattle.std.proofs.Common.{refl, sym}
 use Rattle.std.proofs.Common.{ap, append-nil, ◌∙◌, arith, length-drop, subst, vec_len}
 use Rattle.tlv_head.specs.HeaderFields.{new_header}
 use Rattle.tlv_open.specs.Private.Adds.{IsKept, IsPlain, SaysSound}
@@ -12,7 +13,8 @@ use Rattle.tlv_open.proofs.ElementLemmas.Held.{HoldsSome, holds-if, holds-nothin
 use Rattle.tlv_open.proofs.ElementLemmas.OneHeader.{adds-at, header-there}
 use Rattle.tlv_open.proofs.FinderLemmas.NothingFound.{nothing_found}
 use Rattle.tlv_open.proofs.FinderLemmas.FirstFound.{adds-ended_holder, adds-holder, adds-open_holder, adds-primitive}
-use Rattle.tlv_open.proofs.FinderLemmas.FirstFound.{adds-too_deep, adds-unended_holder, adds-unfinished, indefinite-constructed}
+use Rattle.tlv_open.proofs.FinderLemmas.FirstFound.{adds-too_deep, adds-unended_holder, adds-unfinished}
+use Rattle.tlv_open.proofs.FinderLemmas.FirstFound.{indefinite-constructed}
 use Rattle.tlv_open.proofs.FinderLemmas.FirstRead.{finds-header}
 use Rattle.tlv_open.proofs.FinderLemmas.Found.{adds-all-at, adds-done, adds-ended, adds-first-at, adds-more}
 use Rattle.tlv_open.proofs.FinderLemmas.Found.{adds-padding, adds-start}
@@ -38,7 +40,8 @@ add_strings-loop-at-init t c = record {
 
 pub add_strings-loop-at-preserved-in-Some : goal.add_strings-loop-at-preserved-in-Some
 add_strings-loop-at-preserved-in-Some t c =
-    let plain : IsPlain (drop c.loop-at.at c.args.octets.now) (c.args.offset + c.loop-at.at) c.args.spot.now.likely c.in-Some.size =
+    let plain : IsPlain (drop c.loop-at.at c.args.octets.now) (c.args.offset + c.loop-at.at) c.args.spot.now.likely
+    c.in-Some.size =
     subst (λ (o : List ℕ). IsPlain o (c.args.offset + c.loop-at.at) c.args.spot.now.likely c.in-Some.size)
     (tail-all c.args.octets.now c.loop-at.at) c.in-Some.ensures in
     let element = plain-sound (drop c.loop-at.at c.args.octets.now) (c.args.offset + c.loop-at.at) c.in-Some.size
@@ -143,7 +146,8 @@ pub add_after_long-returns-in-None-clause-sound : goal.add_after_long-returns-in
 add_after_long-returns-in-None-clause-sound t c =
     says-unsound (place_at c.args.offset c.args.spot.now.depth) c.args.spot.now.likely c.args.octets.now
     c.unended.result c.unended.ensures
-    (no_header-none (place_at c.args.offset c.args.spot.now.depth) c.args.spot.now.likely c.args.octets.now c.in-None.ensures)
+    (no_header-none (place_at c.args.offset c.args.spot.now.depth) c.args.spot.now.likely c.args.octets.now
+    c.in-None.ensures)
 
 pub add_after_long-returns-in-None-clause-kept : goal.add_after_long-returns-in-None-clause-kept
 add_after_long-returns-in-None-clause-kept t c = kept-all (found_of c.args.found.now)
@@ -166,7 +170,8 @@ pub add_with-returns-then-length-octets-clause-sound : goal.add_with-returns-the
 add_with-returns-then-length-octets-clause-sound t c =
     says-unsound (place_at c.args.offset c.args.spot.now.depth) c.args.spot.now.likely c.args.octets.now
     c.unended.result c.unended.ensures
-    (says-lacking c.args.octets.now c.args.offset c.args.spot.now.depth c.args.spot.now.likely c.args.fields.now c.args.count
+    (says-lacking c.args.octets.now c.args.offset c.args.spot.now.depth c.args.spot.now.likely c.args.fields.now
+    c.args.count
     c.requires.begins c.if-fields.false
     (omega (
       arith,
@@ -209,7 +214,8 @@ add_with-returns-then-not-is_octet_or_bit_string-clause-adds t c =
 pub add_with-returns-then-not-is_octet_or_bit_string-clause-sound :
     goal.add_with-returns-then-not-is_octet_or_bit_string-clause-sound
 add_with-returns-then-not-is_octet_or_bit_string-clause-sound t c =
-    says-alone c.args.octets.now c.args.offset c.args.spot.now.depth c.args.spot.now.likely c.args.fields.now c.args.count
+    says-alone c.args.octets.now c.args.offset c.args.spot.now.depth c.args.spot.now.likely c.args.fields.now
+    c.args.count
     c.announced_length-length.result c.is_likely_if-sound.result c.requires.begins c.if-fields.false
     c.announced_length-length.ensures
     (omega (arith, c.if-length-octets.false, length-drop c.args.count c.args.octets.now))
@@ -238,7 +244,8 @@ add_with-returns-clause-adds t c =
 
 pub add_with-returns-clause-sound : goal.add_with-returns-clause-sound
 add_with-returns-clause-sound t c =
-    says-alone c.args.octets.now c.args.offset c.args.spot.now.depth c.args.spot.now.likely c.args.fields.now c.args.count
+    says-alone c.args.octets.now c.args.offset c.args.spot.now.depth c.args.spot.now.likely c.args.fields.now
+    c.args.count
     c.announced_length-length.result c.is_likely_if-sound.result c.requires.begins c.if-fields.false
     c.announced_length-length.ensures
     (omega (arith, c.if-length-octets.false, length-drop c.args.count c.args.octets.now))
@@ -259,7 +266,8 @@ pub add_in_holder-returns-then-spot-ge-DEPTH_LIMIT-clause-sound :
 add_in_holder-returns-then-spot-ge-DEPTH_LIMIT-clause-sound t c =
     says-unsound (place_at c.args.offset c.args.spot.now.depth) c.args.spot.now.likely c.args.octets.now
     c.unended.result c.unended.ensures
-    (first-too_deep c.args.octets.now c.args.offset c.args.spot.now.depth c.args.spot.now.likely c.args.fields.now c.args.count
+    (first-too_deep c.args.octets.now c.args.offset c.args.spot.now.depth c.args.spot.now.likely c.args.fields.now
+    c.args.count
     c.requires.begins c.requires.constructed c.if-spot-ge-DEPTH_LIMIT.true)
 
 pub add_in_holder-returns-then-spot-ge-DEPTH_LIMIT-clause-kept :
@@ -282,7 +290,8 @@ pub add_in_holder-returns-then-length-rest-clause-sound : goal.add_in_holder-ret
 add_in_holder-returns-then-length-rest-clause-sound t c =
     says-unsound (place_at c.args.offset c.args.spot.now.depth) c.args.spot.now.likely c.args.octets.now
     c.unended-then-length-rest.result c.unended-then-length-rest.ensures
-    (first-too_long c.args.octets.now c.args.offset c.args.spot.now.depth c.args.spot.now.likely c.args.fields.now c.args.count
+    (first-too_long c.args.octets.now c.args.offset c.args.spot.now.depth c.args.spot.now.likely c.args.fields.now
+    c.args.count
     c.requires.begins c.in-Definite.length c.in-Definite.is
     (omega (arith, c.if-length-rest.true, ap length (tail-all c.args.octets.now c.args.count))))
 
@@ -293,7 +302,8 @@ add_in_holder-returns-clause-adds t c =
     c.args.spot.now (found_of c.args.found.now) (found_of c.add_strings-2.new.found) c.in-Definite.length
     c.in_ok-extent.extent.size c.inside-inner.result c.requires.constructed c.in-Definite.is
     (omega (arith, c.if-length-rest.false, ap length (tail-all c.args.octets.now c.args.count)))
-    (rw (tail-all c.args.octets.now c.args.count) at (c.inside-inner.ensures.inner (take c.args.count c.args.octets.now)))
+    (rw (tail-all c.args.octets.now c.args.count)
+    at (c.inside-inner.ensures.inner (take c.args.count c.args.octets.now)))
     (adds-all-at _ _ _ _ _ _ _ _ _ refl (ap (take c.in-Definite.length) (tail-all c.args.octets.now c.args.count))
     c.in_ok-extent.ensures.adds)
     c.args.end_octets)
@@ -304,7 +314,8 @@ add_in_holder-returns-clause-sound t c =
     (λ (o : List ℕ). SaysElement (place_at c.args.offset c.args.spot.now.depth) c.args.spot.now.likely c.args.octets.now
     (record { size = c.args.count + length (take c.in-Definite.length o); sound = c.in_ok-extent.extent.sound }))
     (sym (tail-all c.args.octets.now c.args.count))
-    (says-definite c.args.octets.now c.args.offset c.args.spot.now.depth c.args.spot.now.likely c.args.fields.now c.args.count
+    (says-definite c.args.octets.now c.args.offset c.args.spot.now.depth c.args.spot.now.likely c.args.fields.now
+    c.args.count
     c.requires.begins c.in-Definite.length c.in_ok-extent.extent.size c.in_ok-extent.extent.sound
     c.requires.constructed c.in-Definite.is
     (omega (arith, c.if-length-rest.false, ap length (tail-all c.args.octets.now c.args.count)))
@@ -326,7 +337,8 @@ add_in_indefinite-returns-then-is_elements_end-clause-adds t c =
     (indefinite-constructed c.args.fields.now.constructed c.args.fields.now.size c.requires.indefinite
     c.requires.begins.begins.valid.allowed)
     c.requires.indefinite
-    (rw (tail-all c.args.octets.now c.args.count) at (c.inside-inner.ensures.inner (take c.args.count c.args.octets.now)))
+    (rw (tail-all c.args.octets.now c.args.count)
+    at (c.inside-inner.ensures.inner (take c.args.count c.args.octets.now)))
     (adds-all-at _ _ _ _ _ _ _ _ _ refl (tail-all c.args.octets.now c.args.count) c.in_ok-extent.ensures.adds)
     (sym (c.is_elements_end.ensures
     ∙ ap (is_elements_end true) (tail-of_tail c.args.octets.now c.args.count c.in_ok-extent.extent.size))
@@ -356,7 +368,8 @@ add_in_indefinite-returns-clause-adds t c =
     (indefinite-constructed c.args.fields.now.constructed c.args.fields.now.size c.requires.indefinite
     c.requires.begins.begins.valid.allowed)
     c.requires.indefinite
-    (rw (tail-all c.args.octets.now c.args.count) at (c.inside-inner.ensures.inner (take c.args.count c.args.octets.now)))
+    (rw (tail-all c.args.octets.now c.args.count)
+    at (c.inside-inner.ensures.inner (take c.args.count c.args.octets.now)))
     (adds-all-at _ _ _ _ _ _ _ _ _ refl (tail-all c.args.octets.now c.args.count) c.in_ok-extent.ensures.adds)
     (sym (c.is_elements_end.ensures
     ∙ ap (is_elements_end true) (tail-of_tail c.args.octets.now c.args.count c.in_ok-extent.extent.size))
@@ -399,7 +412,8 @@ add_string-returns-in_default-held_octets-clause-adds t c =
     adds-at c.args.spot.now c.args.is_value c.args.octets.now c.args.offset c.in-Some.fields c.in-Some.count
     (found_of c.args.found.now) (found_of c.args.found.now) c.in-Some.ensures
     (λ p.
-    adds-no_octets c.args.spot.now c.args.is_value (new_header c.in-Some.fields (take c.in-Some.count c.args.octets.now))
+    adds-no_octets c.args.spot.now c.args.is_value
+    (new_header c.in-Some.fields (take c.in-Some.count c.args.octets.now))
     (drop c.in-Some.count c.args.octets.now) (found_of c.args.found.now)
     (rw (tail-all c.args.octets.now c.in-Some.count) at c.in_default-held_octets.ensures.inner))
 
@@ -475,7 +489,8 @@ add_held-returns-then-spot-ge-DEPTH_LIMIT-clause-kept t c = kept-all (found_of c
 pub add_held-returns-then-extent-clause-held : goal.add_held-returns-then-extent-clause-held
 add_held-returns-then-extent-clause-held t c = λ h contents e.
     subst (λ (k : Bool). IsTrue k ↔ HoldsSome c.args.spot.now.depth h contents) c.if-extent.true
-    (holds-if c.args.spot.now.depth h contents c.args.octets.now e c.in_ok-extent.extent.sound c.in_ok-extent.extent.size
+    (holds-if c.args.spot.now.depth h contents c.args.octets.now e c.in_ok-extent.extent.sound
+    c.in_ok-extent.extent.size
     c.if-spot-ge-DEPTH_LIMIT.false (sym c.is_empty.ensures ∙ c.if-is_empty.false)
     (says-inside (spot_held c.args.spot.now c.args.start) 0 (c.args.spot.now.depth + 1) true false c.args.octets.now
     c.in_ok-extent.extent refl refl refl c.in_ok-extent.ensures.sound))
@@ -506,7 +521,8 @@ add_held-returns-then-extent-clause-kept t c =
 pub add_held-returns-clause-held : goal.add_held-returns-clause-held
 add_held-returns-clause-held t c = λ h contents e.
     subst (λ (k : Bool). IsTrue k ↔ HoldsSome c.args.spot.now.depth h contents) c.if-extent.false
-    (holds-if c.args.spot.now.depth h contents c.args.octets.now e c.in_ok-extent.extent.sound c.in_ok-extent.extent.size
+    (holds-if c.args.spot.now.depth h contents c.args.octets.now e c.in_ok-extent.extent.sound
+    c.in_ok-extent.extent.size
     c.if-spot-ge-DEPTH_LIMIT.false (sym c.is_empty.ensures ∙ c.if-is_empty.false)
     (says-inside (spot_held c.args.spot.now c.args.start) 0 (c.args.spot.now.depth + 1) true false c.args.octets.now
     c.in_ok-extent.extent refl refl refl c.in_ok-extent.ensures.sound))

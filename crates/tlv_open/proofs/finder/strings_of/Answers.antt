@@ -10,7 +10,8 @@ use Rattle.tlv_open.proofs.finder.strings_of.Goals as goal
 pub returns-then-all-clause-opened : goal.returns-then-all-clause-opened
 returns-then-all-clause-opened c =
     let each : AreOctets c.args.octets.now = octets-fit c.args.octets.now c.type_inv.octets in
-    let r : IsReading (closed_framing c.args.padding) c.args.octets.now (reading (closed_framing c.args.padding) c.args.octets.now) =
+    let r : IsReading (closed_framing c.args.padding) c.args.octets.now
+    (reading (closed_framing c.args.padding) c.args.octets.now) =
     is-reading (closed_framing c.args.padding) c.args.octets.now each in
     (are-all-found c.args.padding c.args.octets.now (found_of c.add_strings.new.found) _ c.in_ok-all.all r
     c.in_ok-all.ensures.sound c.if-all.true
@@ -23,7 +24,8 @@ returns-then-all-clause-opened c =
 pub returns-then-all-clause-broken : goal.returns-then-all-clause-broken
 returns-then-all-clause-broken c =
     let each : AreOctets c.args.octets.now = octets-fit c.args.octets.now c.type_inv.octets in
-    let r : IsReading (closed_framing c.args.padding) c.args.octets.now (reading (closed_framing c.args.padding) c.args.octets.now) =
+    let r : IsReading (closed_framing c.args.padding) c.args.octets.now
+    (reading (closed_framing c.args.padding) c.args.octets.now) =
     is-reading (closed_framing c.args.padding) c.args.octets.now each in
     (are-all-found c.args.padding c.args.octets.now (found_of c.add_strings.new.found) _ c.in_ok-all.all r
     c.in_ok-all.ensures.sound c.if-all.true
@@ -36,14 +38,17 @@ returns-then-all-clause-broken c =
 pub slice_bounds-read-end : goal.slice_bounds-read-end
 slice_bounds-read-end c =
     let each : AreOctets c.args.octets.now = octets-fit c.args.octets.now c.type_inv.octets in
-    let r : IsReading (closed_framing c.args.padding) c.args.octets.now (reading (closed_framing c.args.padding) c.args.octets.now) =
+    let r : IsReading (closed_framing c.args.padding) c.args.octets.now
+    (reading (closed_framing c.args.padding) c.args.octets.now) =
     is-reading (closed_framing c.args.padding) c.args.octets.now each in
-    sym (length-take-le c.count_read.result c.args.octets.now (omega (arith, c.count_read.ensures _ r, read-within _ _ _ r)))
+    sym (length-take-le c.count_read.result c.args.octets.now
+    (omega (arith, c.count_read.ensures _ r, read-within _ _ _ r)))
 
 pub returns-clause-opened : goal.returns-clause-opened
 returns-clause-opened c =
     let each : AreOctets c.args.octets.now = octets-fit c.args.octets.now c.type_inv.octets in
-    let r : IsReading (closed_framing c.args.padding) c.args.octets.now (reading (closed_framing c.args.padding) c.args.octets.now) =
+    let r : IsReading (closed_framing c.args.padding) c.args.octets.now
+    (reading (closed_framing c.args.padding) c.args.octets.now) =
     is-reading (closed_framing c.args.padding) c.args.octets.now each in
     (are-found c.args.padding c.args.octets.now (found_of c.add_strings-2.new.found) _ c.count_read.result
     c.in_ok-add_strings.field-0.size r (c.count_read.ensures _ r)
@@ -56,7 +61,8 @@ returns-clause-opened c =
 pub returns-clause-broken : goal.returns-clause-broken
 returns-clause-broken c =
     let each : AreOctets c.args.octets.now = octets-fit c.args.octets.now c.type_inv.octets in
-    let r : IsReading (closed_framing c.args.padding) c.args.octets.now (reading (closed_framing c.args.padding) c.args.octets.now) =
+    let r : IsReading (closed_framing c.args.padding) c.args.octets.now
+    (reading (closed_framing c.args.padding) c.args.octets.now) =
     is-reading (closed_framing c.args.padding) c.args.octets.now each in
     (are-found c.args.padding c.args.octets.now (found_of c.add_strings-2.new.found) _ c.count_read.result
     c.in_ok-add_strings.field-0.size r (c.count_read.ensures _ r)
