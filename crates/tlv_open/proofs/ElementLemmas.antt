@@ -3,3 +3,5 @@ pub mod OneElement
 pub mod Elements
 pub mod FirstElement
 pub mod Held
+pub mod Extents
+pub mod OneHeader

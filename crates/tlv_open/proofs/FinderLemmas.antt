@@ -8,4 +8,6 @@ pub mod OneSegment
 pub mod Extensions
 pub mod Strings
 pub mod Inputs
-pub mod Padded
+pub mod Sounds
+pub mod Kept
+pub mod Plain

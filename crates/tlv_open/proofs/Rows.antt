@@ -1,5 +1,6 @@
 -- Inputs, and the strings of them that are opened.
-use Rattle.std.proofs.Common.{◌≡◌, ℕ, zero, suc, ◌<◌, ◌++◌, Bool, true, false, ltb, List, [], ◌∷◌, refl, subst, ltb-true}
+use Rattle.std.proofs.Common.{◌≡◌, ℕ, zero, suc, ◌<◌, ◌++◌, Bool, true, false, ltb, List, [], ◌∷◌, refl, subst}
+use Rattle.std.proofs.Common.{ltb-true}
 use Rattle.std.proofs.lemmas.Bool.{and_parts}
 use Rattle.std.proofs.lemmas.List.Elements.{All-cons, All-nil}
 use Rattle.std.specs.List.{list_all}
@@ -117,7 +118,8 @@ row-23 : AreOpened false (4 ∷ 8 ∷ 0x30 ∷ 6 ∷ 0x24 ∷ 4 ∷ 4 ∷ 2 ∷ 
     (0 ∷ 6 ∷ [])
 row-23 = row-of false _ _ refl refl
 
-row-24 : AreOpened false (0x30 ∷ 0x80 ∷ 0x24 ∷ 0x80 ∷ 4 ∷ 2 ∷ 5 ∷ 0 ∷ 0 ∷ 0 ∷ 4 ∷ 2 ∷ 5 ∷ 0 ∷ 0 ∷ 0 ∷ 4 ∷ 2 ∷ 5 ∷ 0 ∷ [])
+row-24 : AreOpened false
+    (0x30 ∷ 0x80 ∷ 0x24 ∷ 0x80 ∷ 4 ∷ 2 ∷ 5 ∷ 0 ∷ 0 ∷ 0 ∷ 4 ∷ 2 ∷ 5 ∷ 0 ∷ 0 ∷ 0 ∷ 4 ∷ 2 ∷ 5 ∷ 0 ∷ [])
     (4 ∷ 10 ∷ 16 ∷ [])
 row-24 = row-of false _ _ refl refl
 

@@ -39,7 +39,8 @@ pub data Opens : Where → Forest → List ℕ → Type 0 where
   padded : {w : Where} {rest : Forest} {xs : List ℕ} → Opens w rest xs → Opens w (PaddingOctet rest) xs
   -- a string that is opened
   opened : {w : Where} {h : HeaderValue} {contents : List ℕ} {rest : Forest} {xs ys : List ℕ} → w.may_open ≡ true
-      → (inner : Forest) → HoldsEncodings w.depth h contents inner → Opens (where_of_held w h) inner xs → Opens w rest ys
+      → (inner : Forest) → HoldsEncodings w.depth h contents inner → Opens (where_of_held w h) inner xs
+      → Opens w rest ys
       → Opens w (Primitive h contents rest) ((w.start + h.offset) ∷ (xs ++ ys))
   -- any other primitive
   closed : {w : Where} {h : HeaderValue} {contents : List ℕ} {rest : Forest} {xs : List ℕ}

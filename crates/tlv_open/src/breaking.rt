@@ -1,13 +1,15 @@
 //! Strings that look like encodings, and where they break when they are read as encodings.
-ghost use Rattle.std.specs.Prelude.{◌≡◌, ◌≤◌, ◌+◌, ◌↔◌, IsTrue, MatchOption, length, slice_index};
+ghost use Rattle.std.specs.Prelude.{◌≡◌, ◌≤◌, ◌+◌, ◌↔◌, ◌++◌, IsTrue, MatchOption, OnOk, length, slice_index};
 ghost use Rattle.tlv_head.specs.InputLimit.{input_limit};
 ghost use Rattle.tlv_open.specs.Breaks.{BeginsAs, BreaksAt, HaveAnnouncedSize, IsBrokenString, LooksEncoded};
 ghost use Rattle.tlv_open.specs.Breaks.{octets_around};
+ghost use Rattle.tlv_open.specs.Private.Finds.{list_of};
 ghost use Rattle.tlv_walk.specs.Ending.{IsEnding};
 
 use crate::elements::{first_octet, header_at};
 use crate::reading::walk_on;
 use crate::{BrokenString, Suspicion};
+use std::alloc::AllocError;
 use tlv_head::{Fault, Size};
 use tlv_walk::{Ending, Framing, INPUT_LIMIT, Inside, Walker};
 
@@ -126,4 +128,17 @@ fn ending_around(string: &[u8], depth: u8, framing: &Framing<'_>) -> Ending
     walk_on(&mut walker, string);
     walk_on(&mut walker, &[5, 0]);
     walker.finish()
+}
+
+/// Adds a string that is broken, if there is one.
+pub(crate) fn add_broken(
+    broken: Option<BrokenString>,
+    list: &mut Vec<BrokenString>,
+) -> Result<(), AllocError>
+    ensures { OnOk result (list.new.items ≡ list.old.items ++ list_of broken) }
+{
+    if let Some(broken) = broken {
+        list.push(broken)?;
+    }
+    Ok(())
 }

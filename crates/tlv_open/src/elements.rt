@@ -1,10 +1,12 @@
 //! Sound elements in octets that are at hand.
-ghost use Rattle.std.specs.Prelude.{◌≡◌, ◌+◌, ◌<◌, ◌^◌, IfSome, MatchOption, ◌↔◌, IsTrue, false, length, slice_index};
+ghost use Rattle.std.specs.Prelude.{◌≡◌, ◌+◌, ◌<◌, ◌^◌, ◌↔◌, IfSome, IsTrue, MatchOption, drop, false, length};
+ghost use Rattle.std.specs.Prelude.{slice_index, take, true, ℕ};
 ghost use Rattle.tlv_head.specs.Header.{announced_length};
 ghost use Rattle.tlv_head.specs.HeaderFields.{IsHeaderSized, new_header};
 ghost use Rattle.tlv_head.specs.ReadHeader.{BeginsWithFields};
 ghost use Rattle.tlv_head.specs.Refusal.{BeginsWithNoHeader};
 ghost use Rattle.tlv_open.specs.Held.{IsClearPrimitive};
+ghost use Rattle.tlv_open.specs.Private.Adds.{IsWholePrimitive};
 ghost use Rattle.tlv_open.specs.Private.Elements.{BeginsWithElement, BeginsWithElements, BeginsWithNoElement};
 ghost use Rattle.tlv_open.specs.Private.Elements.{BeginsWithNoElements, is_elements_end, place_at};
 
@@ -14,15 +16,15 @@ use tlv_show::has_basic_findings;
 /// The most elements that hold others, inside one another.
 pub(crate) const DEPTH_LIMIT: u8 = 128;
 
-/// The header with which the octets begin, at this offset, if it has two octets, as most have. `None` if they begin with
-/// no header, or with a longer one, which [`header_at`] finds. It is apart, since few instructions read so short a
-/// header where it is asked for.
+/// The header with which the octets begin, at this offset, if it has two octets, as most have. `None` if they begin
+/// with no header, or with a longer one, which [`header_at`] finds. It is apart, since few instructions read so short
+/// a header where it is asked for.
 #[inline(always)]
 pub(crate) fn two_octet_header(octets: &[u8], offset: u64) -> Option<(HeaderFields, usize)>
     ensures { IfSome result (λ (fields, count). BeginsWithFields octets.now offset false fields count) }
 {
     match octets {
-        [identifier, length, ..] if *identifier & 0x1f != 0x1f && *length < 0x80 => {
+        [identifier, length, ..] if *identifier & 0x1f != 0x1f && *length <= 0x80 => {
             read_short(offset, false, octets)
         }
         _ => None,
@@ -90,7 +92,7 @@ pub(crate) fn is_elements_end(octets: &[u8], end_octets: bool) -> bool
 /// How many octets the sound element has with which the octets begin, at this offset and depth.
 #[cycle(sound)]
 #[inline(always)]
-pub(crate) fn element_size(octets: &[u8], offset: u64, depth: u8, likely: bool) -> Option<usize>
+fn element_size(octets: &[u8], offset: u64, depth: u8, likely: bool) -> Option<usize>
     requires { offset + length octets.now < 2 ^ 64 }
     ensures { MatchOption result (BeginsWithNoElement (place_at offset depth) likely octets.now)
         (λ n. BeginsWithElement (place_at offset depth) likely octets.now n) }
@@ -150,6 +152,31 @@ fn size_with(
             let size = elements_size(rest, offset + count as u64, depth + 1, false, true)?;
             Some(count + size + 2)
         }
+    }
+}
+
+/// [`is_clear_at`], if that is asked.
+#[inline(always)]
+pub(crate) fn is_likely_if(likely: bool, octets: &[u8], offset: u64) -> bool
+    requires { IsWholePrimitive octets.now offset }
+    ensures unasked { likely ≡ false → result ≡ true }
+    ensures asked { likely ≡ true → (fields : HeaderFields) (count : ℕ)
+        → BeginsWithFields octets.now offset false fields count
+        → IsTrue result ↔ IsClearPrimitive (new_header fields (take count octets.now)) (drop count octets.now) }
+{
+    !likely || is_clear_at(octets, offset)
+}
+
+/// Whether the primitive that these octets are, at this offset, is of the universal class, and BER finds nothing in it.
+#[inline(never)]
+fn is_clear_at(octets: &[u8], offset: u64) -> bool
+    requires { IsWholePrimitive octets.now offset }
+    ensures { (fields : HeaderFields) (count : ℕ) → BeginsWithFields octets.now offset false fields count
+        → IsTrue result ↔ IsClearPrimitive (new_header fields (take count octets.now)) (drop count octets.now) }
+{
+    match header_at(octets, offset) {
+        Some((fields, count)) => is_clear_primitive(&fields, &octets[..count], &octets[count..]),
+        None => false,
     }
 }
 

@@ -12,7 +12,8 @@ pub fn inputs_have_one_broken_list()
 {}
 
 /// The offsets of the strings that are opened rise. If they are named, each is that of a string that holds encodings in
-/// the reading, and no other string holds any; the reading has the same octets, and the ending of the input is the same.
+/// the reading, and no other string holds any; the reading has the same octets, and the ending of the input is the
+/// same.
 pub fn opening_is_safe()
     ensures { OpeningIsSafe }
 {}

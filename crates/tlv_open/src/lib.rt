@@ -2,8 +2,10 @@
 //! 8.7), and which look like it and break.
 #![tactic(auto)]
 
+mod adding;
 mod breaking;
 mod elements;
+mod extent;
 mod finder;
 mod held;
 pub mod laws;

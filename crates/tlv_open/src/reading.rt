@@ -1,15 +1,13 @@
 //! How much of an input is read.
-ghost use Rattle.std.specs.Prelude.{◌≡◌, ◌≤◌, ◌+◌, IsTrue, length};
+ghost use Rattle.std.specs.Prelude.{◌≡◌, ◌≤◌, ◌+◌, length};
 ghost use Rattle.tlv_head.specs.InputLimit.{input_limit};
 ghost use Rattle.tlv_open.specs.Opens.{closed_framing};
-ghost use Rattle.tlv_open.specs.Private.Elements.{ArePaddedElements};
 ghost use Rattle.tlv_open.specs.Private.Walks.{HasWalkedOver, WalksOverMore};
 ghost use Rattle.tlv_walk.specs.Ending.{IsEnding};
 ghost use Rattle.tlv_walk.specs.Forest.{Forest, spelling};
 ghost use Rattle.tlv_walk.specs.Reading.{IsReading};
 ghost use Rattle.tlv_walk.specs.WalkerState.{IsWithinInputLimit, new_walker};
 
-use crate::elements::{element_size, elements_size};
 use tlv_walk::{Ending, Framing, Inside, Step, Walker};
 
 /// How many octets of the input are read with no string named: all, or those before the octet that is refused.
@@ -18,14 +16,6 @@ pub(crate) fn count_read(octets: &[u8], padding: bool) -> usize
     ensures { (f : Forest) → IsReading (closed_framing padding) octets.now f
         → result ≡ length (spelling f) }
 {
-    // Most inputs are sound, and to see that takes less time than a walk.
-    if padding {
-        if are_padded_elements(octets) {
-            return octets.len();
-        }
-    } else if elements_size(octets, 0, 0, false, false).is_some() {
-        return octets.len();
-    }
     match ending_of(octets, padding) {
         Ending::Done => octets.len(),
         Ending::Fault(fault) => fault.offset as usize,
@@ -42,25 +32,6 @@ pub fn ending_of(octets: &[u8], padding: bool) -> Ending
         padding,
     };
     walk_over(octets, &framing).finish()
-}
-
-/// Whether the octets are sound elements and octets `00` before, between and after them, or nothing.
-fn are_padded_elements(octets: &[u8]) -> bool
-    requires { length octets.now ≤ input_limit }
-    ensures { IsTrue result → ArePaddedElements 0 octets.now }
-{
-    let mut at = 0;
-    while at < octets.len() {
-        if octets[at] == 0 {
-            at += 1;
-        } else {
-            let Some(size) = element_size(&octets[at..], at as u64, 0, false) else {
-                return false;
-            };
-            at += size;
-        }
-    }
-    true
 }
 
 /// The walker that has walked over the octets, read so.

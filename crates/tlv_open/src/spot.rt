@@ -1,7 +1,10 @@
 //! Where elements are that are read by themselves, and what is looked for among them.
-ghost use Rattle.std.specs.Prelude.{◌≡◌, ◌<◌, ◌&&◌, Bool, List, false, ℕ};
+ghost use Rattle.std.specs.Prelude.{◌≡◌, ◌<◌, ◌+◌, ◌&&◌, ◌||◌, Bool, List, MatchOption, false, ℕ};
 ghost use Rattle.tlv_head.specs.DepthLimit.{depth_limit};
 ghost use Rattle.tlv_head.specs.HeaderFields.{new_header};
+ghost use Rattle.tlv_head.specs.ReadHeader.{BeginsWithFields};
+ghost use Rattle.tlv_head.specs.Refusal.{BeginsWithNoHeader};
+ghost use Rattle.tlv_head.specs.UniversalTypes.{bit_string, octet_string};
 ghost use Rattle.tlv_open.specs.Breaks.{begin_extension, is_extension, names_extension};
 ghost use Rattle.tlv_open.specs.Opens.{is_one_primitive, may_open_in};
 ghost use Rattle.tlv_open.specs.Private.Elements.{is_elements_end};
@@ -10,7 +13,7 @@ ghost use Rattle.tlv_value.specs.Types.{has_segments, is_a, is_string};
 ghost use Rattle.tlv_walk.specs.Forest.{Forest};
 ghost use Rattle.tlv_walk.specs.Place.{Place};
 
-use crate::elements::{first_octet, header_at, is_elements_end};
+use crate::elements::{first_octet, header_at, is_elements_end, two_octet_header};
 use tlv_head::{Class, HeaderFields, Size, universal};
 
 /// Where elements are that are read by themselves.
@@ -24,53 +27,67 @@ pub(crate) struct Spot {
     pub(crate) may_open: bool,
     /// Whether they are those of an extension: the last of them is its value, if it has ended.
     pub(crate) in_extension: bool,
+    /// Whether, to be sound, each of them has to be constructed, or a primitive of the universal class in which BER
+    /// finds nothing.
+    pub(crate) likely: bool,
+    /// Whether octets `00` may be before, between and after them.
+    pub(crate) padding: bool,
 }
 
 /// Inside an element with these fields, whose contents are the first of these octets, at this offset.
+#[inline(always)]
 pub(crate) fn inside(
-    spot: Spot,
+    spot: &Spot,
     fields: &HeaderFields,
     octets: &[u8],
     offset: u64,
     end_octets: bool,
 ) -> Spot
-    requires { spot.depth < depth_limit }
+    requires { spot.now.depth < depth_limit }
     ensures inner { (header : List ℕ) (p : Place) (f : Forest) (depth : ℕ) (rest : List ℕ)
         → p.padding ≡ false → IsReadAt p f depth offset end_octets octets.now rest
-        → result ≡ spot_inside spot (new_header fields.now header) f (is_elements_end end_octets rest) }
-    ensures start { result.start ≡ spot.start }
+        → result ≡ spot_inside spot.now (new_header fields.now header) f (is_elements_end end_octets rest) }
+    ensures start { result.start ≡ spot.now.start }
+    ensures depth { result.depth ≡ spot.now.depth + 1 }
+    ensures unasked { (result.likely ≡ false) × (result.padding ≡ false) }
 {
     Spot {
         start: spot.start,
         depth: spot.depth + 1,
         may_open: may_open_in(fields, octets, offset, end_octets),
         in_extension: is_extension(fields, octets, offset),
+        likely: false,
+        padding: false,
     }
 }
 
 /// Inside an element with these fields that lacks octets.
-pub(crate) fn inside_lacking(spot: Spot, fields: &HeaderFields) -> Spot
-    requires { spot.depth < depth_limit }
-    ensures inner { (header : List ℕ) → result ≡ spot_lacking spot (new_header fields.now header) }
-    ensures start { result.start ≡ spot.start }
+#[inline(always)]
+pub(crate) fn inside_lacking(spot: &Spot, fields: &HeaderFields) -> Spot
+    requires { spot.now.depth < depth_limit }
+    ensures inner { (header : List ℕ) → result ≡ spot_lacking spot.now (new_header fields.now header) }
+    ensures start { result.start ≡ spot.now.start }
 {
     Spot {
         start: spot.start,
         depth: spot.depth + 1,
         may_open: !has_segments(fields),
         in_extension: false,
+        likely: false,
+        padding: false,
     }
 }
 
 /// Whether an element at this spot, after which these octets come, is the value of an extension.
-pub(crate) fn is_value_before(spot: Spot, octets: &[u8], end_octets: bool) -> bool
-    ensures { result ≡ (spot.in_extension && is_elements_end end_octets octets.now) }
+pub(crate) fn is_value_before(spot: &Spot, octets: &[u8], end_octets: bool) -> bool
+    ensures { result ≡ (spot.now.in_extension && is_elements_end end_octets octets.now) }
 {
     spot.in_extension && is_elements_end(octets, end_octets)
 }
 
 /// Whether strings in an element with these fields and contents may be opened: they are no segments, or the only one of
 /// a whole string.
+#[inline(always)]
 fn may_open_in(fields: &HeaderFields, octets: &[u8], offset: u64, end_octets: bool) -> bool
     ensures { (header : List ℕ) (p : Place) (f : Forest) (depth : ℕ) (rest : List ℕ)
         → p.padding ≡ false → IsReadAt p f depth offset end_octets octets.now rest
@@ -81,6 +98,7 @@ fn may_open_in(fields: &HeaderFields, octets: &[u8], offset: u64, end_octets: bo
 }
 
 /// Whether an element with these fields is a constructed string, which holds segments.
+#[inline(always)]
 fn has_segments(fields: &HeaderFields) -> bool
     ensures { (header : List ℕ) → result ≡ has_segments (new_header fields.now header) }
 {
@@ -88,6 +106,7 @@ fn has_segments(fields: &HeaderFields) -> bool
 }
 
 /// Whether the type is a string (8.6.1, 8.7.1, 8.23, 8.25).
+#[inline(always)]
 fn is_string(fields: &HeaderFields) -> bool
     ensures { (header : List ℕ) → result ≡ is_string (new_header fields.now header) }
 {
@@ -123,6 +142,7 @@ fn is_one_segment(octets: &[u8], offset: u64, end_octets: bool) -> bool
 
 /// Whether an element with these fields and contents is an extension of a certificate: a SEQUENCE that begins with an
 /// OBJECT IDENTIFIER below 2.5.29 or 1.3.6.1.5.5.7.1.
+#[inline(always)]
 fn is_extension(fields: &HeaderFields, octets: &[u8], offset: u64) -> bool
     ensures { (header : List ℕ) (p : Place) (f : Forest) (depth : ℕ) (end_octets : Bool) (rest : List ℕ)
         → IsReadAt p f depth offset end_octets octets.now rest
@@ -132,13 +152,24 @@ fn is_extension(fields: &HeaderFields, octets: &[u8], offset: u64) -> bool
 }
 
 /// Whether the type has this number.
+#[inline(always)]
 fn is_a(number: u64, fields: &HeaderFields) -> bool
     ensures { (header : List ℕ) → result ≡ is_a number (new_header fields.now header) }
 {
     matches!(fields.class, Class::Universal) && fields.number == number
 }
 
+/// Whether the type is OCTET STRING or BIT STRING.
+#[inline(always)]
+pub(crate) fn is_octet_or_bit_string(fields: &HeaderFields) -> bool
+    ensures { (header : List ℕ) → result ≡ (is_a octet_string (new_header fields.now header)
+        || is_a bit_string (new_header fields.now header)) }
+{
+    is_a(universal::OCTET_STRING, fields) || is_a(universal::BIT_STRING, fields)
+}
+
 /// Whether the first element is a primitive OBJECT IDENTIFIER of an extension.
+#[inline(always)]
 fn begin_extension(octets: &[u8], offset: u64) -> bool
     ensures { (p : Place) (f : Forest) (depth : ℕ) (end_octets : Bool) (rest : List ℕ)
         → IsReadAt p f depth offset end_octets octets.now rest → result ≡ begin_extension f }
@@ -148,7 +179,7 @@ fn begin_extension(octets: &[u8], offset: u64) -> bool
     if first != 6 && first != 0x1f {
         return false;
     }
-    let Some((fields, count)) = header_at(octets, offset) else {
+    let Some((fields, count)) = quick_header_at(octets, offset) else {
         return false;
     };
     let rest = &octets[count..];
@@ -157,6 +188,18 @@ fn begin_extension(octets: &[u8], offset: u64) -> bool
         return false;
     }
     is_a(universal::OBJECT_IDENTIFIER, &fields) && names_extension(&rest[..length as usize])
+}
+
+/// [`header_at`], first of two octets.
+#[inline(always)]
+fn quick_header_at(octets: &[u8], offset: u64) -> Option<(HeaderFields, usize)>
+    ensures { MatchOption result (BeginsWithNoHeader octets.now)
+        (λ (fields, count). BeginsWithFields octets.now offset false fields count) }
+{
+    match two_octet_header(octets, offset) {
+        Some(found) => Some(found),
+        None => header_at(octets, offset),
+    }
 }
 
 /// Whether these are the contents of an OBJECT IDENTIFIER below 2.5.29 or 1.3.6.1.5.5.7.1.

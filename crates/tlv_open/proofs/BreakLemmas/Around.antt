@@ -36,7 +36,8 @@ breaks-one depth string f g a b =
     ending-unique (framing_around depth) (octets_around depth string) _ _ a.is_ending b.is_ending in
     cc (same)
 
-pub around-framing : (depth before : ℕ) (inside string : List ℕ) (e : Ending) → inside ≡ before ∷ [] → before ≡ 2 * depth
+pub around-framing : (depth before : ℕ) (inside string : List ℕ) (e : Ending) → inside ≡ before ∷ []
+    → before ≡ 2 * depth
     → IsEnding (record { inside = inside; padding = false }) (octets_around depth string) e
     → IsEnding (framing_around depth) (octets_around depth string) e
 around-framing depth before inside string e i b k =
@@ -44,7 +45,8 @@ around-framing depth before inside string e i b k =
     (i ∙ ap (λ (n : ℕ). n ∷ []) b) k
 
 -- no fault, or one that is beyond the end
-pub breaks-done : (depth : ℕ) (string : List ℕ) → IsEnding (framing_around depth) (octets_around depth string) ending.Done
+pub breaks-done : (depth : ℕ) (string : List ℕ)
+    → IsEnding (framing_around depth) (octets_around depth string) ending.Done
     → (f : Fault) → BreaksAt depth string f → ⊥
 breaks-done depth string e f b =
     let same : ending.Done ≡ ending.Fault f =
@@ -52,7 +54,8 @@ breaks-done depth string e f b =
     absurd (cc (same))
 
 pub breaks-within : (depth : ℕ) (string : List ℕ) (g : Fault)
-    → IsEnding (framing_around depth) (octets_around depth string) (ending.Fault g) → 2 * depth + length string < g.offset
+    → IsEnding (framing_around depth) (octets_around depth string) (ending.Fault g)
+    → 2 * depth + length string < g.offset
     → (f : Fault) → BreaksAt depth string f → ⊥
 breaks-within depth string g e beyond f b =
     let same : ending.Fault g ≡ ending.Fault f =

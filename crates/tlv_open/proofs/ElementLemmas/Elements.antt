@@ -96,7 +96,8 @@ elements-cons p likely ends octets n m b r =
           ap (λ (x : List ℕ). x ++ r.rest) t.spelled
           ∙ (append_assoc (spelling b.element) (spelling r.elements) r.rest
           ∙ (ap (λ (x : List ℕ). spelling b.element ++ x) (r.spelled ∙ after) ∙ b.spelled));
-      size = omega (arith, ap length t.spelled, length-append (spelling b.element) (spelling r.elements), b.size, r.size);
+      size =
+          omega (arith, ap length t.spelled, length-append (spelling b.element) (spelling r.elements), b.size, r.size);
     }
 
 -- a list of elements: one, and a list after it, or none
@@ -106,8 +107,10 @@ pub data IsElements (p : Place) (likely ends : Bool) (octets : List ℕ) : Type 
       → BeginsWithElements (place_after p n) likely ends (drop n octets) m → IsElements p likely ends octets
 
 elements-cases : (p : Place) (likely ends : Bool) (f : Forest) (rest octets : List ℕ) → p.padding ≡ false → IsSound p f
-    → AreLikelyIf likely f → is_elements_end ends rest ≡ true → spelling f ++ rest ≡ octets → IsElements p likely ends octets
-elements-cases p likely ends NoMore rest octets z s k e g = none (subst (λ (x : List ℕ). is_elements_end ends x ≡ true) g e)
+    → AreLikelyIf likely f → is_elements_end ends rest ≡ true → spelling f ++ rest ≡ octets
+    → IsElements p likely ends octets
+elements-cases p likely ends NoMore rest octets z s k e g =
+    none (subst (λ (x : List ℕ). is_elements_end ends x ≡ true) g e)
 elements-cases p likely ends (Primitive h c f) rest octets z s k e g =
     let size : length (octets_of h ++ (c ++ [])) ≡ primitive_extent h c =
     omega (arith, length-append (octets_of h) (c ++ []), length-append c []) in
@@ -157,7 +160,8 @@ elements-cases p likely ends (Holder h inside f) rest octets z s k e g =
       spelled = rw (← whole, ← size) (sym (drop-append_seam (spelling (Holder h inside NoMore)) (spelling f ++ rest)));
       size = refl;
     })
-elements-cases p likely ends (PaddingOctet f) rest octets z s k e g = let w : true ≡ false = sym s.0 ∙ z in absurd (cc (w))
+elements-cases p likely ends (PaddingOctet f) rest octets z s k e g =
+    let w : true ≡ false = sym s.0 ∙ z in absurd (cc (w))
 elements-cases p likely ends (OpenPrimitive h c) rest octets z s k e g = absurd s
 elements-cases p likely ends (OpenHolder h inside) rest octets z s k e g = absurd s
 elements-cases p likely ends (OpenBitString h) rest octets z s k e g = absurd s
@@ -166,7 +170,8 @@ elements-cases p likely ends OpenEndOctets rest octets z s k e g = absurd s
 
 pub elements-split : (p : Place) (likely ends : Bool) (octets : List ℕ) (n : ℕ) → p.padding ≡ false
     → BeginsWithElements p likely ends octets n → IsElements p likely ends octets
-elements-split p likely ends octets n z b = elements-cases p likely ends b.elements b.rest octets z b.sound b.probable b.end b.spelled
+elements-split p likely ends octets n z b =
+    elements-cases p likely ends b.elements b.rest octets z b.sound b.probable b.end b.spelled
 
 -- octets begin with one element
 one-size : (p : Place) (f g : Forest) (x y : List ℕ) → p.padding ≡ false → is_one_element f ≡ true
@@ -256,27 +261,31 @@ pub elements-rest : (offset depth : ℕ) (likely ends : Bool) (octets : List ℕ
     → BeginsWithElement (place_at (offset + at) depth) likely (drop at octets) n
     → (k : ℕ) × BeginsWithElements (place_at (offset + at) depth) likely ends (drop at octets) k
     → (m : ℕ) × BeginsWithElements (place_at (offset + (at + n)) depth) likely ends (drop (at + n) octets) m
-elements-rest offset depth likely ends octets at n h nonzero b r = elim (elements-split (place_at (offset + at) depth) likely ends (drop at octets) r.0 refl r.1) [
-  | none e ↦ absurd (no_end-there ends octets at h nonzero e)
-  | some k m d t ↦
-      let same : k ≡ n = element-one (place_at (offset + at) depth) likely (drop at octets) k n refl d b in
-      let place : (offset + at) + k ≡ offset + (at + n) = omega arith in
-      let front : drop k (drop at octets) ≡ drop (at + n) octets = drop-drop k at octets ∙ ap (λ (j : ℕ). drop (at + j) octets) same in (
-        m,
-        subst (λ (o : ℕ). BeginsWithElements (place_at o depth) likely ends (drop (at + n) octets) m) place
-            (subst (λ (o : List ℕ). BeginsWithElements (place_at ((offset + at) + k) depth) likely ends o m) front t),
-      )
-]
+elements-rest offset depth likely ends octets at n h nonzero b r =
+    elim (elements-split (place_at (offset + at) depth) likely ends (drop at octets) r.0 refl r.1) [
+      | none e ↦ absurd (no_end-there ends octets at h nonzero e)
+      | some k m d t ↦
+          let same : k ≡ n = element-one (place_at (offset + at) depth) likely (drop at octets) k n refl d b in
+          let place : (offset + at) + k ≡ offset + (at + n) = omega arith in
+          let front : drop k (drop at octets) ≡ drop (at + n) octets =
+          drop-drop k at octets ∙ ap (λ (j : ℕ). drop (at + j) octets) same in (
+            m,
+            subst (λ (o : ℕ). BeginsWithElements (place_at o depth) likely ends (drop (at + n) octets) m) place
+                (subst (λ (o : List ℕ). BeginsWithElements (place_at ((offset + at) + k) depth) likely ends o m) front
+                t),
+          )
+    ]
 
 -- no list, if no element begins there
 pub elements-none : (offset depth : ℕ) (likely ends : Bool) (octets : List ℕ) (at : ℕ) → at < length octets
     → get_or octets at 0 ≢ 0
     → BeginsWithNoElement (place_at (offset + at) depth) likely (drop at octets)
     → (k : ℕ) × BeginsWithElements (place_at (offset + at) depth) likely ends (drop at octets) k → ⊥
-elements-none offset depth likely ends octets at h nonzero absent r = elim (elements-split (place_at (offset + at) depth) likely ends (drop at octets) r.0 refl r.1) [
-  | none e ↦ no_end-there ends octets at h nonzero e
-  | some k m d t ↦ absent k d
-]
+elements-none offset depth likely ends octets at h nonzero absent r =
+    elim (elements-split (place_at (offset + at) depth) likely ends (drop at octets) r.0 refl r.1) [
+      | none e ↦ no_end-there ends octets at h nonzero e
+      | some k m d t ↦ absent k d
+    ]
 
 -- no elements
 pub elements-nil : (p : Place) (likely ends : Bool) (octets : List ℕ) → is_elements_end ends octets ≡ true
@@ -301,13 +310,15 @@ elements-stop p likely ends octets n z e absent r = elim (elements-split p likel
 ]
 
 -- no element begins with 00, or where there are no octets
-pub element-zero : (p : Place) (likely : Bool) (octets : List ℕ) (x : ℕ) (more : List ℕ) (n : ℕ) → octets ≡ x ∷ more → x ≡ 0
+pub element-zero : (p : Place) (likely : Bool) (octets : List ℕ) (x : ℕ) (more : List ℕ) (n : ℕ) → octets ≡ x ∷ more
+    → x ≡ 0
     → BeginsWithElement p likely octets n → ⊥
 element-zero p likely octets x more n e z b = zero-begins b.element b.is_one b.sound (b.spelled ∙ e)
   where
     zero-begins : (f : Forest) → is_one_element f ≡ true → IsSound p f → spelling f ++ b.rest ≡ x ∷ more → ⊥
     zero-begins (Primitive h c NoMore) o s g =
-        zero-no_header h x ((c ++ []) ++ b.rest) more s.0.valid (sym (append_assoc (octets_of h) (c ++ []) b.rest) ∙ g) z
+        zero-no_header h x ((c ++ []) ++ b.rest) more s.0.valid (sym (append_assoc (octets_of h) (c ++ []) b.rest) ∙ g)
+        z
     zero-begins (Holder h inside NoMore) o s g =
         zero-no_header h x (lead h ++ ((spelling inside ++ (end_octets h.size ++ [])) ++ b.rest)) more s.0.valid
         (sym (append_assoc (octets_of h) (lead h) _) ∙ (sym (append_assoc (opening h) _ b.rest) ∙ g)) z

@@ -141,7 +141,8 @@ module _ (octets : List ℕ) (offset depth : ℕ) (likely : Bool) (f : HeaderFie
 
   first : (n : ℕ) → BeginsWithElement here likely octets n → IsFirst here likely head after
   first n e =
-      first-from here likely head after octets e.rest e.element (head-at (holds head) (sym head-form)) head-form head-whole
+      first-from here likely head after octets e.rest e.element (head-at (holds head) (sym head-form)) head-form
+      head-whole
       e.is_one e.sound e.probable e.spelled
 
   pub first-too_deep : f.constructed ≡ true → 128 ≤ depth → BeginsWithNoElement here likely octets
@@ -188,7 +189,8 @@ module _ (octets : List ℕ) (offset depth : ℕ) (likely : Bool) (f : HeaderFie
         let s' : m ≡ length o = cc (s) in
         let front : o ≡ take m after = sym (ap₂ take s' (sym spelled) ∙ take-append_seam o rest) in
         none (subst (λ (x : List ℕ). IsClearPrimitive head x) front (clear l))
-    | holder inside rest constructed size few sound spelled ↦ let w : true ≡ false = sym constructed ∙ c in absurd (cc (w))
+    | holder inside rest constructed size few sound spelled ↦
+        let w : true ≡ false = sym constructed ∙ c in absurd (cc (w))
   ]
 
   pub first-no_end : f.size ≡ Indefinite → BeginsWithNoElements inner false true after
@@ -233,7 +235,8 @@ module _ (octets : List ℕ) (offset depth : ℕ) (likely : Bool) (f : HeaderFie
   first-definite m n c k few shallow e =
       let nothing : e.rest ≡ [] = at_end e.rest e.end in
       let same : spelling e.elements ≡ take m after =
-      sym (append-nil (spelling e.elements)) ∙ (ap (λ (o : List ℕ). spelling e.elements ++ o) (sym nothing) ∙ e.spelled) in
+      sym (append-nil (spelling e.elements))
+      ∙ (ap (λ (o : List ℕ). spelling e.elements ++ o) (sym nothing) ∙ e.spelled) in
       let all : length (spelling e.elements) ≡ m = ap length same ∙ length-take-le m after few in
       let no_end : end_octets f.size ≡ [] = rw k refl in
       record {

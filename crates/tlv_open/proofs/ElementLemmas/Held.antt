@@ -1,5 +1,6 @@
 -- What strings hold.
-use Rattle.std.proofs.Common.{◌≡◌, ◌↔◌, ℕ, ◌+◌, ◌<◌, Bool, true, false, eqb, List, [], ◌∷◌, ◌++◌, length, Option, Some}
+use Rattle.std.proofs.Common.{◌≡◌, ◌↔◌, ℕ, ◌+◌, ◌<◌, ◌≤◌, Bool, true, false, eqb, List, [], ◌∷◌, ◌++◌, length, Option}
+use Rattle.std.proofs.Common.{Some}
 use Rattle.std.proofs.Common.{None, IsTrue, MatchOption, refl, sym, ap, ◌∙◌, arith, append-nil, eqb-true}
 use Rattle.std.specs.Option.{is_some}
 use Rattle.tlv_head.specs.Header.{HeaderValue}
@@ -10,7 +11,8 @@ use Rattle.tlv_walk.specs.Place.{Place}
 use Rattle.tlv_walk.specs.Reading.{IsSound}
 use Rattle.tlv_walk.proofs.GrammarLemmas.Spellings.{length-holder, length-opening, length-primitive}
 use Rattle.tlv_open.specs.Held.{HoldsEncodings, inner_octets}
-use Rattle.tlv_open.specs.Private.Elements.{BeginsWithElements, BeginsWithNoElements, is_elements_end, place_at}
+use Rattle.tlv_open.specs.Private.Elements.{BeginsWithElements, BeginsWithNoElements, IfSound, is_elements_end}
+use Rattle.tlv_open.specs.Private.Elements.{place_at}
 
 -- there is something that the string holds
 abbrev pub HoldsSome : ℕ → HeaderValue → List ℕ → Type 0
@@ -95,3 +97,12 @@ module _ (depth : ℕ) (h : HeaderValue) (contents octets : List ℕ) (inner : i
       → IsTrue b ↔ HoldsSome depth h contents
   holds-by None b few some e m = (λ t. absurd (cc (e, t)), λ s. absurd (holds-none m s))
   holds-by (Some n) b few some e m = (λ _. holds-from n few some m, λ _. e)
+
+  pub holds-if : (b : Bool) (n : ℕ) → depth < 128 → eqb (length octets) 0 ≡ false
+      → IfSound b (BeginsWithElements within true false octets n) (BeginsWithNoElements within true false octets)
+      → IsTrue b ↔ HoldsSome depth h contents
+  holds-if true n few some m = (λ t. holds-from n few some m, λ s. refl)
+  holds-if false n few some m = (λ t. absurd (cc (t)), λ s. absurd (holds-none m s))
+
+  pub holds-too_deep : 128 ≤ depth → HoldsSome depth h contents → ⊥
+  holds-too_deep deep s = omega (arith, deep, s.1.shallow)

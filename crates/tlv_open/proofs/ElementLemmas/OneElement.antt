@@ -30,7 +30,8 @@ zero-no_header h x r s v e z = first (octets_of h) refl e
         (λ n. omega (arith, ap length begins, ap length n, header-two h v)) ready
 
 -- where elements may end no header begins
-pub end-no_header : (ends : Bool) (octets r : List ℕ) (h : HeaderValue) → is_elements_end ends octets ≡ true → IsHeader h
+pub end-no_header : (ends : Bool) (octets r : List ℕ) (h : HeaderValue) → is_elements_end ends octets ≡ true
+    → IsHeader h
     → octets_of h ++ r ≡ octets → ⊥
 end-no_header true [] r h e v s = absurd (cc)
 end-no_header true (x ∷ []) r h e v s = absurd (cc)
@@ -97,7 +98,8 @@ AreOne a b x y = (a ≡ b) × (x ≡ y)
 -- what two elements with one header hold, up to the end of the first
 inside-one : (s : Size) (l : ℕ) (a b x y : List ℕ)
     → IfSome (definite_length s) (λ n. l + length a ≡ n) → IfSome (definite_length s) (λ n. l + length b ≡ n)
-    → ((u v : List ℕ) → is_elements_end true u ≡ true → is_elements_end true v ≡ true → a ++ u ≡ b ++ v → AreOne a b u v)
+    → ((u v : List ℕ) → is_elements_end true u ≡ true → is_elements_end true v ≡ true → a ++ u ≡ b ++ v
+    → AreOne a b u v)
     → a ++ (end_octets s ++ x) ≡ b ++ (end_octets s ++ y) → AreOne a b x y
 inside-one (Definite n) l a b x y m k one e = append-split a b x y (omega arith) e
 inside-one Indefinite l a b x y m k one e =
@@ -107,7 +109,8 @@ inside-one Indefinite l a b x y m k one e =
 
 pub holder-one : (p : Place) (h k : HeaderValue) (f g : Forest) (x y : List ℕ) → IsHeaderAt p true h
     → IsHeaderAt p true k → HasItsLength h f → HasItsLength k g
-    → ((u v : List ℕ) → is_elements_end true u ≡ true → is_elements_end true v ≡ true → spelling f ++ u ≡ spelling g ++ v
+    → ((u v : List ℕ) → is_elements_end true u ≡ true → is_elements_end true v ≡ true
+    → spelling f ++ u ≡ spelling g ++ v
     → AreOne (spelling f) (spelling g) u v)
     → opening h ++ (spelling f ++ (end_octets h.size ++ x)) ≡ opening k ++ (spelling g ++ (end_octets k.size ++ y))
     → (h ≡ k) × AreOne (spelling f) (spelling g) x y
@@ -152,7 +155,8 @@ extents h k f g e s =
 
 -- two lists of sound elements with which octets begin, each up to where elements may end
 pub one-list : (p q : Place) (ends : Bool) (f g : Forest) (x y : List ℕ) → AreAlikePlaces p q → p.padding ≡ false
-    → IsSound p f → IsSound q g → is_elements_end ends x ≡ true → is_elements_end ends y ≡ true → spelling f ++ x ≡ spelling g ++ y
+    → IsSound p f → IsSound q g → is_elements_end ends x ≡ true → is_elements_end ends y ≡ true
+    → spelling f ++ x ≡ spelling g ++ y
     → AreOne (spelling f) (spelling g) x y
 one-list p q ends (PaddingOctet rest) g x y a z s t m n e = let w : true ≡ false = sym s.0 ∙ z in absurd (cc (w))
 one-list p q ends (OpenPrimitive h c) g x y a z s t m n e = absurd s

@@ -107,7 +107,8 @@ module _ (octets : List ℕ) (offset : ℕ) (f : HeaderFields) (count : ℕ)
       → IsReadAt p g depth offset ends octets rest → f.constructed ≡ false → m ≡ announced_length f.size
       → m ≤ length after
       → (is_a universal.object_identifier h && names_extension (take m after)) ≡ begin_extension g
-  begins-some p g depth ends rest m r k all few = first_some g (first-read octets offset f count b p g depth ends rest r)
+  begins-some p g depth ends rest m r k all few =
+      first_some g (first-read octets offset f count b p g depth ends rest r)
     where
       first_some : (g : Forest) → IsReadFirst p h after rest g
           → (is_a universal.object_identifier h && names_extension (take m after)) ≡ begin_extension g

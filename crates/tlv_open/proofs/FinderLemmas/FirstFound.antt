@@ -180,7 +180,8 @@ module _ (octets : List ℕ) (offset : ℕ) (f : HeaderFields) (count : ℕ)
           omega (arith, head-count octets offset f count b, same) in
           let left : spelling g ++ rest ≡ drop (count + m) octets =
           sym (after-count m ∙ (ap₂ drop same (sym spelled) ∙ drop-append_seam c (spelling g ++ rest))) in
-          let ends_there : is_elements_end ends (drop (count + m) octets) ≡ (is_no_more g && is_elements_end ends rest) =
+          let ends_there : is_elements_end ends (drop (count + m) octets)
+          ≡ (is_no_more g && is_elements_end ends rest) =
           ap (is_elements_end ends) (sym left)
           ∙ (after-primitive h c (place_after p (primitive_extent h c)) g ends rest obeys r.indefinite (elim r.end [
             | inl e ↦ inl e
@@ -269,7 +270,8 @@ module _ (octets : List ℕ) (offset : ℕ) (f : HeaderFields) (count : ℕ)
           → AddsStrings (spot_before (spot_inside w h inside true) false []) inside (take m after) old new n
       adds_in inside inner =
           subst (λ (u : Spot). AddsAll u (offset + count) false (take m after) old new n)
-          (inner_is (place_of_children p h) inside (w.depth + 1) [] refl inner) a (place_of_children p h) inside [] inner
+          (inner_is (place_of_children p h) inside (w.depth + 1) [] refl inner) a (place_of_children p h) inside []
+          inner
 
       all : (g : Forest) → IsReadAt p g w.depth offset ends octets rest → IsReadFirst p h after rest g
           → AddsUpTo (spot_before w ends rest) p g offset ends octets rest old new (count + length (take m after))
@@ -348,7 +350,8 @@ module _ (octets : List ℕ) (offset : ℕ) (f : HeaderFields) (count : ℕ)
         → AddsStrings (spot_before (spot_inside w h inside (is_elements_end true end)) true end) inside after old new n
     adds-in_indefinite p inside end inner =
         subst (λ (u : Spot). AddsAll u (offset + count) true after old new n)
-        (inner_is (place_of_children p h) inside (w.depth + 1) end refl inner) a (place_of_children p h) inside end inner
+        (inner_is (place_of_children p h) inside (w.depth + 1) end refl inner) a (place_of_children p h) inside end
+        inner
 
     closed-read : (p : Place) (ends : Bool) (inside g : Forest) (rest : List ℕ)
         → IsReadAt p (Holder h inside g) w.depth offset ends octets rest → is_whole inside ≡ true

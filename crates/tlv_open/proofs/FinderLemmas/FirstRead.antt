@@ -17,7 +17,8 @@ use Rattle.tlv_walk.specs.Forest.{Forest, Holder, NoMore, OpenBitString, OpenEnd
 use Rattle.tlv_walk.specs.Forest.{OpenPrimitive, PaddingOctet, Primitive, end_octets, extent, is_whole}
 use Rattle.tlv_walk.specs.Forest.{lead, opening, primitive_extent, spelling}
 use Rattle.tlv_walk.specs.Inside.{is_among}
-use Rattle.tlv_walk.specs.Place.{Fits, IsHeaderAt, IsWithin, ObeysGrammar, Place, bound_in, place_after, place_of_children}
+use Rattle.tlv_walk.specs.Place.{Fits, IsHeaderAt, IsWithin, ObeysGrammar, Place, bound_in, place_after}
+use Rattle.tlv_walk.specs.Place.{place_of_children}
 use Rattle.tlv_walk.proofs.GrammarLemmas.Bounds.{fits-inside}
 use Rattle.tlv_walk.proofs.GrammarLemmas.OpenElements.{size-definite, spelling-fits}
 use Rattle.tlv_walk.proofs.GrammarLemmas.Spellings.{length-opening}
@@ -87,7 +88,8 @@ module _ (p : Place) (h : HeaderValue) (after octets rest : List ℕ) (depth off
         ))
     | inr e ↦ absurd (end-no_header true rest after h e.end at.valid (whole ∙ sym r.spelled))
   ]
-  first-cases (PaddingOctet g) r = absurd (zero-no_header h 0 after (spelling g ++ rest) at.valid (whole ∙ sym r.spelled) refl)
+  first-cases (PaddingOctet g) r =
+      absurd (zero-no_header h 0 after (spelling g ++ rest) at.valid (whole ∙ sym r.spelled) refl)
   first-cases (Primitive k c g) r =
       let s : (k ≡ h) × (c ++ (spelling g ++ rest) ≡ after) =
       header-one p false (holds h) k h _ after r.obeys_grammar.0.0.header at
@@ -161,7 +163,8 @@ module _ (p : Place) (h : HeaderValue) (after octets rest : List ℕ) (depth off
       rest_nil (x ∷ a) b e = absurd (cc (e))
   first-cases OpenEndOctets r = absurd (zero-no_header h 0 after rest at.valid (whole ∙ sym r.spelled) refl)
 
-module _ (octets : List ℕ) (offset : ℕ) (f : HeaderFields) (count : ℕ) (b : BeginsWithFields octets offset false f count) where
+module _ (octets : List ℕ) (offset : ℕ) (f : HeaderFields) (count : ℕ)
+    (b : BeginsWithFields octets offset false f count) where
   abbrev pub head : HeaderValue
   head = new_header f (take count octets)
 

@@ -1,6 +1,7 @@
 -- What is found among elements, one after another.
 use Rattle.std.proofs.Common.{◌≡◌, ◌≢◌, inl, inr, ℕ, suc, ◌+◌, ◌<◌, ◌≤◌, Bool, true, false, List, [], ◌∷◌, ◌++◌}
-use Rattle.std.proofs.Common.{length, drop, get_or, drop-cons, refl, sym, ap, ◌∙◌, arith, subst, append_assoc, append-nil}
+use Rattle.std.proofs.Common.{length, drop, get_or, drop-cons, refl, sym, ap, ◌∙◌, arith, subst, append_assoc}
+use Rattle.std.proofs.Common.{append-nil}
 use Rattle.std.proofs.Common.{length-drop}
 use Rattle.std.proofs.lemmas.List.{drop-drop}
 use Rattle.tlv_head.specs.Header.{octets_of}
@@ -36,7 +37,8 @@ read-moved p o n g depth offset next ends octets left rest same same_offset same
 }
 
 -- nothing is found in no octets
-pub adds-start : (w : Spot) (offset : ℕ) (ends : Bool) (octets : List ℕ) (old : FoundStrings) → AddsFirst w offset ends octets old old 0
+pub adds-start : (w : Spot) (offset : ℕ) (ends : Bool) (octets : List ℕ) (old : FoundStrings)
+    → AddsFirst w offset ends octets old old 0
 adds-start w offset ends octets old p f rest r = record {
   found = nothing_found;
   added = sym (both-nothing old);
@@ -84,12 +86,14 @@ module _ (w : Spot) (p : Place) (f : Forest) (offset : ℕ) (ends : Bool) (octet
           → FindsUpTo (spot_before w ends rest) p f offset ends octets rest found at
           → AddsUpTo (spot_before w ends rest) p f offset ends octets rest old new (at + n)
       by_cases found e (goes_on g r finds whole size) =
-          let s : AddsUpTo (spot_before w ends rest) (place_after p at) g (offset + at) ends (drop at octets) rest mid new n =
+          let s : AddsUpTo (spot_before w ends rest) (place_after p at) g (offset + at) ends (drop at octets) rest mid
+          new n =
           next (place_after p at) g rest r in
           from found s.found g e s.added finds whole size s.finds
       by_cases found e (stops o open_ all) = absurd (omega (arith, all))
 
-pub adds-more : (w : Spot) (offset : ℕ) (ends : Bool) (octets : List ℕ) (old mid new : FoundStrings) (at n : ℕ) → at < length octets
+pub adds-more : (w : Spot) (offset : ℕ) (ends : Bool) (octets : List ℕ) (old mid new : FoundStrings) (at n : ℕ)
+    → at < length octets
     → AddsFirst w offset ends octets old mid at → AddsFirst w (offset + at) ends (drop at octets) mid new n
     → AddsFirst w offset ends octets old new (at + n)
 adds-more w offset ends octets old mid new at n less a next p f rest r =
@@ -103,7 +107,8 @@ prefix-no_zero (x ∷ o) rest more q some e =
     zero-no_header q.header x [] (o ++ q.more) q.valid (append-nil (octets_of q.header) ∙ sym q.prefix) zero
 
 -- padding, where elements do not end with end-of-contents octets
-adds-zero : (w : Spot) (q : Place) (g : Forest) (offset : ℕ) (more left rest : List ℕ) (old : FoundStrings) → left ≡ 0 ∷ more
+adds-zero : (w : Spot) (q : Place) (g : Forest) (offset : ℕ) (more left rest : List ℕ) (old : FoundStrings)
+    → left ≡ 0 ∷ more
     → IsReadAt q g w.depth offset false left rest
     → AddsUpTo w q g offset false left rest old old 1
 adds-zero w q NoMore offset more left rest old z r = elim r.end [
@@ -152,7 +157,8 @@ adds-zero w q (OpenHeader o) offset more left rest old z r =
 adds-zero w q OpenEndOctets offset more left rest old z r =
     let w : false ≡ true = sym r.indefinite ∙ r.obeys_grammar.0 in absurd (cc (w))
 
-pub adds-padding : (w : Spot) (offset : ℕ) (ends : Bool) (octets : List ℕ) (old mid : FoundStrings) (at : ℕ) → at < length octets
+pub adds-padding : (w : Spot) (offset : ℕ) (ends : Bool) (octets : List ℕ) (old mid : FoundStrings) (at : ℕ)
+    → at < length octets
     → get_or octets at 0 ≡ 0 → ends ≡ false → AddsFirst w offset ends octets old mid at
     → AddsFirst w offset ends octets old mid (at + 1)
 adds-padding w offset ends octets old mid at less z e a =
@@ -177,11 +183,13 @@ drop-end octets at h = nil (drop at octets) (omega (arith, length-drop at octets
     nil [] h = refl
     nil (x ∷ xs) h = absurd (omega arith)
 
-adds-last : (w : Spot) (p : Place) (f : Forest) (offset : ℕ) (ends : Bool) (octets rest : List ℕ) (old new found : FoundStrings)
+adds-last : (w : Spot) (p : Place) (f : Forest) (offset : ℕ) (ends : Bool) (octets rest : List ℕ)
+    (old new found : FoundStrings)
     (at : ℕ)
     → ((g : Forest) → IsReadAt (place_after p at) g w.depth (offset + at) ends (drop at octets) rest
     → IsLast w g (drop at octets))
-    → new ≡ found_in_turn old found → FindsUpTo w p f offset ends octets rest found at → AddsStrings w f octets old new at
+    → new ≡ found_in_turn old found → FindsUpTo w p f offset ends octets rest found at
+    → AddsStrings w f octets old new at
 adds-last w p f offset ends octets rest old new found at last e (goes_on g r finds whole size) =
     let l : IsLast w g (drop at octets) = last g r in
     record {
@@ -253,16 +261,19 @@ last-zero w q OpenEndOctets offset more left rest z r = elim r.end [
 ]
 
 -- the octets have ended
-pub adds-done : (w : Spot) (offset : ℕ) (ends : Bool) (octets : List ℕ) (old new : FoundStrings) (at : ℕ) → length octets ≤ at
+pub adds-done : (w : Spot) (offset : ℕ) (ends : Bool) (octets : List ℕ) (old new : FoundStrings) (at : ℕ)
+    → length octets ≤ at
     → AddsFirst w offset ends octets old new at → AddsAll w offset ends octets old new at
 adds-done w offset ends octets old new at h a p f rest r =
     let s : AddsUpTo (spot_before w ends rest) p f offset ends octets rest old new at = a p f rest r in
     adds-last (spot_before w ends rest) p f offset ends octets rest old new s.found at
-    (λ g t. last-nothing (spot_before w ends rest) (place_after p at) g (offset + at) ends (drop at octets) rest (drop-end octets at h) t)
+    (λ g t. last-nothing (spot_before w ends rest) (place_after p at) g (offset + at) ends (drop at octets) rest
+    (drop-end octets at h) t)
     s.added s.finds
 
 -- the elements have ended
-pub adds-ended : (w : Spot) (offset : ℕ) (ends : Bool) (octets : List ℕ) (old new : FoundStrings) (at : ℕ) → at < length octets
+pub adds-ended : (w : Spot) (offset : ℕ) (ends : Bool) (octets : List ℕ) (old new : FoundStrings) (at : ℕ)
+    → at < length octets
     → get_or octets at 0 ≡ 0 → ends ≡ true → AddsFirst w offset ends octets old new at
     → AddsAll w offset ends octets old new at
 adds-ended w offset ends octets old new at less z e a p f rest r =
@@ -275,7 +286,8 @@ adds-ended w offset ends octets old new at less z e a p f rest r =
     s.added s.finds
 
 -- the same of octets and a place that are the same
-pub adds-all-at : (v w : Spot) (offset : ℕ) (ends : Bool) (l k : List ℕ) (old new : FoundStrings) (n : ℕ) → v ≡ w → l ≡ k
+pub adds-all-at : (v w : Spot) (offset : ℕ) (ends : Bool) (l k : List ℕ) (old new : FoundStrings) (n : ℕ) → v ≡ w
+    → l ≡ k
     → AddsAll v offset ends l old new n → AddsAll w offset ends k old new n
 adds-all-at v w offset ends l k old new n e d a =
     subst (λ (o : List ℕ). AddsAll w offset ends o old new n) d

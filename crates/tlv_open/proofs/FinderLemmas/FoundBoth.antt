@@ -29,6 +29,8 @@ spot_of_children s h one in_extension = record {
   depth = s.depth + 1;
   may_open = may_open_in h one;
   in_extension = in_extension;
+  likely = false;
+  padding = false;
 }
 
 pub finds-no_more : (s : Spot) → Finds s NoMore nothing_found

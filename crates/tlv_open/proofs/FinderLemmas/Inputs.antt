@@ -1,9 +1,8 @@
 -- What is found in an input.
-use Rattle.std.proofs.Common.{◌≡◌, ℕ, ◌+◌, ◌<◌, ◌≤◌, Bool, true, false, ◌++◌, List, [], ◌∷◌, Fits, w8, length, take, inl}
+use Rattle.std.proofs.Common.{◌≡◌, ℕ, ◌+◌, ◌<◌, ◌≤◌, Bool, true, false, ◌++◌, List, [], ◌∷◌, Fits, w8, length, take}
+use Rattle.std.proofs.Common.{inl}
 use Rattle.std.proofs.Common.{refl, sym, ap, ap₂, arith, subst, append-nil, length-append, slice_index_or, ◌∙◌}
-use Rattle.std.proofs.Common.{MatchOption, Option, Some, None}
-use Rattle.std.specs.Option.{is_some}
-use Rattle.std.proofs.lemmas.List.{get_or_default}
+use Rattle.std.proofs.lemmas.List.{get_or_default, take_all}
 use Rattle.std.proofs.Math.Seq.{take-append_seam}
 use Rattle.tlv_walk.specs.declared.framing.Framing.{Framing}
 use Rattle.tlv_walk.specs.Forest.{Forest, Holder, NoMore, OpenBitString, OpenEndOctets, OpenHeader, OpenHolder}
@@ -12,10 +11,12 @@ use Rattle.tlv_walk.specs.Inside.{is_among}
 use Rattle.tlv_walk.specs.Place.{Place, place_after, place_of_children, top_place}
 use Rattle.tlv_walk.specs.Reading.{AreOctets, IsReading, IsSound}
 use Rattle.tlv_walk.proofs.GrammarLemmas.SoundElements.{sound-obeys_grammar_top}
+use Rattle.tlv_open.specs.declared.extent.Extent.{Extent}
 use Rattle.tlv_open.specs.declared.spot.Spot.{Spot}
 use Rattle.tlv_open.specs.Breaks.{AreBroken}
 use Rattle.tlv_open.specs.Opens.{AreOpened, closed_framing}
-use Rattle.tlv_open.specs.Private.Elements.{BeginsWithElements, BeginsWithNoElements, is_elements_end, place_at}
+use Rattle.tlv_open.specs.Private.Adds.{SaysSound, place_in}
+use Rattle.tlv_open.specs.Private.Elements.{BeginsWithElements, is_elements_end}
 use Rattle.tlv_open.specs.Private.Finds.{AddsAll, AddsStrings, FoundStrings, spot_before}
 use Rattle.tlv_open.proofs.FinderLemmas.NothingFound.{nothing_found}
 
@@ -31,19 +32,26 @@ pub read-within : (framing : Framing) (octets : List ℕ) (f : Forest) → IsRea
 read-within framing octets f r =
     omega (arith, ap length r.is_prefix.1, length-append (spelling f) r.is_prefix.0)
 
-abbrev pub top_spot : Spot
-top_spot = record { start = 0; depth = 0; may_open = true; in_extension = false }
+abbrev pub top_spot : Bool → Spot
+top_spot padding = record {
+  start = 0;
+  depth = 0;
+  may_open = true;
+  in_extension = false;
+  likely = false;
+  padding = padding;
+}
 
 -- what is found in the octets that are read
 pub are-found : (padding : Bool) (octets : List ℕ) (new : FoundStrings) (f : Forest) (m n : ℕ)
     → IsReading (closed_framing padding) octets f → m ≡ length (spelling f)
-    → AddsAll top_spot 0 false (take m octets) nothing_found new n
+    → AddsAll (top_spot padding) 0 false (take m octets) nothing_found new n
     → AreOpened padding octets new.opened × AreBroken padding octets new.broken
 are-found padding octets new f m n r count a =
     let front : take m octets ≡ spelling f =
     subst (λ (o : List ℕ). take m o ≡ spelling f) r.is_prefix.1
     (ap (λ (k : ℕ). take k (spelling f ++ r.is_prefix.0)) count ∙ take-append_seam (spelling f) r.is_prefix.0) in
-    let s : AddsStrings (spot_before top_spot false []) f (take m octets) nothing_found new n =
+    let s : AddsStrings (spot_before (top_spot padding) false []) f (take m octets) nothing_found new n =
     a (top_place (closed_framing padding)) f [] (record {
       depth_is = refl;
       offset_is = refl;
@@ -98,14 +106,13 @@ at_end [] w = refl
 at_end (x ∷ o) w = absurd (cc (w))
 
 -- of sound elements all is read
-all-read : (padding : Bool) (octets : List ℕ) (n : ℕ) (f : Forest)
-    → BeginsWithElements (place_at 0 0) false false octets n → IsReading (closed_framing padding) octets f
-    → length octets ≡ length (spelling f)
+pub all-read : (padding : Bool) (octets : List ℕ) (n : ℕ) (f : Forest)
+    → BeginsWithElements (place_in (top_spot padding) 0) false false octets n
+    → IsReading (closed_framing padding) octets f → length octets ≡ length (spelling f)
 all-read padding octets n f b r =
     let spelled : spelling b.elements ++ [] ≡ octets =
     ap (λ (o : List ℕ). spelling b.elements ++ o) (sym (at_end b.rest b.end)) ∙ b.spelled in
-    let sound : IsSound (top_place (closed_framing padding)) b.elements =
-    sound-padded (place_at 0 0) (top_place (closed_framing padding)) b.elements refl refl refl refl b.sound in
+    let sound : IsSound (top_place (closed_framing padding)) b.elements = b.sound in
     let most : length (spelling b.elements) ≤ length (spelling f) =
     r.longest b.elements (sound-obeys_grammar_top (closed_framing padding) b.elements sound) ([], spelled) in
     omega (
@@ -116,9 +123,12 @@ all-read padding octets n f b r =
       length-append (spelling b.elements) [],
     )
 
-pub some-read : (padding : Bool) (octets : List ℕ) (found : Option ℕ) → is_some found ≡ true
-    → MatchOption found (BeginsWithNoElements (place_at 0 0) false false octets)
-    (λ n. BeginsWithElements (place_at 0 0) false false octets n)
-    → (f : Forest) → IsReading (closed_framing padding) octets f → length octets ≡ length (spelling f)
-some-read padding octets None e m f r = absurd (cc (e))
-some-read padding octets (Some n) e m f r = all-read padding octets n f m r
+-- and what is found in them is all that there is
+pub are-all-found : (padding : Bool) (octets : List ℕ) (new : FoundStrings) (f : Forest) (e : Extent)
+    → IsReading (closed_framing padding) octets f → SaysSound (top_spot padding) 0 false octets e → e.sound ≡ true
+    → AddsAll (top_spot padding) 0 false octets nothing_found new e.size
+    → AreOpened padding octets new.opened × AreBroken padding octets new.broken
+are-all-found padding octets new f e r says sound a =
+    are-found padding octets new f (length octets) e.size r (all-read padding octets e.size f (says.sound sound) r)
+    (subst (λ (o : List ℕ). AddsAll (top_spot padding) 0 false o nothing_found new e.size)
+    (sym (take_all (length octets) octets (omega arith))) a)

@@ -1,14 +1,16 @@
 -- What is found in a primitive.
 use Rattle.std.proofs.Common.{◌≡◌, ◌↔◌, ℕ, ◌+◌, ◌-◌, Bool, true, false, ◌&&◌, eqb, List, [], ◌∷◌, ◌++◌, length}
-use Rattle.std.proofs.Common.{Option, MatchOption, Some, None, IsTrue, if◌then◌else◌, inl, inr, refl, sym, ap, ◌∙◌, arith}
+use Rattle.std.proofs.Common.{Option, MatchOption, Some, None, IsTrue, if◌then◌else◌, inl, inr, refl, sym, ap, ◌∙◌}
+use Rattle.std.proofs.Common.{arith}
 use Rattle.std.proofs.Common.{◌≤◌, drop, subst, take}
 use Rattle.std.proofs.lemmas.List.{drop-take, length-take-le, take-append-drop, take-take}
 use Rattle.tlv_head.specs.declared.header.HeaderFields.{HeaderFields}
-use Rattle.tlv_head.specs.HeaderFields.{new_header}
+use Rattle.tlv_head.specs.HeaderFields.{IsHeaderSized, new_header}
+use Rattle.tlv_head.specs.ReadHeader.{BeginsWithFields}
 use Rattle.std.proofs.Common.{append-nil, eqb-true}
 use Rattle.std.proofs.lemmas.Bool.{cases_Bool}
 use Rattle.tlv_head.specs.declared.header.Class.{Class}
-use Rattle.tlv_head.specs.Header.{HeaderValue, is_universal, octets_of}
+use Rattle.tlv_head.specs.Header.{HeaderValue, IsHeader, announced_length, is_universal, octets_of}
 use Rattle.tlv_walk.specs.Forest.{Forest, lead, lead_by, opening, spelling}
 use Rattle.tlv_walk.specs.Place.{ObeysGrammar}
 use Rattle.tlv_walk.proofs.GrammarLemmas.SoundElements.{sound-obeys_grammar}
@@ -17,11 +19,12 @@ use Rattle.tlv_open.specs.declared.spot.Spot.{Spot}
 use Rattle.tlv_open.specs.declared.strings.BrokenString.{BrokenString}
 use Rattle.tlv_open.specs.Breaks as breaks
 use Rattle.tlv_open.specs.Breaks.{Breaks, IsBroken, IsBrokenString}
-use Rattle.tlv_open.specs.Held.{HoldsEncodings, after_unused_bits, inner_octets, place_by_itself}
+use Rattle.tlv_open.specs.Held.{HoldsEncodings, IsClearPrimitive, after_unused_bits, inner_octets, place_by_itself}
 use Rattle.tlv_open.specs.Opens as opens
 use Rattle.tlv_open.specs.Opens.{Opens, Where, where_of_held}
 use Rattle.tlv_open.specs.Private.Finds.{AddsAll, AddsPrimitive, AddsStrings, FoundStrings, IsReadAt, found_in_turn}
-use Rattle.tlv_open.specs.Private.Finds.{list_of, spot_before, where_of}
+use Rattle.tlv_open.specs.Private.Adds.{AddsHeld, IsWholePrimitive, Tries}
+use Rattle.tlv_open.specs.Private.Finds.{list_of, spot_before, spot_held, where_of}
 use Rattle.tlv_open.proofs.FinderLemmas.NothingFound.{nothing_found}
 use Rattle.tlv_open.specs.Private.Held.{inner_octets_of}
 use Rattle.tlv_open.proofs.FinderLemmas.FoundBoth.{both-assoc, both-nothing}
@@ -153,7 +156,7 @@ pub adds-opened : (w u : Spot) (v : Bool) (h : HeaderValue) (contents octets : L
     → u.start ≡ w.start + h.offset + ((count + length contents) - length octets) → u.depth ≡ w.depth + 1
     → u.may_open ≡ true → u.in_extension ≡ false → AddsAll u 0 false octets mid new n
     → AddsPrimitive w v h contents old new
-adds-opened w u v h contents octets old mid new count n b may primitive size inner held e pushed start depth open_ no_e a =
+adds-opened w u v h contents octets old mid new _ n b may primitive size inner held e pushed start depth open_ no_e a =
     let s : (f : Forest) × HoldsEncodings w.depth h contents f = held.0 e in
     let spelled : spelling s.0 ≡ octets =
     let t : Some (spelling s.0) ≡ Some octets = sym s.1.octets ∙ inner in cc (t) in
@@ -187,7 +190,8 @@ adds-opened w u v h contents octets old mid new count n b may primitive size inn
           r.added ∙ (ap (λ (o : FoundStrings). found_in_turn o r.found) pushed
           ∙ both-assoc old (record { opened = (w.start + h.offset) ∷ []; broken = [] }) r.found);
       finds = λ k g ys last o. record {
-        opens = opens.opened may s.0 s.1 (subst (λ (x : Where). Opens x s.0 r.found.opened) where_is r.finds.opens) o.opens;
+        opens =
+            opens.opened may s.0 s.1 (subst (λ (x : Where). Opens x s.0 r.found.opened) where_is r.finds.opens) o.opens;
         breaks =
             breaks.opened may s.0 s.1
             (subst (λ (x : Where). Breaks x false s.0 r.found.broken) where_is
@@ -219,4 +223,83 @@ primitive-at w v f octets count m old new a =
     (take-take count (count + m) octets (omega arith))
     (subst
     (λ (x : List ℕ). AddsPrimitive w v (new_header f (take count (take (count + m) octets))) x old new)
+    (drop-take count m octets) a)
+
+-- what a string adds that was tried
+module _ (w : Spot) (v : Bool) (h : HeaderValue) (contents octets : List ℕ) (old : FoundStrings)
+    (may : w.may_open ≡ true)
+    (inner : inner_octets h contents ≡ Some octets) (offset : ℕ) (here : offset ≡ w.start + h.offset) where
+  pub adds-held : (new : FoundStrings) (start count : ℕ) (b : Bool) → h.constructed ≡ false
+      → length (octets_of h) ≡ count → IsTrue b ↔ ((f : Forest) × HoldsEncodings w.depth h contents f) → b ≡ true
+      → start ≡ w.start + h.offset + ((count + length contents) - length octets) → Tries w start offset octets old new b
+      → AddsPrimitive w v h contents old new
+  adds-held new start count b primitive size held e start_is tries =
+      let a : AddsHeld w start offset octets old new =
+      subst (λ (k : Bool). Tries w start offset octets old new k) e tries in
+      adds-opened w (spot_held w start) v h contents octets old
+      (found_in_turn old (record { opened = offset ∷ []; broken = [] })) new count a.size b may primitive size inner
+      held e
+      (ap (λ (o : ℕ). found_in_turn old (record { opened = o ∷ []; broken = [] })) here) start_is refl refl refl a.adds
+
+  pub adds-unheld : (mid new : FoundStrings) (start : ℕ) (string : List ℕ) (b : Bool) (found : Option BrokenString)
+      → IsTrue b ↔ ((f : Forest) × HoldsEncodings w.depth h contents f) → b ≡ false
+      → Tries w start offset octets old mid b → octets_of h ++ contents ≡ string
+      → MatchOption found ((x : BrokenString) → IsBrokenString offset w.depth string octets v x → ⊥)
+      (λ x. IsBrokenString offset w.depth string octets v x)
+      → new.opened ≡ mid.opened → new.broken ≡ mid.broken ++ list_of found → AddsPrimitive w v h contents old new
+  adds-unheld mid new start string b found held e tries whole is_broken opened broken =
+      let same : mid ≡ old = subst (λ (k : Bool). Tries w start offset octets old mid k) e tries in
+      adds-broken w v h contents octets old new inner
+      (λ f s. let t : true ≡ false = sym (held.1 (f, s)) ∙ e in absurd (cc (t))) found may
+      (subst
+      (λ (o : ℕ). MatchOption found
+      ((x : BrokenString) → IsBrokenString o w.depth (octets_of h ++ contents) octets v x → ⊥)
+      (λ x. IsBrokenString o w.depth (octets_of h ++ contents) octets v x))
+      here
+      (subst
+      (λ (o : List ℕ). MatchOption found ((x : BrokenString) → IsBrokenString offset w.depth o octets v x → ⊥)
+      (λ x. IsBrokenString offset w.depth o octets v x))
+      (sym whole) is_broken))
+      (opened ∙ ap (λ (o : FoundStrings). o.opened) same)
+      (broken ∙ ap (λ (o : FoundStrings). o.broken ++ list_of found) same)
+
+-- octets that are cut after the contents
+pub begins-taken : (octets : List ℕ) (offset : ℕ) (f : HeaderFields) (count m : ℕ)
+    → BeginsWithFields octets offset false f count → count + m ≤ length octets
+    → BeginsWithFields (take (count + m) octets) offset false f count
+begins-taken octets offset f count m b few =
+    let same : take count octets ≡ take count (take (count + m) octets) =
+    sym (take-take count (count + m) octets (omega arith)) in
+    record {
+      within = omega (arith, length-take-le (count + m) octets few);
+      sized = subst (λ (o : List ℕ). IsHeaderSized f o) same b.sized;
+      begins = record {
+        valid = subst (λ (o : List ℕ). IsHeader (new_header f o)) same b.begins.valid;
+        offset = b.begins.offset;
+        named = b.begins.named;
+        rest = drop count (take (count + m) octets);
+        octets_are = sym (string-whole f (take (count + m) octets) count);
+      };
+    }
+
+pub whole-taken : (octets : List ℕ) (offset : ℕ) (f : HeaderFields) (count m : ℕ)
+    → BeginsWithFields octets offset false f count → m ≡ announced_length f.size → m ≤ length (drop count octets)
+    → count + m ≤ length octets → IsWholePrimitive (take (count + m) octets) offset
+whole-taken octets offset f count m b all few within = record {
+  fields = f;
+  count = count;
+  begins = begins-taken octets offset f count m b within;
+  whole =
+      sym (ap length (drop-take count m octets) ∙ (length-take-le m (drop count octets) few ∙ all));
+}
+
+pub clear-taken : (octets : List ℕ) (f : HeaderFields) (count m : ℕ) (k : Bool)
+    → (IsTrue k
+    ↔ IsClearPrimitive (new_header f (take count (take (count + m) octets))) (drop count (take (count + m) octets)))
+    → IsTrue k ↔ IsClearPrimitive (new_header f (take count octets)) (take m (drop count octets))
+clear-taken octets f count m k a =
+    subst (λ (x : List ℕ). IsTrue k ↔ IsClearPrimitive (new_header f x) (take m (drop count octets)))
+    (take-take count (count + m) octets (omega arith))
+    (subst
+    (λ (x : List ℕ). IsTrue k ↔ IsClearPrimitive (new_header f (take count (take (count + m) octets))) x)
     (drop-take count m octets) a)

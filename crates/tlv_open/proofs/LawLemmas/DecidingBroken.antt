@@ -1,6 +1,7 @@
 -- Whether a string is broken can be decided.
 use Rattle.std.proofs.Common.{◌≡◌, ℕ, zero, suc, ◌+◌, ◌*◌, ◌<◌, ◌≤◌, Bool, true, false, ◌&&◌, eqb, ltb}
-use Rattle.std.proofs.Common.{if◌then◌else◌, List, [], ◌∷◌, ◌++◌, length, slice_index, Option, Some, None, refl, sym, ap}
+use Rattle.std.proofs.Common.{if◌then◌else◌, List, [], ◌∷◌, ◌++◌, length, slice_index, Option, Some, None, refl, sym}
+use Rattle.std.proofs.Common.{ap}
 use Rattle.std.proofs.Common.{◌∙◌, arith, subst, append_assoc, eq-eqb, eqb-true, lt-ltb, ltb-true}
 use Rattle.std.proofs.Math.Dec.{leb}
 use Rattle.std.proofs.lemmas.Bool.{and_parts, le-leb, leb-true}
@@ -194,7 +195,8 @@ begin-passes first octets each t =
     let parts : (eqb (slice_index octets 0) first ≡ true) × (size_test octets ≡ true) = and_parts _ _ t in
     record { first_octet = eqb-true _ _ parts.0; size = size-passes octets each parts.1 }
 
-begin-fails : (first : ℕ) (octets : List ℕ) → AreOctets octets → begin_test first octets ≡ false → BeginsAs first octets → ⊥
+begin-fails : (first : ℕ) (octets : List ℕ) → AreOctets octets → begin_test first octets ≡ false → BeginsAs first octets
+    → ⊥
 begin-fails first octets each t b =
     let passed : begin_test first octets ≡ true =
     both-true _ _ (eq-eqb _ _ b.first_octet) (size-tested octets each b.size) in
@@ -292,7 +294,8 @@ module _ (depth : ℕ) (string : List ℕ) (each : AreOctets string) where
       record {
         within_limit = leb-true _ _ e;
         is_ending =
-            subst (λ (k : Ending). IsEnding (framing_around depth) (octets_around depth string) k) parts.0 is-the_ending;
+            subst (λ (k : Ending). IsEnding (framing_around depth) (octets_around depth string) k) parts.0
+            is-the_ending;
         within_string = parts.1;
       }
   by-limit false f e t = absurd (cc (t))
@@ -323,7 +326,8 @@ broken_by offset depth (Some r) (Some f) =
 abbrev pub broken_of : ℕ → ℕ → List ℕ → List ℕ → Bool → Option BrokenString
 broken_of offset depth string octets v = broken_by offset depth (suspicion_of octets v) (fault_around depth string)
 
-module _ (offset depth : ℕ) (string octets : List ℕ) (v : Bool) (each : AreOctets string) (inner : AreOctets octets) where
+module _ (offset depth : ℕ) (string octets : List ℕ) (v : Bool) (each : AreOctets string)
+    (inner : AreOctets octets) where
   broken-by : (s : Option Suspicion) (g : Option Fault) (x : BrokenString) → suspicion_of octets v ≡ s
       → fault_around depth string ≡ g → broken_by offset depth s g ≡ Some x
       → IsBrokenString offset depth string octets v x

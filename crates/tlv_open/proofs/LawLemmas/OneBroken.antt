@@ -49,7 +49,8 @@ broken-one w v h contents x y a b =
     (λ (o : List ℕ). IsBrokenString (w.start + h.offset) w.depth (octets_of h ++ contents) o v x) same a.is_broken)
     b.is_broken
 
-pub breaks-list_one : {w : Where} {e : Bool} {f : Forest} {xs ys : List BrokenString} → Breaks w e f xs → Breaks w e f ys
+pub breaks-list_one : {w : Where} {e : Bool} {f : Forest} {xs ys : List BrokenString} → Breaks w e f xs
+    → Breaks w e f ys
     → xs ≡ ys
 breaks-list_one breaks.no_more breaks.no_more = refl
 breaks-list_one (breaks.padded a) (breaks.padded b) = breaks-list_one a b

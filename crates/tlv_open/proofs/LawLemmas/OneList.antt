@@ -7,7 +7,8 @@ use Rattle.tlv_walk.proofs.GrammarLemmas.Readings.{reading-unique, spelling-uniq
 use Rattle.tlv_walk.proofs.GrammarLemmas.SoundElements.{sound-obeys_grammar}
 use Rattle.tlv_open.specs.Held.{HoldsEncodings, place_by_itself}
 use Rattle.tlv_open.specs.Opens.{AreOpened, Opens, Where, closed, closed_framing, holder, no_more, open_bit_string}
-use Rattle.tlv_open.specs.Opens.{open_end_octets, open_header, open_holder, open_primitive, opened, padded, where_at_top}
+use Rattle.tlv_open.specs.Opens.{open_end_octets, open_header, open_holder, open_primitive, opened, padded}
+use Rattle.tlv_open.specs.Opens.{where_at_top}
 use Rattle.tlv_open.specs.Opens.{where_of_held}
 
 -- a string holds one list of encodings

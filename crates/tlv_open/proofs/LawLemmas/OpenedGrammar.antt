@@ -1,5 +1,6 @@
 -- Elements obey the grammar if the strings that are opened are named, and the same octets are refused after them.
-use Rattle.std.proofs.Common.{◌≡◌, ◌≢◌, ℕ, ◌+◌, ◌<◌, ◌≤◌, Bool, true, false, List, [], ◌∷◌, ◌++◌, length, Option, IfSome}
+use Rattle.std.proofs.Common.{◌≡◌, ◌≢◌, ℕ, ◌+◌, ◌<◌, ◌≤◌, Bool, true, false, List, [], ◌∷◌, ◌++◌, length, Option}
+use Rattle.std.proofs.Common.{IfSome}
 use Rattle.std.proofs.Common.{refl, sym, ap, ap₂, ◌∙◌, arith, subst, length-append}
 use Rattle.tlv_head.specs.declared.fault.FaultCode.{FaultCode}
 use Rattle.tlv_head.specs.declared.header.Size.TheVariants.{Definite}
@@ -11,7 +12,8 @@ use Rattle.tlv_walk.specs.Forest.{Forest, Holder, NoMore, OpenBitString, OpenEnd
 use Rattle.tlv_walk.specs.Forest.{OpenPrimitive, Primitive, extent}
 use Rattle.tlv_walk.specs.Forest.{lead, opening, primitive_extent, spelling}
 use Rattle.tlv_walk.specs.Inside.{is_among}
-use Rattle.tlv_walk.specs.Place.{Fits, IsHeaderAt, IsWithin, ObeysGrammar, Place, bound_in, place_after, place_of_children}
+use Rattle.tlv_walk.specs.Place.{Fits, IsHeaderAt, IsWithin, ObeysGrammar, Place, bound_in, place_after}
+use Rattle.tlv_walk.specs.Place.{place_of_children}
 use Rattle.tlv_walk.specs.Reading.{IsSound}
 use Rattle.tlv_walk.proofs.GrammarLemmas.PlacedSpelling.{Agrees}
 use Rattle.tlv_walk.proofs.GrammarLemmas.SoundElements.{sound-obeys_grammar, sound-whole}
@@ -104,7 +106,8 @@ is_primitive_begun (OpenPrimitive h c) = true
 is_primitive_begun f = false
 
 -- no octet of contents is refused
-contents-taken : (e : OpenEnd) (x : ℕ) (code : FaultCode) → IsRefusedAt e x code → is_primitive_begun e.forest ≡ true → ⊥
+contents-taken : (e : OpenEnd) (x : ℕ) (code : FaultCode) → IsRefusedAt e x code → is_primitive_begun e.forest ≡ true
+    → ⊥
 contents-taken e x code (bad_inside nz) t = absurd (cc (t))
 contents-taken e x code (missing_end a) t = absurd (cc (t))
 contents-taken e x code (bad_end f nz) t = absurd (cc (t))

@@ -193,7 +193,8 @@ module _ (w v : Where) (h : HeaderValue) (children rest : Forest) (xs ys : List 
   rise-children : Rise (w.start + (o + length (opening h)))
       (w.start + (o + length (opening h)) + length (spelling children)) xs
   rise-children =
-      subst (λ (n : ℕ). Rise (n + (o + length (opening h))) (n + (o + length (opening h)) + length (spelling children)) xs)
+      subst (λ (n : ℕ). Rise (n + (o + length (opening h))) (n + (o + length (opening h)) + length (spelling children))
+      xs)
       start (opened-rise (o + length (opening h)) a inside)
 
   rise-others : Rise (w.start + (o + extent h children)) (w.start + (o + extent h children) + length (spelling rest)) ys
@@ -280,7 +281,8 @@ opened-sound {w = w} p q (holder {h = h} {children = children} {rest = rest} {xs
           (ap (λ (n : ℕ). n + 1) k)
           (record { offset = omega (arith, m.offset); depth = ap (λ (n : ℕ). n + 1) m.depth; padding = refl }) s.3
           (agrees-children w _ h children rest xs ys p.offset refl a r plain.0 plain.1 plain.2 q m.offset agrees),
-      opened-sound (place_after p (extent h children)) (place_after q (extent (moved w.start false h) (opened_forest a)))
+      opened-sound (place_after p (extent h children))
+          (place_after q (extent (moved w.start false h) (opened_forest a)))
           r e k (record { offset = omega (arith, m.offset, far); depth = m.depth; padding = m.padding }) s.4
           (agrees-others w _ h children rest xs ys p.offset refl a r plain.0 plain.1 plain.2 q m.offset agrees),
     )

@@ -12,7 +12,8 @@ use Rattle.tlv_open.specs.Breaks as breaks
 use Rattle.tlv_open.specs.Breaks.{AreBroken, Breaks, IsBroken, IsBrokenString, is_extension, is_no_more}
 use Rattle.tlv_open.specs.Held.{HoldsEncodings, inner_octets}
 use Rattle.tlv_open.specs.Laws.{InputsHaveOneBrokenList}
-use Rattle.tlv_open.specs.Opens.{Where, closed_framing, is_one_primitive, where_at_top, where_of_children, where_of_held}
+use Rattle.tlv_open.specs.Opens.{Where, closed_framing, is_one_primitive, where_at_top, where_of_children}
+use Rattle.tlv_open.specs.Opens.{where_of_held}
 use Rattle.tlv_open.specs.Private.Finds.{list_of}
 use Rattle.tlv_open.proofs.LawLemmas.Deciding.{candidate_of, fails, holds_test, passes}
 use Rattle.tlv_open.proofs.LawLemmas.DecidingBroken.{broken_of, broken-none, broken-some}
@@ -127,9 +128,11 @@ module _ (held : Where → HeaderValue → Forest → List BrokenString) (w : Wh
 
 -- of elements, if it is so of what strings among them hold
 in-breaks : (k : ℕ) (held : Where → HeaderValue → Forest → List BrokenString)
-    → ((w : Where) → 128 ≤ w.depth + k → (h : HeaderValue) (c : List ℕ) (inner : Forest) → HoldsEncodings w.depth h c inner
+    → ((w : Where) → 128 ≤ w.depth + k → (h : HeaderValue) (c : List ℕ) (inner : Forest)
+    → HoldsEncodings w.depth h c inner
     → AreOctets (spelling inner) → Breaks (where_of_held w h) false inner (held w h inner))
-    → (w : Where) (e : Bool) (f : Forest) → 128 ≤ w.depth + k → AreOctets (spelling f) → Breaks w e f (broken_in held w e f)
+    → (w : Where) (e : Bool) (f : Forest) → 128 ≤ w.depth + k → AreOctets (spelling f)
+    → Breaks w e f (broken_in held w e f)
 in-breaks k held is w e NoMore few each = breaks.no_more
 in-breaks k held is w e (PaddingOctet rest) few each =
     breaks.padded (in-breaks k held is w e rest few (All-tail (λ k. k < 256) 0 (spelling rest) each))

@@ -111,7 +111,8 @@ module _ (held : Where → HeaderValue → Forest → List ℕ) (w : Where) (h :
 
 -- of elements, if it is so of what strings among them hold
 in-opens : (k : ℕ) (held : Where → HeaderValue → Forest → List ℕ)
-    → ((w : Where) → 128 ≤ w.depth + k → (h : HeaderValue) (c : List ℕ) (inner : Forest) → HoldsEncodings w.depth h c inner
+    → ((w : Where) → 128 ≤ w.depth + k → (h : HeaderValue) (c : List ℕ) (inner : Forest)
+    → HoldsEncodings w.depth h c inner
     → AreOctets (spelling inner) → Opens (where_of_held w h) inner (held w h inner))
     → (w : Where) (f : Forest) → 128 ≤ w.depth + k → AreOctets (spelling f) → Opens w f (list_in held w f)
 in-opens k held is w NoMore few each = opens.no_more

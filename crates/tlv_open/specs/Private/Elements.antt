@@ -3,6 +3,7 @@ use Rattle.std.specs.Prelude.{◌≡◌, ℕ, Bool, true, false, eqb, ◌&&◌, 
 use Rattle.tlv_walk.specs.Forest.{Forest, Holder, NoMore, Primitive, spelling}
 use Rattle.tlv_walk.specs.Place.{Place}
 use Rattle.tlv_walk.specs.Reading.{IsSound}
+use Rattle.tlv_open.specs.declared.extent.Extent.{Extent}
 use Rattle.tlv_open.specs.Held.{AreLikely, place_by_itself}
 
 -- so many octets further on among elements that are read by themselves
@@ -54,12 +55,18 @@ pub record BeginsWithElements (p : Place) (likely end_octets : Bool) (octets : L
 abbrev pub BeginsWithNoElements : Place → Bool → Bool → List ℕ → Type 0
 BeginsWithNoElements p likely end_octets octets = (n : ℕ) → BeginsWithElements p likely end_octets octets n → ⊥
 
--- where padding may be, so many octets further on
-abbrev pub padded_place : ℕ → Place
-padded_place offset = record (place_at offset 0) { padding = true }
+-- the first of sound octets, and the second of others
+abbrev pub IfSound : Bool → Type 0 → Type 0 → Type 0
+IfSound true this other = this
+IfSound false this other = other
 
--- the octets are sound elements and padding, or nothing
-pub record ArePaddedElements (offset : ℕ) (octets : List ℕ) : Type 0 where
-  pub elements : Forest
-  pub sound : IsSound (padded_place offset) elements
-  pub spelled : spelling elements ≡ octets
+-- an extent says whether the octets begin with a sound element, and of how many octets
+abbrev pub SaysElement : Place → Bool → List ℕ → Extent → Type 0
+SaysElement p likely octets e =
+    IfSound e.sound (BeginsWithElement p likely octets e.size) (BeginsWithNoElement p likely octets)
+
+-- and the same of elements
+abbrev pub SaysElements : Place → Bool → Bool → List ℕ → Extent → Type 0
+SaysElements p likely end_octets octets e =
+    IfSound e.sound (BeginsWithElements p likely end_octets octets e.size)
+    (BeginsWithNoElements p likely end_octets octets)

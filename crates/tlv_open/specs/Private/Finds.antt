@@ -1,5 +1,6 @@
 -- What is found among elements that are read from octets, and what is left to be read.
-use Rattle.std.specs.Prelude.{◌≡◌, ◌⊎◌, ℕ, ◌+◌, Bool, true, false, ◌&&◌, List, [], ◌∷◌, ◌++◌, length, drop, Option, Some, None}
+use Rattle.std.specs.Prelude.{◌≡◌, ◌⊎◌, ℕ, ◌+◌, Bool, true, false, ◌&&◌, List, [], ◌∷◌, ◌++◌, length, drop, Option}
+use Rattle.std.specs.Prelude.{Some, None}
 use Rattle.tlv_head.specs.Header.{HeaderValue}
 use Rattle.tlv_walk.specs.Forest.{Forest, Primitive, is_whole, spelling}
 use Rattle.tlv_walk.specs.Place.{ObeysGrammar, Place, place_after}
@@ -38,11 +39,31 @@ spot_inside s h children ended = record {
   depth = s.depth + 1;
   may_open = may_open_in h (is_one_primitive children && ended);
   in_extension = is_extension h children;
+  likely = false;
+  padding = false;
 }
 
 -- inside an element with this header that lacks octets
 abbrev pub spot_lacking : Spot → HeaderValue → Spot
-spot_lacking s h = record { start = s.start; depth = s.depth + 1; may_open = may_open_in h false; in_extension = false }
+spot_lacking s h = record {
+  start = s.start;
+  depth = s.depth + 1;
+  may_open = may_open_in h false;
+  in_extension = false;
+  likely = false;
+  padding = false;
+}
+
+-- in a string that begins there
+abbrev pub spot_held : Spot → ℕ → Spot
+spot_held s start = record {
+  start = start;
+  depth = s.depth + 1;
+  may_open = true;
+  in_extension = false;
+  likely = true;
+  padding = false;
+}
 
 -- elements that are followed by these octets: if they do not end there, what is last among them is no extension's value
 abbrev pub spot_before : Spot → Bool → List ℕ → Spot

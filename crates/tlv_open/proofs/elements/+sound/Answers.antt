@@ -1,10 +1,13 @@
-use Rattle.std.proofs.Common.{◌≡◌, ◌+◌, ◌<◌, ℕ, List, true, false, length, drop, ap, sym, arith, add_assoc, ◌∙◌, refl, subst, length-drop}
+use Rattle.std.proofs.Common.{◌≡◌, ◌+◌, ◌<◌, ℕ, List, true, false, length, drop, ap, sym, arith, add_assoc, ◌∙◌, refl}
+use Rattle.std.proofs.Common.{subst, length-drop}
 use Rattle.tlv_open.specs.Private.Elements.{BeginsWithElement, BeginsWithElements, BeginsWithNoElement}
 use Rattle.tlv_open.specs.Private.Elements.{is_elements_end, place_at}
 use Rattle.tlv_open.proofs.ElementLemmas.FirstElement.{first-definite, first-indefinite, first-no_end, first-no_list}
 use Rattle.tlv_open.proofs.ElementLemmas.FirstElement.{first-primitive, first-too_deep, first-too_long, first-unclear}
 use Rattle.tlv_open.proofs.ElementLemmas.FirstElement.{no_header-none}
-use Rattle.tlv_open.proofs.ElementLemmas.Elements.{element-within, elements-nil, elements-next, elements-none, elements-rest, elements-start, elements-started, elements-stop, no_element-at_end, no_element-at_zero, tail-all}
+use Rattle.tlv_open.proofs.ElementLemmas.Elements.{element-within, elements-nil, elements-next, elements-none}
+use Rattle.tlv_open.proofs.ElementLemmas.Elements.{elements-rest, elements-start, elements-started, elements-stop}
+use Rattle.tlv_open.proofs.ElementLemmas.Elements.{no_element-at_end, no_element-at_zero, tail-all}
 use Rattle.tlv_open.proofs.elements.+sound.Goals.{elements_size-then-loop-at-test+else-octets-at-ne0}
 use Rattle.tlv_open.proofs.elements.+sound.Goals.{elements_size-else-loop-at-test}
 use Rattle.tlv_open.proofs.elements.+sound.Goals.{size_with-then-fields-2+in_ok-elements_size-in-Definite}
@@ -110,7 +113,8 @@ elements_size-loop-at-preserved t c =
     let more : BeginsWithElement (place_at (c.args.offset + c.loop-at.at) c.args.depth) c.args.likely
     (drop c.loop-at.at c.args.octets.now) c.in_ok-at.field-0 =
     subst
-    (λ (o : List ℕ). BeginsWithElement (place_at (c.args.offset + c.loop-at.at) c.args.depth) c.args.likely o c.in_ok-at.field-0)
+    (λ (o : List ℕ). BeginsWithElement (place_at (c.args.offset + c.loop-at.at) c.args.depth) c.args.likely o
+    c.in_ok-at.field-0)
     (tail-all c.args.octets.now c.loop-at.at) c.in_ok-at.ensures in
     let some : c.loop-at.at < length c.args.octets.now = c.loop-at-test.true in
     record {
@@ -128,10 +132,12 @@ elements_size-loop-at-preserved t c =
 pub elements_size-returns-then-is_elements_end : goal.elements_size-returns-then-is_elements_end
 elements_size-returns-then-is_elements_end t c =
     let end : is_elements_end c.args.end_octets (drop c.loop-at.at c.args.octets.now) ≡ true =
-    sym (c.is_elements_end.ensures ∙ ap (is_elements_end c.args.end_octets) (tail-all c.args.octets.now c.loop-at.at)) ∙ c.if-is_elements_end.true in
+    sym (c.is_elements_end.ensures ∙ ap (is_elements_end c.args.end_octets) (tail-all c.args.octets.now c.loop-at.at))
+    ∙ c.if-is_elements_end.true in
     let size : c.loop-at.at + 0 ≡ c.loop-at.at = omega arith in
     subst
-    (λ (n : ℕ). BeginsWithElements (place_at c.args.offset c.args.depth) c.args.likely c.args.end_octets c.args.octets.now n)
+    (λ (n : ℕ). BeginsWithElements (place_at c.args.offset c.args.depth) c.args.likely c.args.end_octets
+    c.args.octets.now n)
     size
     (c.loop-at.invariant.onward 0 (elements-nil _ c.args.likely c.args.end_octets _ end))
 

@@ -37,7 +37,8 @@ neither a false m e t = t
 
 pub returns-then-is_a : goal.returns-then-is_a
 returns-then-is_a c = λ p f depth ends rest r.
-    both c.is_a.result (is_a universal.object_identifier (new_header c.in-Some.fields (take c.in-Some.count c.args.octets.now)))
+    both c.is_a.result
+    (is_a universal.object_identifier (new_header c.in-Some.fields (take c.in-Some.count c.args.octets.now)))
     c.names_extension.result _ (c.is_a.ensures (take c.in-Some.count c.args.octets.now)) c.if-is_a.true
     (c.names_extension.ensures
     ∙ ap (λ (o : List ℕ). names_extension (take c.announced_length-length.result o))
@@ -48,7 +49,8 @@ returns-then-is_a c = λ p f depth ends rest r.
 
 pub returns-else-is_a : goal.returns-else-is_a
 returns-else-is_a c = λ p f depth ends rest r.
-    neither c.is_a.result (is_a universal.object_identifier (new_header c.in-Some.fields (take c.in-Some.count c.args.octets.now)))
+    neither c.is_a.result
+    (is_a universal.object_identifier (new_header c.in-Some.fields (take c.in-Some.count c.args.octets.now)))
     (names_extension (take c.announced_length-length.result (drop c.in-Some.count c.args.octets.now)))
     (c.is_a.ensures (take c.in-Some.count c.args.octets.now)) c.if-is_a.false
     ∙ begins-some c.args.octets.now c.args.offset c.in-Some.fields c.in-Some.count c.in-Some.ensures p f depth ends rest

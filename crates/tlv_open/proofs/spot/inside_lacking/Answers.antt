@@ -7,8 +7,10 @@ or-false false = refl
 
 pub returns-clause-inner : goal.returns-clause-inner
 returns-clause-inner c = λ header i. record {
-  start = c.args.spot.start;
-  depth = c.args.spot.depth + 1;
+  start = c.args.spot.now.start;
+  depth = c.args.spot.now.depth + 1;
   may_open = (ap not (c.has_segments.ensures header) ∙ or-false _) i;
   in_extension = false;
+  likely = false;
+  padding = false;
 }

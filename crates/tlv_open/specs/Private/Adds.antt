@@ -1,0 +1,65 @@
+-- What is added to what was found before, and whether the octets are sound.
+use Rattle.std.specs.Prelude.{◌≡◌, ℕ, ◌+◌, ◌≤◌, Bool, true, false, List, [], ◌∷◌, length, take, drop, None}
+use Rattle.tlv_head.specs.declared.header.HeaderFields.{HeaderFields}
+use Rattle.tlv_head.specs.Header.{announced_length}
+use Rattle.tlv_head.specs.HeaderFields.{new_header}
+use Rattle.tlv_head.specs.ReadHeader.{BeginsWithFields}
+use Rattle.tlv_walk.specs.Place.{Place}
+use Rattle.tlv_open.specs.declared.extent.Extent.{Extent}
+use Rattle.tlv_open.specs.declared.spot.Spot.{Spot}
+use Rattle.tlv_open.specs.Held.{inner_octets}
+use Rattle.tlv_open.specs.Private.Elements.{BeginsWithElements, BeginsWithNoElements, place_at}
+use Rattle.tlv_open.specs.Private.Finds.{AddsAll, AddsPrimitive, FoundStrings, found_in_turn, spot_held}
+
+-- what was found before is still there
+pub record IsKept (old new : FoundStrings) : Type 0 where
+  pub more : FoundStrings
+  pub added : new ≡ found_in_turn old more
+
+-- where the elements at a spot are, so many octets further on
+abbrev pub place_in : Spot → ℕ → Place
+place_in s offset = record (place_at offset s.depth) { padding = s.padding }
+
+-- an extent says whether the octets begin with sound elements, and of how many octets; where padding may be, it may be
+-- silent
+pub record SaysSound (s : Spot) (offset : ℕ) (end_octets : Bool) (octets : List ℕ) (e : Extent) : Type 0 where
+  pub sound : e.sound ≡ true → BeginsWithElements (place_in s offset) s.likely end_octets octets e.size
+  pub unsound : s.padding ≡ false → e.sound ≡ false
+      → BeginsWithNoElements (place_at offset s.depth) s.likely end_octets octets
+
+-- the octets begin with a primitive of n octets that is no OCTET STRING and no BIT STRING, and nothing more is asked
+pub record IsPlain (octets : List ℕ) (offset : ℕ) (likely : Bool) (n : ℕ) : Type 0 where
+  pub unasked : likely ≡ false
+  pub fields : HeaderFields
+  pub count : ℕ
+  pub begins : BeginsWithFields octets offset false fields count
+  pub primitive : fields.constructed ≡ false
+  pub announced : ℕ
+  pub announced_is : announced ≡ announced_length fields.size
+  pub within : announced ≤ length (drop count octets)
+  pub size : n ≡ count + announced
+  pub no_string : (contents : List ℕ) → inner_octets (new_header fields (take count octets)) contents ≡ None
+
+-- the octets are a header, and as many others as it announces
+pub record IsWholePrimitive (octets : List ℕ) (offset : ℕ) : Type 0 where
+  pub fields : HeaderFields
+  pub count : ℕ
+  pub begins : BeginsWithFields octets offset false fields count
+  pub whole : announced_length fields.size ≡ length (drop count octets)
+
+-- what is found in the primitive that the octets are, whatever its header, is added
+abbrev pub AddsAt : Spot → Bool → List ℕ → ℕ → FoundStrings → FoundStrings → Type 0
+AddsAt s is_value octets offset old new = (fields : HeaderFields) (count : ℕ)
+    → BeginsWithFields octets offset false fields count → fields.constructed ≡ false
+    → AddsPrimitive s is_value (new_header fields (take count octets)) (drop count octets) old new
+
+-- a string at this offset, and what is found in its octets, which begin at `start`, is added
+pub record AddsHeld (s : Spot) (start offset : ℕ) (octets : List ℕ) (old new : FoundStrings) : Type 0 where
+  pub size : ℕ
+  pub adds : AddsAll (spot_held s start) 0 false octets
+      (found_in_turn old (record { opened = offset ∷ []; broken = [] })) new size
+
+-- if they are encodings; and else nothing is
+abbrev pub Tries : Spot → ℕ → ℕ → List ℕ → FoundStrings → FoundStrings → Bool → Type 0
+Tries s start offset octets old new true = AddsHeld s start offset octets old new
+Tries s start offset octets old new false = new ≡ old

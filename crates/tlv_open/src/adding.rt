@@ -1,0 +1,307 @@
+//! Adds the strings that are found among elements, and says whether the elements are sound.
+ghost use Rattle.std.specs.Prelude.{◌≡◌, ◌≢◌, ◌≤◌, ◌+◌, ◌<◌, ◌↔◌, IfOk, IsTrue, List, OnOk, ℕ};
+ghost use Rattle.std.specs.Prelude.{Some, false, length, slice_index, true};
+ghost use Rattle.tlv_head.specs.DepthLimit.{depth_limit};
+ghost use Rattle.tlv_head.specs.Header.{HeaderValue};
+ghost use Rattle.tlv_head.specs.InputLimit.{input_limit};
+ghost use Rattle.tlv_head.specs.ReadHeader.{BeginsWithFields};
+ghost use Rattle.tlv_open.specs.Held.{HoldsEncodings, inner_octets};
+ghost use Rattle.tlv_open.specs.Private.Adds.{AddsAt, IsKept, SaysSound, Tries};
+ghost use Rattle.tlv_open.specs.Private.Elements.{SaysElement, place_at};
+ghost use Rattle.tlv_open.specs.Private.Finds.{AddsAll, AddsFirst, found_of};
+ghost use Rattle.tlv_walk.specs.Forest.{Forest};
+
+use crate::Strings;
+use crate::breaking::{add_broken, broken_string};
+use crate::elements::{DEPTH_LIMIT, header_at, is_elements_end, is_likely_if, two_octet_header};
+use crate::extent::{Extent, plain_size, unended};
+use crate::held::held_octets;
+use crate::spot::{Spot, inside, inside_lacking, is_octet_or_bit_string, is_value_before};
+use std::alloc::AllocError;
+use tlv_head::{HeaderFields, Size};
+
+/// Adds the strings that are found among the elements with which the octets begin, at this offset from where these are
+/// counted, and in them. They end with `00 00`, if `end_octets`, or with the octets. Returns how many octets they have,
+/// and whether they are sound.
+#[cycle(find)]
+pub(crate) fn add_strings(
+    octets: &[u8],
+    offset: u64,
+    spot: &Spot,
+    end_octets: bool,
+    found: &mut Strings,
+) -> Result<Extent, AllocError>
+    requires { spot.now.start + (offset + length octets.now) ≤ input_limit }
+    ensures adds { IfOk result (λ e. AddsAll spot.now offset end_octets octets.now
+        (found_of found.old) (found_of found.new) e.size) }
+    ensures sound { IfOk result (λ e. SaysSound spot.now offset end_octets octets.now e) }
+    ensures kept { OnOk result (IsKept (found_of found.old) (found_of found.new)) }
+    ensures within { IfOk result (λ e. e.size ≤ length octets.now) }
+{
+    let mut at = 0;
+    let mut sound = true;
+    while at < octets.len() {
+        if let Some(size) = plain_size(&octets[at..], offset + at as u64, spot.likely) {
+            at += size;
+        } else if octets[at] != 0 {
+            let rest = &octets[at..];
+            let element = add_strings_in(rest, offset + at as u64, spot, end_octets, found)?;
+            at += element.size;
+            sound &= element.sound;
+        } else if end_octets {
+            sound &= is_elements_end(&octets[at..], true);
+            return Ok(Extent { size: at, sound });
+        } else {
+            sound &= spot.padding;
+            at += 1;
+        }
+    }
+    sound &= !end_octets;
+    Ok(Extent { size: at, sound })
+}
+
+/// Adds the strings that are found in the element with which the octets begin, which may itself be one. Returns how
+/// many octets it has, and whether it is sound; if it has not ended, these are all.
+#[cycle(find)]
+fn add_strings_in(
+    octets: &[u8],
+    offset: u64,
+    spot: &Spot,
+    end_octets: bool,
+    found: &mut Strings,
+) -> Result<Extent, AllocError>
+    requires limit { spot.now.start + (offset + length octets.now) ≤ input_limit }
+    requires begun { slice_index octets.now 0 ≢ 0 }
+    ensures adds { IfOk result (λ e. AddsFirst spot.now offset end_octets octets.now
+        (found_of found.old) (found_of found.new) e.size) }
+    ensures sound { IfOk result (λ e. SaysElement (place_at offset spot.now.depth) spot.now.likely octets.now e) }
+    ensures kept { OnOk result (IsKept (found_of found.old) (found_of found.new)) }
+    ensures some { 0 < length octets.now → IfOk result (λ e. 0 < e.size) }
+    ensures within { IfOk result (λ e. e.size ≤ length octets.now) }
+{
+    match two_octet_header(octets, offset) {
+        Some((fields, count)) => {
+            add_with(octets, offset, &fields, count, spot, end_octets, found)
+        }
+        None => add_after_long(octets, offset, spot, end_octets, found),
+    }
+}
+
+/// [`add_strings_in`], whatever the header.
+#[cycle(find)]
+#[inline(never)]
+fn add_after_long(
+    octets: &[u8],
+    offset: u64,
+    spot: &Spot,
+    end_octets: bool,
+    found: &mut Strings,
+) -> Result<Extent, AllocError>
+    requires limit { spot.now.start + (offset + length octets.now) ≤ input_limit }
+    requires begun { slice_index octets.now 0 ≢ 0 }
+    ensures adds { IfOk result (λ e. AddsFirst spot.now offset end_octets octets.now
+        (found_of found.old) (found_of found.new) e.size) }
+    ensures sound { IfOk result (λ e. SaysElement (place_at offset spot.now.depth) spot.now.likely octets.now e) }
+    ensures kept { OnOk result (IsKept (found_of found.old) (found_of found.new)) }
+    ensures some { 0 < length octets.now → IfOk result (λ e. 0 < e.size) }
+    ensures within { IfOk result (λ e. e.size ≤ length octets.now) }
+{
+    match header_at(octets, offset) {
+        Some((fields, count)) => {
+            add_with(octets, offset, &fields, count, spot, end_octets, found)
+        }
+        None => Ok(unended(octets)),
+    }
+}
+
+/// [`add_strings_in`], of an element whose header has these fields and so many octets.
+#[cycle(find)]
+#[inline(always)]
+fn add_with(
+    octets: &[u8],
+    offset: u64,
+    fields: &HeaderFields,
+    count: usize,
+    spot: &Spot,
+    end_octets: bool,
+    found: &mut Strings,
+) -> Result<Extent, AllocError>
+    requires limit { spot.now.start + (offset + length octets.now) ≤ input_limit }
+    requires begins { BeginsWithFields octets.now offset false fields.now count }
+    ensures adds { IfOk result (λ e. AddsFirst spot.now offset end_octets octets.now
+        (found_of found.old) (found_of found.new) e.size) }
+    ensures sound { IfOk result (λ e. SaysElement (place_at offset spot.now.depth) spot.now.likely octets.now e) }
+    ensures kept { OnOk result (IsKept (found_of found.old) (found_of found.new)) }
+    ensures some { IfOk result (λ e. 0 < e.size) }
+    ensures within { IfOk result (λ e. e.size ≤ length octets.now) }
+{
+    if fields.constructed {
+        return add_in_holder(octets, offset, fields, count, spot, end_octets, found);
+    }
+    let length = fields.size.announced_length();
+    if length > (octets.len() - count) as u64 {
+        return Ok(unended(octets));
+    }
+    let size = count + length as usize;
+    let sound = is_likely_if(spot.likely, &octets[..size], offset);
+    if !is_octet_or_bit_string(fields) {
+        return Ok(Extent { size, sound });
+    }
+    let is_value = is_value_before(spot, &octets[size..], end_octets);
+    add_string(&octets[..size], offset, is_value, spot, found)?;
+    Ok(Extent { size, sound })
+}
+
+/// [`add_strings_in`], of a constructed element whose header has these fields and so many octets.
+#[cycle(find)]
+#[inline(always)]
+fn add_in_holder(
+    octets: &[u8],
+    offset: u64,
+    fields: &HeaderFields,
+    count: usize,
+    spot: &Spot,
+    end_octets: bool,
+    found: &mut Strings,
+) -> Result<Extent, AllocError>
+    requires limit { spot.now.start + (offset + length octets.now) ≤ input_limit }
+    requires begins { BeginsWithFields octets.now offset false fields.now count }
+    requires constructed { fields.now.constructed ≡ true }
+    ensures adds { IfOk result (λ e. AddsFirst spot.now offset end_octets octets.now
+        (found_of found.old) (found_of found.new) e.size) }
+    ensures sound { IfOk result (λ e. SaysElement (place_at offset spot.now.depth) spot.now.likely octets.now e) }
+    ensures kept { OnOk result (IsKept (found_of found.old) (found_of found.new)) }
+    ensures some { IfOk result (λ e. 0 < e.size) }
+    ensures within { IfOk result (λ e. e.size ≤ length octets.now) }
+{
+    if spot.depth >= DEPTH_LIMIT {
+        return Ok(unended(octets));
+    }
+    let Size::Definite(length) = fields.size else {
+        return add_in_indefinite(octets, offset, fields, count, spot, end_octets, found);
+    };
+    let rest = &octets[count..];
+    let start = offset + count as u64;
+    if length > rest.len() as u64 {
+        add_strings(rest, start, &inside_lacking(spot, fields), false, found)?;
+        return Ok(unended(octets));
+    }
+    let contents = &rest[..length as usize];
+    let inner = inside(spot, fields, contents, start, false);
+    let extent = add_strings(contents, start, &inner, false, found)?;
+    Ok(Extent {
+        size: count + contents.len(),
+        sound: extent.sound,
+    })
+}
+
+/// [`add_in_holder`], if the length is indefinite.
+#[cycle(find)]
+#[inline(always)]
+fn add_in_indefinite(
+    octets: &[u8],
+    offset: u64,
+    fields: &HeaderFields,
+    count: usize,
+    spot: &Spot,
+    end_octets: bool,
+    found: &mut Strings,
+) -> Result<Extent, AllocError>
+    requires limit { spot.now.start + (offset + length octets.now) ≤ input_limit }
+    requires begins { BeginsWithFields octets.now offset false fields.now count }
+    requires indefinite { fields.now.size ≡ Size.Indefinite }
+    requires shallow { spot.now.depth < depth_limit }
+    ensures adds { IfOk result (λ e. AddsFirst spot.now offset end_octets octets.now
+        (found_of found.old) (found_of found.new) e.size) }
+    ensures sound { IfOk result (λ e. SaysElement (place_at offset spot.now.depth) spot.now.likely octets.now e) }
+    ensures kept { OnOk result (IsKept (found_of found.old) (found_of found.new)) }
+    ensures some { IfOk result (λ e. 0 < e.size) }
+    ensures within { IfOk result (λ e. e.size ≤ length octets.now) }
+{
+    let rest = &octets[count..];
+    let start = offset + count as u64;
+    let inner = inside(spot, fields, rest, start, true);
+    let extent = add_strings(rest, start, &inner, true, found)?;
+    if is_elements_end(&rest[extent.size..], true) {
+        return Ok(Extent {
+            size: count + extent.size + 2,
+            sound: extent.sound,
+        });
+    }
+    Ok(unended(octets))
+}
+
+/// Adds the primitive that these octets are, at this offset, if it is a string that is opened or that is broken, and
+/// the strings that are found in it. Its header is read again, so that it need not be kept for all other elements.
+#[cycle(find)]
+#[inline(never)]
+fn add_string(
+    octets: &[u8],
+    offset: u64,
+    is_value: bool,
+    spot: &Spot,
+    found: &mut Strings,
+) -> Result<(), AllocError>
+    requires { spot.now.start + (offset + length octets.now) ≤ input_limit }
+    ensures adds { OnOk result (AddsAt spot.now is_value octets.now offset
+        (found_of found.old) (found_of found.new)) }
+    ensures kept { OnOk result (IsKept (found_of found.old) (found_of found.new)) }
+{
+    if !spot.may_open {
+        return Ok(());
+    }
+    let Some((fields, count)) = header_at(octets, offset) else {
+        return Ok(());
+    };
+    let Some(inner) = held_octets(fields.class, fields.number, &octets[count..]) else {
+        return Ok(());
+    };
+    let begin = spot.start + offset;
+    let start = begin + (octets.len() - inner.len()) as u64;
+    if add_held(inner, begin, start, spot, found)? {
+        return Ok(());
+    }
+    let broken = broken_string(begin, spot.depth, octets, inner, is_value);
+    add_broken(broken, &mut found.broken)?;
+    Ok(())
+}
+
+/// Adds a string at this offset that may hold these octets, which begin at `start`, and the strings that are found in
+/// it, if they are encodings, and says whether they are. If not, what was found is as before.
+#[cycle(find)]
+fn add_held(
+    octets: &[u8],
+    offset: u64,
+    start: u64,
+    spot: &Spot,
+    found: &mut Strings,
+) -> Result<bool, AllocError>
+    requires { start + length octets.now ≤ input_limit }
+    ensures held { IfOk result (λ b. (h : HeaderValue) (contents : List ℕ) → inner_octets h contents ≡ Some octets.now
+        → IsTrue b ↔ ((inner : Forest) × HoldsEncodings spot.now.depth h contents inner)) }
+    ensures tries { IfOk result (λ b. Tries spot.now start offset octets.now
+        (found_of found.old) (found_of found.new) b) }
+    ensures kept { OnOk result (IsKept (found_of found.old) (found_of found.new)) }
+{
+    if spot.depth >= DEPTH_LIMIT || octets.is_empty() {
+        return Ok(false);
+    }
+    let opened = found.opened.len();
+    let broken = found.broken.len();
+    found.opened.push(offset)?;
+    let held = Spot {
+        start,
+        depth: spot.depth + 1,
+        may_open: true,
+        in_extension: false,
+        likely: true,
+        padding: false,
+    };
+    let extent = add_strings(octets, 0, &held, false, found)?;
+    if extent.sound {
+        return Ok(true);
+    }
+    found.opened.truncate(opened);
+    found.broken.truncate(broken);
+    Ok(false)
+}

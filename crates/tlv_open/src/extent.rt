@@ -1,0 +1,46 @@
+//! How many octets elements have, and whether they are sound.
+ghost use Rattle.std.specs.Prelude.{◌≡◌, IfSome, false, length};
+ghost use Rattle.tlv_open.specs.Private.Adds.{IsPlain};
+
+use crate::elements::two_octet_header;
+use crate::spot::is_octet_or_bit_string;
+
+/// How many octets elements have that are looked for among octets, and whether they are sound.
+#[derive(Clone, Copy)]
+pub(crate) struct Extent {
+    /// How many octets they have.
+    pub(crate) size: usize,
+    /// Whether they are sound, and end where they have to.
+    pub(crate) sound: bool,
+}
+
+/// The extent of what has not ended: all these octets.
+#[inline(always)]
+pub(crate) fn unended(octets: &[u8]) -> Extent
+    ensures { result ≡ record { size = length octets.now; sound = false } }
+{
+    Extent {
+        size: octets.len(),
+        sound: false,
+    }
+}
+
+/// How many octets the primitive has with which the octets begin, if its header has two octets and it is no OCTET
+/// STRING and no BIT STRING, and if it need not be `likely`. Most primitives are such, and then nothing more is asked.
+#[inline(always)]
+pub(crate) fn plain_size(octets: &[u8], offset: u64, likely: bool) -> Option<usize>
+    ensures { IfSome result (λ n. IsPlain octets.now offset likely n) }
+{
+    if likely {
+        return None;
+    }
+    let (fields, count) = two_octet_header(octets, offset)?;
+    if fields.constructed || is_octet_or_bit_string(&fields) {
+        return None;
+    }
+    let length = fields.size.announced_length();
+    if length > (octets.len() - count) as u64 {
+        return None;
+    }
+    Some(count + length as usize)
+}
