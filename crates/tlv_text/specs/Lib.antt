@@ -1,0 +1,4 @@
+pub mod Characters
+pub mod TextRead
+pub mod Pairs
+pub mod Private
