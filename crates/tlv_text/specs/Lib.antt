@@ -1,4 +1,5 @@
 pub mod Characters
 pub mod TextRead
 pub mod Pairs
+pub mod Pem
 pub mod Private

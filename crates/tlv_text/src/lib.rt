@@ -3,6 +3,8 @@
 
 mod decoded;
 mod pairs;
+mod pem;
 
 pub use decoded::Decoded;
 pub use pairs::decode_pairs;
+pub use pem::{PemBlock, first_block};

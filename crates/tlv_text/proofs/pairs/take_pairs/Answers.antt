@@ -1,4 +1,4 @@
-use Rattle.std.proofs.Common.{◌≡◌, ◌++◌, ◌∷◌, [], ◌∙◌, slice_index, rules, arith, subst, true, sym}
+use Rattle.std.proofs.Common.{◌≡◌, ◌++◌, ◌∷◌, [], ◌∙◌, slice_index, rules, arith, true, sym}
 use Rattle.hex.specs.Hex.{is_hex_digit}
 use Rattle.tlv_text.proofs.PairLemmas.{pairs-and_one, pairs-more}
 use Rattle.tlv_text.proofs.pairs.take_pairs.Goals as goal
