@@ -1,3 +1,5 @@
+pub mod MarkLemmas
 pub mod PairLemmas
-pub mod PemLemmas
 pub mod PairRows
+pub mod PemLemmas
+pub mod Slices

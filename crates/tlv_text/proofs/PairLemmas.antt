@@ -1,14 +1,14 @@
 -- Pairs of digits, one after another.
-use Rattle.std.proofs.Common.{◌≡◌, ℕ, ◌+◌, ◌-◌, ◌%◌, ◌≤◌, true, false, List, [], ◌∷◌, ◌++◌, length, take, drop, slice_index, refl, ap, sym}
+use Rattle.std.proofs.Common.{◌≡◌, ℕ, ◌+◌, ◌%◌, ◌≤◌, true, false, List, [], ◌∷◌, ◌++◌, length, slice_index, refl, ap, sym}
 use Rattle.std.proofs.Common.{◌∙◌, append_assoc, arith, Option, Some, None, Ok}
 use Rattle.std.specs.Prelude.{is_some, unwrap_or}
 use Rattle.std.specs.List.{AllPass}
 use Rattle.std.proofs.lemmas.List.{length-append}
-use Rattle.std.proofs.Math.Seq.{take-length}
 use Rattle.std.proofs.lemmas.List.Elements.{All-append, All-cons, All-head, All-nil, All-tail}
 use Rattle.hex.specs.Hex.{decode_pairs, decode_of, hex_digit_value, is_hex_digit, pair_value}
 use Rattle.hex.proofs.Pairs.{decode_pairs-ok_pair}
 use Rattle.hex.proofs.HexLemmas.{decode_of-even, decode_of-same}
+use Rattle.tlv_text.proofs.Slices.{after-two, slice_from}
 use Rattle.tlv_text.specs.Pairs.{is_between_pairs, pair_octet, pairs_read}
 use Rattle.tlv_text.specs.TextRead.{TextRead, octets_then}
 use Rattle.tlv_text.specs.Private.PairSteps.{AreWholePairs, pair_octets}
@@ -61,10 +61,6 @@ octets-more : (a b : List ℕ) (r : TextRead) → octets_then a (octets_then b r
 octets-more a b r =
     ap (λ (octets : List ℕ). record { octets = octets; rest = r.rest }) (sym (append_assoc a b r.octets))
 
--- the rest of a text after its first two characters
-after-two : (x y : ℕ) (more : List ℕ) → take (length (x ∷ y ∷ more) - 2) (drop 2 (x ∷ y ∷ more)) ≡ more
-after-two x y more = ap (λ (n : ℕ). take n more) (omega arith) ∙ take-length more
-
 -- a pair is read after others
 pub pairs-more : (all text digits : List ℕ) → 2 ≤ length text
     → is_between_pairs (slice_index text 0) ≡ false
@@ -73,7 +69,7 @@ pub pairs-more : (all text digits : List ℕ) → 2 ≤ length text
     → pairs_read all ≡ octets_then (pair_octets digits) (pairs_read text)
     → pairs_read all
     ≡ octets_then (pair_octets (digits ++ slice_index text 0 ∷ slice_index text 1 ∷ []))
-    (pairs_read (take (length text - 2) (drop 2 text)))
+    (pairs_read (slice_from 2 text))
 pairs-more all [] digits two b dx dy p e = absurd (omega arith)
 pairs-more all (x ∷ []) digits two b dx dy p e = absurd (omega arith)
 pairs-more all (x ∷ y ∷ more) digits two b dx dy p e =

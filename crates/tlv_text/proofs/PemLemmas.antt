@@ -6,7 +6,7 @@ use Rattle.std.proofs.Math.Seq.{drop-append_seam, get_or-append_seam, take-appen
 use Rattle.std.specs.Prelude.{unwrap_or}
 use Rattle.std.specs.List.{list_all}
 use Rattle.std.proofs.lemmas.List.{length-append, length-drop, length-take-le, drop-drop, drop_all, take-append-drop}
-use Rattle.std.proofs.lemmas.List.{take_all}
+use Rattle.tlv_text.proofs.Slices.{from-on, slice_from}
 use Rattle.memchr.specs.Find.{FindsNeedle, IsFirstByte, OccursAt, is_byte}
 use Rattle.memchr.proofs.lemmas.MatchLemmas.{OccursAt-from_part, OccursAt-split}
 use Rattle.tlv_text.specs.Pem.{BeginsBlock, EndsBody, HasNoBlock, IsFirstBlock, begin_marker, dashes}
@@ -203,13 +203,6 @@ block-found text body rest start more n found before b ends = record {
 }
 
 -- ---- the same of slices
-
--- a slice from a place on
-abbrev pub slice_from : ℕ → List ℕ → List ℕ
-slice_from n xs = take (length xs - n) (drop n xs)
-
-from-on : (n : ℕ) (xs : List ℕ) → slice_from n xs ≡ drop n xs
-from-on n xs = take_all (length xs - n) (drop n xs) (omega (arith, length-drop n xs))
 
 pub no-block-in : (text : List ℕ) (start : ℕ) → FindsNeedle (slice_from start text) begin_marker 0 None
     → NoneBefore_of text start → HasNoBlock text

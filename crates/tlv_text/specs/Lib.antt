@@ -1,4 +1,5 @@
 pub mod Characters
+pub mod Marks
 pub mod TextRead
 pub mod Pairs
 pub mod Pem

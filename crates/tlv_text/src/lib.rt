@@ -2,9 +2,11 @@
 #![tactic(auto)]
 
 mod decoded;
+mod marks;
 mod pairs;
 mod pem;
 
 pub use decoded::Decoded;
+pub use marks::{after_mark, ascii_of_utf16};
 pub use pairs::decode_pairs;
 pub use pem::{PemBlock, first_block};
