@@ -1,1 +1,2 @@
 pub mod PairSteps
+pub mod SymbolSteps
