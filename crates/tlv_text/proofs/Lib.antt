@@ -1,1 +1,3 @@
+pub mod GroupLemmas
 pub mod PairLemmas
+pub mod TextLemmas

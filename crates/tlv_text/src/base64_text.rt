@@ -3,7 +3,8 @@ ghost use Rattle.base64.specs.GeneralPurpose.{IsBytes};
 ghost use Rattle.std.specs.Prelude.{◌≡◌, ◌<◌, ◌≤◌, ◌%◌, ◌++◌, [], IfErr, IfOk, OnOk, length, true, false};
 ghost use Rattle.tlv_text.specs.Base64.{ReadsBase64, SymbolsRead, base64_of, fits_after, is_escaped_line_end, is_left_out};
 ghost use Rattle.tlv_text.specs.Base64.{is_symbol, no_symbols, padding_of, symbols_read};
-ghost use Rattle.tlv_text.specs.Private.SymbolSteps.{AreAdded, AreSymbols, IsFailure, IsOfNone, PaddingFits, symbols_then};
+ghost use Rattle.tlv_text.specs.Private.SymbolSteps.{AreAdded, AreSymbols, IsAtEnd, IsFailure, IsOfNone};
+ghost use Rattle.tlv_text.specs.Private.SymbolSteps.{PaddingFits, symbols_then};
 
 use crate::Decoded;
 use arrayvec::ArrayVec;
@@ -148,12 +149,8 @@ fn finish(
     symbols: &[u8],
     octets: Vec<u8>,
 ) -> Result<Decoded, AllocError>
-    requires read { symbols_read alphabet text.now
-        ≡ symbols_then (base64_of alphabet octets.items) (symbols_then symbols.now (no_symbols rest.now)) }
+    requires end { IsAtEnd alphabet text.now octets.items symbols.now rest.now }
     requires symbols { AreSymbols alphabet symbols.now }
-    requires bytes { IsBytes octets.items }
-    requires whole { length octets.items % 3 ≡ 0 }
-    requires less { length rest.now ≤ length text.now }
     ensures { IfOk result (λ d. ReadsBase64 alphabet text.now d.octets.items d.refused) }
 {
     let mut octets = octets;
@@ -208,7 +205,7 @@ fn padding_of(text: &[u8]) -> Option<usize>
     loop {
         match rest {
             [] => return Some(count),
-            [b'=', more @ ..] => {
+            [x, more @ ..] if *x == b'=' => {
                 count += 1;
                 rest = more;
             }

@@ -1,10 +1,10 @@
 -- Symbols of base64, without what is left out between them.
-use Rattle.std.specs.Prelude.{◌≡◌, ℕ, List, ◌++◌, length, true}
+use Rattle.std.specs.Prelude.{◌≡◌, ℕ, ◌%◌, ◌≤◌, List, ◌++◌, length, true}
 use Rattle.std.specs.List.{AllPass}
 use Rattle.base64.specs.GeneralPurpose.{IsBytes}
 use Rattle.base64.specs.declared.decode.DecodeAllocError.{DecodeAllocError}
 use Rattle.base64.specs.declared.decode.DecodeAllocError.TheVariants.{DecodeError, OutOfMemory}
-use Rattle.tlv_text.specs.Base64.{SymbolsRead, base64_of, fits_after, is_symbol, padding_of}
+use Rattle.tlv_text.specs.Base64.{SymbolsRead, base64_of, fits_after, is_symbol, no_symbols, padding_of, symbols_read}
 use Rattle.tlv_text.specs.declared.base64_text.Alphabet.{Alphabet}
 
 -- each is a symbol of the alphabet
@@ -34,3 +34,18 @@ IsFailure alphabet symbols OutOfMemory = Unit {0}
 -- so much padding may follow them
 abbrev pub PaddingFits : List ℕ → List ℕ → Type 0
 PaddingFits symbols rest = fits_after (length symbols) (padding_of rest) ≡ true
+
+-- these octets are those of whole groups, and the rest of the text comes after them
+pub record IsReadSoFar (alphabet : Alphabet) (text octets rest : List ℕ) : Type 0 where
+  pub read : symbols_read alphabet text ≡ symbols_then (base64_of alphabet octets) (symbols_read alphabet rest)
+  pub are_octets : IsBytes octets
+  pub whole : length octets % 3 ≡ 0
+  pub less : length rest ≤ length text
+
+-- these symbols come after them, as the last of the text
+pub record IsAtEnd (alphabet : Alphabet) (text octets symbols rest : List ℕ) : Type 0 where
+  pub read : symbols_read alphabet text
+      ≡ symbols_then (base64_of alphabet octets) (symbols_then symbols (no_symbols rest))
+  pub are_octets : IsBytes octets
+  pub whole : length octets % 3 ≡ 0
+  pub less : length rest ≤ length text
