@@ -1,5 +1,5 @@
 -- Whole groups of symbols are the base64 of octets.
-use Rattle.std.proofs.Common.{◌≡◌, ℕ, zero, suc, ◌+◌, ◌*◌, ◌/◌, ◌%◌, ◌==◌, ◌<◌, ◌≤◌, Bool, true, false, not, ◌||◌, nat_lt}
+use Rattle.std.proofs.Common.{◌≡◌, ℕ, zero, suc, ◌+◌, ◌*◌, ◌/◌, ◌%◌, ◌==◌, ◌<◌, Bool, true, false, not, ◌||◌, nat_lt}
 use Rattle.std.proofs.Common.{List, [], ◌∷◌, ◌++◌, length, take, slice_index, refl, ap, sym, ◌∙◌, arith, subst, None, Fits, w8}
 use Rattle.std.proofs.Math.Seq.{take-length}
 use Rattle.std.proofs.lemmas.Bool.{ltb-true, ne_eqb}
@@ -121,9 +121,9 @@ groups-decode alphabet symbols bytes all whole none =
     subst (HaveValues (decodes alphabet) symbols) (sym size) (symbols-have_values alphabet symbols bytes all) in
     let octets : List ℕ = groups_bytes (decodes alphabet) symbols n in
     none octets (groups-bytes (decodes alphabet) symbols n values) (
-      plain alphabet octets
-      ∙ sym (take_groups (encodes alphabet) (decodes alphabet) symbols n (are-inverse alphabet) bytes (omega (arith, size))
-          (no-groups_error (decodes alphabet) symbols n values))
-      ∙ ap (λ (m : ℕ). take m symbols) size
-      ∙ take-length symbols
+    plain alphabet octets
+    ∙ sym (take_groups (encodes alphabet) (decodes alphabet) symbols n (are-inverse alphabet) bytes (omega (arith, size))
+    (no-groups_error (decodes alphabet) symbols n values))
+    ∙ ap (λ (m : ℕ). take m symbols) size
+    ∙ take-length symbols
     )

@@ -9,7 +9,7 @@ use Rattle.std.proofs.lemmas.List.Elements.{All-append, All-cons, All-head, All-
 use Rattle.hex.specs.Hex.{decode_pairs, decode_of, hex_digit_value, is_hex_digit, pair_value}
 use Rattle.hex.proofs.Pairs.{decode_pairs-ok_pair}
 use Rattle.hex.proofs.HexLemmas.{decode_of-even, decode_of-same}
-use Rattle.tlv_text.specs.Pairs.{digit_value, is_between_pairs, pair_octet, pairs_read}
+use Rattle.tlv_text.specs.Pairs.{is_between_pairs, pair_octet, pairs_read}
 use Rattle.tlv_text.specs.TextRead.{TextRead, octets_then}
 use Rattle.tlv_text.specs.Private.PairSteps.{AreWholePairs, pair_octets}
 

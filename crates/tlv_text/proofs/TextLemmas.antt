@@ -1,9 +1,8 @@
 -- The symbols of a text, those of whole groups and the last ones.
-use Rattle.std.proofs.Common.{◌≡◌, ℕ, ◌+◌, ◌-◌, ◌*◌, ◌/◌, ◌%◌, ◌==◌, ◌<◌, ◌≤◌, Bool, true, false, ◌&&◌, ◌||◌, List, [], ◌∷◌, ◌++◌, length, take}
-use Rattle.std.proofs.Common.{drop, slice_index, refl, ap, sym, ◌∙◌, arith, subst, Option, Some, None}
-use Rattle.std.specs.Prelude.{option_map}
+use Rattle.std.proofs.Common.{◌≡◌, ℕ, ◌+◌, ◌-◌, ◌*◌, ◌/◌, ◌%◌, ◌≤◌, List, [], ◌++◌, length, take}
+use Rattle.std.proofs.Common.{drop, refl, ap, sym, ◌∙◌, arith, subst, Option, Some, None}
 use Rattle.std.proofs.Math.Seq.{drop-append_seam, take-append-add}
-use Rattle.std.proofs.lemmas.List.{append-nil, append_assoc, get_or-drop, length-append, length-drop, length-take-le, take-append-drop}
+use Rattle.std.proofs.lemmas.List.{append-nil, append_assoc, get_or-drop, length-append, length-take-le, take-append-drop}
 use Rattle.base64.specs.Engines.{standard_no_pad, url_safe_no_pad}
 use Rattle.base64.specs.GeneralPurpose.{IsBytes}
 use Rattle.base64.specs.Rfc4648.{unpadded_len}
@@ -106,7 +105,6 @@ more-so_far alphabet text octets rest symbols new left s e whole less a =
 
 -- ---- the last symbols
 
-
 end-symbols : (alphabet : Alphabet) (text octets symbols rest : List ℕ) → IsAtEnd alphabet text octets symbols rest
     → (symbols_read alphabet text).symbols ≡ base64_of alphabet octets ++ symbols
 end-symbols alphabet text octets symbols rest s =
@@ -170,20 +168,7 @@ refused-text alphabet text octets symbols rest new s none a =
     (ReadsBase64.refused (no-others alphabet text octets symbols rest s none)
     (added-bytes alphabet groups octets new s.are_octets a)
     (
-      added-base64 alphabet groups octets new s.whole a
-      ∙ sym (groups-after (base64_of alphabet octets) symbols size)
-      ∙ ap whole_groups (sym (end-symbols alphabet text octets symbols rest s))
+    added-base64 alphabet groups octets new s.whole a
+    ∙ sym (groups-after (base64_of alphabet octets) symbols size)
+    ∙ ap whole_groups (sym (end-symbols alphabet text octets symbols rest s))
     ))
-
-pub end-so_far : (alphabet : Alphabet) (text octets rest symbols left : List ℕ)
-    → IsReadSoFar alphabet text octets rest
-    → symbols_read alphabet rest ≡ symbols_then symbols (symbols_read alphabet left)
-    → symbols_read alphabet left ≡ no_symbols left
-    → length left ≤ length rest
-    → IsAtEnd alphabet text octets symbols left
-end-so_far alphabet text octets rest symbols left s e last less = record {
-  read = s.read ∙ ap (symbols_then (base64_of alphabet octets)) (e ∙ ap (symbols_then symbols) last);
-  are_octets = s.are_octets;
-  whole = s.whole;
-  less = omega (arith, less, s.less);
-}

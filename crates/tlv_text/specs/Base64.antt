@@ -48,8 +48,8 @@ symbols_read alphabet (x ∷ []) =
 symbols_read alphabet (x ∷ y ∷ text) =
     if is_symbol alphabet x then symbol_then x (symbols_read alphabet (y ∷ text))
     else (
-      if is_left_out x then symbols_read alphabet (y ∷ text)
-      else (if is_escaped_line_end x y then symbols_read alphabet text else no_symbols (x ∷ y ∷ text))
+    if is_left_out x then symbols_read alphabet (y ∷ text)
+    else (if is_escaped_line_end x y then symbols_read alphabet text else no_symbols (x ∷ y ∷ text))
     )
 
 -- how much padding a text is, if it is nothing else but what is left out; 61 is `=`
@@ -59,8 +59,8 @@ padding_of (x ∷ []) = if x == 61 then Some 1 else (if is_left_out x then Some 
 padding_of (x ∷ y ∷ text) =
     if x == 61 then option_map (λ n. 1 + n) (padding_of (y ∷ text))
     else (
-      if is_left_out x then padding_of (y ∷ text)
-      else (if is_escaped_line_end x y then padding_of text else None)
+    if is_left_out x then padding_of (y ∷ text)
+    else (if is_escaped_line_end x y then padding_of text else None)
     )
 
 -- 3.2: so much padding may follow so many symbols: none, or what makes the last group four characters

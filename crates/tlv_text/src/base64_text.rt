@@ -31,11 +31,7 @@ pub enum Alphabet {
 /// # Errors
 ///
 /// `AllocError` if memory for the octets is refused.
-pub fn decode_base64(
-    alloc: Global,
-    alphabet: Alphabet,
-    text: &[u8],
-) -> Result<Decoded, AllocError>
+pub fn decode_base64(alloc: Global, alphabet: Alphabet, text: &[u8]) -> Result<Decoded, AllocError>
     ensures { IfOk result (λ d. ReadsBase64 alphabet text.now d.octets.items d.refused) }
 {
     let mut octets = Vec::new(alloc);

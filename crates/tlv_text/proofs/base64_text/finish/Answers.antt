@@ -1,5 +1,3 @@
-use Rattle.std.proofs.Common.{◌≡◌, ◌*◌, ◌/◌, length, take, subst, rules}
-use Rattle.tlv_text.specs.Private.SymbolSteps.{AreAdded}
 use Rattle.tlv_text.proofs.TextLemmas.{refused-text, whole-text}
 use Rattle.tlv_text.proofs.base64_text.finish.Goals as goal
 
