@@ -1,6 +1,6 @@
 -- Texts in base64, and what is read from them.
-use Rattle.std.proofs.Common.{◌≡◌, ℕ, zero, suc, ◌-◌, ◌<◌, Bool, true, false, ltb, ltb-true, List, [], ◌∷◌, ◌++◌, length, refl, ap, sym, ◌∙◌}
-use Rattle.std.proofs.Common.{arith, codes, subst, Option, Some, None, Ok, Err}
+use Rattle.std.proofs.Common.{◌≡◌, ℕ, zero, suc, ◌-◌, true, false, ltb, ltb-true, List, [], ◌∷◌, length, refl, ap}
+use Rattle.std.proofs.Common.{sym, ◌∙◌, codes, Option, Some, None, Ok, Err}
 use Rattle.std.proofs.lemmas.Bool.{and_parts}
 use Rattle.std.specs.List.{list_all}
 use Rattle.base64.specs.Engines.{standard_no_pad, url_safe_no_pad}
@@ -9,7 +9,7 @@ use Rattle.base64.specs.declared.decode.DecodeError.{DecodeError}
 use Rattle.base64.specs.declared.decode.DecodeError.TheVariants.{InvalidLastSymbol, InvalidLength}
 use Rattle.base64.proofs.EngineFacts.{decode_of-encode_of}
 use Rattle.base64.proofs.OnLiterals.{base64_on_literals}
-use Rattle.tlv_text.specs.Base64.{IsBase64, ReadsBase64, base64_of, fits_after, padding_of, symbols_read, whole_groups}
+use Rattle.tlv_text.specs.Base64.{ReadsBase64, base64_of, fits_after, padding_of, symbols_read, whole_groups}
 use Rattle.tlv_text.specs.declared.base64_text.Alphabet.{Alphabet}
 use Rattle.tlv_text.specs.declared.base64_text.Alphabet.TheVariants.{Standard, UrlSafe}
 use Rattle.tlv_text.proofs.GroupLemmas.{bytes-nil, engine_of}
@@ -25,7 +25,8 @@ base64-decodes UrlSafe octets bytes = decode_of-encode_of url_safe_no_pad octets
 base64-same : (alphabet : Alphabet) (a b : List ℕ) → IsBytes a → IsBytes b
     → base64_of alphabet a ≡ base64_of alphabet b → a ≡ b
 base64-same alphabet a b ha hb e =
-    let same = sym (base64-decodes alphabet a ha) ∙ ap (decode_of (engine_of alphabet)) e ∙ base64-decodes alphabet b hb in
+    let same = sym (base64-decodes alphabet a ha) ∙ ap (decode_of (engine_of alphabet)) e
+    ∙ base64-decodes alphabet b hb in
     cc same
 
 -- the same octets and the same place are read from a text
@@ -66,14 +67,16 @@ row-of_unpadded alphabet text octets each symbols padding =
     ReadsBase64.refused (λ others b. let e = sym b.padding ∙ padding in cc e) (octets-are octets each) symbols
 
 -- no octets are these symbols
-row-of_none : (alphabet : Alphabet) (text octets : List ℕ) (error : DecodeError) → list_all (λ x. ltb x 256) octets ≡ true
+row-of_none : (alphabet : Alphabet) (text octets : List ℕ) (error : DecodeError)
+    → list_all (λ x. ltb x 256) octets ≡ true
     → base64_of alphabet octets ≡ whole_groups (symbols_read alphabet text).symbols
     → decode_of (engine_of alphabet) (symbols_read alphabet text).symbols ≡ Err error
     → ReadsBase64 alphabet text octets (Some (length text - length (symbols_read alphabet text).rest))
 row-of_none alphabet text octets error each symbols failed =
     ReadsBase64.refused
     (λ others b.
-    let e = sym (base64-decodes alphabet others b.are_octets) ∙ ap (decode_of (engine_of alphabet)) b.symbols ∙ failed in
+    let e = sym (base64-decodes alphabet others b.are_octets) ∙ ap (decode_of (engine_of alphabet)) b.symbols
+    ∙ failed in
     cc e)
     (octets-are octets each) symbols
 

@@ -1,6 +1,7 @@
 -- Whole groups of symbols are the base64 of octets.
 use Rattle.std.proofs.Common.{◌≡◌, ℕ, zero, suc, ◌+◌, ◌*◌, ◌/◌, ◌%◌, ◌==◌, ◌<◌, Bool, true, false, not, ◌||◌, nat_lt}
-use Rattle.std.proofs.Common.{List, [], ◌∷◌, ◌++◌, length, take, slice_index, refl, ap, sym, ◌∙◌, arith, subst, None, Fits, w8}
+use Rattle.std.proofs.Common.{List, [], ◌∷◌, ◌++◌, length, take, slice_index, refl, ap, sym, ◌∙◌, arith, subst, None}
+use Rattle.std.proofs.Common.{Fits, w8}
 use Rattle.std.proofs.Math.Seq.{take-length}
 use Rattle.std.proofs.lemmas.Bool.{ltb-true, ne_eqb}
 use Rattle.std.proofs.lemmas.List.{append-nil}
@@ -107,7 +108,8 @@ groups-bytes dec symbols (suc n) h =
     (h (4 * n + 3) (omega arith)))
 
 -- base64 without padding
-pub plain : (alphabet : Alphabet) (octets : List ℕ) → base64_of alphabet octets ≡ encode_symbols (encodes alphabet) octets
+pub plain : (alphabet : Alphabet) (octets : List ℕ)
+    → base64_of alphabet octets ≡ encode_symbols (encodes alphabet) octets
 plain Standard octets = append-nil (encode_symbols (encodes Standard) octets)
 plain UrlSafe octets = append-nil (encode_symbols (encodes UrlSafe) octets)
 
@@ -122,8 +124,8 @@ groups-decode alphabet symbols bytes all whole none =
     let octets : List ℕ = groups_bytes (decodes alphabet) symbols n in
     none octets (groups-bytes (decodes alphabet) symbols n values) (
     plain alphabet octets
-    ∙ sym (take_groups (encodes alphabet) (decodes alphabet) symbols n (are-inverse alphabet) bytes (omega (arith, size))
-    (no-groups_error (decodes alphabet) symbols n values))
+    ∙ sym (take_groups (encodes alphabet) (decodes alphabet) symbols n (are-inverse alphabet) bytes
+    (omega (arith, size)) (no-groups_error (decodes alphabet) symbols n values))
     ∙ ap (λ (m : ℕ). take m symbols) size
     ∙ take-length symbols
     )

@@ -2,13 +2,15 @@
 use Rattle.std.proofs.Common.{◌≡◌, ℕ, ◌+◌, ◌-◌, ◌*◌, ◌/◌, ◌%◌, ◌≤◌, List, [], ◌++◌, length, take}
 use Rattle.std.proofs.Common.{drop, refl, ap, sym, ◌∙◌, arith, subst, Option, Some, None}
 use Rattle.std.proofs.Math.Seq.{drop-append_seam, take-append-add}
-use Rattle.std.proofs.lemmas.List.{append-nil, append_assoc, get_or-drop, length-append, length-take-le, take-append-drop}
+use Rattle.std.proofs.lemmas.List.{append-nil, append_assoc, get_or-drop, length-append, length-take-le}
+use Rattle.std.proofs.lemmas.List.{take-append-drop}
 use Rattle.base64.specs.Engines.{standard_no_pad, url_safe_no_pad}
 use Rattle.base64.specs.GeneralPurpose.{IsBytes}
 use Rattle.base64.specs.Rfc4648.{unpadded_len}
 use Rattle.base64.proofs.EngineFacts.{encode_of-append, encode_of-nil}
 use Rattle.base64.proofs.RoundTrip.{length-encode_symbols}
-use Rattle.tlv_text.specs.Base64.{IsBase64, ReadsBase64, SymbolsRead, base64_of, fits_after, no_symbols, padding_of, symbols_read, whole_groups}
+use Rattle.tlv_text.specs.Base64.{IsBase64, ReadsBase64, SymbolsRead, base64_of, fits_after, padding_of}
+use Rattle.tlv_text.specs.Base64.{symbols_read, whole_groups}
 use Rattle.tlv_text.specs.Private.SymbolSteps.{AreAdded, IsAtEnd, IsOfNone, IsReadSoFar, PaddingFits, symbols_then}
 use Rattle.tlv_text.specs.declared.base64_text.Alphabet.{Alphabet}
 use Rattle.tlv_text.specs.declared.base64_text.Alphabet.TheVariants.{Standard, UrlSafe}
@@ -52,12 +54,13 @@ after-groups alphabet octets all symbols whole e =
     ∙ length-append (base64_of alphabet octets) symbols
     ∙ ap (λ (m : ℕ). m + length symbols) (base64-length alphabet octets) in
     let front : length (take n all) ≡ n = length-take-le n all (omega (arith, sizes, whole)) in
-    let parts : base64_of alphabet (take n all) ++ base64_of alphabet (drop n all) ≡ base64_of alphabet octets ++ symbols =
+    let parts : base64_of alphabet (take n all) ++ base64_of alphabet (drop n all)
+    ≡ base64_of alphabet octets ++ symbols =
     sym (base64-append alphabet (take n all) (drop n all) (ap (λ (m : ℕ). m % 3) front ∙ whole))
     ∙ ap (base64_of alphabet) (take-append-drop n all)
     ∙ e in
-    same-after (base64_of alphabet (take n all)) (base64_of alphabet (drop n all)) (base64_of alphabet octets) symbols parts
-    (base64-length alphabet (take n all) ∙ ap unpadded_len front ∙ sym (base64-length alphabet octets))
+    same-after (base64_of alphabet (take n all)) (base64_of alphabet (drop n all)) (base64_of alphabet octets) symbols
+    parts (base64-length alphabet (take n all) ∙ ap unpadded_len front ∙ sym (base64-length alphabet octets))
 
 -- ---- octets of whole groups, while a text is read
 
@@ -80,7 +83,8 @@ added-base64 alphabet symbols old new whole a =
     ∙ base64-append alphabet old a.more whole
     ∙ ap (λ (s : List ℕ). base64_of alphabet old ++ s) a.symbols_of
 
-added-bytes : (alphabet : Alphabet) (symbols old new : List ℕ) → IsBytes old → AreAdded alphabet symbols old new → IsBytes new
+added-bytes : (alphabet : Alphabet) (symbols old new : List ℕ) → IsBytes old → AreAdded alphabet symbols old new
+    → IsBytes new
 added-bytes alphabet symbols old new bytes a =
     subst IsBytes (sym a.added) (bytes-append old a.more bytes a.are_octets)
 
@@ -97,7 +101,8 @@ more-so_far alphabet text octets rest symbols new left s e whole less a =
       read = s.read
           ∙ ap (symbols_then (base64_of alphabet octets)) e
           ∙ symbols-more (base64_of alphabet octets) symbols (symbols_read alphabet left)
-          ∙ ap (λ (t : List ℕ). symbols_then t (symbols_read alphabet left)) (sym (added-base64 alphabet symbols octets new s.whole a));
+          ∙ ap (λ (t : List ℕ). symbols_then t (symbols_read alphabet left))
+          (sym (added-base64 alphabet symbols octets new s.whole a));
       are_octets = added-bytes alphabet symbols octets new s.are_octets a;
       whole = omega (arith, s.whole, whole, size, ap (λ (t : List ℕ). length t) a.added, length-append octets a.more);
       less = omega (arith, less, s.less);
@@ -128,11 +133,12 @@ end-padding alphabet text octets symbols rest s =
     ap (λ (t : List ℕ). length t) (end-symbols alphabet text octets symbols rest s)
     ∙ length-append (base64_of alphabet octets) symbols
     ∙ ap (λ (m : ℕ). m + length symbols) (base64-length alphabet octets) in
-    fits-same (length (symbols_read alphabet text).symbols) (length symbols) (padding_of (symbols_read alphabet text).rest)
-    (omega (arith, size, s.whole))
+    fits-same (length (symbols_read alphabet text).symbols) (length symbols)
+    (padding_of (symbols_read alphabet text).rest) (omega (arith, size, s.whole))
     ∙ ap (λ (t : List ℕ). fits_after (length symbols) (padding_of t)) (end-rest alphabet text octets symbols rest s)
 
-pub whole-text : (alphabet : Alphabet) (text octets symbols rest new : List ℕ) → IsAtEnd alphabet text octets symbols rest
+pub whole-text : (alphabet : Alphabet) (text octets symbols rest new : List ℕ)
+    → IsAtEnd alphabet text octets symbols rest
     → PaddingFits symbols rest → AreAdded alphabet symbols octets new
     → ReadsBase64 alphabet text new None
 whole-text alphabet text octets symbols rest new s fits a = ReadsBase64.whole (record {
@@ -156,7 +162,8 @@ no-others alphabet text octets symbols rest s none others b =
     (bytes-drop (length octets) others b.are_octets)
     (after-groups alphabet octets others symbols s.whole (b.symbols ∙ end-symbols alphabet text octets symbols rest s))
 
-pub refused-text : (alphabet : Alphabet) (text octets symbols rest new : List ℕ) → IsAtEnd alphabet text octets symbols rest
+pub refused-text : (alphabet : Alphabet) (text octets symbols rest new : List ℕ)
+    → IsAtEnd alphabet text octets symbols rest
     → (PaddingFits symbols rest → IsOfNone alphabet symbols)
     → AreAdded alphabet (take (length symbols / 4 * 4) symbols) octets new
     → ReadsBase64 alphabet text new (Some (length text - length rest))

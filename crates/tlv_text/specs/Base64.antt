@@ -1,6 +1,6 @@
 -- Octets in base64 (RFC 4648, sections 4 and 5), in lines and quotes as people have it.
-use Rattle.std.specs.Prelude.{◌≡◌, ℕ, ◌+◌, ◌-◌, ◌*◌, ◌/◌, ◌%◌, ◌==◌, Bool, true, false, ◌&&◌, ◌||◌, nat_le, if◌then◌else◌}
-use Rattle.std.specs.Prelude.{List, [], ◌∷◌, length, take, Option, Some, None, option_map}
+use Rattle.std.specs.Prelude.{◌≡◌, ℕ, ◌+◌, ◌-◌, ◌*◌, ◌/◌, ◌%◌, ◌==◌, Bool, true, false, ◌&&◌, ◌||◌, nat_le}
+use Rattle.std.specs.Prelude.{List, [], ◌∷◌, length, take, Option, Some, None, if◌then◌else◌, option_map}
 use Rattle.base64.specs.Engines.{standard_no_pad, url_safe_no_pad}
 use Rattle.base64.specs.GeneralPurpose.{IsBytes, encode_of}
 use Rattle.tlv_text.specs.Characters.{is_quote, is_white}

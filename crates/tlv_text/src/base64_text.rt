@@ -1,8 +1,8 @@
 //! Octets in base64.
 ghost use Rattle.base64.specs.GeneralPurpose.{IsBytes};
 ghost use Rattle.std.specs.Prelude.{◌≡◌, ◌<◌, ◌≤◌, ◌%◌, ◌++◌, [], IfErr, IfOk, OnOk, length, true, false};
-ghost use Rattle.tlv_text.specs.Base64.{ReadsBase64, SymbolsRead, base64_of, fits_after, is_escaped_line_end, is_left_out};
-ghost use Rattle.tlv_text.specs.Base64.{is_symbol, no_symbols, padding_of, symbols_read};
+ghost use Rattle.tlv_text.specs.Base64.{ReadsBase64, SymbolsRead, base64_of, fits_after, is_escaped_line_end};
+ghost use Rattle.tlv_text.specs.Base64.{is_left_out, is_symbol, no_symbols, padding_of, symbols_read};
 ghost use Rattle.tlv_text.specs.Private.SymbolSteps.{AreAdded, AreSymbols, IsAtEnd, IsFailure, IsOfNone};
 ghost use Rattle.tlv_text.specs.Private.SymbolSteps.{PaddingFits, symbols_then};
 
@@ -164,7 +164,8 @@ fn finish(
     })
 }
 
-/// Adds the octets of the last symbols of a text, unless they are the base64 of none with what follows as their padding.
+/// Adds the octets of the last symbols of a text, unless what follows is not their padding or they are the base64 of
+/// no octets.
 fn add_last(
     alloc: Global,
     alphabet: Alphabet,

@@ -7,4 +7,5 @@ pub unreachable-requires : goal.unreachable-requires
 unreachable-requires c =
     groups-decode c.args.alphabet c.args.symbols.now (octets-fit c.args.symbols.now c.type_inv.symbols)
     c.requires.symbols c.requires.whole
-    (subst (IsFailure c.args.alphabet c.args.symbols.now) c.in-Err-DecodeError.field-0-is c.in-Err-DecodeError.ensures.failure)
+    (subst (IsFailure c.args.alphabet c.args.symbols.now) c.in-Err-DecodeError.field-0-is
+    c.in-Err-DecodeError.ensures.failure)
