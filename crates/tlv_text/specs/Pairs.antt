@@ -22,6 +22,6 @@ pairs_read (x ∷ []) = if is_between_pairs x then nothing_read [] else nothing_
 pairs_read (x ∷ y ∷ rest) =
     if is_between_pairs x then pairs_read (y ∷ rest)
     else (
-      if is_hex_digit x && is_hex_digit y then octets_then (pair_octet x y ∷ []) (pairs_read rest)
-      else nothing_read (x ∷ y ∷ rest)
+    if is_hex_digit x && is_hex_digit y then octets_then (pair_octet x y ∷ []) (pairs_read rest)
+    else nothing_read (x ∷ y ∷ rest)
     )

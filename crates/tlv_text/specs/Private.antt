@@ -1,2 +1,3 @@
 pub mod PairSteps
 pub mod PemSteps
+pub mod SymbolSteps

@@ -11,7 +11,7 @@ loop-x-preserved c =
     let y : is_hex_digit (slice_index c.loop-x.rest.now 1) ≡ true =
     sym c.is_digit-then-is_digit.ensures ∙ c.if-is_digit-2.true in
     let fits = c.try_extend_from_slice.ensures.variant.1
-        (omega (arith, i.few, i.pairs.even, c.loop-x-test.true, c.len.ensures.value)) in
+    (omega (arith, i.few, i.pairs.even, c.loop-x-test.true, c.len.ensures.value)) in
     let both : c.try_extend_from_slice.new.self.items
     ≡ c.loop-x.digits.items ++ slice_index c.loop-x.rest.now 0 ∷ slice_index c.loop-x.rest.now 1 ∷ [] = search rules in
     record {
