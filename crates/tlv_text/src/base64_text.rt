@@ -1,7 +1,7 @@
 //! Octets in base64.
 ghost use Rattle.base64.specs.GeneralPurpose.{IsBytes};
-ghost use Rattle.std.specs.Prelude.{◌≡◌, ◌<◌, ◌≤◌, ◌%◌, ◌++◌, [], IfErr, IfOk, OnOk, length, true, false};
-ghost use Rattle.tlv_text.specs.Base64.{ReadsBase64, SymbolsRead, base64_of, fits_after, is_escaped_line_end};
+ghost use Rattle.std.specs.Prelude.{◌≡◌, ◌<◌, ◌≤◌, ◌%◌, [], IfErr, IfOk, OnOk, length, true, false};
+ghost use Rattle.tlv_text.specs.Base64.{ReadsBase64, base64_of, fits_after, is_escaped_line_end};
 ghost use Rattle.tlv_text.specs.Base64.{is_left_out, is_symbol, no_symbols, padding_of, symbols_read};
 ghost use Rattle.tlv_text.specs.Private.SymbolSteps.{AreAdded, AreSymbols, IsAtEnd, IsFailure, IsOfNone};
 ghost use Rattle.tlv_text.specs.Private.SymbolSteps.{PaddingFits, symbols_then};
