@@ -1,0 +1,5 @@
+//! The tests of `tlv_text`, by what it makes public.
+#![tactic(auto)]
+
+#[cfg(test)]
+mod rows;
