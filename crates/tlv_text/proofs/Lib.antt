@@ -6,3 +6,5 @@ pub mod PairRows
 pub mod PemLemmas
 pub mod Slices
 pub mod TextLemmas
+pub mod TokenLemmas
+pub mod TokenRows

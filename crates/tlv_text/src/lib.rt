@@ -6,9 +6,11 @@ mod decoded;
 mod marks;
 mod pairs;
 mod pem;
+mod tokens;
 
 pub use base64_text::{Alphabet, decode_base64};
 pub use decoded::Decoded;
 pub use marks::{after_mark, ascii_of_utf16};
 pub use pairs::decode_pairs;
 pub use pem::{PemBlock, first_block};
+pub use tokens::{decode_tokens, has_tokens};
