@@ -1,6 +1,8 @@
 pub mod Base64Rows
 pub mod GroupLemmas
 pub mod MarkLemmas
+pub mod NumberLemmas
+pub mod NumberRows
 pub mod PairLemmas
 pub mod PairRows
 pub mod PemLemmas

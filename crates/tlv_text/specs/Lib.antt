@@ -1,5 +1,6 @@
 pub mod Characters
 pub mod Marks
+pub mod Numbers
 pub mod TextRead
 pub mod Base64
 pub mod Pairs

@@ -4,6 +4,7 @@
 mod base64_text;
 mod decoded;
 mod marks;
+mod numbers;
 mod pairs;
 mod pem;
 mod tokens;
@@ -11,6 +12,7 @@ mod tokens;
 pub use base64_text::{Alphabet, decode_base64};
 pub use decoded::Decoded;
 pub use marks::{after_mark, ascii_of_utf16};
+pub use numbers::numbers_of;
 pub use pairs::decode_pairs;
 pub use pem::{PemBlock, first_block};
 pub use tokens::{decode_tokens, has_tokens};
