@@ -1,4 +1,6 @@
 pub mod Base64Rows
+pub mod BodyLemmas
+pub mod BodyRows
 pub mod GroupLemmas
 pub mod MarkLemmas
 pub mod PairLemmas

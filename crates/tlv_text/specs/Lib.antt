@@ -4,4 +4,5 @@ pub mod TextRead
 pub mod Base64
 pub mod Pairs
 pub mod Pem
+pub mod PemBody
 pub mod Private

@@ -2,12 +2,14 @@
 #![tactic(auto)]
 
 mod base64_text;
+mod body;
 mod decoded;
 mod marks;
 mod pairs;
 mod pem;
 
 pub use base64_text::{Alphabet, decode_base64};
+pub use body::{PemBody, pem_body};
 pub use decoded::Decoded;
 pub use marks::{after_mark, ascii_of_utf16};
 pub use pairs::decode_pairs;
