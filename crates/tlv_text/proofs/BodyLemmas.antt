@@ -1,16 +1,15 @@
 -- The headers of a body: a colon, lines up to a blank one, and a word.
-use Rattle.std.proofs.Common.{◌≡◌, ℕ, zero, suc, ◌+◌, ◌==◌, ◌<◌, ◌≤◌, Bool, true, false, ◌&&◌, ◌||◌, List, [], ◌∷◌, length, take, drop, slice_index, refl, ap, sym}
-use Rattle.std.proofs.Common.{◌∙◌, arith, Option, Some, None}
+use Rattle.std.proofs.Common.{◌≡◌, ℕ, zero, suc, ◌+◌, ◌==◌, ◌<◌, ◌≤◌, Bool, true, false, ◌&&◌, List, [], ◌∷◌, length, take, drop, slice_index, refl, ap, sym}
+use Rattle.std.proofs.Common.{arith, Option, Some, None}
 use Rattle.std.specs.Prelude.{is_some}
-use Rattle.std.specs.List.{list_any}
 use Rattle.std.specs.Str.{bytes_eq}
 use Rattle.std.proofs.Math.Bool.{or-true}
 use Rattle.std.proofs.lemmas.List.{length-drop, length-take}
 use Rattle.std.proofs.lemmas.List.Folds.{list_any_at}
 use Rattle.std.proofs.lemmas.Slice.Eq.{bytes_eq-Decides}
-use Rattle.memchr.specs.Find.{FindsNeedle, IsFirstByte, OccursAt, is_byte}
+use Rattle.memchr.specs.Find.{FindsNeedle, IsFirstByte, is_byte}
 use Rattle.memchr.proofs.lemmas.MatchLemmas.{OccursAt-from_part, OccursAt-part}
-use Rattle.tlv_text.proofs.Slices.{after-two, from-on, slice_from}
+use Rattle.tlv_text.proofs.Slices.{from-on, slice_from}
 use Rattle.tlv_text.specs.PemBody.{does_not_count, has_headers, has_word, headers_size, is_colon}
 use Rattle.tlv_text.specs.PemBody.{is_escaped_line_feed, is_escaped_return}
 

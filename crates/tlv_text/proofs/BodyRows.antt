@@ -1,6 +1,6 @@
 -- Bodies of blocks of PEM, and what they hold.
 use Rattle.std.proofs.Common.{◌≡◌, List, ℕ, [], true, false, codes, refl}
-use Rattle.tlv_text.specs.PemBody.{base64_part, has_headers, headers_of, is_encrypted}
+use Rattle.tlv_text.specs.PemBody.{base64_part, headers_of, is_encrypted}
 
 -- the base64 of a body that is not encrypted
 record Holds (body text : List ℕ) : Type 0 where

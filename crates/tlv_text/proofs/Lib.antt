@@ -6,5 +6,7 @@ pub mod MarkLemmas
 pub mod PairLemmas
 pub mod PairRows
 pub mod PemLemmas
+pub mod RunLemmas
+pub mod RunRows
 pub mod Slices
 pub mod TextLemmas

@@ -5,4 +5,5 @@ pub mod Base64
 pub mod Pairs
 pub mod Pem
 pub mod PemBody
+pub mod Runs
 pub mod Private

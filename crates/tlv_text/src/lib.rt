@@ -7,6 +7,7 @@ mod decoded;
 mod marks;
 mod pairs;
 mod pem;
+mod runs;
 
 pub use base64_text::{Alphabet, decode_base64};
 pub use body::{PemBody, pem_body};
@@ -14,3 +15,4 @@ pub use decoded::Decoded;
 pub use marks::{after_mark, ascii_of_utf16};
 pub use pairs::decode_pairs;
 pub use pem::{PemBlock, first_block};
+pub use runs::{Run, first_run};
