@@ -1,5 +1,6 @@
 -- The headers of a body: a colon, lines up to a blank one, and a word.
-use Rattle.std.proofs.Common.{◌≡◌, ℕ, zero, suc, ◌+◌, ◌==◌, ◌<◌, ◌≤◌, Bool, true, false, ◌&&◌, List, [], ◌∷◌, length, take, drop, slice_index, refl, ap, sym}
+use Rattle.std.proofs.Common.{◌≡◌, ℕ, zero, suc, ◌+◌, ◌==◌, ◌<◌, ◌≤◌, Bool, true, false, ◌&&◌, List, [], ◌∷◌}
+use Rattle.std.proofs.Common.{length, take, drop, slice_index, refl, ap, sym}
 use Rattle.std.proofs.Common.{arith, Option, Some, None}
 use Rattle.std.specs.Prelude.{is_some}
 use Rattle.std.specs.Str.{bytes_eq}
@@ -114,7 +115,8 @@ a-word word (x ∷ text) zero less s = rw ((bytes_eq-Decides (take (length word)
 a-word word (x ∷ text) (suc k) less s = rw (a-word word text k (omega arith) s) (or-true _)
 
 stands-within : (word text : List ℕ) (k : ℕ) → StandsAt word text k → k < length text → k + length word ≤ length text
-stands-within word text k s less = omega (arith, ap (λ (t : List ℕ). length t) s, length-take (length word) (drop k text), length-drop k text)
+stands-within word text k s less =
+    omega (arith, ap (λ (t : List ℕ). length t) s, length-take (length word) (drop k text), length-drop k text)
 
 pub word-anywhere : (w : ℕ) (word text : List ℕ) (r : Option ℕ) → FindsNeedle text (w ∷ word) 0 r
     → is_some r ≡ has_word (w ∷ word) text

@@ -45,7 +45,8 @@ row-escaped_returns = record { open_to_all = refl; held = refl }
 row-mail : Holds (codes "\n> Version: x\n> \n> MAA=\n> ") (codes "> MAA=\n> ")
 row-mail = record { open_to_all = refl; held = refl }
 
-row-macro : is_encrypted (codes "\\r\\n\" \\\n \"Proc-Type: 4,ENCRYPTED\\r\\n\" \\\n \"\\r\\n\" \\\n \"MAA=\\r\\n\"") ≡ true
+row-macro : is_encrypted
+    (codes "\\r\\n\" \\\n \"Proc-Type: 4,ENCRYPTED\\r\\n\" \\\n \"\\r\\n\" \\\n \"MAA=\"") ≡ true
 row-macro = refl
 
 -- the marker's own line is no header, even if it is blank

@@ -1,5 +1,6 @@
 -- Stretches of symbols, and where a run begins.
-use Rattle.std.proofs.Common.{◌≡◌, ℕ, zero, suc, ◌+◌, ◌-◌, ◌==◌, ◌<◌, ◌≤◌, Bool, true, false, ◌&&◌, List, [], ◌∷◌, length, take, drop, slice_index, refl, ap, sym}
+use Rattle.std.proofs.Common.{◌≡◌, ℕ, zero, suc, ◌+◌, ◌-◌, ◌==◌, ◌<◌, ◌≤◌, Bool, true, false, ◌&&◌, List, [], ◌∷◌}
+use Rattle.std.proofs.Common.{length, take, drop, slice_index, refl, ap, sym}
 use Rattle.std.proofs.Common.{◌∙◌, ◌⊎◌, inl, inr, arith, subst}
 use Rattle.std.specs.Prelude.{if◌then◌else◌, max}
 use Rattle.std.proofs.lemmas.Bool.{and_parts, cases_order, eqb-true}
@@ -219,7 +220,8 @@ found text run rest start size padding before s within long p fits front back = 
   spelled = sym (take-append-drop (size + padding) (drop start text)) ∙ cc (front, back);
   long = long;
   size = ap (λ (t : List ℕ). length t) front
-      ∙ length-take-le (size + padding) (drop start text) (omega (arith, within, fits, length-drop size (drop start text)))
+      ∙ length-take-le (size + padding) (drop start text) 
+      (omega (arith, within, fits, length-drop size (drop start text)))
       ∙ ap (λ (n : ℕ). size + n) p
       ∙ ap (λ (n : ℕ). n + padding_size (drop n (drop start text))) s;
   alone = run-alone text start long before;

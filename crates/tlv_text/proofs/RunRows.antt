@@ -1,5 +1,6 @@
 -- Texts with runs of base64 in them, and texts without.
-use Rattle.std.proofs.Common.{◌≡◌, ℕ, zero, suc, ◌+◌, ◌≤◌, ◌&&◌, Bool, true, nat_lt, List, [], ◌∷◌, ◌++◌, length, drop, refl}
+use Rattle.std.proofs.Common.{◌≡◌, ℕ, zero, suc, ◌+◌, ◌≤◌, ◌&&◌, Bool, true, nat_lt, List, [], ◌∷◌, ◌++◌, drop}
+use Rattle.std.proofs.Common.{length, refl}
 use Rattle.std.proofs.Common.{arith, codes, ltb-true}
 use Rattle.std.proofs.lemmas.Bool.{and_parts}
 use Rattle.std.proofs.lemmas.List.{drop_all}
@@ -30,7 +31,13 @@ row-of text start run rest spelled long size short =
     let enough : 40 ≤ (stretch_of (drop start text)).symbols =
     omega (arith, ltb-true 39 (stretch_of (drop start text)).symbols long) in
     let before = short-before start text short in
-    record { spelled = spelled; long = enough; size = size; alone = run-alone text start enough before; no_sooner = before }
+    record {
+      spelled = spelled;
+      long = enough;
+      size = size;
+      alone = run-alone text start enough before;
+      no_sooner = before;
+    }
 
 row-of_none : (text : List ℕ) → all_short (length text) text ≡ true → HasNoRun text
 row-of_none text short = no-run text (length text) (omega arith) (short-before (length text) text short)
@@ -50,7 +57,8 @@ unfolding all_short
 row-empty = row-of_none _ refl
 
 -- an element of SAML: one run over two lines
-row-saml : IsFirstRun (codes "<ds:X509Certificate>MIICAzCCAWygAwIBAgIB\r\nATANBgkqhkiG9w0BAQEBAQ==</ds:X509Certificate>") 20
+row-saml : IsFirstRun
+    (codes "<ds:X509Certificate>MIICAzCCAWygAwIBAgIB\r\nATANBgkqhkiG9w0BAQEBAQ==</ds:X509Certificate>") 20
     (codes "MIICAzCCAWygAwIBAgIB\r\nATANBgkqhkiG9w0BAQEBAQ==") (codes "</ds:X509Certificate>")
 unfolding all_short
 row-saml = row-of _ 20 _ _ refl refl refl refl

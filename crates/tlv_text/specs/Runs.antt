@@ -1,5 +1,5 @@
 -- Runs of base64 inside another text: in LDIF, mail, XML and JSON.
-use Rattle.std.specs.Prelude.{◌≡◌, ℕ, zero, suc, ◌+◌, ◌<◌, ◌≤◌, ◌==◌, Bool, false, ◌||◌, if◌then◌else◌}
+use Rattle.std.specs.Prelude.{◌≡◌, ℕ, zero, suc, ◌+◌, ◌<◌, ◌≤◌, ◌==◌, Bool, false, ◌&&◌, ◌||◌, if◌then◌else◌}
 use Rattle.std.specs.Prelude.{List, [], ◌∷◌, ◌++◌, drop, length, slice_index}
 use Rattle.tlv_text.specs.Base64.{is_symbol}
 use Rattle.tlv_text.specs.declared.base64_text.Alphabet.TheVariants.{Standard}

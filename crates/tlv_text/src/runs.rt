@@ -1,7 +1,8 @@
 //! Runs of base64 inside another text: in LDIF, mail, XML and JSON.
 ghost use Rattle.std.specs.Prelude.{◌≡◌, ◌≤◌, ◌+◌, length, MatchOption};
 ghost use Rattle.tlv_text.specs.Base64.{is_symbol};
-ghost use Rattle.tlv_text.specs.Runs.{HasNoRun, IsFirstRun, break_size, is_blank, padding_size, stretch_of, up_to_symbol};
+ghost use Rattle.tlv_text.specs.Runs.{HasNoRun, IsFirstRun, break_size, is_blank, padding_size, stretch_of};
+ghost use Rattle.tlv_text.specs.Runs.{up_to_symbol};
 ghost use Rattle.tlv_text.specs.declared.base64_text.Alphabet.TheVariants.{Standard};
 
 /// The fewest symbols of a run.

@@ -39,7 +39,8 @@ loop-rest-preserved c =
     record {
       size = elim c.in-len1-up-2-1.branch [
         | then-rest-lt2 w ↦
-            counted-last _ _ c.loop-rest.blank _ c.loop-rest.rest.now c.in-len1-up.len_at_least (ltb-true _ 2 w.if-rest-lt2-1.true)
+            counted-last _ _ c.loop-rest.blank _ c.loop-rest.rest.now c.in-len1-up.len_at_least
+            (ltb-true _ 2 w.if-rest-lt2-1.true)
             i.size
         | in-len2-up-2+else-is_escaped_return w ↦
             counted-other _ _ c.loop-rest.blank _ c.loop-rest.rest.now w.in-len2-up.len_at_least
