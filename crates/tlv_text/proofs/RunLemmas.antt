@@ -220,7 +220,7 @@ found text run rest start size padding before s within long p fits front back = 
   spelled = sym (take-append-drop (size + padding) (drop start text)) ∙ cc (front, back);
   long = long;
   size = ap (λ (t : List ℕ). length t) front
-      ∙ length-take-le (size + padding) (drop start text) 
+      ∙ length-take-le (size + padding) (drop start text)
       (omega (arith, within, fits, length-drop size (drop start text)))
       ∙ ap (λ (n : ℕ). size + n) p
       ∙ ap (λ (n : ℕ). n + padding_size (drop n (drop start text))) s;
