@@ -1,4 +1,6 @@
 pub mod Base64Rows
+pub mod BodyLemmas
+pub mod BodyRows
 pub mod GroupLemmas
 pub mod MarkLemmas
 pub mod NumberLemmas
@@ -6,6 +8,8 @@ pub mod NumberRows
 pub mod PairLemmas
 pub mod PairRows
 pub mod PemLemmas
+pub mod RunLemmas
+pub mod RunRows
 pub mod Slices
 pub mod TextLemmas
 pub mod TokenLemmas

@@ -5,5 +5,7 @@ pub mod TextRead
 pub mod Base64
 pub mod Pairs
 pub mod Pem
+pub mod PemBody
+pub mod Runs
 pub mod Tokens
 pub mod Private
