@@ -2,4 +2,6 @@
 #![tactic(auto)]
 
 #[cfg(test)]
+mod others;
+#[cfg(test)]
 mod rows;

@@ -40,7 +40,7 @@ static STANDARD_TEXTS: [Row<'static>; 11] = [
     (b"MAMC*AQU=", b"\x30\x03\x02", Some(4)),
 ];
 
-fn expect_of<W: Copy + Debug, T: Copy + PartialEq + Debug>(
+pub(crate) fn expect_of<W: Copy + Debug, T: Copy + PartialEq + Debug>(
     rt: &impl Abort,
     what: W,
     got: T,
