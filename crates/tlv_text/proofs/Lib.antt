@@ -1,0 +1,16 @@
+pub mod Base64Rows
+pub mod BodyLemmas
+pub mod BodyRows
+pub mod GroupLemmas
+pub mod MarkLemmas
+pub mod NumberLemmas
+pub mod NumberRows
+pub mod PairLemmas
+pub mod PairRows
+pub mod PemLemmas
+pub mod RunLemmas
+pub mod RunRows
+pub mod Slices
+pub mod TextLemmas
+pub mod TokenLemmas
+pub mod TokenRows

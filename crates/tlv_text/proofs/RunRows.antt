@@ -1,0 +1,90 @@
+-- Texts with runs of base64 in them, and texts without.
+use Rattle.std.proofs.Common.{◌≡◌, ℕ, zero, suc, ◌+◌, ◌≤◌, ◌&&◌, Bool, true, nat_lt, List, [], ◌∷◌, ◌++◌, drop}
+use Rattle.std.proofs.Common.{length, refl}
+use Rattle.std.proofs.Common.{arith, codes, ltb-true}
+use Rattle.std.proofs.lemmas.Bool.{and_parts}
+use Rattle.std.proofs.lemmas.List.{drop_all}
+use Rattle.tlv_text.proofs.RunLemmas.{NoRunBefore, no-run, run-alone}
+use Rattle.tlv_text.specs.Runs.{HasNoRun, IsFirstRun, padding_size, stretch_of}
+
+-- no long stretch begins at the first n places
+all_short : ℕ → List ℕ → Bool
+all_short zero text = true
+all_short (suc n) [] = true
+all_short (suc n) (x ∷ text) = nat_lt (stretch_of (x ∷ text)).symbols 40 && all_short n text
+
+short-before : (n : ℕ) (text : List ℕ) → all_short n text ≡ true → NoRunBefore text n
+unfolding all_short
+short-before zero text e k less = absurd (omega arith)
+short-before (suc n) [] e k less = rw (drop_all {X = ℕ} k [] (omega arith)) (omega arith)
+short-before (suc n) (x ∷ text) e zero less =
+    ltb-true (stretch_of (x ∷ text)).symbols 40 (and_parts (nat_lt (stretch_of (x ∷ text)).symbols 40) _ e).0
+short-before (suc n) (x ∷ text) e (suc k) less =
+    short-before n text (and_parts (nat_lt (stretch_of (x ∷ text)).symbols 40) _ e).1 k (omega (arith, less))
+
+row-of : (text : List ℕ) (start : ℕ) (run rest : List ℕ) → drop start text ≡ run ++ rest
+    → nat_lt 39 (stretch_of (drop start text)).symbols ≡ true
+    → length run ≡ (stretch_of (drop start text)).size
+    + padding_size (drop (stretch_of (drop start text)).size (drop start text))
+    → all_short start text ≡ true → IsFirstRun text start run rest
+row-of text start run rest spelled long size short =
+    let enough : 40 ≤ (stretch_of (drop start text)).symbols =
+    omega (arith, ltb-true 39 (stretch_of (drop start text)).symbols long) in
+    let before = short-before start text short in
+    record {
+      spelled = spelled;
+      long = enough;
+      size = size;
+      alone = run-alone text start enough before;
+      no_sooner = before;
+    }
+
+row-of_none : (text : List ℕ) → all_short (length text) text ≡ true → HasNoRun text
+row-of_none text short = no-run text (length text) (omega arith) (short-before (length text) text short)
+
+-- 40 symbols, and 39
+row-forty : IsFirstRun (codes "0123456789012345678901234567890123456789") 0
+    (codes "0123456789012345678901234567890123456789") []
+unfolding all_short
+row-forty = row-of _ 0 _ _ refl refl refl refl
+
+row-thirty_nine : HasNoRun (codes "012345678901234567890123456789012345678=")
+unfolding all_short
+row-thirty_nine = row-of_none _ refl
+
+row-empty : HasNoRun []
+unfolding all_short
+row-empty = row-of_none _ refl
+
+-- an element of SAML: one run over two lines
+row-saml : IsFirstRun
+    (codes "<ds:X509Certificate>MIICAzCCAWygAwIBAgIB\r\nATANBgkqhkiG9w0BAQEBAQ==</ds:X509Certificate>") 20
+    (codes "MIICAzCCAWygAwIBAgIB\r\nATANBgkqhkiG9w0BAQEBAQ==") (codes "</ds:X509Certificate>")
+unfolding all_short
+row-saml = row-of _ 20 _ _ refl refl refl refl
+
+-- LDIF, where a line is continued by a line feed and a space
+row-ldif : IsFirstRun (codes "userCertificate;binary:: MIICAzCCAWyg\n AwIBAgIBATANBg\n kqhkiG9w0BAQEBAQE=\ncn: x\n") 25
+    (codes "MIICAzCCAWyg\n AwIBAgIBATANBg\n kqhkiG9w0BAQEBAQE=") (codes "\ncn: x\n")
+unfolding all_short
+row-ldif = row-of _ 25 _ _ refl refl refl refl
+
+-- in JSON only a third of padding is left
+row-json : IsFirstRun (codes "{\"x5c\":[\"MIICAzCCAWygAwIBAgIBATANBgkqhkiG9w0BAQEBAQ===\"]}") 9
+    (codes "MIICAzCCAWygAwIBAgIBATANBgkqhkiG9w0BAQEBAQ==") (codes "=\"]}")
+unfolding all_short
+row-json = row-of _ 9 _ _ refl refl refl refl
+
+-- an empty line, and a blank at the end of a line, end a run
+row-empty_line : HasNoRun (codes "MIICAzCCAWygAwIBAgIB\n\nATANBgkqhkiG9w0BAQEB")
+unfolding all_short
+row-empty_line = row-of_none _ refl
+
+row-blank_before_end : HasNoRun (codes "MIICAzCCAWygAwIBAgIB \nATANBgkqhkiG9w0BAQEB")
+unfolding all_short
+row-blank_before_end = row-of_none _ refl
+
+-- prose
+row-prose : HasNoRun (codes "A certificate binds a name to a key, and an authority signs it.\n")
+unfolding all_short
+row-prose = row-of_none _ refl

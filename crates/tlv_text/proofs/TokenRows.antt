@@ -1,0 +1,44 @@
+-- Texts, and the octets of their tokens.
+use Rattle.std.proofs.Common.{◌≡◌, [], ◌∷◌, refl}
+use Rattle.std.specs.Prelude.{codes}
+use Rattle.tlv_text.specs.TextRead.{nothing_read}
+use Rattle.tlv_text.specs.Tokens.{token_count, tokens_read}
+
+-- an array of C, with what stands before and after it
+array-row : tokens_read (codes "char t[] = {0x30, 0x3,\n 0X2e};\nint n = 3;")
+    ≡ record { octets = 0x30 ∷ 3 ∷ 0x2e ∷ []; rest = [] }
+array-row = refl
+
+-- two strings
+strings-row : tokens_read (codes "\"\\x30\\x03\" \"\\xfE\"") ≡ record { octets = 0x30 ∷ 3 ∷ 0xfe ∷ []; rest = [] }
+strings-row = refl
+
+-- a comment without words
+comment-row : tokens_read (codes "[0x30, /* */ 0x82]") ≡ record { octets = 0x30 ∷ 0x82 ∷ []; rest = [] }
+comment-row = refl
+
+-- a word between two tokens
+word-row : tokens_read (codes "0x30 then a word 0x03") ≡ record { octets = 0x30 ∷ []; rest = codes "then a word 0x03" }
+word-row = refl
+
+-- no word is one of these
+long-row : tokens_read (codes "0x3082, 0x01") ≡ record { octets = 1 ∷ []; rest = [] }
+long-row = refl
+
+suffix-row : tokens_read (codes "10x30, 0x30u8, 0x, 0xg") ≡ nothing_read []
+suffix-row = refl
+
+-- characters of a string that are no tokens
+literal-row : token_count (codes "b'0\\x82\\x01'") ≡ 0
+literal-row = refl
+
+newline-row : tokens_read (codes "\"\\x30\\n\" \"\\x31\"")
+    ≡ record { octets = 0x30 ∷ []; rest = codes "n\" \"\\x31\"" }
+newline-row = refl
+
+-- two tokens or more
+count-row : token_count (codes "0x30,0x31") ≡ 2
+count-row = refl
+
+one-row : token_count (codes "let x = 0x30;") ≡ 1
+one-row = refl

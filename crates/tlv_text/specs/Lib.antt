@@ -1,0 +1,11 @@
+pub mod Characters
+pub mod Marks
+pub mod Numbers
+pub mod TextRead
+pub mod Base64
+pub mod Pairs
+pub mod Pem
+pub mod PemBody
+pub mod Runs
+pub mod Tokens
+pub mod Private

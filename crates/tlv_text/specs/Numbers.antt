@@ -1,0 +1,136 @@
+-- Octets as decimal numbers from -128 to 255 in brackets or braces, as JSON, Go and Java have them.
+use Rattle.std.specs.Prelude.{ℕ, zero, suc, ◌+◌, ◌-◌, ◌*◌, ◌%◌, ◌==◌, Bool, true, false, ◌&&◌, nat_le, if◌then◌else◌}
+use Rattle.std.specs.Prelude.{List, [], ◌∷◌, Option, Some, None, is_some, option_map}
+use Rattle.tlv_text.specs.Characters.{is_white}
+use Rattle.tlv_text.specs.declared.numbers.Digits.{Digits}
+use Rattle.tlv_text.specs.declared.numbers.Number.{Number}
+use Rattle.tlv_text.specs.declared.numbers.Place.{Place}
+use Rattle.tlv_text.specs.declared.numbers.Place.TheVariants.{AfterComma, AfterNumber, AtStart}
+use Rattle.tlv_text.specs.declared.numbers.Step.{Step}
+use Rattle.tlv_text.specs.declared.numbers.Step.TheVariants.{Closes, Fails, Passes, Reads}
+
+-- ---- a number
+
+abbrev pub is_decimal : ℕ → Bool
+is_decimal x = nat_le 48 x && nat_le x 57
+
+-- digits have a value, and so many more digits come after the first
+abbrev pub digits_of : ℕ → ℕ → Digits
+digits_of value more = record { value = value; more = more }
+
+abbrev pub one_digit : ℕ → Option Digits
+one_digit x = if is_decimal x then Some (digits_of (x - 48) 0) else None
+
+abbrev pub two_digits : ℕ → ℕ → Option Digits
+two_digits x y =
+    if is_decimal x && is_decimal y then Some (digits_of ((x - 48) * 10 + (y - 48)) 1) else one_digit x
+
+-- the digits with which a text begins, three of them at most
+abbrev pub digits_at : List ℕ → Option Digits
+digits_at [] = None
+digits_at (x ∷ []) = one_digit x
+digits_at (x ∷ y ∷ []) = two_digits x y
+digits_at (x ∷ y ∷ z ∷ text) =
+    if is_decimal x && is_decimal y && is_decimal z
+    then Some (digits_of ((x - 48) * 100 + (y - 48) * 10 + (z - 48)) 2)
+    else two_digits x y
+
+-- a number has an octet, and so many more characters come after its first
+abbrev pub number_of : ℕ → ℕ → Number
+number_of octet more = record { octet = octet; more = more }
+
+-- without a sign: up to 255
+abbrev pub plain_number : Option Digits → Option Number
+plain_number None = None
+plain_number (Some d) = if nat_le d.value 255 then Some (number_of d.value d.more) else None
+
+-- after a minus: down to -128. The octet of -n is 256 - n, that of -0 is 0
+abbrev pub negative_number : Option Digits → Option Number
+negative_number None = None
+negative_number (Some d) =
+    if nat_le d.value 128 then Some (number_of ((256 - d.value) % 256) (1 + d.more)) else None
+
+-- the number with which a text begins
+abbrev pub number_at : List ℕ → Option Number
+number_at [] = None
+number_at (x ∷ text) =
+    if x == 45 then negative_number (digits_at text) else plain_number (digits_at (x ∷ text))
+
+-- ---- a list of numbers
+
+-- where in a list a text begins is a place; what its first characters are there is a step
+abbrev pub number_step : Option Number → Step
+number_step None = Fails
+number_step (Some n) = Reads n
+
+-- white space is passed over, a number is read, and only after a comma a list may close
+abbrev pub before_number : Place → Bool → ℕ → List ℕ → Step
+before_number place may_close close (x ∷ text) =
+    if is_white x then Passes place
+    else (if may_close && (x == close) then Closes else number_step (number_at (x ∷ text)))
+before_number place may_close close [] = Fails
+
+-- white space is passed over, a comma too, or a list closes
+abbrev pub after_number : ℕ → List ℕ → Step
+after_number close (x ∷ text) =
+    if is_white x then Passes AfterNumber
+    else (if x == 44 then Passes AfterComma else (if x == close then Closes else Fails))
+after_number close [] = Fails
+
+abbrev pub step_at : ℕ → Place → List ℕ → Step
+step_at close AtStart text = before_number AtStart false close text
+step_at close AfterNumber text = after_number close text
+step_at close AfterComma text = before_number AfterComma true close text
+
+-- the place after a step
+abbrev pub place_after : Step → Place
+place_after (Passes place) = place
+place_after (Reads n) = AfterNumber
+place_after Closes = AfterNumber
+place_after Fails = AfterNumber
+
+-- how many characters of a number are still to come
+abbrev pub inside_after : Step → ℕ
+inside_after (Reads n) = n.more
+inside_after (Passes place) = 0
+inside_after Closes = 0
+inside_after Fails = 0
+
+-- the octets from a step on, given those after it
+abbrev pub step_then : Step → Option (List ℕ) → Option (List ℕ)
+step_then (Passes place) more = more
+step_then (Reads n) more = option_map (λ octets. n.octet ∷ octets) more
+step_then Closes more = Some []
+step_then Fails more = None
+
+-- the octets of a list from a place on, if it is closed; the second argument is how many characters of the text belong
+-- to a number that began before
+abbrev pub items_read : ℕ → ℕ → Place → List ℕ → Option (List ℕ)
+items_read close inside place [] = None
+items_read close (suc n) place (x ∷ text) = items_read close n place text
+items_read close zero place (x ∷ text) =
+    let step : Step = step_at close place (x ∷ text) in
+    step_then step (items_read close (inside_after step) (place_after step) text)
+
+-- the octets of the list with which a text begins: 91 and 93 are brackets, 123 and 125 braces
+abbrev pub list_at : List ℕ → Option (List ℕ)
+list_at [] = None
+list_at (x ∷ text) =
+    if x == 91 then items_read 93 0 AtStart text
+    else (if x == 123 then items_read 125 0 AtStart text else None)
+
+-- ---- the lists of a text
+
+-- the octets of the first list of a text
+abbrev pub first_list : List ℕ → Option (List ℕ)
+first_list [] = None
+first_list (x ∷ text) = if is_some (list_at (x ∷ text)) then list_at (x ∷ text) else first_list text
+
+-- what comes after the opening of the first list
+abbrev pub after_opening : List ℕ → List ℕ
+after_opening [] = []
+after_opening (x ∷ text) = if is_some (list_at (x ∷ text)) then text else after_opening text
+
+-- the octets of the only list of a text
+abbrev pub numbers_of : List ℕ → Option (List ℕ)
+numbers_of text = if is_some (first_list (after_opening text)) then None else first_list text

@@ -1,0 +1,4 @@
+pub mod NumberSteps
+pub mod PairSteps
+pub mod PemSteps
+pub mod SymbolSteps

@@ -1,0 +1,11 @@
+-- Steps of reading a list of numbers.
+use Rattle.std.specs.Prelude.{ℕ, ◌+◌, ◌≤◌}
+use Rattle.tlv_text.specs.declared.numbers.Step.{Step}
+use Rattle.tlv_text.specs.declared.numbers.Step.TheVariants.{Closes, Fails, Passes, Reads}
+
+-- a number that is read is no longer than the text
+abbrev pub IsWithin : Step → ℕ → Type 0
+IsWithin (Reads n) size = 1 + n.more ≤ size
+IsWithin (Passes place) size = Unit {0}
+IsWithin Closes size = Unit {0}
+IsWithin Fails size = Unit {0}

@@ -1,0 +1,51 @@
+-- Symbols of base64, without what is left out between them.
+use Rattle.std.specs.Prelude.{◌≡◌, ℕ, ◌%◌, ◌≤◌, List, ◌++◌, length, true}
+use Rattle.std.specs.List.{AllPass}
+use Rattle.base64.specs.GeneralPurpose.{IsBytes}
+use Rattle.base64.specs.declared.decode.DecodeAllocError.{DecodeAllocError}
+use Rattle.base64.specs.declared.decode.DecodeAllocError.TheVariants.{DecodeError, OutOfMemory}
+use Rattle.tlv_text.specs.Base64.{SymbolsRead, base64_of, fits_after, is_symbol, no_symbols, padding_of, symbols_read}
+use Rattle.tlv_text.specs.declared.base64_text.Alphabet.{Alphabet}
+
+-- each is a symbol of the alphabet
+abbrev pub AreSymbols : Alphabet → List ℕ → Type 0
+AreSymbols alphabet symbols = AllPass (is_symbol alphabet) symbols
+
+-- symbols, and then what is read after them
+abbrev pub symbols_then : List ℕ → SymbolsRead → SymbolsRead
+symbols_then symbols more = record more { symbols = symbols ++ more.symbols }
+
+-- the octets that these symbols are the base64 of come after the others
+pub record AreAdded (alphabet : Alphabet) (symbols old new : List ℕ) : Type 0 where
+  pub more : List ℕ
+  pub are_octets : IsBytes more
+  pub symbols_of : base64_of alphabet more ≡ symbols
+  pub added : new ≡ old ++ more
+
+-- these symbols are the base64 of no octets
+abbrev pub IsOfNone : Alphabet → List ℕ → Type 0
+IsOfNone alphabet symbols = (octets : List ℕ) → IsBytes octets → base64_of alphabet octets ≡ symbols → ⊥
+
+-- an error of their decoder: either memory is refused or they are the base64 of no octets
+abbrev pub IsFailure : Alphabet → List ℕ → DecodeAllocError → Type 0
+IsFailure alphabet symbols (DecodeError error) = IsOfNone alphabet symbols
+IsFailure alphabet symbols OutOfMemory = Unit {0}
+
+-- so much padding may follow them
+abbrev pub PaddingFits : List ℕ → List ℕ → Type 0
+PaddingFits symbols rest = fits_after (length symbols) (padding_of rest) ≡ true
+
+-- these octets are those of whole groups, and the rest of the text comes after them
+pub record IsReadSoFar (alphabet : Alphabet) (text octets rest : List ℕ) : Type 0 where
+  pub read : symbols_read alphabet text ≡ symbols_then (base64_of alphabet octets) (symbols_read alphabet rest)
+  pub are_octets : IsBytes octets
+  pub whole : length octets % 3 ≡ 0
+  pub less : length rest ≤ length text
+
+-- these symbols come after them, as the last of the text
+pub record IsAtEnd (alphabet : Alphabet) (text octets symbols rest : List ℕ) : Type 0 where
+  pub read : symbols_read alphabet text
+      ≡ symbols_then (base64_of alphabet octets) (symbols_then symbols (no_symbols rest))
+  pub are_octets : IsBytes octets
+  pub whole : length octets % 3 ≡ 0
+  pub less : length rest ≤ length text

@@ -1,0 +1,73 @@
+-- Runs of base64 inside another text: in LDIF, mail, XML and JSON.
+use Rattle.std.specs.Prelude.{◌≡◌, ℕ, zero, suc, ◌+◌, ◌<◌, ◌≤◌, ◌==◌, Bool, false, ◌&&◌, ◌||◌, if◌then◌else◌}
+use Rattle.std.specs.Prelude.{List, [], ◌∷◌, ◌++◌, drop, length, slice_index}
+use Rattle.tlv_text.specs.Base64.{is_symbol}
+use Rattle.tlv_text.specs.declared.base64_text.Alphabet.TheVariants.{Standard}
+
+-- a space or a tab
+abbrev pub is_blank : ℕ → Bool
+is_blank x = (x == 32) || (x == 9)
+
+-- n characters and then so many blanks, if a symbol stands after them; otherwise 0
+abbrev pub up_to_symbol : ℕ → List ℕ → ℕ
+up_to_symbol n [] = 0
+up_to_symbol n (x ∷ text) = if is_symbol Standard x then n else (if is_blank x then up_to_symbol (1 + n) text else 0)
+
+-- the size of a break between two symbols: a line end (a line feed, or a carriage return and one), and blanks after
+-- it; 0 if the text does not begin with such a break and a symbol
+abbrev pub break_size : List ℕ → ℕ
+break_size [] = 0
+break_size (x ∷ []) = 0
+break_size (x ∷ y ∷ text) =
+    if x == 10 then up_to_symbol 1 (y ∷ text) else (if (x == 13) && (y == 10) then up_to_symbol 2 text else 0)
+
+-- a stretch of symbols: how many they are, and how many characters they take with the breaks between them
+pub record Stretch : Type 0 where
+  pub symbols : ℕ
+  pub size : ℕ
+
+abbrev pub no_symbol : Stretch
+no_symbol = record { symbols = 0; size = 0 }
+
+-- a symbol before a stretch, and a character of a break before one
+abbrev pub symbol_before : Stretch → Stretch
+symbol_before more = record { symbols = 1 + more.symbols; size = 1 + more.size }
+
+abbrev pub break_before : Stretch → Stretch
+break_before more = record { symbols = more.symbols; size = 1 + more.size }
+
+-- the stretch of symbols with which a text begins, after so many characters that are still of a break
+abbrev pub stretch_after : ℕ → List ℕ → Stretch
+stretch_after n [] = no_symbol
+stretch_after zero (x ∷ text) =
+    if is_symbol Standard x then symbol_before (stretch_after (break_size text) text) else no_symbol
+stretch_after (suc n) (x ∷ text) = break_before (stretch_after n text)
+
+-- the stretch of symbols with which a text begins
+abbrev pub stretch_of : List ℕ → Stretch
+stretch_of text = stretch_after 0 text
+
+-- how much padding begins a text: one or two of `=`, or none
+abbrev pub padding_size : List ℕ → ℕ
+padding_size [] = 0
+padding_size (x ∷ []) = if x == 61 then 1 else 0
+padding_size (x ∷ y ∷ text) = if x == 61 then (if y == 61 then 2 else 1) else 0
+
+-- no symbol stands right before the place
+abbrev pub IsAfterNoSymbol : List ℕ → ℕ → Type 0
+IsAfterNoSymbol text zero = Unit {0}
+IsAfterNoSymbol text (suc k) = is_symbol Standard (slice_index text k) ≡ false
+
+-- the first run of a text, of 40 symbols or more, begins after so many characters; the rest is what comes after its
+-- padding
+pub record IsFirstRun (text : List ℕ) (start : ℕ) (run rest : List ℕ) : Type 0 where
+  pub spelled : drop start text ≡ run ++ rest
+  pub long : 40 ≤ (stretch_of (drop start text)).symbols
+  pub size : length run ≡ (stretch_of (drop start text)).size
+      + padding_size (drop (stretch_of (drop start text)).size (drop start text))
+  pub alone : IsAfterNoSymbol text start
+  pub no_sooner : (k : ℕ) → k < start → (stretch_of (drop k text)).symbols < 40
+
+-- a text without runs
+abbrev pub HasNoRun : List ℕ → Type 0
+HasNoRun text = (k : ℕ) → (stretch_of (drop k text)).symbols < 40

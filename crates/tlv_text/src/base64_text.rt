@@ -1,0 +1,226 @@
+//! Octets in base64.
+ghost use Rattle.base64.specs.GeneralPurpose.{IsBytes};
+ghost use Rattle.std.specs.Prelude.{◌≡◌, ◌<◌, ◌≤◌, ◌%◌, [], IfErr, IfOk, OnOk, length, true, false};
+ghost use Rattle.tlv_text.specs.Base64.{ReadsBase64, base64_of, fits_after, is_escaped_line_end};
+ghost use Rattle.tlv_text.specs.Base64.{is_left_out, is_symbol, no_symbols, padding_of, symbols_read};
+ghost use Rattle.tlv_text.specs.Private.SymbolSteps.{AreAdded, AreSymbols, IsAtEnd, IsFailure, IsOfNone};
+ghost use Rattle.tlv_text.specs.Private.SymbolSteps.{PaddingFits, symbols_then};
+
+use crate::Decoded;
+use arrayvec::ArrayVec;
+use base64::DecodeAllocError;
+use base64::engine::general_purpose::{STANDARD_NO_PAD, URL_SAFE_NO_PAD};
+use std::alloc::{AllocError, Global};
+
+/// How many symbols are decoded at once: whole groups of four.
+const SYMBOLS: usize = 4096;
+
+/// The last two of the 64 symbols.
+#[derive(Clone, Copy, Debug, PartialEq, Eq)]
+pub enum Alphabet {
+    /// `+` and `/` (RFC 4648, section 4).
+    Standard,
+    /// `-` and `_` (RFC 4648, section 5).
+    UrlSafe,
+}
+
+/// The octets of a text that is base64, with padding or without (RFC 4648, sections 3.2, 4 and 5). White space, quotes,
+/// `>` and the pairs `\n` and `\r` are left out, wherever they stand. A text that is base64 of no octets is refused
+/// after its last symbol; the octets are then those of whole groups of four symbols.
+///
+/// # Errors
+///
+/// `AllocError` if memory for the octets is refused.
+pub fn decode_base64(alloc: Global, alphabet: Alphabet, text: &[u8]) -> Result<Decoded, AllocError>
+    ensures { IfOk result (λ d. ReadsBase64 alphabet text.now d.octets.items d.refused) }
+{
+    let mut octets = Vec::new(alloc);
+    let mut rest = text;
+    loop {
+        let mut symbols = ArrayVec::new();
+        take_symbols(alphabet, &mut rest, &mut symbols);
+        if symbols.len() < SYMBOLS {
+            return finish(alloc, alphabet, text, rest, symbols.as_slice(), octets);
+        }
+        add_groups(alloc, alphabet, symbols.as_slice(), &mut octets)?;
+    }
+}
+
+/// Takes symbols from the front of a text, up to 4096 of them or to the first character that is none and not left out.
+fn take_symbols(alphabet: Alphabet, rest: &mut &[u8], symbols: &mut ArrayVec<u8, SYMBOLS>)
+    requires { symbols.old.items ≡ [] }
+    ensures symbols { AreSymbols alphabet symbols.new.items }
+    ensures read { symbols_read alphabet rest.old.now
+        ≡ symbols_then symbols.new.items (symbols_read alphabet rest.new.now) }
+    ensures few { length symbols.new.items ≤ 4096 }
+    ensures last { length symbols.new.items < 4096
+        → symbols_read alphabet rest.new.now ≡ no_symbols rest.new.now }
+    ensures less { length rest.new.now ≤ length rest.old.now }
+    ensures used { 0 < length symbols.new.items → length rest.new.now < length rest.old.now }
+{
+    while symbols.len() < SYMBOLS {
+        match *rest {
+            [x, more @ ..] if is_symbol(alphabet, *x) => {
+                symbols.push(*x);
+                *rest = more;
+            }
+            [x, more @ ..] if is_left_out(*x) => *rest = more,
+            [x, y, more @ ..] if is_escaped_line_end(*x, *y) => *rest = more,
+            _ => return,
+        }
+    }
+}
+
+/// Whether this is a symbol of the alphabet.
+#[inline(always)]
+fn is_symbol(alphabet: Alphabet, character: u8) -> bool
+    ensures { result ≡ is_symbol alphabet character }
+{
+    match alphabet {
+        Alphabet::Standard => {
+            matches!(character, b'A'..=b'Z' | b'a'..=b'z' | b'0'..=b'9' | b'+' | b'/')
+        }
+        Alphabet::UrlSafe => {
+            matches!(character, b'A'..=b'Z' | b'a'..=b'z' | b'0'..=b'9' | b'-' | b'_')
+        }
+    }
+}
+
+/// Whether this is left out.
+#[inline(always)]
+fn is_left_out(character: u8) -> bool
+    ensures { result ≡ is_left_out character }
+{
+    matches!(
+        character,
+        b' ' | b'\t' | b'\n' | b'\r' | b'"' | b'\'' | b'>'
+    )
+}
+
+/// Whether this is a line feed or a carriage return as JSON and C have it.
+#[inline(always)]
+fn is_escaped_line_end(first: u8, second: u8) -> bool
+    ensures { result ≡ is_escaped_line_end first second }
+{
+    first == b'\\' && matches!(second, b'n' | b'r')
+}
+
+/// Adds the octets of whole groups of symbols.
+fn add_groups(
+    alloc: Global,
+    alphabet: Alphabet,
+    symbols: &[u8],
+    octets: &mut Vec<u8>,
+) -> Result<(), AllocError>
+    requires whole { length symbols.now % 4 ≡ 0 }
+    requires symbols { AreSymbols alphabet symbols.now }
+    ensures { OnOk result (AreAdded alphabet symbols.now octets.old.items octets.new.items) }
+{
+    match decode(alloc, alphabet, symbols) {
+        Ok(more) => octets.extend_from_slice(more.as_slice()),
+        Err(DecodeAllocError::OutOfMemory) => Err(AllocError),
+        // Whole groups of symbols are decoded.
+        Err(DecodeAllocError::DecodeError(_)) => unreachable!(),
+    }
+}
+
+/// The octets of symbols.
+fn decode(alloc: Global, alphabet: Alphabet, symbols: &[u8]) -> Result<Vec<u8>, DecodeAllocError>
+    ensures octets { IfOk result (λ octets. IsBytes octets.items) }
+    ensures symbols { IfOk result (λ octets. base64_of alphabet octets.items ≡ symbols.now) }
+    ensures failure { IfErr result (λ error. IsFailure alphabet symbols.now error) }
+{
+    match alphabet {
+        Alphabet::Standard => STANDARD_NO_PAD.decode(alloc, symbols),
+        Alphabet::UrlSafe => URL_SAFE_NO_PAD.decode(alloc, symbols),
+    }
+}
+
+/// Decodes the last symbols of a text. `rest` is what follows them.
+fn finish(
+    alloc: Global,
+    alphabet: Alphabet,
+    text: &[u8],
+    rest: &[u8],
+    symbols: &[u8],
+    octets: Vec<u8>,
+) -> Result<Decoded, AllocError>
+    requires end { IsAtEnd alphabet text.now octets.items symbols.now rest.now }
+    requires symbols { AreSymbols alphabet symbols.now }
+    ensures { IfOk result (λ d. ReadsBase64 alphabet text.now d.octets.items d.refused) }
+{
+    let mut octets = octets;
+    if add_last(alloc, alphabet, symbols, rest, &mut octets)? {
+        return Ok(Decoded {
+            octets,
+            refused: None,
+        });
+    }
+    let groups = &symbols[..symbols.len() / 4 * 4];
+    add_groups(alloc, alphabet, groups, &mut octets)?;
+    Ok(Decoded {
+        octets,
+        refused: Some(text.len() - rest.len()),
+    })
+}
+
+/// Adds the octets of the last symbols of a text, unless what follows is not their padding or they are the base64 of
+/// no octets.
+fn add_last(
+    alloc: Global,
+    alphabet: Alphabet,
+    symbols: &[u8],
+    rest: &[u8],
+    octets: &mut Vec<u8>,
+) -> Result<bool, AllocError>
+    ensures padding { IfOk result (λ done. done ≡ true → PaddingFits symbols.now rest.now) }
+    ensures added { IfOk result (λ done. done ≡ true
+        → AreAdded alphabet symbols.now octets.old.items octets.new.items) }
+    ensures same { IfOk result (λ done. done ≡ false → octets.new.items ≡ octets.old.items) }
+    ensures refused { IfOk result (λ done. done ≡ false
+        → PaddingFits symbols.now rest.now → IsOfNone alphabet symbols.now) }
+{
+    if !fits_after(symbols.len(), padding_of(rest)) {
+        return Ok(false);
+    }
+    match decode(alloc, alphabet, symbols) {
+        Ok(more) => {
+            octets.extend_from_slice(more.as_slice())?;
+            Ok(true)
+        }
+        Err(DecodeAllocError::OutOfMemory) => Err(AllocError),
+        Err(DecodeAllocError::DecodeError(_)) => Ok(false),
+    }
+}
+
+/// How much padding a text is, if it is nothing else but what is left out.
+fn padding_of(text: &[u8]) -> Option<usize>
+    ensures { result ≡ padding_of text.now }
+{
+    let mut rest = text;
+    let mut count = 0;
+    loop {
+        match rest {
+            [] => return Some(count),
+            [x, more @ ..] if *x == b'=' => {
+                count += 1;
+                rest = more;
+            }
+            [x, more @ ..] if is_left_out(*x) => rest = more,
+            [x, y, more @ ..] if is_escaped_line_end(*x, *y) => rest = more,
+            _ => return None,
+        }
+    }
+}
+
+/// Whether so much padding may follow so many symbols.
+fn fits_after(count: usize, padding: Option<usize>) -> bool
+    ensures { result ≡ fits_after count padding }
+{
+    match padding {
+        Some(0) => true,
+        Some(1) => count % 4 == 3,
+        Some(2) => count % 4 == 2,
+        _ => false,
+    }
+}

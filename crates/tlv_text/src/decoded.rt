@@ -1,0 +1,26 @@
+//! What is decoded from a text.
+ghost use Rattle.std.specs.Prelude.{◌≡◌, ◌≤◌, length};
+ghost use Rattle.tlv_text.specs.TextRead.{refused_at};
+
+use std::alloc::{Allocator, Global};
+
+/// What is decoded from a text.
+#[derive(Debug, Drop)]
+pub struct Decoded<A: Allocator = Global> {
+    /// The octets; if the text is refused, those before the place where it is.
+    pub octets: Vec<u8, A>,
+    /// Where the text is refused, if it is: how many characters come before.
+    pub refused: Option<usize>,
+}
+
+/// How many characters come before the rest of a text, unless that is empty.
+pub(crate) fn refused_at(text: &[u8], rest: &[u8]) -> Option<usize>
+    requires { length rest.now ≤ length text.now }
+    ensures { result ≡ refused_at text.now rest.now }
+{
+    if rest.is_empty() {
+        None
+    } else {
+        Some(text.len() - rest.len())
+    }
+}

@@ -1,0 +1,23 @@
+//! Octets that are written in a text, as people have them: pairs of hexadecimal digits, tokens of a source text, decimal
+//! numbers, base64, PEM; and marks at the start of a text.
+#![tactic(auto)]
+
+mod base64_text;
+mod body;
+mod decoded;
+mod marks;
+mod numbers;
+mod pairs;
+mod pem;
+mod runs;
+mod tokens;
+
+pub use base64_text::{Alphabet, decode_base64};
+pub use body::{PemBody, pem_body};
+pub use decoded::Decoded;
+pub use marks::{after_mark, ascii_of_utf16};
+pub use numbers::numbers_of;
+pub use pairs::decode_pairs;
+pub use pem::{PemBlock, first_block};
+pub use runs::{Run, first_run};
+pub use tokens::{decode_tokens, has_tokens};

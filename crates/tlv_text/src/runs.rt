@@ -1,0 +1,132 @@
+//! Runs of base64 inside another text: in LDIF, mail, XML and JSON.
+ghost use Rattle.std.specs.Prelude.{◌≡◌, ◌≤◌, ◌+◌, length, MatchOption};
+ghost use Rattle.tlv_text.specs.Base64.{is_symbol};
+ghost use Rattle.tlv_text.specs.Runs.{HasNoRun, IsFirstRun, break_size, is_blank, padding_size, stretch_of};
+ghost use Rattle.tlv_text.specs.Runs.{up_to_symbol};
+ghost use Rattle.tlv_text.specs.declared.base64_text.Alphabet.TheVariants.{Standard};
+
+/// The fewest symbols of a run.
+const FEWEST: usize = 40;
+
+/// A run of base64 in a text.
+#[derive(Clone, Copy, Debug, PartialEq, Eq)]
+pub struct Run<'a> {
+    /// How many characters of the text come before it.
+    pub start: usize,
+    /// From its first symbol to its last one or to its padding.
+    pub text: &'a [u8],
+    /// What comes after it.
+    pub rest: &'a [u8],
+}
+
+/// A stretch of symbols.
+#[derive(Clone, Copy)]
+struct Stretch {
+    symbols: usize,
+    size: usize,
+}
+
+/// The first run of base64 in a text: 40 symbols or more of the standard alphabet (RFC 4648, section 4), the first of
+/// them not after a symbol. Between two of them may be a line end and blanks after it; one or two of `=` may follow.
+pub fn first_run(text: &[u8]) -> Option<Run<'_>>
+    ensures { MatchOption result (HasNoRun text.now) (λ r. IsFirstRun text.now r.start r.text.now r.rest.now) }
+{
+    let mut start = 0;
+    while start < text.len() {
+        let here = &text[start..];
+        let stretch = stretch_of(here);
+        if stretch.symbols >= FEWEST {
+            let padding = padding_size(&here[stretch.size..]);
+            let (run, rest) = here.split_at(stretch.size + padding);
+            return Some(Run {
+                start,
+                text: run,
+                rest,
+            });
+        }
+        start += stretch.size.max(1);
+    }
+    None
+}
+
+/// The stretch of symbols with which a text begins.
+fn stretch_of(text: &[u8]) -> Stretch
+    ensures symbols { result.symbols ≡ (stretch_of text.now).symbols }
+    ensures size { result.size ≡ (stretch_of text.now).size }
+    ensures within { result.size ≤ length text.now }
+{
+    let mut rest = text;
+    let mut symbols = 0;
+    while let [x, more @ ..] = rest
+        && is_symbol(*x)
+    {
+        symbols += 1;
+        rest = &more[break_size(more)..];
+    }
+    Stretch {
+        symbols,
+        size: text.len() - rest.len(),
+    }
+}
+
+/// The size of a break between two symbols: a line end and blanks after it. It is 0 if the text does not begin with
+/// such a break and a symbol.
+#[inline(always)]
+fn break_size(text: &[u8]) -> usize
+    ensures size { result ≡ break_size text.now }
+    ensures within { result ≤ length text.now }
+{
+    match text {
+        [x, more @ ..] if *x == b'\n' => up_to_symbol(1, more),
+        [x, y, more @ ..] if *x == b'\r' && *y == b'\n' => up_to_symbol(2, more),
+        _ => 0,
+    }
+}
+
+/// So many characters and then blanks, if a symbol stands after them; otherwise 0.
+fn up_to_symbol(before: usize, text: &[u8]) -> usize
+    requires { before ≤ 2 }
+    ensures size { result ≡ up_to_symbol before text.now }
+    ensures within { result ≤ before + length text.now }
+{
+    let mut rest = text;
+    let mut size = before;
+    loop {
+        match rest {
+            [x, ..] if is_symbol(*x) => return size,
+            [x, more @ ..] if is_blank(*x) => {
+                size += 1;
+                rest = more;
+            }
+            _ => return 0,
+        }
+    }
+}
+
+/// Whether this is a space or a tab.
+#[inline(always)]
+fn is_blank(character: u8) -> bool
+    ensures { result ≡ is_blank character }
+{
+    matches!(character, b' ' | b'\t')
+}
+
+/// Whether this is a symbol of the standard alphabet.
+#[inline(always)]
+fn is_symbol(character: u8) -> bool
+    ensures { result ≡ is_symbol Standard character }
+{
+    matches!(character, b'A'..=b'Z' | b'a'..=b'z' | b'0'..=b'9' | b'+' | b'/')
+}
+
+/// How much padding begins a text: one or two of `=`, or none.
+fn padding_size(text: &[u8]) -> usize
+    ensures size { result ≡ padding_size text.now }
+    ensures within { result ≤ length text.now }
+{
+    match text {
+        [x, y, ..] if *x == b'=' && *y == b'=' => 2,
+        [x, ..] if *x == b'=' => 1,
+        _ => 0,
+    }
+}

@@ -1,0 +1,191 @@
+//! Octets as tokens of a source text.
+ghost use Rattle.hex.specs.Hex.{is_hex_digit};
+ghost use Rattle.std.specs.Prelude.{◌≡◌, ◌<◌, ◌≤◌, ◌+◌, ◌↔◌, ◌||◌, IfOk, IsTrue, MatchOption, length, true};
+ghost use Rattle.tlv_text.specs.Characters.{is_quote, is_white};
+ghost use Rattle.tlv_text.specs.Pairs.{digit_value};
+ghost use Rattle.tlv_text.specs.TextRead.{refused_at};
+ghost use Rattle.tlv_text.specs.Tokens.{begins_word, ends_escape, escape_token, is_word, number_token, pieces};
+ghost use Rattle.tlv_text.specs.Tokens.{token_at, token_count, tokens_in, tokens_read};
+
+use crate::Decoded;
+use std::alloc::{AllocError, Global};
+
+/// A token of a text.
+#[derive(Clone, Copy, Debug, PartialEq, Eq)]
+pub(crate) struct Token {
+    /// Its octet.
+    pub(crate) octet: u8,
+    /// How many characters of it come after the first.
+    pub(crate) more: usize,
+}
+
+/// The octets of a text that has them as tokens: `0x30`, `0x3` or `\x30`. Before the first token and after the last one
+/// anything may stand; between two of them no letter, no digit and no `_`: a text is refused at the first such
+/// character. The time is linear: whether another token comes is asked once at most.
+///
+/// # Errors
+///
+/// `AllocError` if memory for the octets is refused.
+pub fn decode_tokens(alloc: Global, text: &[u8]) -> Result<Decoded, AllocError>
+    ensures octets { IfOk result (λ d. d.octets.items ≡ (tokens_read text.now).octets) }
+    ensures refused { IfOk result (λ d. d.refused ≡ refused_at text.now (tokens_read text.now).rest) }
+{
+    let mut octets = Vec::new(alloc);
+    let mut begun = false;
+    let mut rest = text;
+    let mut before = b' ';
+    while let [x, more @ ..] = rest {
+        match token_at(before, rest) {
+            Some(token) => {
+                octets.push(token.octet)?;
+                begun = true;
+                rest = &more[token.more..];
+                before = b' ';
+            }
+            None if begun && is_word(*x) => {
+                let refused = if after_token(*x, more).is_some() {
+                    Some(text.len() - rest.len())
+                } else {
+                    None
+                };
+                return Ok(Decoded { octets, refused });
+            }
+            None => {
+                rest = more;
+                before = *x;
+            }
+        }
+    }
+    Ok(Decoded {
+        octets,
+        refused: None,
+    })
+}
+
+/// Whether a text has two tokens or more.
+pub fn has_tokens(text: &[u8]) -> bool
+    ensures { IsTrue result ↔ (2 ≤ token_count text.now) }
+{
+    match after_token(b' ', text) {
+        Some(rest) => after_token(b' ', rest).is_some(),
+        None => false,
+    }
+}
+
+/// What comes after the first token of a text, if it has one. `before` is the character before the text.
+fn after_token(before: u8, text: &[u8]) -> Option<&[u8]>
+    ensures { MatchOption result (tokens_in (pieces 0 before text.now) ≡ 0)
+        (λ rest. tokens_in (pieces 0 before text.now) ≡ 1 + tokens_in (pieces 0 32 rest.now)) }
+{
+    let mut rest = text;
+    let mut before = before;
+    while let [x, more @ ..] = rest {
+        if let Some(token) = token_at(before, rest) {
+            return Some(&more[token.more..]);
+        }
+        rest = more;
+        before = *x;
+    }
+    None
+}
+
+/// The token with which a text begins. `before` is the character before the text: a space at its start and after a
+/// token.
+fn token_at(before: u8, text: &[u8]) -> Option<Token>
+    ensures token { result ≡ token_at before text.now }
+    ensures within { MatchOption result Unit (λ t. 1 + t.more ≤ length text.now) }
+{
+    match text {
+        [b'0', b'x' | b'X', digits @ ..] if !is_word(before) => number_token(digits),
+        [b'\\', b'x', digits @ ..] if is_white_or_quote(before) => escape_token(digits),
+        _ => None,
+    }
+}
+
+/// The token of one or two digits after `0x`.
+fn number_token(digits: &[u8]) -> Option<Token>
+    ensures token { result ≡ number_token digits.now }
+    ensures within { MatchOption result Unit (λ t. t.more ≤ 1 + length digits.now) }
+{
+    match digits {
+        [x, rest @ ..] if is_digit(*x) && !begins_word(rest) => Some(Token {
+            octet: digit_value(*x),
+            more: 2,
+        }),
+        [x, y, rest @ ..] if is_digit(*x) && is_digit(*y) && !begins_word(rest) => Some(Token {
+            octet: digit_value(*x) * 16 + digit_value(*y),
+            more: 3,
+        }),
+        _ => None,
+    }
+}
+
+/// The token of two digits after `\x`.
+fn escape_token(digits: &[u8]) -> Option<Token>
+    ensures token { result ≡ escape_token digits.now }
+    ensures within { MatchOption result Unit (λ t. t.more ≤ 1 + length digits.now) }
+{
+    match digits {
+        [x, y, rest @ ..] if is_digit(*x) && is_digit(*y) && ends_escape(rest) => Some(Token {
+            octet: digit_value(*x) * 16 + digit_value(*y),
+            more: 3,
+        }),
+        _ => None,
+    }
+}
+
+/// Whether a text begins with a word character.
+fn begins_word(text: &[u8]) -> bool
+    ensures { result ≡ begins_word text.now }
+{
+    match text {
+        [x, ..] => is_word(*x),
+        [] => false,
+    }
+}
+
+/// Whether this may follow the digits after `\x`.
+fn ends_escape(text: &[u8]) -> bool
+    ensures { result ≡ ends_escape text.now }
+{
+    matches!(
+        text,
+        [] | [b'\\' | b'"' | b'\'' | b' ' | b'\t' | b'\n' | b'\r', ..]
+    )
+}
+
+/// Whether this is a letter, a digit or `_`.
+#[inline(always)]
+fn is_word(character: u8) -> bool
+    ensures { result ≡ is_word character }
+{
+    matches!(character, b'A'..=b'Z' | b'a'..=b'z' | b'0'..=b'9' | b'_')
+}
+
+/// Whether this is white space or a quote.
+fn is_white_or_quote(character: u8) -> bool
+    ensures { result ≡ (is_white character || is_quote character) }
+{
+    matches!(character, b' ' | b'\t' | b'\n' | b'\r' | b'"' | b'\'')
+}
+
+/// Whether this is a hexadecimal digit.
+#[inline(always)]
+fn is_digit(character: u8) -> bool
+    ensures { result ≡ is_hex_digit character }
+{
+    matches!(character, b'0'..=b'9' | b'a'..=b'f' | b'A'..=b'F')
+}
+
+/// The value of a hexadecimal digit.
+fn digit_value(digit: u8) -> u8
+    requires { is_hex_digit digit ≡ true }
+    ensures value { result ≡ digit_value digit }
+    ensures few { result < 16 }
+{
+    match digit {
+        b'0'..=b'9' => digit - b'0',
+        b'A'..=b'F' => digit - b'A' + 10,
+        _ => digit - b'a' + 10,
+    }
+}

@@ -1,0 +1,7 @@
+//! The tests of `tlv_text`, by what it makes public.
+#![tactic(auto)]
+
+#[cfg(test)]
+mod others;
+#[cfg(test)]
+mod rows;

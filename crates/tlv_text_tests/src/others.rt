@@ -1,0 +1,136 @@
+//! Texts with octets among other characters.
+use crate::rows::expect_of;
+use std::process::Abort;
+use std::test::Fail;
+use tlv_text::{PemBody, decode_tokens, first_run, has_tokens, numbers_of, pem_body};
+
+/// A text, whether it has two tokens or more, its octets, and how many characters come before what is refused.
+type TokenRow<'a> = (&'a [u8], bool, &'a [u8], Option<usize>);
+
+static TOKENS: [TokenRow<'static>; 10] = [
+    (b"{0x30, 0x03,\n 0X2}", true, b"\x30\x03\x02", None),
+    (b"unsigned char a[2] = {0x30, 0x03}; int n = 2;", true, b"\x30\x03", None),
+    (b"\"\\x30\\x03\" \"\\x02\"", true, b"\x30\x03\x02", None),
+    (b"0x30 and 0x03", true, b"\x30", Some(5)),
+    (b"0x3082, 0x01", false, b"\x01", None),
+    (b"0x30u8, 0x03", false, b"\x03", None),
+    (b"b'0\\x82\\x01'", false, b"", None),
+    (b"0x30", false, b"\x30", None),
+    (b"no token", false, b"", None),
+    (b"", false, b"", None),
+];
+
+fn expect_tokens(rt: &impl Abort, row: &TokenRow<'_>, octets: &[u8], refused: Option<usize>) {
+    let (text, two, want, place) = *row;
+    expect_of(rt, text, has_tokens(text), two);
+    expect_of(rt, text, octets, want);
+    expect_of(rt, text, refused, place);
+}
+
+#[test]
+fn tokens_are_decoded(rt: HostRuntime) -> Result<(), Fail> {
+    for row in TOKENS.as_slice() {
+        let decoded = decode_tokens(rt.alloc(), row.0)?;
+        expect_tokens(&rt, row, decoded.octets.as_slice(), decoded.refused);
+    }
+    Ok(())
+}
+
+/// A text, and the octets of its numbers.
+type NumberRow<'a> = (&'a [u8], Option<&'a [u8]>);
+
+static NUMBERS: [NumberRow<'static>; 12] = [
+    (b"[48, 130, -1]", Some(b"\x30\x82\xff")),
+    (b"[]byte{48,130,}", Some(b"\x30\x82")),
+    (b"new byte[]{48, -126}", Some(b"\x30\x82")),
+    (b"{\"type\":\"Buffer\",\"data\":[48,130,1]}", Some(b"\x30\x82\x01")),
+    (b"[-128, 255]", Some(b"\x80\xff")),
+    (b"[256]", None),
+    (b"[-129]", None),
+    (b"[1,,2]", None),
+    (b"[]", None),
+    (b"[1, 2", None),
+    (b"[1, 2}", None),
+    (b"[1] [2]", None),
+];
+
+#[test]
+fn numbers_are_decoded(rt: HostRuntime) -> Result<(), Fail> {
+    for row in NUMBERS.as_slice() {
+        let (text, octets) = *row;
+        let found = numbers_of(rt.alloc(), text)?;
+        let got = match &found {
+            Some(list) => Some(list.as_slice()),
+            None => None,
+        };
+        expect_of(&rt, text, got, octets);
+    }
+    Ok(())
+}
+
+/// The body of a block of PEM, and its base64, unless it is encrypted.
+type BodyRow<'a> = (&'a [u8], Option<&'a [u8]>);
+
+static BODIES: [BodyRow<'static>; 7] = [
+    (b"\nMAA=\n", Some(b"\nMAA=\n")),
+    (b"\nProc-Type: 4,ENCRYPTED\nDEK-Info: AES-256-CBC,00\n\nMAA=\n", None),
+    (b"\nVersion: x\n\nMAA=\n", Some(b"MAA=\n")),
+    (b"\r\nVersion: x\r\n\r\nMAA=\r\n", Some(b"MAA=\r\n")),
+    (b"\\nVersion: x\\n\\nMAA=\\n", Some(b"MAA=\\n")),
+    (b"\nVersion: x\nMAA=\n", Some(b"")),
+    (b"", Some(b"")),
+];
+
+#[test]
+fn bodies_are_taken_apart(rt: HostRuntime) {
+    for row in BODIES.as_slice() {
+        let (body, base64) = *row;
+        let got = match pem_body(body) {
+            PemBody::Encrypted => None,
+            PemBody::Base64(text) => Some(text),
+        };
+        expect_of(&rt, body, got, base64);
+    }
+}
+
+/// A text, and its first run of base64: where it begins, and what comes after it.
+type RunRow<'a> = (&'a [u8], Option<(usize, &'a [u8])>);
+
+static RUNS: [RunRow<'static>; 5] = [
+    (
+        b"<X>AAAAAAAAAAAAAAAAAAAA\n  AAAAAAAAAAAAAAAAAAAA</X>",
+        Some((3, b"</X>")),
+    ),
+    (
+        b"jpeg:: AAAAAAAAAAAAAAAAAAAAAAAAAAAAAAAAAAAAAAAA==\nsn: x",
+        Some((7, b"\nsn: x")),
+    ),
+    (b"words of prose, of which none is long enough to be one", None),
+    (b"AAAAAAAAAAAAAAAAAAAA AAAAAAAAAAAAAAAAAAAAAAAAA", None),
+    (b"", None),
+];
+
+#[test]
+fn runs_are_found(rt: HostRuntime) {
+    for row in RUNS.as_slice() {
+        let (text, want) = *row;
+        let got = match first_run(text) {
+            Some(run) => Some((run.start, run.rest)),
+            None => None,
+        };
+        expect_of(&rt, text, got, want);
+    }
+}
+
+/// 40 symbols are a run, and 39 are none.
+#[test]
+fn runs_have_a_least_size(rt: HostRuntime) -> Result<(), Fail> {
+    for (count, is_run) in [(39, false), (40, true), (41, true)] {
+        let mut text = Vec::new(rt.alloc());
+        for _ in 0..count {
+            text.push(b'A')?;
+        }
+        expect_of(&rt, count, first_run(text.as_slice()).is_some(), is_run);
+    }
+    Ok(())
+}
