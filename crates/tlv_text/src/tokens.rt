@@ -20,7 +20,8 @@ pub(crate) struct Token {
 }
 
 /// The octets of a text that has them as tokens: `0x30`, `0x3` or `\x30`. Before the first token and after the last one
-/// anything may stand; between two of them no letter, no digit and no `_`: a text is refused at the first such character.
+/// anything may stand; between two of them no letter, no digit and no `_`: a text is refused at the first such
+/// character. The time is linear: whether another token comes is asked once at most.
 ///
 /// # Errors
 ///
@@ -88,7 +89,8 @@ fn after_token(before: u8, text: &[u8]) -> Option<&[u8]>
     None
 }
 
-/// The token with which a text begins. `before` is the character before the text, a space at its start and after a token.
+/// The token with which a text begins. `before` is the character before the text: a space at its start and after a
+/// token.
 fn token_at(before: u8, text: &[u8]) -> Option<Token>
     ensures token { result ≡ token_at before text.now }
     ensures within { MatchOption result Unit (λ t. 1 + t.more ≤ length text.now) }
