@@ -1,4 +1,5 @@
 pub mod Base64Rows
+pub mod DumpLemmas
 pub mod GroupLemmas
 pub mod MarkLemmas
 pub mod PairLemmas

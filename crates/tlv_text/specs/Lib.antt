@@ -6,3 +6,5 @@ pub mod Pairs
 pub mod Pem
 pub mod Tokens
 pub mod Private
+pub mod Dump
+pub mod DumpFault

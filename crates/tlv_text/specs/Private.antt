@@ -1,3 +1,4 @@
+pub mod DumpSteps
 pub mod PairSteps
 pub mod PemSteps
 pub mod SymbolSteps

@@ -1,0 +1,6 @@
+use Rattle.std.proofs.Common.{◌≡◌, ◌++◌}
+use Rattle.tlv_text.specs.Dump.{repeated}
+use Rattle.tlv_text.proofs.dump.output.add_octets.Given as goal
+
+abbrev pub invariant-loop : goal.invariant-loop
+invariant-loop l = l.output.octets.items ≡ l.initial.output.octets.items ++ repeated l.counter l.row.items
