@@ -1,7 +1,7 @@
 -- Lines, offsets and pairs of a dump.
 use Rattle.std.proofs.Common.{◌≡◌, ℕ, zero, suc, ◌+◌, ◌-◌, ◌*◌, ◌/◌, ◌%◌, ◌^◌, ◌==◌, ◌<◌, ◌≤◌, true, false, List, [], ◌∷◌, ◌++◌}
 use Rattle.std.proofs.Common.{length, take, drop, slice_index, refl, ap, sym, ◌∙◌, arith, Option, Some, None}
-use Rattle.std.proofs.lemmas.Bool.{not-true}
+use Rattle.std.proofs.lemmas.Bool.{false_from_ne_true}
 use Rattle.std.proofs.lemmas.List.{drop_all}
 use Rattle.std.proofs.Math.Seq.{take-length}
 use Rattle.std.proofs.Math.Nat.{mul-le-mul_left, pow-le-pow_right}
@@ -23,25 +23,25 @@ line-up_to (x ∷ text) (suc n) less none here =
 
 line-last : (x : ℕ) (text : List ℕ) → NoLineFeed (x ∷ text) (length (x ∷ text))
     → lines_of (x ∷ text) ≡ text_line (x ∷ text) (length (x ∷ text)) ∷ []
-line-last x [] none = rw none 0 (omega arith) refl
+line-last x [] none = rw (none 0 (omega arith)) refl
 line-last x (y ∷ text) none =
     rw (none 0 (omega arith), line-last y text (λ k lt. none (suc k) (omega arith))) refl
 
 pub line-found : (text : List ℕ) (n : ℕ) → IsFirstByte (is_byte 10) text (Some n)
     → lines_of text ≡ text_line (take n text) (length text) ∷ lines_of (drop (suc n) text)
 line-found text n f =
-    line-up_to text n f.0.high (λ k lt. not-true (slice_index text k == 10) (f.0.before k (omega arith) lt)) f.1
+    line-up_to text n f.0.high (λ k lt. false_from_ne_true (slice_index text k == 10) (f.0.before k (omega arith) lt)) f.1
 
 pub line-alone : (text : List ℕ) → 0 < length text → IsFirstByte (is_byte 10) text None
     → lines_of text ≡ text_line text (length text) ∷ []
 line-alone [] some f = absurd (omega arith)
 line-alone (x ∷ text) some f =
-    line-last x text (λ k lt. not-true (slice_index (x ∷ text) k == 10) (f k (omega arith) lt))
+    line-last x text (λ k lt. false_from_ne_true (slice_index (x ∷ text) k == 10) (f k (omega arith) lt))
 
 -- ---- offsets
 
 pub offset-small : (number count : ℕ) → number < 16 ^ count → count < 16 → number < 16 ^ 15
-offset-small number count small few = omega (arith, pow-le-pow_right 16 count 15 (omega arith) (omega arith))
+offset-small number count small few = omega (arith, pow-le-pow_right {n = 16} (omega arith) {i = count} {j = 15} (omega arith))
 
 pub digit-more : (number base digit : ℕ) → base ≤ 16 → digit < 16 → number * base + digit < (number + 1) * 16
 digit-more number base digit b d = omega (arith, mul-le-mul_left number b)
