@@ -1,5 +1,8 @@
 pub mod Base64Rows
 pub mod DumpLemmas
+pub mod DumpOutputLemmas
+pub mod DumpPairLemmas
+pub mod DumpStepLemmas
 pub mod GroupLemmas
 pub mod MarkLemmas
 pub mod PairLemmas

@@ -35,12 +35,12 @@ pub record Holds (out : Output) (octets : List ℕ) : Type 0 where
 abbrev pub IsAdded : List ℕ → Output → Output → Type 0
 IsAdded more old new = (octets : List ℕ) → Holds old octets → Holds new (octets ++ more)
 
--- the step is taken, if there is one
+-- the step is taken, if there is one; if not, the output stays
 abbrev pub IsTaken : Option Step → Bool → LastRow → Output → Output → Type 0
 IsTaken (Some s) true row old new = (place_of row ≡ s.place) × IsAdded s.octets old new
 IsTaken (Some s) false row old new = ⊥
 IsTaken None true row old new = ⊥
-IsTaken None false row old new = Unit {0}
+IsTaken None false row old new = old ≡ new
 
 -- the octets of the first row are added, if it fits
 abbrev pub IsFirst : Option (List ℕ) → Bool → Output → Output → Type 0

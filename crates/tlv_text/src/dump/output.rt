@@ -38,7 +38,7 @@ pub(super) fn add_octets(
     requires pairs { AreWholePairs digits.now }
     ensures { OnOk result (IsAdded (repeated times (pair_octets digits.now)) output.old output.new) }
 {
-    if output.over || times == 0 || digits.is_empty() {
+    if output.over || times == 0 {
         return Ok(());
     }
     if !fits(output.octets.len(), digits.len() / 2, times) {
@@ -55,10 +55,9 @@ pub(super) fn add_octets(
     Ok(())
 }
 
-/// Whether a dump may have so many octets, and then so many of a row so many times.
+/// Whether a dump may have so many octets, and then a row of so many so many times.
 fn fits(count: usize, row: usize, times: u64) -> bool
-    requires { 0 < row }
     ensures { IsTrue result ↔ (count + times * row ≤ 1073741824) }
 {
-    count <= LIMIT && times <= (LIMIT - count) as u64 / row as u64
+    count <= LIMIT && (row == 0 || times <= (LIMIT - count) as u64 / row as u64)
 }

@@ -1,8 +1,9 @@
 //! Rows of a hex dump after the first.
 ghost use Rattle.std.specs.Prelude.{◌≡◌, ◌<◌, ◌≤◌, IfOk, length};
-ghost use Rattle.tlv_text.specs.Dump.{at_row, is_full, row_step, step, times_before};
+ghost use Rattle.tlv_text.specs.Dump.{LineKind, at_row, is_full, row_step, step, times_before};
 ghost use Rattle.tlv_text.specs.Private.DumpSteps.{IsTaken, kind_of, place_of, row_seen};
-ghost use Rattle.tlv_text.specs.Private.PairSteps.{AreWholePairs, pair_octets};
+ghost use Rattle.tlv_text.specs.Private.PairSteps.{AreWholePairs};
+ghost use Rattle.tlv_text.specs.declared.dump.output.Output.{Output};
 
 use super::lines::{DumpLine, RowLine, are_blanks};
 use super::output::{Output, add_octets};
@@ -50,16 +51,24 @@ pub(super) fn take_line(
 {
     match line {
         DumpLine::Blank => Ok(true),
-        DumpLine::Repeat => {
-            let fits = at_row(last.phase) && is_full(size, last);
-            if fits {
-                last.phase = Phase::Repeat(left);
-            }
-            Ok(fits)
-        }
+        DumpLine::Repeat => Ok(take_repeat(size, left, last)),
         DumpLine::Row(row) => take_row(alloc, size, row, last, output),
         DumpLine::Other => Ok(false),
     }
+}
+
+/// Reads a repeat, if it fits.
+fn take_repeat(size: usize, left: usize, last: &mut LastRow) -> bool
+    requires { AreWholePairs last.old.digits.items }
+    ensures pairs { AreWholePairs last.new.digits.items }
+    ensures taken { (output : Output)
+        → IsTaken (step size (place_of last.old) left LineKind.repeat) result last.new output output }
+{
+    if !at_row(last.phase) || !is_full(size, last) {
+        return false;
+    }
+    last.phase = Phase::Repeat(left);
+    true
 }
 
 /// Reads a row, if it fits.
