@@ -9,7 +9,7 @@ use Rattle.tlv_text.proofs.DumpLemmas.{pair_octets-length}
 use Rattle.tlv_text.proofs.PairLemmas.{pair_octets-more}
 use Rattle.tlv_text.proofs.Slices.{after-two, slice_from}
 use Rattle.tlv_text.specs.Dump.{after_gap, before_pairs, begins_pair, first_octet, has_more_pairs, octets_if, pairs_after}
-use Rattle.tlv_text.specs.Dump.{row_fits, row_octets}
+use Rattle.tlv_text.specs.Dump.{repeated, row_fits, row_octets}
 use Rattle.tlv_text.specs.Pairs.{pair_octet}
 use Rattle.tlv_text.specs.Private.PairSteps.{AreWholePairs, pair_octets}
 use Rattle.tlv_text.specs.TextRead.{TextRead, nothing_read, octets_then}
@@ -129,3 +129,17 @@ row-octets size line text rest octets fits e begins read f =
     one
     ∙ ap (λ (r : TextRead). octets_if (row_fits size text r) r.octets) (sym read)
     ∙ ap (λ (t : List ℕ). octets_if (row_fits size t (pairs_after size 2 t)) (pairs_after size 2 t).octets) e
+
+-- ---- a row alone
+
+-- pairs that are read at once
+pub some-read : (left n : ℕ) (text rest digits : List ℕ)
+    → pairs_after left 1 text
+    ≡ octets_then (pair_octets digits) (pairs_after (left - length (pair_octets digits)) 1 rest)
+    → n ≡ length digits
+    → (pairs_after left 1 text).octets ≡ repeated 1 (pair_octets digits) ++ (pairs_after (left - n / 2) 1 rest).octets
+some-read left n text rest digits read e =
+    let size : length (pair_octets digits) ≡ n / 2 = pair_octets-length digits ∙ ap (λ (m : ℕ). m / 2) (sym e) in
+    ap (λ (r : TextRead). r.octets) read
+    ∙ ap (λ (m : ℕ). pair_octets digits ++ (pairs_after (left - m) 1 rest).octets) size
+    ∙ ap (λ (t : List ℕ). t ++ (pairs_after (left - n / 2) 1 rest).octets) (sym (append-nil (pair_octets digits)))

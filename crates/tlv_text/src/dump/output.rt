@@ -41,7 +41,7 @@ pub(super) fn add_octets(
     if output.over || times == 0 {
         return Ok(());
     }
-    if !fits(output.octets.len(), digits.len() / 2, times) {
+    if !fits(output.octets.as_slice().len(), digits.len() / 2, times) {
         output.over = true;
         return Ok(());
     }

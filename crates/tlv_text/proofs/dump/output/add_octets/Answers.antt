@@ -19,7 +19,7 @@ pub returns-then-not-fits : goal.returns-then-not-fits
 returns-then-not-fits c =
     let size = pair_octets-length c.args.digits.now in
     becomes-over c.args.output.now _ c.args.times (pair_octets c.args.digits.now) c.if-output.false (search rules)
-    (λ few. cc (c.if-not-fits.ensures.1 (rw (size, ← c.len.ensures) at few)))
+    (λ few. cc (c.if-not-fits.ensures.1 (rw (size, ← c.as_slice.ensures.value) at few)))
 
 pub loop-preserved : goal.loop-preserved
 loop-preserved c =
@@ -37,4 +37,4 @@ returns c =
     let size = pair_octets-length c.args.digits.now in
     is-added c.args.output.now c.loop.output c.args.times (pair_octets c.args.digits.now) c.if-output.false
     c.loop.invariant.within (rw (row, all) at c.loop.invariant.added)
-    (rw (← size, c.len.ensures) at (c.if-not-fits.ensures.0 (search rules)))
+    (rw (← size, c.as_slice.ensures.value) at (c.if-not-fits.ensures.0 (search rules)))
