@@ -4,9 +4,10 @@ use Rattle.std.proofs.Common.{◌∙◌, append_assoc, arith, subst, Option, Som
 use Rattle.std.proofs.lemmas.Bool.{eq-eqb, ne_eqb}
 use Rattle.std.proofs.lemmas.List.{append-nil}
 use Rattle.tlv_text.proofs.DumpOutputLemmas.{added-both}
-use Rattle.tlv_text.specs.Dump.{DumpRead, LineKind, Place, Step, TextLine, first_then, line_kind, place_after, refused_with}
-use Rattle.tlv_text.specs.Dump.{rows_read, step, step_then, text_line, times_before, times_in}
+use Rattle.tlv_text.specs.Dump.{DumpRead, LineKind, Place, Step, TextLine, first_then, line_kind, place_after, place_at}
+use Rattle.tlv_text.specs.Dump.{refused_with, rows_read, step, step_then, text_line, times_before, times_in}
 use Rattle.tlv_text.specs.Private.DumpSteps.{IsAdded, IsReadSoFar, IsFirst, IsTaken, Holds, Reads, place_of}
+use Rattle.tlv_text.specs.Private.PairSteps.{pair_octets}
 use Rattle.tlv_text.specs.declared.dump.Reading.{Reading}
 use Rattle.tlv_text.specs.declared.dump.lines.Radix.{Radix}
 use Rattle.tlv_text.specs.declared.dump.output.Output.{Output}
@@ -82,14 +83,14 @@ line-taken all more radix size left last row line kind lines fits x y z i e k f 
     let n = is-taken (step size (place_of last) left kind) fits row y z f t in
     let s : Step = n.0 in
     let found : Some s ≡ step size (place_of last) left (line_kind radix line) =
-    sym n.1.0 ∙ ap (step size (place_of last) left) k in
+    sym n.1 ∙ ap (step size (place_of last) left) k in
     let rest : DumpRead = rows_read radix size (place_of row) lines in
     let same : more ≡ step_then (Some s) left rest =
     e ∙ line-read radix size left (place_of last) line lines (Some s) found
-    ∙ ap (λ (p : Place). step_then (Some s) left (rows_read radix size p lines)) (sym n.1.1) in
+    ∙ ap (λ (p : Place). step_then (Some s) left (rows_read radix size p lines)) (sym n.2) in
     record {
       so_far = i.so_far ++ s.octets;
-      added = added-both i.so_far s.octets x y z i.added n.1.2;
+      added = added-both i.so_far s.octets x y z i.added n.3;
       are = i.are ∙ ap (λ (r : DumpRead). i.so_far ++ r.octets) same ∙ sym (append_assoc i.so_far s.octets rest.octets);
       left = i.left ∙ ap (λ (r : DumpRead). r.left) same;
     }
@@ -120,3 +121,8 @@ first-read (Some octets) true x y left more reading e t h a l =
 first-read (Some octets) false x y left more reading e t h a l = absurd t
 first-read None true x y left more reading e t h a l = absurd t
 first-read None false x y left more reading e t h a l = cc e
+
+-- the place of a row without digits
+pub place-of_none : (phase : Phase) (offset : ℕ) (digits : List ℕ) → digits ≡ []
+    → place_at phase offset (pair_octets digits) ≡ place_at phase offset []
+place-of_none phase offset digits e = ap (λ (d : List ℕ). place_at phase offset (pair_octets d)) e
