@@ -2,8 +2,8 @@
 use Rattle.std.proofs.Common.{◌≡◌, ◌⊎◌, ℕ, zero, suc, ◌+◌, ◌*◌, ◌≤◌, ◌<◌, true, false, List, [], ◌++◌, length, refl, ap, sym}
 use Rattle.std.proofs.Common.{◌∙◌, append_assoc, arith, inl, inr, subst}
 use Rattle.std.proofs.lemmas.List.{append-nil, length-append}
-use Rattle.tlv_text.specs.Dump.{DumpRead, dump_limit, repeated}
-use Rattle.tlv_text.specs.Private.DumpSteps.{Holds, IsAdded, IsAddedSoFar, IsReadSoFar}
+use Rattle.tlv_text.specs.Dump.{dump_limit, repeated}
+use Rattle.tlv_text.specs.Private.DumpSteps.{Holds, IsAdded, IsAddedSoFar}
 use Rattle.tlv_text.specs.declared.dump.output.Output.{Output}
 
 pub length-repeated : (n : ℕ) (octets : List ℕ) → length (repeated n octets) ≡ n * length octets

@@ -2,6 +2,7 @@ pub mod Base64Rows
 pub mod DumpLemmas
 pub mod DumpOutputLemmas
 pub mod DumpPairLemmas
+pub mod DumpRows
 pub mod DumpStepLemmas
 pub mod GroupLemmas
 pub mod MarkLemmas

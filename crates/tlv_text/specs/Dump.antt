@@ -76,7 +76,7 @@ abbrev pub offset_read : Radix → ℕ → ℕ → List ℕ → OffsetRead
 offset_read radix count number [] = record { count = count; number = number; rest = [] }
 offset_read radix count number (x ∷ text) =
     if nat_lt count 16 && is_digit_of radix x then
-      offset_read radix (count + 1) (number * base radix + digit_value x) text
+    offset_read radix (count + 1) (number * base radix + digit_value x) text
     else record { count = count; number = number; rest = x ∷ text }
 
 -- after `0x` or `0X`, if the text begins with it
@@ -236,7 +236,7 @@ times_in size Phase.Row place offset =
     if offset == place.offset + length place.octets then Some 0 else None
 times_in size (Phase.Repeat left) place offset =
     if nat_lt (place.offset + size) offset && ((offset - (place.offset + size)) % size == 0) then
-      Some ((offset - (place.offset + size)) / size)
+    Some ((offset - (place.offset + size)) / size)
     else None
 times_in size Phase.End place offset = None
 
@@ -266,7 +266,7 @@ abbrev pub step : ℕ → Place → ℕ → LineKind → Option Step
 step size place left LineKind.blank = Some (record { octets = []; place = place })
 step size place left LineKind.repeat =
     if at_row place.phase && is_full size place then
-      Some (record { octets = []; place = record place { phase = Phase.Repeat left } })
+    Some (record { octets = []; place = record place { phase = Phase.Repeat left } })
     else None
 step size place left (LineKind.row r) = row_step size place r (times_before size place r.offset)
 step size place left LineKind.other = None

@@ -176,11 +176,7 @@ fn read_alone(
 }
 
 /// Adds the octets of a row that is alone, if it fits.
-fn add_single(
-    alloc: Global,
-    row: RowLine<'_>,
-    output: &mut Output,
-) -> Result<bool, AllocError>
+fn add_single(alloc: Global, row: RowLine<'_>, output: &mut Output) -> Result<bool, AllocError>
     ensures { IfOk result (λ fits. IsFirst (single_octets (row_seen row.entry)) fits output.old output.new) }
 {
     let text = before_pairs(row.rest);

@@ -1,4 +1,4 @@
-use Rattle.std.proofs.Common.{◌≡◌, ◌/◌, ◌++◌, ◌∙◌, ap, arith, length, List, ℕ}
+use Rattle.std.proofs.Common.{arith}
 use Rattle.tlv_text.proofs.DumpLemmas.{pair_octets-length}
 use Rattle.tlv_text.proofs.DumpOutputLemmas.{added-more}
 use Rattle.tlv_text.proofs.DumpPairLemmas.{some-read}
@@ -8,8 +8,12 @@ use Rattle.tlv_text.proofs.dump.add_pairs.Goals as goal
 
 pub overflow_sub-left : goal.overflow_sub-left
 overflow_sub-left c =
-    omega (arith, c.take_pairs.ensures.few, pair_octets-length c.take_pairs.new.digits.items,
-      c.len-in-loop-digits.ensures.value)
+    omega (
+      arith,
+      c.take_pairs.ensures.few,
+      pair_octets-length c.take_pairs.new.digits.items,
+      c.len-in-loop-digits.ensures.value,
+    )
 
 pub loop-digits-preserved : goal.loop-digits-preserved
 loop-digits-preserved c =

@@ -1,4 +1,3 @@
-use Rattle.std.proofs.Common.{◌≡◌, ◌++◌, List, ℕ}
 use Rattle.tlv_text.specs.Dump.{pairs_after}
 use Rattle.tlv_text.specs.Private.DumpSteps.{IsAddedSoFar}
 use Rattle.std.proofs.Common.{length}

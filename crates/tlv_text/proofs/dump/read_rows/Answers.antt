@@ -1,5 +1,5 @@
 use Rattle.tlv_text.proofs.DumpStepLemmas.{all-read, line-refused, line-taken}
-use Rattle.std.proofs.Common.{◌≡◌, ◌∷◌, ap, refl}
+use Rattle.std.proofs.Common.{ap, refl}
 use Rattle.tlv_text.specs.Dump.{TextLine, lines_of, rows_read}
 use Rattle.tlv_text.specs.Private.DumpSteps.{place_of}
 use Rattle.std.proofs.Common.{List}

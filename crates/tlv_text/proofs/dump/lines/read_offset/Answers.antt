@@ -1,4 +1,4 @@
-use Rattle.std.proofs.Common.{◌+◌, ◌*◌, ◌<◌, ◌≤◌, ◌^◌, arith}
+use Rattle.std.proofs.Common.{arith}
 use Rattle.tlv_text.proofs.DumpLemmas.{digit-more, offset-small}
 use Rattle.tlv_text.proofs.dump.lines.read_offset.Goals as goal
 

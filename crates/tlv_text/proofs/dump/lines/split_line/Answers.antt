@@ -1,9 +1,9 @@
-use Rattle.std.proofs.Common.{◌≡◌, ◌-◌, ◌+◌, ◌∷◌, ◌∙◌, [], List, ℕ, suc, ap, drop, length, take, arith, sym}
+use Rattle.std.proofs.Common.{◌≡◌, ◌+◌, ◌∷◌, ◌∙◌, List, ℕ, suc, ap, drop, length, take, arith, sym}
 use Rattle.std.proofs.lemmas.List.{drop_all}
 use Rattle.std.proofs.Math.Seq.{take-length}
 use Rattle.tlv_text.proofs.DumpLemmas.{line-alone, line-found}
-use Rattle.tlv_text.proofs.Slices.{from-on, slice_from}
-use Rattle.tlv_text.specs.Dump.{TextLine, lines_of, text_line}
+use Rattle.tlv_text.proofs.Slices.{from-on}
+use Rattle.tlv_text.specs.Dump.{lines_of, text_line}
 use Rattle.tlv_text.proofs.dump.lines.split_line.Goals as goal
 
 pub returns-in-Some-clause-lines : goal.returns-in-Some-clause-lines
@@ -17,6 +17,10 @@ returns-in-Some-clause-lines c =
 
 pub returns-in-None-clause-lines : goal.returns-in-None-clause-lines
 returns-in-None-clause-lines c =
-    rw (c.split_at.ensures.front, c.split_at.ensures.back, take-length c.args.text.now,
-      drop_all (length c.args.text.now) c.args.text.now (omega arith))
+    rw (
+      c.split_at.ensures.front,
+      c.split_at.ensures.back,
+      take-length c.args.text.now,
+      drop_all (length c.args.text.now) c.args.text.now (omega arith),
+    )
     (line-alone c.args.text.now c.requires c.in-None.ensures)

@@ -1,5 +1,4 @@
-use Rattle.std.proofs.Common.{◌≡◌, ◌+◌, ◌*◌, ◌/◌, ◌++◌, ◌∙◌, ◌≤◌, ℕ, List, ap, length, arith, inl, inr, rules, sym}
-use Rattle.tlv_text.specs.Dump.{dump_limit, repeated}
+use Rattle.std.proofs.Common.{◌≡◌, ◌++◌, inl, inr, rules}
 use Rattle.tlv_text.specs.Private.PairSteps.{pair_octets}
 use Rattle.tlv_text.proofs.DumpLemmas.{pair_octets-length}
 use Rattle.tlv_text.proofs.DumpOutputLemmas.{becomes-over, is-added, row-more, stays}

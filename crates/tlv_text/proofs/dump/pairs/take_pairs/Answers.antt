@@ -1,4 +1,4 @@
-use Rattle.std.proofs.Common.{◌≡◌, ◌++◌, ◌∷◌, ◌∙◌, [], slice_index, rules, arith, true, false, sym}
+use Rattle.std.proofs.Common.{◌≡◌, ◌++◌, ◌∷◌, ◌∙◌, [], slice_index, rules, arith, true, sym}
 use Rattle.hex.specs.Hex.{is_hex_digit}
 use Rattle.tlv_text.proofs.DumpPairLemmas.{last-pairs, no-pair, pair-counted, pair-more, second-is_no_digit, short-is_no_pair}
 use Rattle.tlv_text.proofs.PairLemmas.{pairs-and_one}

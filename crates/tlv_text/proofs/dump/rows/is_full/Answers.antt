@@ -1,4 +1,4 @@
-use Rattle.std.proofs.Common.{◌≡◌, ◌/◌, ◌==◌, ◌∙◌, ℕ, ap, length, sym}
+use Rattle.std.proofs.Common.{◌/◌, ◌==◌, ◌∙◌, ℕ, ap, sym}
 use Rattle.tlv_text.proofs.DumpLemmas.{pair_octets-length}
 use Rattle.tlv_text.proofs.dump.rows.is_full.Goals as goal
 
