@@ -4,7 +4,7 @@ use Rattle.std.proofs.Common.{length, take, drop, slice_index, refl, arith, Some
 use Rattle.std.proofs.lemmas.Bool.{false_from_ne_true}
 use Rattle.std.proofs.Math.Nat.{mul-le-mul_left, pow-le-pow_right}
 use Rattle.memchr.specs.Find.{IsFirstByte, is_byte}
-use Rattle.tlv_text.specs.Dump.{lines_of, text_line}
+use Rattle.tlv_text.specs.DumpLines.{lines_of, text_line}
 use Rattle.tlv_text.specs.Private.PairSteps.{pair_octets}
 
 -- ---- lines
@@ -28,7 +28,8 @@ line-last x (y ∷ text) none =
 pub line-found : (text : List ℕ) (n : ℕ) → IsFirstByte (is_byte 10) text (Some n)
     → lines_of text ≡ text_line (take n text) (length text) ∷ lines_of (drop (suc n) text)
 line-found text n f =
-    line-up_to text n f.0.high (λ k lt. false_from_ne_true (slice_index text k == 10) (f.0.before k (omega arith) lt)) f.1
+    line-up_to text n f.0.high
+    (λ k lt. false_from_ne_true (slice_index text k == 10) (f.0.before k (omega arith) lt)) f.1
 
 pub line-alone : (text : List ℕ) → 0 < length text → IsFirstByte (is_byte 10) text None
     → lines_of text ≡ text_line text (length text) ∷ []
@@ -39,7 +40,8 @@ line-alone (x ∷ text) some f =
 -- ---- offsets
 
 pub offset-small : (number count : ℕ) → number < 16 ^ count → count < 16 → number < 16 ^ 15
-offset-small number count small few = omega (arith, pow-le-pow_right {n = 16} (omega arith) {i = count} {j = 15} (omega arith))
+offset-small number count small few =
+    omega (arith, pow-le-pow_right {n = 16} (omega arith) {i = count} {j = 15} (omega arith))
 
 pub digit-more : (number base digit : ℕ) → base ≤ 16 → digit < 16 → number * base + digit < (number + 1) * 16
 digit-more number base digit b d = omega (arith, mul-le-mul_left number b)

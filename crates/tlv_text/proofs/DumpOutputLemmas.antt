@@ -1,6 +1,6 @@
 -- Octets of a dump that are added to others.
-use Rattle.std.proofs.Common.{◌≡◌, ◌⊎◌, ℕ, zero, suc, ◌+◌, ◌*◌, ◌≤◌, ◌<◌, true, false, List, [], ◌++◌, length, refl, ap, sym}
-use Rattle.std.proofs.Common.{◌∙◌, append_assoc, arith, inl, inr, subst}
+use Rattle.std.proofs.Common.{◌≡◌, ◌⊎◌, ℕ, zero, suc, ◌+◌, ◌*◌, ◌≤◌, ◌<◌, true, false, List, [], ◌++◌, length, refl}
+use Rattle.std.proofs.Common.{ap, sym, ◌∙◌, append_assoc, arith, inl, inr, subst}
 use Rattle.std.proofs.lemmas.List.{append-nil, length-append}
 use Rattle.tlv_text.specs.Dump.{dump_limit, repeated}
 use Rattle.tlv_text.specs.Private.DumpSteps.{Holds, IsAdded, IsAddedSoFar}

@@ -1,6 +1,7 @@
 -- Pairs of a row of a dump.
 use Rattle.std.proofs.Common.{◌≡◌, ℕ, zero, suc, ◌+◌, ◌-◌, ◌/◌, ◌==◌, ◌<◌, ◌≤◌, Bool, true, false, ◌&&◌, not}
-use Rattle.std.proofs.Common.{List, [], ◌∷◌, ◌++◌, length, drop, slice_index, refl, ap, sym, ◌∙◌, append_assoc, arith, inl, inr}
+use Rattle.std.proofs.Common.{List, [], ◌∷◌, ◌++◌, length, drop, slice_index, refl, ap, sym, ◌∙◌, append_assoc, arith}
+use Rattle.std.proofs.Common.{inl, inr}
 use Rattle.std.specs.Prelude.{if◌then◌else◌}
 use Rattle.std.proofs.lemmas.Bool.{cases_lt}
 use Rattle.std.proofs.lemmas.List.{append-nil, length-append}
@@ -8,8 +9,8 @@ use Rattle.hex.specs.Hex.{is_hex_digit}
 use Rattle.tlv_text.proofs.DumpLemmas.{pair_octets-length}
 use Rattle.tlv_text.proofs.PairLemmas.{pair_octets-more}
 use Rattle.tlv_text.proofs.Slices.{after-two, slice_from}
-use Rattle.tlv_text.specs.Dump.{after_gap, before_pairs, begins_pair, first_octet, has_more_pairs, octets_if, pairs_after}
-use Rattle.tlv_text.specs.Dump.{repeated, row_fits, row_octets}
+use Rattle.tlv_text.specs.Dump.{after_gap, before_pairs, begins_pair, first_octet, has_more_pairs, octets_if}
+use Rattle.tlv_text.specs.Dump.{pairs_after, repeated, row_fits, row_octets}
 use Rattle.tlv_text.specs.Pairs.{pair_octet}
 use Rattle.tlv_text.specs.Private.PairSteps.{AreWholePairs, pair_octets}
 use Rattle.tlv_text.specs.TextRead.{TextRead, nothing_read, octets_then}
@@ -17,7 +18,8 @@ use Rattle.tlv_text.specs.TextRead.{TextRead, nothing_read, octets_then}
 -- what is read of a text by what follows its gap
 abbrev with_next : ℕ → ℕ → List ℕ → List ℕ → TextRead
 with_next n gap text next =
-    if begins_pair next then octets_then (first_octet next ∷ []) (pairs_after n gap (drop 2 next)) else nothing_read text
+    if begins_pair next then octets_then (first_octet next ∷ []) (pairs_after n gap (drop 2 next))
+    else nothing_read text
 
 next-pair : (n gap : ℕ) (text next : List ℕ) → 2 ≤ length next → is_hex_digit (slice_index next 0) ≡ true
     → is_hex_digit (slice_index next 1) ≡ true
@@ -26,7 +28,8 @@ next-pair : (n gap : ℕ) (text next : List ℕ) → 2 ≤ length next → is_he
 next-pair n gap text [] two dx dy = absurd (omega arith)
 next-pair n gap text (x ∷ []) two dx dy = absurd (omega arith)
 next-pair n gap text (x ∷ y ∷ more) two dx dy =
-    rw (dx, dy) (ap (λ (rest : List ℕ). octets_then (pair_octet x y ∷ []) (pairs_after n gap rest)) (sym (after-two x y more)))
+    rw (dx, dy)
+    (ap (λ (rest : List ℕ). octets_then (pair_octet x y ∷ []) (pairs_after n gap rest)) (sym (after-two x y more)))
 
 pair-first : (left gap : ℕ) (text next : List ℕ) → 0 < left → next ≡ after_gap gap text → 2 ≤ length next
     → is_hex_digit (slice_index next 0) ≡ true → is_hex_digit (slice_index next 1) ≡ true
@@ -62,7 +65,11 @@ pub pair-counted : (digits : List ℕ) (x y left most : ℕ) → 0 < left → Ar
     → length (pair_octets digits) + left ≡ most
     → length (pair_octets (digits ++ x ∷ y ∷ [])) + (left - 1) ≡ most
 pair-counted digits x y left most some p e =
-    omega (arith, ap length (pair_octets-more digits x y p.even), length-append (pair_octets digits) (pair_octet x y ∷ []))
+    omega (
+      arith,
+      ap length (pair_octets-more digits x y p.even),
+      length-append (pair_octets digits) (pair_octet x y ∷ []),
+    )
 
 -- no pair follows
 pub no-pair : (left gap : ℕ) (text next : List ℕ) → 0 < left → next ≡ after_gap gap text → begins_pair next ≡ false

@@ -4,8 +4,9 @@ use Rattle.std.proofs.Common.{◌∙◌, append_assoc, arith, subst, Option, Som
 use Rattle.std.proofs.lemmas.Bool.{eq-eqb, ne_eqb}
 use Rattle.std.proofs.lemmas.List.{append-nil}
 use Rattle.tlv_text.proofs.DumpOutputLemmas.{added-both}
-use Rattle.tlv_text.specs.Dump.{DumpRead, LineKind, Place, Step, TextLine, first_then, line_kind, place_after, place_at}
-use Rattle.tlv_text.specs.Dump.{refused_with, rows_read, step, step_then, text_line, times_before, times_in}
+use Rattle.tlv_text.specs.Dump.{DumpRead, Place, Step, first_then, place_after, place_at, refused_with, rows_read}
+use Rattle.tlv_text.specs.Dump.{step, step_then, times_before, times_in}
+use Rattle.tlv_text.specs.DumpLines.{LineKind, TextLine, line_kind, text_line}
 use Rattle.tlv_text.specs.Private.DumpSteps.{IsAdded, IsReadSoFar, IsFirst, IsTaken, Holds, Reads, place_of}
 use Rattle.tlv_text.specs.Private.PairSteps.{pair_octets}
 use Rattle.tlv_text.specs.declared.dump.Reading.{Reading}

@@ -8,3 +8,4 @@ pub mod Tokens
 pub mod Private
 pub mod Dump
 pub mod DumpFault
+pub mod DumpLines

@@ -1,7 +1,8 @@
 //! Octets of a hex dump with offsets.
 ghost use Rattle.std.specs.Prelude.{◌≡◌, ◌<◌, ◌≤◌, IfErr, IfOk, MatchOption, OnOk, Some, None, length};
-ghost use Rattle.tlv_text.specs.Dump.{begins_colon, dump_in, dump_limit, dump_read, left_in, lines_of, pairs_after};
-ghost use Rattle.tlv_text.specs.Dump.{read_from, refused_in, refused_with, rows_read, single_octets, size_by, size_in};
+ghost use Rattle.tlv_text.specs.Dump.{dump_in, dump_limit, dump_read, left_in, pairs_after, read_from, refused_in};
+ghost use Rattle.tlv_text.specs.Dump.{refused_with, rows_read, single_octets, size_by, size_in};
+ghost use Rattle.tlv_text.specs.DumpLines.{begins_colon, lines_of};
 ghost use Rattle.tlv_text.specs.DumpFault.{IsFault};
 ghost use Rattle.tlv_text.specs.Private.DumpSteps.{IsAdded, IsFirst, Reads, place_of, row_seen};
 ghost use Rattle.tlv_text.specs.Private.PairSteps.{AreWholePairs};
@@ -28,9 +29,9 @@ pub(crate) struct Reading {
     pub(crate) left: Option<usize>,
 }
 
-/// The octets of a hex dump with offsets, as xxd, hexdump, od, Wireshark, tcpdump, Format-Hex and OpenSSL write it. A text
-/// is refused at the first line that does not fit. Offsets are hexadecimal, unless the text is refused so and not in
-/// octal.
+/// The octets of a hex dump with offsets, as xxd, hexdump, od, Wireshark, tcpdump, Format-Hex and OpenSSL write it. A
+/// text is refused at the first line that does not fit. Offsets are hexadecimal, unless the text is refused so and not
+/// in octal.
 ///
 /// # Errors
 ///
@@ -106,8 +107,8 @@ fn refused(alloc: Global, left: usize) -> Reading
     }
 }
 
-/// Reads a dump from its first row on. `rest` comes after the row, and `left` is how many characters are left from the row
-/// on.
+/// Reads a dump from its first row on. `rest` comes after the row, and `left` is how many characters are left from the
+/// row on.
 fn read_from(
     alloc: Global,
     radix: Radix,

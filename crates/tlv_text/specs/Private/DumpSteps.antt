@@ -1,6 +1,7 @@
 -- What the code of dumps stands for.
 use Rattle.std.specs.Prelude.{◌≡◌, ◌<◌, ◌≤◌, ℕ, Bool, true, false, List, ◌++◌, length, Option, Some, None}
-use Rattle.tlv_text.specs.Dump.{DumpRead, LineKind, OffsetRead, Place, RowRead, Step, dump_limit}
+use Rattle.tlv_text.specs.Dump.{DumpRead, Place, Step, dump_limit}
+use Rattle.tlv_text.specs.DumpLines.{LineKind, OffsetRead, RowRead}
 use Rattle.tlv_text.specs.Private.PairSteps.{pair_octets}
 use Rattle.tlv_text.specs.declared.dump.Reading.{Reading}
 use Rattle.tlv_text.specs.declared.dump.lines.DumpLine.{DumpLine}

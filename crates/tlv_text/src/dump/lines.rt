@@ -2,8 +2,9 @@
 ghost use Rattle.std.specs.List.{list_all};
 ghost use Rattle.std.specs.Prelude.{◌≡◌, ◌<◌, ◌≤◌, ◌∷◌, length, option_map, true};
 ghost use Rattle.hex.specs.Hex.{is_hex_digit};
-ghost use Rattle.tlv_text.specs.Dump.{after_blanks, after_prefix, base, ends_offset, is_blank, is_digit_of, kind_from};
-ghost use Rattle.tlv_text.specs.Dump.{line_kind, lines_of, offset_read, row_at, text_line, without_return};
+ghost use Rattle.tlv_text.specs.DumpLines.{after_blanks, after_prefix, base, ends_offset, is_blank, is_digit_of};
+ghost use Rattle.tlv_text.specs.DumpLines.{kind_from, line_kind, lines_of, offset_read, row_at, text_line};
+ghost use Rattle.tlv_text.specs.DumpLines.{without_return};
 ghost use Rattle.tlv_text.specs.Pairs.{digit_value};
 ghost use Rattle.tlv_text.specs.Private.DumpSteps.{kind_of, offset_seen, row_seen};
 

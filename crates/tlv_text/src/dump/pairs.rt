@@ -1,9 +1,8 @@
 //! Pairs of digits in a row of a hex dump.
 ghost use Rattle.hex.specs.Hex.{is_hex_digit};
 ghost use Rattle.std.specs.Prelude.{◌≡◌, ◌<◌, ◌≤◌, ◌-◌, [], length, true};
-ghost use Rattle.tlv_text.specs.Dump.{after_few, after_gap, after_one, before_pairs, begins_blank};
-ghost use Rattle.tlv_text.specs.Dump.{begins_lone_pair, begins_pair, has_more_pairs, octets_if, pairs_after};
-ghost use Rattle.tlv_text.specs.Dump.{row_octets};
+ghost use Rattle.tlv_text.specs.Dump.{after_few, after_gap, after_one, before_pairs, begins_blank, begins_lone_pair};
+ghost use Rattle.tlv_text.specs.Dump.{begins_pair, has_more_pairs, octets_if, pairs_after, row_octets};
 ghost use Rattle.tlv_text.specs.Private.PairSteps.{AreWholePairs, pair_octets};
 ghost use Rattle.tlv_text.specs.TextRead.{nothing_read, octets_then};
 

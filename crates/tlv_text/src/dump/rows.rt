@@ -1,6 +1,7 @@
 //! Rows of a hex dump after the first.
 ghost use Rattle.std.specs.Prelude.{◌≡◌, ◌<◌, ◌≤◌, IfOk, length};
-ghost use Rattle.tlv_text.specs.Dump.{LineKind, at_row, is_full, row_step, step, times_before};
+ghost use Rattle.tlv_text.specs.Dump.{at_row, is_full, row_step, step, times_before};
+ghost use Rattle.tlv_text.specs.DumpLines.{LineKind};
 ghost use Rattle.tlv_text.specs.Private.DumpSteps.{IsTaken, kind_of, place_of, row_seen};
 ghost use Rattle.tlv_text.specs.Private.PairSteps.{AreWholePairs};
 ghost use Rattle.tlv_text.specs.declared.dump.output.Output.{Output};
@@ -84,7 +85,8 @@ fn take_row(
     requires pairs { AreWholePairs last.old.digits.items }
     ensures pairs { AreWholePairs last.new.digits.items }
     ensures taken { IfOk result (λ fits. IsTaken
-        (row_step size (place_of last.old) (row_seen row.entry) (times_before size (place_of last.old) row.entry.offset))
+        (row_step size (place_of last.old) (row_seen row.entry)
+        (times_before size (place_of last.old) row.entry.offset))
         fits last.new output.old output.new) }
 {
     let Some(times) = times_before(size, last, row.offset) else {

@@ -1,6 +1,7 @@
 use Rattle.std.proofs.Common.{ap, ◌∙◌, subst}
 use Rattle.tlv_text.proofs.DumpStepLemmas.{first-read, first-refused, place-of_none}
-use Rattle.tlv_text.specs.Dump.{Place, lines_of, rows_read}
+use Rattle.tlv_text.specs.Dump.{Place, rows_read}
+use Rattle.tlv_text.specs.DumpLines.{lines_of}
 use Rattle.tlv_text.specs.Private.DumpSteps.{IsAdded}
 use Rattle.tlv_text.specs.declared.dump.rows.Phase.{Phase}
 use Rattle.tlv_text.proofs.dump.read_alone.Goals as goal

@@ -1,6 +1,7 @@
 use Rattle.tlv_text.proofs.DumpStepLemmas.{all-read, line-refused, line-taken}
 use Rattle.std.proofs.Common.{ap, refl}
-use Rattle.tlv_text.specs.Dump.{TextLine, lines_of, rows_read}
+use Rattle.tlv_text.specs.Dump.{rows_read}
+use Rattle.tlv_text.specs.DumpLines.{TextLine, lines_of}
 use Rattle.tlv_text.specs.Private.DumpSteps.{place_of}
 use Rattle.std.proofs.Common.{List}
 use Rattle.tlv_text.proofs.dump.read_rows.Goals as goal

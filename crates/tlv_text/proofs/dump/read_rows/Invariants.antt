@@ -1,5 +1,6 @@
 use Rattle.std.proofs.Common.{length}
-use Rattle.tlv_text.specs.Dump.{lines_of, rows_read}
+use Rattle.tlv_text.specs.Dump.{rows_read}
+use Rattle.tlv_text.specs.DumpLines.{lines_of}
 use Rattle.tlv_text.specs.Private.DumpSteps.{IsReadSoFar, place_of}
 use Rattle.tlv_text.specs.Private.PairSteps.{AreWholePairs}
 use Rattle.tlv_text.proofs.dump.read_rows.Given as goal

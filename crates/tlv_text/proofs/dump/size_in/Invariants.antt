@@ -1,5 +1,6 @@
 use Rattle.std.proofs.Common.{◌≡◌, length}
-use Rattle.tlv_text.specs.Dump.{lines_of, size_in}
+use Rattle.tlv_text.specs.Dump.{size_in}
+use Rattle.tlv_text.specs.DumpLines.{lines_of}
 use Rattle.tlv_text.proofs.dump.size_in.Given as goal
 
 abbrev pub invariant-loop-rest : goal.invariant-loop-rest

@@ -1,5 +1,5 @@
 use Rattle.std.proofs.Common.{◌≡◌, length}
-use Rattle.tlv_text.specs.Dump.{after_blanks}
+use Rattle.tlv_text.specs.DumpLines.{after_blanks}
 use Rattle.tlv_text.proofs.dump.lines.after_blanks.Given as goal
 
 abbrev pub invariant-loop-rest : goal.invariant-loop-rest

@@ -1,6 +1,6 @@
 use Rattle.std.proofs.Common.{◌≡◌, drop}
 use Rattle.std.specs.List.{list_all}
-use Rattle.tlv_text.specs.Dump.{is_blank}
+use Rattle.tlv_text.specs.DumpLines.{is_blank}
 use Rattle.tlv_text.proofs.dump.lines.are_blanks.Given as goal
 
 abbrev pub invariant-loop-character : goal.invariant-loop-character

@@ -1,5 +1,5 @@
 use Rattle.std.proofs.Common.{◌≡◌, ◌<◌, ◌≤◌, ◌^◌, length}
-use Rattle.tlv_text.specs.Dump.{offset_read}
+use Rattle.tlv_text.specs.DumpLines.{offset_read}
 use Rattle.tlv_text.proofs.dump.lines.read_offset.Given as goal
 
 abbrev pub invariant-loop-rest : goal.invariant-loop-rest

@@ -3,7 +3,7 @@ use Rattle.std.proofs.lemmas.List.{drop_all}
 use Rattle.std.proofs.Math.Seq.{take-length}
 use Rattle.tlv_text.proofs.DumpLemmas.{line-alone, line-found}
 use Rattle.tlv_text.proofs.Slices.{from-on}
-use Rattle.tlv_text.specs.Dump.{lines_of, text_line}
+use Rattle.tlv_text.specs.DumpLines.{lines_of, text_line}
 use Rattle.tlv_text.proofs.dump.lines.split_line.Goals as goal
 
 pub returns-in-Some-clause-lines : goal.returns-in-Some-clause-lines

@@ -4,7 +4,8 @@ use Rattle.tlv_text.proofs.DumpLemmas.{pair_octets-length}
 use Rattle.tlv_text.proofs.DumpOutputLemmas.{becomes-over, is-added, row-more, stays}
 use Rattle.tlv_text.proofs.PairLemmas.{decoded-are}
 use Rattle.tlv_text.proofs.dump.output.add_octets.Goals as goal
-use Rattle.tlv_text.proofs.dump.output.add_octets.Goals.{then-output-via-then-output, then-output-via-else-output+then-times-eq0}
+use Rattle.tlv_text.proofs.dump.output.add_octets.Goals.{then-output-via-else-output+then-times-eq0}
+use Rattle.tlv_text.proofs.dump.output.add_octets.Goals.{then-output-via-then-output}
 
 pub returns-then-output : goal.returns-then-output
 returns-then-output c =

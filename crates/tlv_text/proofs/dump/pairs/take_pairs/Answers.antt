@@ -1,6 +1,7 @@
 use Rattle.std.proofs.Common.{◌≡◌, ◌++◌, ◌∷◌, ◌∙◌, [], slice_index, rules, arith, true, sym}
 use Rattle.hex.specs.Hex.{is_hex_digit}
-use Rattle.tlv_text.proofs.DumpPairLemmas.{last-pairs, no-pair, pair-counted, pair-more, second-is_no_digit, short-is_no_pair}
+use Rattle.tlv_text.proofs.DumpPairLemmas.{last-pairs, no-pair, pair-counted, pair-more, second-is_no_digit}
+use Rattle.tlv_text.proofs.DumpPairLemmas.{short-is_no_pair}
 use Rattle.tlv_text.proofs.PairLemmas.{pairs-and_one}
 use Rattle.tlv_text.specs.Private.PairSteps.{pair_octets}
 use Rattle.tlv_text.proofs.dump.pairs.take_pairs.Goals as goal
@@ -19,10 +20,11 @@ loop-left-preserved c =
     record {
       pairs = rw both (pairs-and_one c.loop-left.digits.items _ _ i.pairs x y);
       read = rw both (pair-more _ c.loop-left.left c.args.gap c.loop-left.rest.now c.after_gap.result.now
-          c.loop-left.digits.items c.loop-left-test.true c.after_gap.ensures c.in-len2-up.len_at_least x y i.pairs i.read);
+          c.loop-left.digits.items c.loop-left-test.true c.after_gap.ensures c.in-len2-up.len_at_least x y i.pairs
+          i.read);
       few = search rules;
-      count = rw both (pair-counted c.loop-left.digits.items _ _ c.loop-left.left c.args.most c.loop-left-test.true i.pairs
-          i.count);
+      count = rw both (pair-counted c.loop-left.digits.items _ _ c.loop-left.left c.args.most c.loop-left-test.true
+          i.pairs i.count);
     }
 
 pub returns-in_default-clause-last : goal.returns-in_default-clause-last
