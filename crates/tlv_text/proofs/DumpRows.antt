@@ -1,7 +1,7 @@
 -- Dumps of some tools, and the octets that are read from them.
 use Rattle.std.proofs.Common.{◌≡◌, ℕ, List, [], ◌∷◌, ◌++◌, refl, Some, None}
 use Rattle.std.specs.Prelude.{codes}
-use Rattle.tlv_text.specs.Dump.{DumpRead, dump_read, refused_in, refused_with}
+use Rattle.tlv_text.specs.Dump.{DumpRead, dump_read, refused_in, refused_with, repeated}
 
 -- 16 octets, and two more
 octets : List ℕ
@@ -41,6 +41,15 @@ octal-row : dump_read (codes "0000000 30 82 01 22 04 05 06 07 08 09 0a 0b 0c 0d 
     ≡ whole (octets ++ more)
 unfolding octets more whole
 octal-row = refl
+
+-- what fits both is read with hexadecimal offsets: 34 octets, and not 18
+both-row : dump_read (
+    codes "0000000 00 00 00 00 00 00 00 00 00 00 00 00 00 00 00 00\n*\n"
+    ++ codes "0000020 30 31\n0000022\n"
+    )
+    ≡ whole (repeated 32 (0 ∷ []) ++ more)
+unfolding more whole
+both-row = refl
 
 -- the column of characters begins with what looks like a pair
 wireshark-row : dump_read (

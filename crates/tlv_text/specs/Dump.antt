@@ -4,16 +4,18 @@
 --   dump   = *(other / empty) (single / rows)
 --   single = row *empty                        one row alone: its offset is 0 or a colon follows it
 --   rows   = row *(empty / row / repeat) [end] *empty
---   row    = *blank ["0x" / "0X"] 4*16digit (":" / blank) *blank [":"] ["-"] *blank pair *(gap pair) [other characters]
+--   row    = *blank ["0x" / "0X"] 4*16digit (":" / blank) *blank [":"] ["-"] *blank pair *(gap pair) [others]
 --   repeat = *blank "*" *blank                 the octets of the row before, up to the offset of the row after
 --   end    = *blank ["0x" / "0X"] 4*16digit *blank
 --   empty  = *blank
 --   gap    = "-" / 0*2blank                    0*1blank in a single row
-use Rattle.std.specs.Prelude.{ℕ, zero, suc, ◌+◌, ◌-◌, ◌/◌, ◌%◌, ◌==◌, Bool, true, false, ◌&&◌, ◌||◌, not, nat_le, nat_lt}
-use Rattle.std.specs.Prelude.{if◌then◌else◌, List, [], ◌∷◌, ◌++◌, drop, length, Option, Some, None, is_none, option_map}
+use Rattle.std.specs.Prelude.{ℕ, zero, suc, ◌+◌, ◌-◌, ◌/◌, ◌%◌, ◌==◌, Bool, true, false, ◌&&◌, ◌||◌, not, nat_le}
+use Rattle.std.specs.Prelude.{nat_lt, if◌then◌else◌, List, [], ◌∷◌, ◌++◌, drop, length, Option, Some, None, is_none}
+use Rattle.std.specs.Prelude.{option_map}
 use Rattle.std.specs.List.{list_all}
 use Rattle.hex.specs.Hex.{is_hex_digit}
-use Rattle.tlv_text.specs.DumpLines.{LineKind, RowRead, TextLine, after_blanks, begins_colon, is_blank, line_kind, lines_of}
+use Rattle.tlv_text.specs.DumpLines.{LineKind, RowRead, TextLine, after_blanks, begins_colon, is_blank, line_kind}
+use Rattle.tlv_text.specs.DumpLines.{lines_of}
 use Rattle.tlv_text.specs.Pairs.{pair_octet}
 use Rattle.tlv_text.specs.TextRead.{TextRead, nothing_read, octets_then}
 use Rattle.tlv_text.specs.declared.dump.lines.Radix.{Radix}
@@ -187,8 +189,8 @@ rows_read radix size place (line ∷ lines) =
 
 -- ---- a whole dump
 
--- the octets of a row by the difference of two offsets. If it is not 1 to 256, it is none of these, and the second row
--- does not fit
+-- the octets of a row by the difference of the first two offsets, 1 to 256. With another difference the second row does
+-- not fit, and the first one is read with 16
 abbrev pub size_by : ℕ → ℕ
 size_by difference = if nat_le 1 difference && nat_le difference 256 then difference else 16
 
@@ -238,7 +240,8 @@ lines_read radix (line ∷ lines) =
 abbrev pub dump_in : Radix → List ℕ → DumpRead
 dump_in radix text = lines_read radix (lines_of text)
 
--- offsets are hexadecimal, unless the text is refused so and not in octal
+-- offsets are hexadecimal, unless the text is refused so and not in octal. An octal dump in which no row follows
+-- another without a repeat between them, as of octets that are all alike, may fit both, and is then read so
 abbrev pub dump_read : List ℕ → DumpRead
 dump_read text =
     if is_none (dump_in Hexadecimal text).left then dump_in Hexadecimal text
