@@ -1,6 +1,11 @@
 pub mod Base64Rows
 pub mod BodyLemmas
 pub mod BodyRows
+pub mod DumpLemmas
+pub mod DumpOutputLemmas
+pub mod DumpPairLemmas
+pub mod DumpRows
+pub mod DumpStepLemmas
 pub mod GroupLemmas
 pub mod MarkLemmas
 pub mod NumberLemmas

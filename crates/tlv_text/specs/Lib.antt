@@ -9,3 +9,6 @@ pub mod PemBody
 pub mod Runs
 pub mod Tokens
 pub mod Private
+pub mod Dump
+pub mod DumpFault
+pub mod DumpLines

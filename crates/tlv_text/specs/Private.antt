@@ -1,4 +1,5 @@
 pub mod NumberSteps
+pub mod DumpSteps
 pub mod PairSteps
 pub mod PemSteps
 pub mod SymbolSteps

@@ -1,23 +1,27 @@
-//! Octets that are written in a text, as people have them: pairs of hexadecimal digits, tokens of a source text, decimal
-//! numbers, base64, PEM; and marks at the start of a text.
+//! Octets that are written in a text, as people have them: pairs of hexadecimal digits, tokens of a source text,
+//! decimal numbers, hex dumps, base64, PEM; and marks at the start of a text.
 #![tactic(auto)]
 
 mod base64_text;
 mod body;
 mod decoded;
+mod dump;
 mod marks;
 mod numbers;
 mod pairs;
 mod pem;
 mod runs;
+mod text_fault;
 mod tokens;
 
 pub use base64_text::{Alphabet, decode_base64};
 pub use body::{PemBody, pem_body};
 pub use decoded::Decoded;
+pub use dump::decode_dump;
 pub use marks::{after_mark, ascii_of_utf16};
 pub use numbers::numbers_of;
 pub use pairs::decode_pairs;
 pub use pem::{PemBlock, first_block};
 pub use runs::{Run, first_run};
+pub use text_fault::TextFault;
 pub use tokens::{decode_tokens, has_tokens};

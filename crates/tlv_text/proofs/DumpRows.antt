@@ -1,0 +1,152 @@
+-- Dumps of some tools, and the octets that are read from them.
+use Rattle.std.proofs.Common.{◌≡◌, ℕ, List, [], ◌∷◌, ◌++◌, refl, Some, None}
+use Rattle.std.specs.Prelude.{codes}
+use Rattle.tlv_text.specs.Dump.{DumpRead, dump_read, refused_in, refused_with, repeated}
+
+-- 16 octets, and two more
+octets : List ℕ
+octets = 0x30 ∷ 0x82 ∷ 1 ∷ 0x22 ∷ 4 ∷ 5 ∷ 6 ∷ 7 ∷ 8 ∷ 9 ∷ 10 ∷ 11 ∷ 12 ∷ 13 ∷ 14 ∷ 15 ∷ []
+
+more : List ℕ
+more = 0x30 ∷ 0x31 ∷ []
+
+whole : List ℕ → DumpRead
+whole read = record { octets = read; left = None }
+
+xxd-row : dump_read (
+    codes "00000000: 3082 0122 0405 0607 0809 0a0b 0c0d 0e0f  0..\"............\n"
+    ++ codes "00000010: 3031                                     01\n"
+    )
+    ≡ whole (octets ++ more)
+unfolding octets more whole
+xxd-row = refl
+
+-- with an end row and carriage returns
+hexdump-row : dump_read (
+    codes "00000000  30 82 01 22 04 05 06 07  08 09 0a 0b 0c 0d 0e 0f  |0..\"............|\r\n"
+    ++ codes "00000010  30 31                                             |01|\r\n"
+    ++ codes "00000012\r\n"
+    )
+    ≡ whole (octets ++ more)
+unfolding octets more whole
+hexdump-row = refl
+
+od-row : dump_read (codes "000000 30 82 01 22 04 05 06 07 08 09 0a 0b 0c 0d 0e 0f\n000010 30 31\n000012\n")
+    ≡ whole (octets ++ more)
+unfolding octets more whole
+od-row = refl
+
+-- octal offsets
+octal-row : dump_read (codes "0000000 30 82 01 22 04 05 06 07 08 09 0a 0b 0c 0d 0e 0f\n0000020 30 31\n0000022\n")
+    ≡ whole (octets ++ more)
+unfolding octets more whole
+octal-row = refl
+
+-- what fits both is read with hexadecimal offsets: 34 octets, and not 18
+both-row : dump_read (
+    codes "0000000 00 00 00 00 00 00 00 00 00 00 00 00 00 00 00 00\n*\n"
+    ++ codes "0000020 30 31\n0000022\n"
+    )
+    ≡ whole (repeated 32 (0 ∷ []) ++ more)
+unfolding more whole
+both-row = refl
+
+-- the column of characters begins with what looks like a pair
+wireshark-row : dump_read (
+    codes "0000   30 82 01 22 04 05 06 07 08 09 0a 0b 0c 0d 0e 0f   0aff............\n"
+    ++ codes "0010   30 31                                             01\n"
+    )
+    ≡ whole (octets ++ more)
+unfolding octets more whole
+wireshark-row = refl
+
+tcpdump-row : dump_read (
+    codes "12:34:56.789 IP a > b\n"
+    ++ codes "\t0x0000:  3082 0122 0405 0607 0809 0a0b 0c0d 0e0f  0..\"............\n"
+    ++ codes "\t0x0010:  3031                                     01\n"
+    )
+    ≡ whole (octets ++ more)
+unfolding octets more whole
+tcpdump-row = refl
+
+powershell-row : dump_read (
+    codes "           00 01 02 03 04 05 06 07 08 09 0A 0B 0C 0D 0E 0F\n"
+    ++ codes "\n"
+    ++ codes "00000000   30 82 01 22 04 05 06 07 08 09 0A 0B 0C 0D 0E 0F  0..\"............\n"
+    ++ codes "00000010   30 31                                            01\n"
+    ++ codes "\n"
+    )
+    ≡ whole (octets ++ more)
+unfolding octets more whole
+powershell-row = refl
+
+openssl-row : dump_read (
+    codes "0000 - 30 82 01 22 04 05 06 07-08 09 0a 0b 0c 0d 0e 0f   0..\"............\n"
+    ++ codes "0010 - 30 31                                             01\n"
+    )
+    ≡ whole (octets ++ more)
+unfolding octets more whole
+openssl-row = refl
+
+-- rows of two octets, repeats of them and an end row
+repeat-row : dump_read (codes "0000 30 31\n0002 30 32\n*\n0008 32 33\n*\n000e\n")
+    ≡ whole (0x30 ∷ 0x31 ∷ 0x30 ∷ 0x32 ∷ 0x30 ∷ 0x32 ∷ 0x30 ∷ 0x32 ∷ 0x32 ∷ 0x33 ∷ 0x32 ∷ 0x33 ∷ 0x32 ∷ 0x33 ∷ [])
+unfolding whole
+repeat-row = refl
+
+-- a repeat after the first row
+sixteen-row : dump_read (
+    codes "00000000  30 82 01 22 04 05 06 07  08 09 0a 0b 0c 0d 0e 0f  |0..\"............|\n"
+    ++ codes "*\n"
+    ++ codes "00000020  30 31                                             |01|\n"
+    ++ codes "00000022\n"
+    )
+    ≡ whole (octets ++ octets ++ more)
+unfolding octets more whole
+sixteen-row = refl
+
+-- a row alone
+single-row : dump_read (codes "\t0x0040:  3003 0201 05                             0....\n")
+    ≡ whole (0x30 ∷ 3 ∷ 2 ∷ 1 ∷ 5 ∷ [])
+unfolding whole
+single-row = refl
+
+-- its offset is neither 0 nor before a colon: a number
+number-row : dump_read (codes "2024 30 03\n") ≡ refused_with 11
+number-row = refl
+
+-- the offset of the third row is wrong
+offset-row : dump_read (codes "0000: 3031\n0002: 3233\n0006: 3435\n")
+    ≡ record { octets = 0x30 ∷ 0x31 ∷ 0x32 ∷ 0x33 ∷ []; left = Some 11 }
+offset-row = refl
+
+-- a digit of the second row is lost
+digit-row : dump_read (codes "0000: 3031\n0002: 323\n0004: 3435\n")
+    ≡ record { octets = 0x30 ∷ 0x31 ∷ 0x32 ∷ []; left = Some 11 }
+digit-row = refl
+
+-- the second row has a pair more
+pair-row : dump_read (codes "0000: 30 31\n0002: 32 33 34\n0004: 34 35\n")
+    ≡ record { octets = 0x30 ∷ 0x31 ∷ []; left = Some 27 }
+pair-row = refl
+
+-- nothing comes after an end row
+end-row : dump_read (codes "0000: 3031\n0002\n0002: 3233\n") ≡ record { octets = 0x30 ∷ 0x31 ∷ []; left = Some 11 }
+end-row = refl
+
+-- no row comes after the repeat
+cut-row : dump_read (codes "0000: 3031\n0002: 3031\n*\n")
+    ≡ record { octets = 0x30 ∷ 0x31 ∷ 0x30 ∷ 0x31 ∷ []; left = Some 2 }
+cut-row = refl
+
+-- the offset after the repeat is within a row
+within-row : dump_read (codes "0000: 3031\n0002: 3031\n*\n0007: 3031\n")
+    ≡ record { octets = 0x30 ∷ 0x31 ∷ 0x30 ∷ 0x31 ∷ []; left = Some 11 }
+within-row = refl
+
+-- a text without rows is refused at its end
+none-row : dump_read (codes "30 03 02 01 05\n") ≡ refused_with 0
+none-row = refl
+
+refused-row : refused_in (codes "30 03\n") (dump_read (codes "30 03\n")).left ≡ Some 6
+refused-row = refl

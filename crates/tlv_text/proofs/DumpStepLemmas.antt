@@ -1,0 +1,129 @@
+-- Steps of reading the rows of a dump.
+use Rattle.std.proofs.Common.{◌≡◌, ℕ, ◌+◌, ◌-◌, ◌≤◌, Bool, true, false, List, [], ◌∷◌, ◌++◌, length, refl, ap, sym}
+use Rattle.std.proofs.Common.{◌∙◌, append_assoc, arith, subst, Option, Some, None}
+use Rattle.std.proofs.lemmas.Bool.{eq-eqb, ne_eqb}
+use Rattle.std.proofs.lemmas.List.{append-nil}
+use Rattle.tlv_text.proofs.DumpOutputLemmas.{added-both}
+use Rattle.tlv_text.specs.Dump.{DumpRead, Place, Step, first_then, place_after, place_at, refused_with, rows_read}
+use Rattle.tlv_text.specs.Dump.{step, step_then, times_before, times_in}
+use Rattle.tlv_text.specs.DumpLines.{LineKind, TextLine, line_kind, text_line}
+use Rattle.tlv_text.specs.Private.DumpSteps.{IsAdded, IsReadSoFar, IsFirst, IsTaken, Holds, Reads, place_of}
+use Rattle.tlv_text.specs.Private.PairSteps.{pair_octets}
+use Rattle.tlv_text.specs.declared.dump.Reading.{Reading}
+use Rattle.tlv_text.specs.declared.dump.lines.Radix.{Radix}
+use Rattle.tlv_text.specs.declared.dump.output.Output.{Output}
+use Rattle.tlv_text.specs.declared.dump.rows.LastRow.{LastRow}
+use Rattle.tlv_text.specs.declared.dump.rows.Phase.{Phase}
+
+-- a row comes at the offset that follows
+at-next : (size offset more : ℕ) (place : Place) → place.offset ≤ offset → more ≡ offset - place.offset
+    → more ≡ length place.octets → times_in size Phase.Row place offset ≡ Some 0
+at-next size offset more place le m same =
+    rw (eq-eqb offset (place.offset + length place.octets) (omega arith)) refl
+
+not-at_next : (size offset more : ℕ) (place : Place) → place.offset ≤ offset → more ≡ offset - place.offset
+    → (more ≡ length place.octets → ⊥) → times_in size Phase.Row place offset ≡ None
+not-at_next size offset more place le m other =
+    rw (ne_eqb offset (place.offset + length place.octets) (λ e. other (omega arith))) refl
+
+pub row-at_next : (size offset more : ℕ) (place : Place) → place.phase ≡ Phase.Row → place.offset ≤ offset
+    → more ≡ offset - place.offset → more ≡ length place.octets → Some 0 ≡ times_before size place offset
+row-at_next size offset more place e le m same =
+    sym (ap (λ (p : Phase). times_in size p place offset) e ∙ at-next size offset more place le m same)
+
+pub row-not_next : (size offset more : ℕ) (place : Place) → place.phase ≡ Phase.Row → place.offset ≤ offset
+    → more ≡ offset - place.offset → (more ≡ length place.octets → ⊥) → None ≡ times_before size place offset
+row-not_next size offset more place e le m other =
+    sym (ap (λ (p : Phase). times_in size p place offset) e ∙ not-at_next size offset more place le m other)
+
+-- ---- a line after the first row
+
+line-read : (radix : Radix) (size left : ℕ) (place : Place) (line : List ℕ) (lines : List TextLine)
+    (found : Option Step) → found ≡ step size place left (line_kind radix line)
+    → rows_read radix size place (text_line line left ∷ lines)
+    ≡ step_then found left (rows_read radix size (place_after found place) lines)
+line-read radix size left place line lines found e =
+    ap (λ (n : Option Step). step_then n left (rows_read radix size (place_after n place) lines)) (sym e)
+
+-- a line that is not taken
+pub not-taken : (found : Option Step) (fits : Bool) (row : LastRow) (old new : Output) → fits ≡ false
+    → IsTaken found fits row old new → (found ≡ None) × (old ≡ new)
+not-taken (Some s) true row old new e t = cc e
+not-taken (Some s) false row old new e t = absurd t
+not-taken None true row old new e t = absurd t
+not-taken None false row old new e t = (refl, t)
+
+pub line-refused : (all more : DumpRead) (radix : Radix) (size left : ℕ) (last row : LastRow) (line : List ℕ)
+    (kind : LineKind) (lines : List TextLine) (fits : Bool) (x y z : Output)
+    → IsReadSoFar all more x y → more ≡ rows_read radix size (place_of last) (text_line line left ∷ lines)
+    → kind ≡ line_kind radix line → fits ≡ false
+    → IsTaken (step size (place_of last) left kind) fits row y z → IsReadSoFar all (refused_with left) x z
+line-refused all more radix size left last row line kind lines fits x y z i e k f t =
+    let n = not-taken (step size (place_of last) left kind) fits row y z f t in
+    let found : None ≡ step size (place_of last) left (line_kind radix line) =
+    sym n.0 ∙ ap (step size (place_of last) left) k in
+    let same : more ≡ refused_with left = e ∙ line-read radix size left (place_of last) line lines None found in
+    subst (λ (out : Output). IsReadSoFar all (refused_with left) x out) n.1
+    (subst (λ (r : DumpRead). IsReadSoFar all r x y) same i)
+
+pub is-taken : (found : Option Step) (fits : Bool) (row : LastRow) (old new : Output) → fits ≡ true
+    → IsTaken found fits row old new
+    → (s : Step) × (found ≡ Some s) × (place_of row ≡ s.place) × IsAdded s.octets old new
+is-taken (Some s) true row old new e t = (s, refl, t.0, t.1)
+is-taken (Some s) false row old new e t = absurd t
+is-taken None true row old new e t = absurd t
+is-taken None false row old new e t = cc e
+
+pub line-taken : (all more : DumpRead) (radix : Radix) (size left : ℕ) (last row : LastRow) (line : List ℕ)
+    (kind : LineKind) (lines : List TextLine) (fits : Bool) (x y z : Output)
+    → IsReadSoFar all more x y → more ≡ rows_read radix size (place_of last) (text_line line left ∷ lines)
+    → kind ≡ line_kind radix line → fits ≡ true
+    → IsTaken (step size (place_of last) left kind) fits row y z
+    → IsReadSoFar all (rows_read radix size (place_of row) lines) x z
+line-taken all more radix size left last row line kind lines fits x y z i e k f t =
+    let n = is-taken (step size (place_of last) left kind) fits row y z f t in
+    let s : Step = n.0 in
+    let found : Some s ≡ step size (place_of last) left (line_kind radix line) =
+    sym n.1 ∙ ap (step size (place_of last) left) k in
+    let rest : DumpRead = rows_read radix size (place_of row) lines in
+    let same : more ≡ step_then (Some s) left rest =
+    e ∙ line-read radix size left (place_of last) line lines (Some s) found
+    ∙ ap (λ (p : Place). step_then (Some s) left (rows_read radix size p lines)) (sym n.2) in
+    record {
+      so_far = i.so_far ++ s.octets;
+      added = added-both i.so_far s.octets x y z i.added n.3;
+      are = i.are ∙ ap (λ (r : DumpRead). i.so_far ++ r.octets) same ∙ sym (append_assoc i.so_far s.octets rest.octets);
+      left = i.left ∙ ap (λ (r : DumpRead). r.left) same;
+    }
+
+-- what is read of all lines
+pub all-read : (all more : DumpRead) (x y : Output) → IsReadSoFar all more x y → more.octets ≡ []
+    → IsAdded all.octets x y
+all-read all more x y i none =
+    let are : all.octets ≡ i.so_far =
+    i.are ∙ ap (λ (t : List ℕ). i.so_far ++ t) none ∙ append-nil i.so_far in
+    subst (λ (t : List ℕ). IsAdded t x y) (sym are) i.added
+
+-- ---- the first row
+
+pub first-refused : (first : Option (List ℕ)) (fits : Bool) (x y : Output) (left : ℕ) (more : DumpRead)
+    (reading : Reading) → fits ≡ false → IsFirst first fits x y → Reads (refused_with left) reading
+    → Reads (first_then first left more) reading
+first-refused (Some octets) true x y left more reading e t r = cc e
+first-refused (Some octets) false x y left more reading e t r = absurd t
+first-refused None true x y left more reading e t r = absurd t
+first-refused None false x y left more reading e t r = r
+
+pub first-read : (first : Option (List ℕ)) (fits : Bool) (x y : Output) (left : ℕ) (more : DumpRead)
+    (reading : Reading) → fits ≡ true → IsFirst first fits x y → Holds x [] → IsAdded more.octets y reading.output
+    → reading.left ≡ more.left → Reads (first_then first left more) reading
+first-read (Some octets) true x y left more reading e t h a l =
+    record { output = a octets (t [] h); left = l }
+first-read (Some octets) false x y left more reading e t h a l = absurd t
+first-read None true x y left more reading e t h a l = absurd t
+first-read None false x y left more reading e t h a l = cc e
+
+-- the place of a row without digits
+pub place-of_none : (phase : Phase) (offset : ℕ) (digits : List ℕ) → digits ≡ []
+    → place_at phase offset (pair_octets digits) ≡ place_at phase offset []
+place-of_none phase offset digits e = ap (λ (d : List ℕ). place_at phase offset (pair_octets d)) e

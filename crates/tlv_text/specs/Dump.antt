@@ -1,0 +1,256 @@
+-- Octets of a hex dump with offsets, as xxd, hexdump -C, od -Ax -tx1, od -tx1, Wireshark, tcpdump -x, Format-Hex and
+-- BIO_dump write it. By lines, each with its line feed and perhaps a carriage return before it:
+--
+--   dump   = *(other / empty) (single / rows)
+--   single = row *empty                        one row alone: its offset is 0 or a colon follows it
+--   rows   = row *(empty / row / repeat) [end] *empty
+--   row    = *blank ["0x" / "0X"] 4*16digit (":" / blank) *blank [":"] ["-"] *blank pair *(gap pair) [others]
+--   repeat = *blank "*" *blank                 the octets of the row before, up to the offset of the row after
+--   end    = *blank ["0x" / "0X"] 4*16digit *blank
+--   empty  = *blank
+--   gap    = "-" / 0*2blank                    0*1blank in a single row
+use Rattle.std.specs.Prelude.{ℕ, zero, suc, ◌+◌, ◌-◌, ◌/◌, ◌%◌, ◌==◌, Bool, true, false, ◌&&◌, ◌||◌, not, nat_le}
+use Rattle.std.specs.Prelude.{nat_lt, if◌then◌else◌, List, [], ◌∷◌, ◌++◌, drop, length, Option, Some, None, is_none}
+use Rattle.std.specs.Prelude.{option_map}
+use Rattle.std.specs.List.{list_all}
+use Rattle.hex.specs.Hex.{is_hex_digit}
+use Rattle.tlv_text.specs.DumpLines.{LineKind, RowRead, TextLine, after_blanks, begins_colon, is_blank, line_kind}
+use Rattle.tlv_text.specs.DumpLines.{lines_of}
+use Rattle.tlv_text.specs.Pairs.{pair_octet}
+use Rattle.tlv_text.specs.TextRead.{TextRead, nothing_read, octets_then}
+use Rattle.tlv_text.specs.declared.dump.lines.Radix.{Radix}
+use Rattle.tlv_text.specs.declared.dump.lines.Radix.TheVariants.{Hexadecimal, Octal}
+use Rattle.tlv_text.specs.declared.dump.rows.Phase.{Phase}
+
+-- ---- the pairs of a row
+
+-- without this character, if it comes first
+abbrev pub after_one : ℕ → List ℕ → List ℕ
+after_one c [] = []
+after_one c (x ∷ text) = if x == c then text else x ∷ text
+
+-- after blanks, a colon, a hyphen and blanks
+abbrev pub before_pairs : List ℕ → List ℕ
+before_pairs rest = after_blanks (after_one 45 (after_one 58 (after_blanks rest)))
+
+-- after so many blanks at most
+abbrev pub after_few : ℕ → List ℕ → List ℕ
+after_few zero text = text
+after_few (suc n) [] = []
+after_few (suc n) (x ∷ text) = if is_blank x then after_few n text else x ∷ text
+
+-- after what may be between two pairs: a hyphen, or so many blanks at most
+abbrev pub after_gap : ℕ → List ℕ → List ℕ
+after_gap gap [] = []
+after_gap gap (x ∷ text) = if x == 45 then text else after_few gap (x ∷ text)
+
+abbrev pub begins_pair : List ℕ → Bool
+begins_pair (x ∷ y ∷ text) = is_hex_digit x && is_hex_digit y
+begins_pair text = false
+
+-- the octet of the pair with which a text begins
+abbrev pub first_octet : List ℕ → ℕ
+first_octet (x ∷ y ∷ text) = pair_octet x y
+first_octet text = 0
+
+-- the octets of so many pairs at most, each after a gap, and the rest after the last of them
+abbrev pub pairs_after : ℕ → ℕ → List ℕ → TextRead
+pairs_after zero gap text = nothing_read text
+pairs_after (suc n) gap text =
+    let next : List ℕ = after_gap gap text in
+    if begins_pair next then octets_then (first_octet next ∷ []) (pairs_after n gap (drop 2 next))
+    else nothing_read text
+
+-- a blank or the end of the line comes first
+abbrev pub begins_blank : List ℕ → Bool
+begins_blank [] = true
+begins_blank (x ∷ text) = is_blank x
+
+-- a pair that a blank or the end follows comes first
+abbrev pub begins_lone_pair : List ℕ → Bool
+begins_lone_pair text = begins_pair text && begins_blank (drop 2 text)
+
+-- such a pair follows at once or after one blank
+abbrev pub has_more_pairs : List ℕ → Bool
+has_more_pairs rest = begins_lone_pair rest || begins_lone_pair (after_few 1 rest)
+
+-- one pair or more; after as many as a row has, no more
+abbrev pub row_fits : ℕ → List ℕ → TextRead → Bool
+row_fits size text read = begins_pair text && not ((length read.octets == size) && has_more_pairs read.rest)
+
+abbrev pub octets_if : Bool → List ℕ → Option (List ℕ)
+octets_if fits octets = if fits then Some octets else None
+
+-- the octets of a row among others, if it fits; a row has so many octets, and the last may have fewer
+abbrev pub row_octets : ℕ → List ℕ → Option (List ℕ)
+row_octets size rest =
+    let text : List ℕ = before_pairs rest in
+    let read : TextRead = pairs_after size 2 text in
+    octets_if (row_fits size text read) read.octets
+
+-- the octets of a row that is alone: its offset is 0 or a colon follows it, and it has one pair or more
+abbrev pub single_octets : RowRead → Option (List ℕ)
+single_octets r =
+    let text : List ℕ = before_pairs r.rest in
+    octets_if (((r.offset == 0) || begins_colon r.rest) && begins_pair text)
+    (pairs_after (length text) 1 text).octets
+
+-- ---- rows
+
+-- octets, and if the text is refused, how many characters it has from there on
+pub record DumpRead : Type 0 where
+  pub octets : List ℕ
+  pub left : Option ℕ
+
+abbrev pub refused_with : ℕ → DumpRead
+refused_with left = record { octets = []; left = Some left }
+
+abbrev pub repeated : ℕ → List ℕ → List ℕ
+repeated zero octets = []
+repeated (suc n) octets = octets ++ repeated n octets
+
+-- where the reading is: the offset of the last row and its octets, and whether it is that row, a repeat with so many
+-- characters from it on, or the end that came last
+pub record Place : Type 0 where
+  pub phase : Phase
+  pub offset : ℕ
+  pub octets : List ℕ
+
+-- a step reads octets and leads to a place
+pub record Step : Type 0 where
+  pub octets : List ℕ
+  pub place : Place
+
+-- as many octets as a row has
+abbrev pub is_full : ℕ → Place → Bool
+is_full size place = length place.octets == size
+
+-- how many times the row before is repeated in front of a row with this offset; none if it does not fit
+abbrev pub times_in : ℕ → Phase → Place → ℕ → Option ℕ
+times_in size Phase.Row place offset =
+    if offset == place.offset + length place.octets then Some 0 else None
+times_in size (Phase.Repeat left) place offset =
+    if nat_lt (place.offset + size) offset && ((offset - (place.offset + size)) % size == 0) then
+    Some ((offset - (place.offset + size)) / size)
+    else None
+times_in size Phase.End place offset = None
+
+abbrev pub times_before : ℕ → Place → ℕ → Option ℕ
+times_before size place offset = times_in size place.phase place offset
+
+abbrev pub at_row : Phase → Bool
+at_row Phase.Row = true
+at_row (Phase.Repeat left) = false
+at_row Phase.End = false
+
+abbrev pub with_row : List ℕ → ℕ → Option (List ℕ) → Option Step
+with_row before offset None = None
+with_row before offset (Some octets) =
+    Some (record { octets = before ++ octets; place = record { phase = Phase.Row; offset = offset; octets = octets } })
+
+-- a row: an end row, or one with pairs after one that has as many as a row has
+abbrev pub row_step : ℕ → Place → RowRead → Option ℕ → Option Step
+row_step size place r None = None
+row_step size place r (Some times) =
+    let before : List ℕ = repeated times place.octets in
+    if list_all is_blank r.rest then Some (record { octets = before; place = record place { phase = Phase.End } })
+    else (if is_full size place then with_row before r.offset (row_octets size r.rest) else None)
+
+-- what a line adds at a place, if it fits there; `left` is how many characters there are from it on
+abbrev pub step : ℕ → Place → ℕ → LineKind → Option Step
+step size place left LineKind.blank = Some (record { octets = []; place = place })
+step size place left LineKind.repeat =
+    if at_row place.phase && is_full size place then
+    Some (record { octets = []; place = record place { phase = Phase.Repeat left } })
+    else None
+step size place left (LineKind.row r) = row_step size place r (times_before size place r.offset)
+step size place left LineKind.other = None
+
+abbrev pub place_after : Option Step → Place → Place
+place_after (Some s) place = s.place
+place_after None place = place
+
+abbrev pub step_then : Option Step → ℕ → DumpRead → DumpRead
+step_then (Some s) left more = record more { octets = s.octets ++ more.octets }
+step_then None left more = refused_with left
+
+-- a repeat after which no row comes does not fit
+abbrev pub left_in : Phase → Option ℕ
+left_in Phase.Row = None
+left_in (Phase.Repeat left) = Some left
+left_in Phase.End = None
+
+-- what is read of the lines after the first row, up to the first that does not fit
+abbrev pub rows_read : Radix → ℕ → Place → List TextLine → DumpRead
+rows_read radix size place [] = record { octets = []; left = left_in place.phase }
+rows_read radix size place (line ∷ lines) =
+    let next : Option Step = step size place line.left (line_kind radix line.characters) in
+    step_then next line.left (rows_read radix size (place_after next place) lines)
+
+-- ---- a whole dump
+
+-- the octets of a row by the difference of the first two offsets, 1 to 256. With another difference the second row does
+-- not fit, and the first one is read with 16
+abbrev pub size_by : ℕ → ℕ
+size_by difference = if nat_le 1 difference && nat_le difference 256 then difference else 16
+
+abbrev pub size_at : ℕ → LineKind → Option ℕ → Option ℕ
+size_at first LineKind.blank more = more
+size_at first LineKind.repeat more = Some 16
+size_at first (LineKind.row r) more = Some (size_by (r.offset - first))
+size_at first LineKind.other more = more
+
+-- the octets of a row by the lines after the first, which has this offset; none if it is alone
+abbrev pub size_in : Radix → ℕ → List TextLine → Option ℕ
+size_in radix first [] = None
+size_in radix first (line ∷ lines) = size_at first (line_kind radix line.characters) (size_in radix first lines)
+
+-- the first row, and what is read of the lines after it
+abbrev pub first_then : Option (List ℕ) → ℕ → DumpRead → DumpRead
+first_then (Some octets) left more = record more { octets = octets ++ more.octets }
+first_then None left more = refused_with left
+
+abbrev pub octets_or_none : Option (List ℕ) → List ℕ
+octets_or_none (Some octets) = octets
+octets_or_none None = []
+
+abbrev pub place_at : Phase → ℕ → List ℕ → Place
+place_at phase offset octets = record { phase = phase; offset = offset; octets = octets }
+
+-- what is read from the first row on
+abbrev pub read_from : Radix → RowRead → ℕ → List TextLine → Option ℕ → DumpRead
+read_from radix r left lines None =
+    first_then (single_octets r) left (rows_read radix 16 (place_at Phase.End r.offset []) lines)
+read_from radix r left lines (Some size) =
+    first_then (row_octets size r.rest) left
+    (rows_read radix size (place_at Phase.Row r.offset (octets_or_none (row_octets size r.rest))) lines)
+
+-- other lines before the first row are passed over; a text without a row is refused at its end
+abbrev pub first_at : Radix → LineKind → ℕ → List TextLine → DumpRead → DumpRead
+first_at radix LineKind.blank left lines more = more
+first_at radix LineKind.repeat left lines more = refused_with left
+first_at radix (LineKind.row r) left lines more = read_from radix r left lines (size_in radix r.offset lines)
+first_at radix LineKind.other left lines more = more
+
+abbrev pub lines_read : Radix → List TextLine → DumpRead
+lines_read radix [] = refused_with 0
+lines_read radix (line ∷ lines) =
+    first_at radix (line_kind radix line.characters) line.left lines (lines_read radix lines)
+
+abbrev pub dump_in : Radix → List ℕ → DumpRead
+dump_in radix text = lines_read radix (lines_of text)
+
+-- offsets are hexadecimal, unless the text is refused so and not in octal. An octal dump in which no row follows
+-- another without a repeat between them, as of octets that are all alike, may fit both, and is then read so
+abbrev pub dump_read : List ℕ → DumpRead
+dump_read text =
+    if is_none (dump_in Hexadecimal text).left then dump_in Hexadecimal text
+    else (if is_none (dump_in Octal text).left then dump_in Octal text else dump_in Hexadecimal text)
+
+-- how many characters come before the place where a text is refused, if it is
+abbrev pub refused_in : List ℕ → Option ℕ → Option ℕ
+refused_in text left = option_map (λ n. length text - n) left
+
+-- the most octets of a dump
+abbrev pub dump_limit : ℕ
+dump_limit = 1073741824

@@ -1,0 +1,282 @@
+//! Octets of a hex dump with offsets.
+ghost use Rattle.std.specs.Prelude.{◌≡◌, ◌<◌, ◌≤◌, IfErr, IfOk, MatchOption, OnOk, Some, None, length};
+ghost use Rattle.tlv_text.specs.Dump.{dump_in, dump_limit, dump_read, left_in, pairs_after, read_from, refused_in};
+ghost use Rattle.tlv_text.specs.Dump.{refused_with, rows_read, single_octets, size_by, size_in};
+ghost use Rattle.tlv_text.specs.DumpLines.{begins_colon, lines_of};
+ghost use Rattle.tlv_text.specs.DumpFault.{IsFault};
+ghost use Rattle.tlv_text.specs.Private.DumpSteps.{IsAdded, IsFirst, Reads, place_of, row_seen};
+ghost use Rattle.tlv_text.specs.Private.PairSteps.{AreWholePairs};
+
+mod lines;
+mod output;
+mod pairs;
+mod rows;
+
+use crate::{Decoded, TextFault};
+use arrayvec::ArrayVec;
+use lines::{DumpLine, Radix, RowLine, line_of, split_line};
+use output::{Output, add_octets, no_octets};
+use pairs::{DIGITS, before_pairs, begins_pair, row_digits, take_pairs};
+use rows::{LastRow, Phase, take_line};
+use std::alloc::{AllocError, Global};
+
+/// The octets of a dump, and where it is refused.
+#[derive(Debug, Drop)]
+pub(crate) struct Reading {
+    /// The octets.
+    pub(crate) output: Output,
+    /// If the text is refused, how many characters of it are left from there on.
+    pub(crate) left: Option<usize>,
+}
+
+/// The octets of a hex dump with offsets, as xxd, hexdump, od, Wireshark, tcpdump, Format-Hex and OpenSSL write it. A
+/// text is refused at the first line that does not fit. Offsets are hexadecimal, unless the text is refused so and not
+/// in octal.
+///
+/// # Errors
+///
+/// `TextFault::TooLong` if there are more than 2^30 octets, `TextFault::Memory` if memory for them is refused.
+pub fn decode_dump(alloc: Global, text: &[u8]) -> Result<Decoded, TextFault>
+    ensures octets { IfOk result (λ d. d.octets.items ≡ (dump_read text.now).octets) }
+    ensures refused { IfOk result (λ d. d.refused ≡ refused_in text.now (dump_read text.now).left) }
+    ensures fits { IfOk result (λ d. length (dump_read text.now).octets ≤ dump_limit) }
+    ensures too_long { IfErr result (IsFault text.now) }
+{
+    let Ok(reading) = read_dump(alloc, text) else {
+        return Err(TextFault::Memory);
+    };
+    if reading.output.over {
+        return Err(TextFault::TooLong);
+    }
+    Ok(Decoded {
+        octets: reading.output.octets,
+        refused: refused_in(text, reading.left),
+    })
+}
+
+/// How many characters come before the place where a text is refused, if it is.
+fn refused_in(text: &[u8], left: Option<usize>) -> Option<usize>
+    ensures { result ≡ refused_in text.now left }
+{
+    match left {
+        Some(left) => Some(text.len().saturating_sub(left)),
+        None => None,
+    }
+}
+
+/// Reads a dump, with hexadecimal offsets or octal ones.
+fn read_dump(alloc: Global, text: &[u8]) -> Result<Reading, AllocError>
+    ensures { IfOk result (Reads (dump_read text.now)) }
+{
+    let hexadecimal = read_lines(alloc, Radix::Hexadecimal, text)?;
+    if hexadecimal.left.is_none() {
+        return Ok(hexadecimal);
+    }
+    let octal = read_lines(alloc, Radix::Octal, text)?;
+    if octal.left.is_none() {
+        Ok(octal)
+    } else {
+        Ok(hexadecimal)
+    }
+}
+
+/// Reads a dump with offsets of this radix.
+fn read_lines(alloc: Global, radix: Radix, text: &[u8]) -> Result<Reading, AllocError>
+    ensures { IfOk result (Reads (dump_in radix text.now)) }
+{
+    let mut rest = text;
+    while !rest.is_empty() {
+        let left = rest.len();
+        let (line, after) = split_line(rest);
+        match line_of(radix, line) {
+            DumpLine::Row(row) => return read_from(alloc, radix, row, left, after),
+            DumpLine::Repeat => return Ok(refused(alloc, left)),
+            DumpLine::Blank | DumpLine::Other => rest = after,
+        }
+    }
+    Ok(refused(alloc, 0))
+}
+
+/// Nothing is read, and the text is refused; so many characters of it are left.
+fn refused(alloc: Global, left: usize) -> Reading
+    ensures { Reads (refused_with left) result }
+{
+    Reading {
+        output: no_octets(alloc),
+        left: Some(left),
+    }
+}
+
+/// Reads a dump from its first row on. `rest` comes after the row, and `left` is how many characters are left from the
+/// row on.
+fn read_from(
+    alloc: Global,
+    radix: Radix,
+    row: RowLine<'_>,
+    left: usize,
+    rest: &[u8],
+) -> Result<Reading, AllocError>
+    ensures { IfOk result (Reads (read_from radix (row_seen row.entry) left (lines_of rest.now)
+        (size_in radix row.entry.offset (lines_of rest.now)))) }
+{
+    match size_in(radix, row.offset, rest) {
+        Some(size) => read_among(alloc, radix, size, row, left, rest),
+        None => read_alone(alloc, radix, row, left, rest),
+    }
+}
+
+/// Reads a dump of rows with so many octets from its first row on.
+fn read_among(
+    alloc: Global,
+    radix: Radix,
+    size: usize,
+    row: RowLine<'_>,
+    left: usize,
+    rest: &[u8],
+) -> Result<Reading, AllocError>
+    requires some { 0 < size }
+    requires few { size ≤ 256 }
+    ensures { IfOk result (Reads (read_from radix (row_seen row.entry) left (lines_of rest.now) (Some size))) }
+{
+    let mut output = no_octets(alloc);
+    let mut digits = ArrayVec::new();
+    if !row_digits(size, row.rest, &mut digits) {
+        return Ok(refused(alloc, left));
+    }
+    add_octets(alloc, digits.as_slice(), 1, &mut output)?;
+    let last = LastRow {
+        phase: Phase::Row,
+        offset: row.offset,
+        digits,
+    };
+    let left = read_rows(alloc, radix, size, last, rest, &mut output)?;
+    Ok(Reading { output, left })
+}
+
+/// Reads a dump of a row alone.
+fn read_alone(
+    alloc: Global,
+    radix: Radix,
+    row: RowLine<'_>,
+    left: usize,
+    rest: &[u8],
+) -> Result<Reading, AllocError>
+    ensures { IfOk result (Reads (read_from radix (row_seen row.entry) left (lines_of rest.now) None)) }
+{
+    let mut output = no_octets(alloc);
+    if !add_single(alloc, row, &mut output)? {
+        return Ok(refused(alloc, left));
+    }
+    let last = LastRow {
+        phase: Phase::End,
+        offset: row.offset,
+        digits: ArrayVec::new(),
+    };
+    let left = read_rows(alloc, radix, 16, last, rest, &mut output)?;
+    Ok(Reading { output, left })
+}
+
+/// Adds the octets of a row that is alone, if it fits.
+fn add_single(alloc: Global, row: RowLine<'_>, output: &mut Output) -> Result<bool, AllocError>
+    ensures { IfOk result (λ fits. IsFirst (single_octets (row_seen row.entry)) fits output.old output.new) }
+{
+    let text = before_pairs(row.rest);
+    if !(row.offset == 0 || begins_colon(row.rest)) || !begins_pair(text) {
+        return Ok(false);
+    }
+    add_pairs(alloc, text, output)?;
+    Ok(true)
+}
+
+/// Adds the octets of the pairs of a row that is alone.
+fn add_pairs(alloc: Global, text: &[u8], output: &mut Output) -> Result<(), AllocError>
+    ensures { OnOk result (IsAdded (pairs_after (length text.now) 1 text.now).octets output.old output.new) }
+{
+    let mut left = text.len();
+    let mut rest = text;
+    loop {
+        let mut digits = ArrayVec::new();
+        take_pairs(left, 1, &mut rest, &mut digits);
+        add_octets(alloc, digits.as_slice(), 1, output)?;
+        if digits.len() < DIGITS {
+            return Ok(());
+        }
+        left -= digits.len() / 2;
+    }
+}
+
+/// Whether a colon comes first.
+fn begins_colon(text: &[u8]) -> bool
+    ensures { result ≡ begins_colon text.now }
+{
+    matches!(text, [b':', ..])
+}
+
+/// The octets of a row by the lines after the first, which has this offset; `None` if it is alone.
+fn size_in(radix: Radix, first: u64, text: &[u8]) -> Option<usize>
+    ensures value { result ≡ size_in radix first (lines_of text.now) }
+    ensures range { MatchOption result Unit (λ size. (0 < size) × (size ≤ 256)) }
+{
+    let mut rest = text;
+    while !rest.is_empty() {
+        let (line, after) = split_line(rest);
+        match line_of(radix, line) {
+            DumpLine::Row(row) => return Some(size_by(row.offset.saturating_sub(first))),
+            DumpLine::Repeat => return Some(16),
+            DumpLine::Blank | DumpLine::Other => rest = after,
+        }
+    }
+    None
+}
+
+/// The octets of a row by the difference of two offsets.
+fn size_by(difference: u64) -> usize
+    ensures value { result ≡ size_by difference }
+    ensures some { 0 < result }
+    ensures few { result ≤ 256 }
+{
+    if difference >= 1 && difference <= 256 {
+        difference as usize
+    } else {
+        16
+    }
+}
+
+/// Reads the lines after the first row. If one does not fit, answers how many characters are left from it on.
+fn read_rows(
+    alloc: Global,
+    radix: Radix,
+    size: usize,
+    last: LastRow,
+    text: &[u8],
+    output: &mut Output,
+) -> Result<Option<usize>, AllocError>
+    requires some { 0 < size }
+    requires few { size ≤ 256 }
+    requires pairs { AreWholePairs last.digits.items }
+    ensures octets { OnOk result
+        (IsAdded (rows_read radix size (place_of last) (lines_of text.now)).octets output.old output.new) }
+    ensures left { IfOk result (λ left. left ≡ (rows_read radix size (place_of last) (lines_of text.now)).left) }
+{
+    let mut last = last;
+    let mut rest = text;
+    while !rest.is_empty() {
+        let left = rest.len();
+        let (line, after) = split_line(rest);
+        if !take_line(alloc, size, line_of(radix, line), left, &mut last, output)? {
+            return Ok(Some(left));
+        }
+        rest = after;
+    }
+    Ok(left_in(last.phase))
+}
+
+/// A repeat after which no row comes does not fit.
+fn left_in(phase: Phase) -> Option<usize>
+    ensures { result ≡ left_in phase }
+{
+    match phase {
+        Phase::Repeat(left) => Some(left),
+        Phase::Row | Phase::End => None,
+    }
+}

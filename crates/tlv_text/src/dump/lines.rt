@@ -1,0 +1,223 @@
+//! Lines of a hex dump.
+ghost use Rattle.std.specs.List.{list_all};
+ghost use Rattle.std.specs.Prelude.{◌≡◌, ◌<◌, ◌≤◌, ◌∷◌, length, option_map, true};
+ghost use Rattle.hex.specs.Hex.{is_hex_digit};
+ghost use Rattle.tlv_text.specs.DumpLines.{after_blanks, after_prefix, base, ends_offset, is_blank, is_digit_of};
+ghost use Rattle.tlv_text.specs.DumpLines.{kind_from, line_kind, lines_of, offset_read, row_at, text_line};
+ghost use Rattle.tlv_text.specs.DumpLines.{without_return};
+ghost use Rattle.tlv_text.specs.Pairs.{digit_value};
+ghost use Rattle.tlv_text.specs.Private.DumpSteps.{kind_of, offset_seen, row_seen};
+
+use memchr::memchr;
+
+/// The radix of offsets.
+#[derive(Clone, Copy, Debug, PartialEq, Eq)]
+pub(crate) enum Radix {
+    /// 16.
+    Hexadecimal,
+    /// 8.
+    Octal,
+}
+
+/// Digits with which a text begins.
+#[derive(Clone, Copy, Debug)]
+pub(crate) struct Offset<'a> {
+    /// How many they are, at most 16.
+    pub(crate) count: usize,
+    /// Their number.
+    pub(crate) number: u64,
+    /// What comes after them.
+    pub(crate) rest: &'a [u8],
+}
+
+/// A row of a dump.
+#[derive(Clone, Copy, Debug)]
+pub(crate) struct RowLine<'a> {
+    /// Its offset.
+    pub(crate) offset: u64,
+    /// What comes after the digits of the offset.
+    pub(crate) rest: &'a [u8],
+}
+
+/// What a line is.
+#[derive(Clone, Copy, Debug)]
+pub(crate) enum DumpLine<'a> {
+    /// Nothing but blanks.
+    Blank,
+    /// An asterisk.
+    Repeat,
+    /// A row.
+    Row(RowLine<'a>),
+    /// Another line.
+    Other,
+}
+
+/// The first line of a text, and what comes after its line feed.
+pub(super) fn split_line(text: &[u8]) -> (&[u8], &[u8])
+    requires { 0 < length text.now }
+    ensures lines { lines_of text.now ≡ text_line result.0.now (length text.now) ∷ lines_of result.1.now }
+    ensures less { length result.1.now < length text.now }
+{
+    match memchr(b'\n', text) {
+        Some(length) => (&text[..length], &text[length + 1..]),
+        None => text.split_at(text.len()),
+    }
+}
+
+/// What a line is.
+pub(super) fn line_of(radix: Radix, line: &[u8]) -> DumpLine<'_>
+    ensures { kind_of result ≡ line_kind radix line.now }
+{
+    kind_from(radix, after_blanks(without_return(line)))
+}
+
+/// A line without the carriage return at its end.
+fn without_return(line: &[u8]) -> &[u8]
+    ensures { result.now ≡ without_return line.now }
+{
+    match line {
+        [front @ .., b'\r'] => front,
+        _ => line,
+    }
+}
+
+/// What a line is, from its first character on that is no blank.
+fn kind_from(radix: Radix, text: &[u8]) -> DumpLine<'_>
+    ensures { kind_of result ≡ kind_from radix text.now }
+{
+    match text {
+        [] => DumpLine::Blank,
+        [b'*', rest @ ..] if are_blanks(rest) => DumpLine::Repeat,
+        _ => match row_at(radix, text) {
+            Some(row) => DumpLine::Row(row),
+            None => DumpLine::Other,
+        },
+    }
+}
+
+/// The row that begins with its offset here, if it is one.
+fn row_at(radix: Radix, text: &[u8]) -> Option<RowLine<'_>>
+    ensures { option_map row_seen result ≡ row_at radix text.now }
+{
+    let offset = read_offset(radix, after_prefix(text));
+    if offset.count >= 4 && ends_offset(offset.rest) {
+        Some(RowLine {
+            offset: offset.number,
+            rest: offset.rest,
+        })
+    } else {
+        None
+    }
+}
+
+/// The digits with which a text begins, at most 16.
+fn read_offset(radix: Radix, text: &[u8]) -> Offset<'_>
+    ensures { offset_seen result ≡ offset_read radix 0 0 text.now }
+{
+    let mut rest = text;
+    let mut count = 0;
+    let mut number = 0;
+    while let [x, more @ ..] = rest {
+        if count >= 16 || !is_digit_of(radix, *x) {
+            break;
+        }
+        number = number * base(radix) + digit_value(*x);
+        count += 1;
+        rest = more;
+    }
+    Offset {
+        count,
+        number,
+        rest,
+    }
+}
+
+/// The number of a radix.
+#[inline(always)]
+fn base(radix: Radix) -> u64
+    ensures value { result ≡ base radix }
+    ensures few { result ≤ 16 }
+{
+    match radix {
+        Radix::Hexadecimal => 16,
+        Radix::Octal => 8,
+    }
+}
+
+/// Whether this is a digit of the radix.
+#[inline(always)]
+fn is_digit_of(radix: Radix, character: u8) -> bool
+    ensures digit { result ≡ is_digit_of radix character }
+    ensures hexadecimal { result ≡ true → is_hex_digit character ≡ true }
+{
+    match radix {
+        Radix::Hexadecimal => matches!(character, b'0'..=b'9' | b'a'..=b'f' | b'A'..=b'F'),
+        Radix::Octal => matches!(character, b'0'..=b'7'),
+    }
+}
+
+/// The value of a hexadecimal digit.
+#[inline(always)]
+fn digit_value(digit: u8) -> u64
+    requires { is_hex_digit digit ≡ true }
+    ensures value { result ≡ digit_value digit }
+    ensures few { result < 16 }
+{
+    let value = match digit {
+        b'0'..=b'9' => digit - b'0',
+        b'A'..=b'F' => digit - b'A' + 10,
+        _ => digit - b'a' + 10,
+    };
+    u64::from(value)
+}
+
+/// A text after `0x` or `0X`, if it begins with it.
+fn after_prefix(text: &[u8]) -> &[u8]
+    ensures { result.now ≡ after_prefix text.now }
+{
+    match text {
+        [b'0', b'x' | b'X', rest @ ..] => rest,
+        _ => text,
+    }
+}
+
+/// Whether this may follow the digits of an offset.
+fn ends_offset(text: &[u8]) -> bool
+    ensures { result ≡ ends_offset text.now }
+{
+    matches!(text, [] | [b':' | b' ' | b'\t', ..])
+}
+
+/// Whether this is a space or a tab.
+#[inline(always)]
+pub(super) fn is_blank(character: u8) -> bool
+    ensures { result ≡ is_blank character }
+{
+    matches!(character, b' ' | b'\t')
+}
+
+/// Whether all of these are blanks.
+pub(super) fn are_blanks(text: &[u8]) -> bool
+    ensures { result ≡ list_all is_blank text.now }
+{
+    for character in text {
+        if !is_blank(*character) {
+            return false;
+        }
+    }
+    true
+}
+
+/// A text after the blanks with which it begins.
+pub(super) fn after_blanks(text: &[u8]) -> &[u8]
+    ensures { result.now ≡ after_blanks text.now }
+{
+    let mut rest = text;
+    while let [x, more @ ..] = rest {
+        if !is_blank(*x) {
+            break;
+        }
+        rest = more;
+    }
+    rest
+}

@@ -1,0 +1,63 @@
+//! Octets of a hex dump that are decoded so far.
+ghost use Rattle.std.specs.Prelude.{◌≡◌, ◌<◌, ◌≤◌, ◌↔◌, ◌+◌, ◌*◌, [], IsTrue, OnOk};
+ghost use Rattle.tlv_text.specs.Dump.{repeated};
+ghost use Rattle.tlv_text.specs.Private.DumpSteps.{Holds, IsAdded};
+ghost use Rattle.tlv_text.specs.Private.PairSteps.{AreWholePairs, pair_octets};
+
+use std::alloc::{AllocError, Global};
+
+/// The most octets of a dump.
+const LIMIT: usize = 1_073_741_824;
+
+/// The octets so far, unless they are more than 2^30.
+#[derive(Debug, Drop)]
+pub(crate) struct Output {
+    /// The octets.
+    pub(crate) octets: Vec<u8>,
+    /// Whether they are too many; then `octets` has not all of them.
+    pub(crate) over: bool,
+}
+
+/// No octets.
+pub(super) fn no_octets(alloc: Global) -> Output
+    ensures { Holds result [] }
+{
+    Output {
+        octets: Vec::new(alloc),
+        over: false,
+    }
+}
+
+/// Adds the octets of pairs of digits, so many times.
+pub(super) fn add_octets(
+    alloc: Global,
+    digits: &[u8],
+    times: u64,
+    output: &mut Output,
+) -> Result<(), AllocError>
+    requires pairs { AreWholePairs digits.now }
+    ensures { OnOk result (IsAdded (repeated times (pair_octets digits.now)) output.old output.new) }
+{
+    if output.over || times == 0 {
+        return Ok(());
+    }
+    if !fits(output.octets.as_slice().len(), digits.len() / 2, times) {
+        output.over = true;
+        return Ok(());
+    }
+    // Pairs of digits are decoded, unless memory is refused.
+    let Ok(row) = hex::decode(alloc, digits) else {
+        return Err(AllocError);
+    };
+    for _ in 0..times {
+        output.octets.extend_from_slice(row.as_slice())?;
+    }
+    Ok(())
+}
+
+/// Whether a dump may have so many octets, and then a row of so many so many times.
+fn fits(count: usize, row: usize, times: u64) -> bool
+    ensures { IsTrue result ↔ (count + times * row ≤ 1073741824) }
+{
+    count <= LIMIT && (row == 0 || times <= (LIMIT - count) as u64 / row as u64)
+}
