@@ -2,6 +2,8 @@
 #![tactic(auto)]
 
 #[cfg(test)]
+mod dumps;
+#[cfg(test)]
 mod others;
 #[cfg(test)]
 mod rows;

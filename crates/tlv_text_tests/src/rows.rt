@@ -9,7 +9,7 @@ use tlv_text::{
 };
 
 /// A text, its octets, and how many characters come before the place where it is refused.
-type Row<'a> = (&'a [u8], &'a [u8], Option<usize>);
+pub(crate) type Row<'a> = (&'a [u8], &'a [u8], Option<usize>);
 
 /// Pairs of hexadecimal digits.
 static PAIRS: [Row<'static>; 10] = [

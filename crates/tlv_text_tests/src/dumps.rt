@@ -1,0 +1,102 @@
+//! Hex dumps, as several tools write them.
+use crate::rows::{Row, expect_of};
+use std::alloc::Global;
+use std::process::Abort;
+use std::test::Fail;
+use tlv_text::decode_dump;
+
+/// 16 octets, and three more.
+static OCTETS: &[u8] =
+    b"\x30\x82\x01\x22\x04\x05\x06\x07\x08\x09\x0a\x0b\x0c\x0d\x0e\x0f\x30\x31\x32";
+
+/// Texts that are these octets.
+static TOOLS: [&[u8]; 8] = [
+    // xxd
+    b"00000000: 3082 0122 0405 0607 0809 0a0b 0c0d 0e0f  0..\"............\n\
+      00000010: 3031 32                                  012\n",
+    // hexdump -C
+    b"00000000  30 82 01 22 04 05 06 07  08 09 0a 0b 0c 0d 0e 0f  |0..\"............|\n\
+      00000010  30 31 32                                          |012|\n00000013\n",
+    // od -Ax -tx1
+    b"000000 30 82 01 22 04 05 06 07 08 09 0a 0b 0c 0d 0e 0f\n000010 30 31 32\n000013\n",
+    // od -tx1
+    b"0000000 30 82 01 22 04 05 06 07 08 09 0a 0b 0c 0d 0e 0f\n0000020 30 31 32\n0000023\n",
+    // Wireshark
+    b"0000   30 82 01 22 04 05 06 07 08 09 0a 0b 0c 0d 0e 0f   0..\"............\r\n\
+      0010   30 31 32                                          012\r\n",
+    // tcpdump -X
+    b"\t0x0000:  3082 0122 0405 0607 0809 0a0b 0c0d 0e0f  0..\"............\n\
+      \t0x0010:  3031 32                                  012\n",
+    // BIO_dump
+    b"0000 - 30 82 01 22 04 05 06 07-08 09 0a 0b 0c 0d 0e 0f   0..\"............\n\
+      0010 - 30 31 32                                          012\n",
+    // Format-Hex
+    b"\n           Path: C:\\a.der\n\n           00 01 02 03\n\n\
+      00000000   30 82 01 22 04 05 06 07 08 09 0A 0B 0C 0D 0E 0F  0..\"............\n\
+      00000010   30 31 32                                         012\n",
+];
+
+/// Other texts.
+static DUMPS: [Row<'static>; 6] = [
+    (b"0000  30 03 02 01 05   0....", b"\x30\x03\x02\x01\x05", None),
+    (b"00000000: 3003 0201 05  0....\n", b"\x30\x03\x02\x01\x05", None),
+    // The offset of the second row is not that after the first.
+    (b"00000000: 3003\n00000002: 0201\n00000005: 05\n", b"\x30\x03\x02\x01", Some(30)),
+    (b"no dump\n", b"", Some(8)),
+    (b"3003 0201 05\n", b"", Some(0)),
+    (b"", b"", Some(0)),
+];
+
+fn expect_dump(
+    rt: &impl Abort,
+    alloc: Global,
+    text: &[u8],
+    octets: &[u8],
+    refused: Option<usize>,
+) {
+    match decode_dump(alloc, text) {
+        Ok(decoded) => {
+            expect_of(rt, text, decoded.octets.as_slice(), octets);
+            expect_of(rt, text, decoded.refused, refused);
+        }
+        Err(_) => expect_of(rt, text, "refused", "decoded"),
+    }
+}
+
+#[test]
+fn dumps_of_tools_are_decoded(rt: HostRuntime) -> Result<(), Fail> {
+    for text in TOOLS.as_slice() {
+        expect_dump(&rt, rt.alloc(), text, OCTETS, None);
+    }
+    Ok(())
+}
+
+#[test]
+fn other_dumps_are_decoded_or_refused(rt: HostRuntime) -> Result<(), Fail> {
+    for row in DUMPS.as_slice() {
+        let (text, octets, refused) = *row;
+        expect_dump(&rt, rt.alloc(), text, octets, refused);
+    }
+    Ok(())
+}
+
+/// A row that `*` repeats up to the next offset.
+#[test]
+fn rows_are_repeated(rt: HostRuntime) -> Result<(), Fail> {
+    let text = b"00000000  41 41 41 41 41 41 41 41  41 41 41 41 41 41 41 41  |AAAAAAAAAAAAAAAA|\n\
+      *\n00000040  42                                                |B|\n00000041\n";
+    let mut octets = Vec::new(rt.alloc());
+    for _ in 0..64 {
+        octets.push(b'A')?;
+    }
+    octets.push(b'B')?;
+    expect_dump(&rt, rt.alloc(), text, octets.as_slice(), None);
+    Ok(())
+}
+
+/// A repeat that would be more than 2^30 octets.
+#[test]
+fn long_repeats_are_refused(rt: HostRuntime) {
+    let text = b"0000000000  41 41 41 41 41 41 41 41 41 41 41 41 41 41 41 41\n*\n00ffffffff0\n";
+    expect_of(&rt, "long", decode_dump(rt.alloc(), text).is_err(), true);
+}
