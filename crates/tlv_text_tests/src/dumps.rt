@@ -38,22 +38,28 @@ static TOOLS: [&[u8]; 8] = [
 
 /// Other texts.
 static DUMPS: [Row<'static>; 6] = [
-    (b"0000  30 03 02 01 05   0....", b"\x30\x03\x02\x01\x05", None),
-    (b"00000000: 3003 0201 05  0....\n", b"\x30\x03\x02\x01\x05", None),
+    (
+        b"0000  30 03 02 01 05   0....",
+        b"\x30\x03\x02\x01\x05",
+        None,
+    ),
+    (
+        b"00000000: 3003 0201 05  0....\n",
+        b"\x30\x03\x02\x01\x05",
+        None,
+    ),
     // The offset of the second row is not that after the first.
-    (b"00000000: 3003\n00000002: 0201\n00000005: 05\n", b"\x30\x03\x02\x01", Some(30)),
+    (
+        b"00000000: 3003\n00000002: 0201\n00000005: 05\n",
+        b"\x30\x03\x02\x01",
+        Some(30),
+    ),
     (b"no dump\n", b"", Some(8)),
     (b"3003 0201 05\n", b"", Some(0)),
     (b"", b"", Some(0)),
 ];
 
-fn expect_dump(
-    rt: &impl Abort,
-    alloc: Global,
-    text: &[u8],
-    octets: &[u8],
-    refused: Option<usize>,
-) {
+fn expect_dump(rt: &impl Abort, alloc: Global, text: &[u8], octets: &[u8], refused: Option<usize>) {
     match decode_dump(alloc, text) {
         Ok(decoded) => {
             expect_of(rt, text, decoded.octets.as_slice(), octets);

@@ -9,7 +9,12 @@ type TokenRow<'a> = (&'a [u8], bool, &'a [u8], Option<usize>);
 
 static TOKENS: [TokenRow<'static>; 10] = [
     (b"{0x30, 0x03,\n 0X2}", true, b"\x30\x03\x02", None),
-    (b"unsigned char a[2] = {0x30, 0x03}; int n = 2;", true, b"\x30\x03", None),
+    (
+        b"unsigned char a[2] = {0x30, 0x03}; int n = 2;",
+        true,
+        b"\x30\x03",
+        None,
+    ),
     (b"\"\\x30\\x03\" \"\\x02\"", true, b"\x30\x03\x02", None),
     (b"0x30 and 0x03", true, b"\x30", Some(5)),
     (b"0x3082, 0x01", false, b"\x01", None),
@@ -43,7 +48,10 @@ static NUMBERS: [NumberRow<'static>; 12] = [
     (b"[48, 130, -1]", Some(b"\x30\x82\xff")),
     (b"[]byte{48,130,}", Some(b"\x30\x82")),
     (b"new byte[]{48, -126}", Some(b"\x30\x82")),
-    (b"{\"type\":\"Buffer\",\"data\":[48,130,1]}", Some(b"\x30\x82\x01")),
+    (
+        b"{\"type\":\"Buffer\",\"data\":[48,130,1]}",
+        Some(b"\x30\x82\x01"),
+    ),
     (b"[-128, 255]", Some(b"\x80\xff")),
     (b"[256]", None),
     (b"[-129]", None),
@@ -73,7 +81,10 @@ type BodyRow<'a> = (&'a [u8], Option<&'a [u8]>);
 
 static BODIES: [BodyRow<'static>; 7] = [
     (b"\nMAA=\n", Some(b"\nMAA=\n")),
-    (b"\nProc-Type: 4,ENCRYPTED\nDEK-Info: AES-256-CBC,00\n\nMAA=\n", None),
+    (
+        b"\nProc-Type: 4,ENCRYPTED\nDEK-Info: AES-256-CBC,00\n\nMAA=\n",
+        None,
+    ),
     (b"\nVersion: x\n\nMAA=\n", Some(b"MAA=\n")),
     (b"\r\nVersion: x\r\n\r\nMAA=\r\n", Some(b"MAA=\r\n")),
     (b"\\nVersion: x\\n\\nMAA=\\n", Some(b"MAA=\\n")),
@@ -105,7 +116,10 @@ static RUNS: [RunRow<'static>; 5] = [
         b"jpeg:: AAAAAAAAAAAAAAAAAAAAAAAAAAAAAAAAAAAAAAAA==\nsn: x",
         Some((7, b"\nsn: x")),
     ),
-    (b"words of prose, of which none is long enough to be one", None),
+    (
+        b"words of prose, of which none is long enough to be one",
+        None,
+    ),
     (b"AAAAAAAAAAAAAAAAAAAA AAAAAAAAAAAAAAAAAAAAAAAAA", None),
     (b"", None),
 ];

@@ -66,12 +66,24 @@ fn pairs_are_decoded(rt: HostRuntime) -> Result<(), Fail> {
 #[test]
 fn base64_is_decoded(rt: HostRuntime) -> Result<(), Fail> {
     for row in STANDARD_TEXTS.as_slice() {
-        expect_row(&rt, row, &decode_base64(rt.alloc(), Alphabet::Standard, row.0)?);
+        expect_row(
+            &rt,
+            row,
+            &decode_base64(rt.alloc(), Alphabet::Standard, row.0)?,
+        );
     }
     let url_safe: Row<'static> = (b"-_-_", b"\xfb\xff\xbf", None);
-    expect_row(&rt, &url_safe, &decode_base64(rt.alloc(), Alphabet::UrlSafe, url_safe.0)?);
+    expect_row(
+        &rt,
+        &url_safe,
+        &decode_base64(rt.alloc(), Alphabet::UrlSafe, url_safe.0)?,
+    );
     let mixed: Row<'static> = (b"-_+/", b"", Some(2));
-    expect_row(&rt, &mixed, &decode_base64(rt.alloc(), Alphabet::UrlSafe, mixed.0)?);
+    expect_row(
+        &rt,
+        &mixed,
+        &decode_base64(rt.alloc(), Alphabet::UrlSafe, mixed.0)?,
+    );
     Ok(())
 }
 
