@@ -6,7 +6,7 @@ ghost use Rattle.tlv_head.specs.HeaderFields.{IsHeaderSized, new_header};
 ghost use Rattle.tlv_head.specs.ReadHeader.{BeginsWithFields};
 ghost use Rattle.tlv_head.specs.Refusal.{BeginsWithNoHeader};
 ghost use Rattle.tlv_open.specs.Held.{IsClearPrimitive};
-ghost use Rattle.tlv_open.specs.Private.Adds.{IsWholePrimitive};
+ghost use Rattle.tlv_open.specs.Private.Adds.{IsAllOfPrimitive};
 ghost use Rattle.tlv_open.specs.Private.Elements.{BeginsWithElement, BeginsWithElements, BeginsWithNoElement};
 ghost use Rattle.tlv_open.specs.Private.Elements.{BeginsWithNoElements, is_elements_end, place_at};
 
@@ -158,7 +158,7 @@ fn size_with(
 /// [`is_clear_at`], if that is asked.
 #[inline(always)]
 pub(crate) fn is_likely_if(likely: bool, octets: &[u8], offset: u64) -> bool
-    requires { IsWholePrimitive octets.now offset }
+    requires { IsAllOfPrimitive octets.now offset }
     ensures unasked { likely ≡ false → result ≡ true }
     ensures asked { likely ≡ true → (fields : HeaderFields) (count : ℕ)
         → BeginsWithFields octets.now offset false fields count
@@ -170,7 +170,7 @@ pub(crate) fn is_likely_if(likely: bool, octets: &[u8], offset: u64) -> bool
 /// Whether the primitive that these octets are, at this offset, is of the universal class, and BER finds nothing in it.
 #[inline(never)]
 fn is_clear_at(octets: &[u8], offset: u64) -> bool
-    requires { IsWholePrimitive octets.now offset }
+    requires { IsAllOfPrimitive octets.now offset }
     ensures { (fields : HeaderFields) (count : ℕ) → BeginsWithFields octets.now offset false fields count
         → IsTrue result ↔ IsClearPrimitive (new_header fields (take count octets.now)) (drop count octets.now) }
 {

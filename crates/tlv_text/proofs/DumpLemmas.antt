@@ -4,7 +4,7 @@ use Rattle.std.proofs.Common.{length, take, drop, slice_index, refl, arith, Some
 use Rattle.std.proofs.lemmas.Bool.{false_from_ne_true}
 use Rattle.std.proofs.Math.Nat.{mul-le-mul_left, pow-le-pow_right}
 use Rattle.memchr.specs.Find.{IsFirstByte, is_byte}
-use Rattle.tlv_text.specs.DumpLines.{lines_of, text_line}
+use Rattle.tlv_text.specs.DumpLines.{dump_lines, new_text_line}
 use Rattle.tlv_text.specs.Private.PairSteps.{pair_octets}
 
 -- ---- lines
@@ -13,26 +13,26 @@ abbrev NoLineFeed : List ℕ → ℕ → Type 0
 NoLineFeed text n = (k : ℕ) → k < n → (slice_index text k == 10) ≡ false
 
 line-up_to : (text : List ℕ) (n : ℕ) → n < length text → NoLineFeed text n → (slice_index text n == 10) ≡ true
-    → lines_of text ≡ text_line (take n text) (length text) ∷ lines_of (drop (suc n) text)
+    → dump_lines text ≡ new_text_line (take n text) (length text) ∷ dump_lines (drop (suc n) text)
 line-up_to [] n less none here = absurd (omega arith)
 line-up_to (x ∷ text) zero less none here = rw here refl
 line-up_to (x ∷ text) (suc n) less none here =
     rw (none 0 (omega arith), line-up_to text n (omega arith) (λ k lt. none (suc k) (omega arith)) here) refl
 
 line-last : (x : ℕ) (text : List ℕ) → NoLineFeed (x ∷ text) (length (x ∷ text))
-    → lines_of (x ∷ text) ≡ text_line (x ∷ text) (length (x ∷ text)) ∷ []
+    → dump_lines (x ∷ text) ≡ new_text_line (x ∷ text) (length (x ∷ text)) ∷ []
 line-last x [] none = rw (none 0 (omega arith)) refl
 line-last x (y ∷ text) none =
     rw (none 0 (omega arith), line-last y text (λ k lt. none (suc k) (omega arith))) refl
 
 pub line-found : (text : List ℕ) (n : ℕ) → IsFirstByte (is_byte 10) text (Some n)
-    → lines_of text ≡ text_line (take n text) (length text) ∷ lines_of (drop (suc n) text)
+    → dump_lines text ≡ new_text_line (take n text) (length text) ∷ dump_lines (drop (suc n) text)
 line-found text n f =
     line-up_to text n f.0.high
     (λ k lt. false_from_ne_true (slice_index text k == 10) (f.0.before k (omega arith) lt)) f.1
 
 pub line-alone : (text : List ℕ) → 0 < length text → IsFirstByte (is_byte 10) text None
-    → lines_of text ≡ text_line text (length text) ∷ []
+    → dump_lines text ≡ new_text_line text (length text) ∷ []
 line-alone [] some f = absurd (omega arith)
 line-alone (x ∷ text) some f =
     line-last x text (λ k lt. false_from_ne_true (slice_index (x ∷ text) k == 10) (f k (omega arith) lt))

@@ -2,35 +2,41 @@
 use Rattle.std.proofs.Common.{◌≡◌, ◌⊎◌, ℕ, zero, suc, ◌+◌, ◌*◌, ◌≤◌, ◌<◌, true, false, List, [], ◌++◌, length, refl}
 use Rattle.std.proofs.Common.{ap, sym, ◌∙◌, append_assoc, arith, inl, inr, subst}
 use Rattle.std.proofs.lemmas.List.{append-nil, length-append}
-use Rattle.tlv_text.specs.Dump.{dump_limit, repeated}
-use Rattle.tlv_text.specs.Private.DumpSteps.{Holds, IsAdded, IsAddedSoFar}
+use Rattle.tlv_text.specs.Dump.{dump_limit, octets_repeated}
+use Rattle.tlv_text.specs.Private.DumpSteps.{RowHolds, IsAdded}
 use Rattle.tlv_text.specs.declared.dump.output.Output.{Output}
 
-pub length-repeated : (n : ℕ) (octets : List ℕ) → length (repeated n octets) ≡ n * length octets
+-- octets are added of all, and the others remain
+pub record IsAddedSoFar (all others : List ℕ) (old new : Output) : Type 0 where
+  pub so_far : List ℕ
+  pub added : IsAdded so_far old new
+  pub are : all ≡ so_far ++ others
+
+pub length-repeated : (n : ℕ) (octets : List ℕ) → length (octets_repeated n octets) ≡ n * length octets
 length-repeated zero octets = omega arith
 length-repeated (suc n) octets =
-    omega (arith, length-append octets (repeated n octets), length-repeated n octets)
+    omega (arith, length-append octets (octets_repeated n octets), length-repeated n octets)
 
-repeated-suc : (n : ℕ) (octets : List ℕ) → repeated (suc n) octets ≡ repeated n octets ++ octets
+repeated-suc : (n : ℕ) (octets : List ℕ) → octets_repeated (suc n) octets ≡ octets_repeated n octets ++ octets
 repeated-suc zero octets = append-nil octets
 repeated-suc (suc n) octets =
     ap (λ (more : List ℕ). octets ++ more) (repeated-suc n octets)
-    ∙ sym (append_assoc octets (repeated n octets) octets)
+    ∙ sym (append_assoc octets (octets_repeated n octets) octets)
 
-pub repeated-more : (n : ℕ) (octets : List ℕ) → repeated (n + 1) octets ≡ repeated n octets ++ octets
+pub repeated-more : (n : ℕ) (octets : List ℕ) → octets_repeated (n + 1) octets ≡ octets_repeated n octets ++ octets
 repeated-more n octets =
     let e : n + 1 ≡ suc n = omega arith in
-    ap (λ (m : ℕ). repeated m octets) e ∙ repeated-suc n octets
+    ap (λ (m : ℕ). octets_repeated m octets) e ∙ repeated-suc n octets
 
-pub repeated-once : (octets : List ℕ) → repeated 1 octets ≡ octets
+pub repeated-once : (octets : List ℕ) → octets_repeated 1 octets ≡ octets
 repeated-once octets = append-nil octets
 
 -- ---- what an output holds
 
-nothing-more : (out : Output) (octets : List ℕ) → Holds out octets → Holds out (octets ++ [])
-nothing-more out octets h = subst (Holds out) (sym (append-nil octets)) h
+nothing-more : (out : Output) (octets : List ℕ) → RowHolds out octets → RowHolds out (octets ++ [])
+nothing-more out octets h = subst (RowHolds out) (sym (append-nil octets)) h
 
-over-more : (out : Output) (more octets : List ℕ) → out.over ≡ true → Holds out octets → Holds out (octets ++ more)
+over-more : (out : Output) (more octets : List ℕ) → out.over ≡ true → RowHolds out octets → RowHolds out (octets ++ more)
 over-more out more octets e h =
     let many : dump_limit < length octets = h.too_many e in
     record {
@@ -39,38 +45,38 @@ over-more out more octets e h =
       too_many = λ w. omega (arith, many, length-append octets more);
     }
 
-pub stays : (out : Output) (n : ℕ) (row : List ℕ) → (out.over ≡ true) ⊎ (n ≡ 0) → IsAdded (repeated n row) out out
-stays out n row (inl e) octets h = over-more out (repeated n row) octets e h
+pub stays : (out : Output) (n : ℕ) (row : List ℕ) → (out.over ≡ true) ⊎ (n ≡ 0) → IsAdded (octets_repeated n row) out out
+stays out n row (inl e) octets h = over-more out (octets_repeated n row) octets e h
 stays out n row (inr e) octets h =
-    subst (λ (m : ℕ). Holds out (octets ++ repeated m row)) (sym e) (nothing-more out octets h)
+    subst (λ (m : ℕ). RowHolds out (octets ++ octets_repeated m row)) (sym e) (nothing-more out octets h)
 
 pub becomes-over : (old new : Output) (n : ℕ) (row : List ℕ) → old.over ≡ false → new.over ≡ true
-    → (length old.octets.items + n * length row ≤ dump_limit → ⊥) → IsAdded (repeated n row) old new
+    → (length old.octets.items + n * length row ≤ dump_limit → ⊥) → IsAdded (octets_repeated n row) old new
 becomes-over old new n row e over many octets h =
     let same : old.octets.items ≡ octets = h.are e in
     let size : length old.octets.items ≡ length octets = ap length same in
     record {
       are = λ w. cc (sym over ∙ w);
       fit = λ w. cc (sym over ∙ w);
-      too_many = λ w. omega (arith, many, size, length-append octets (repeated n row), length-repeated n row);
+      too_many = λ w. omega (arith, many, size, length-append octets (octets_repeated n row), length-repeated n row);
     }
 
 pub is-added : (old new : Output) (n : ℕ) (row : List ℕ) → old.over ≡ false → new.over ≡ false
-    → new.octets.items ≡ old.octets.items ++ repeated n row → length old.octets.items + n * length row ≤ dump_limit
-    → IsAdded (repeated n row) old new
+    → new.octets.items ≡ old.octets.items ++ octets_repeated n row → length old.octets.items + n * length row ≤ dump_limit
+    → IsAdded (octets_repeated n row) old new
 is-added old new n row e within added few octets h =
     let same : old.octets.items ≡ octets = h.are e in
     let size : length old.octets.items ≡ length octets = ap length same in
     record {
-      are = λ w. added ∙ ap (λ (before : List ℕ). before ++ repeated n row) same;
-      fit = λ w. omega (arith, few, size, length-append octets (repeated n row), length-repeated n row);
+      are = λ w. added ∙ ap (λ (before : List ℕ). before ++ octets_repeated n row) same;
+      fit = λ w. omega (arith, few, size, length-append octets (octets_repeated n row), length-repeated n row);
       too_many = λ w. cc (sym within ∙ w);
     }
 
 -- ---- one after another
 
 pub added-both : (a b : List ℕ) (x y z : Output) → IsAdded a x y → IsAdded b y z → IsAdded (a ++ b) x z
-added-both a b x y z p q octets h = subst (Holds z) (append_assoc octets a b) (q (octets ++ a) (p octets h))
+added-both a b x y z p q octets h = subst (RowHolds z) (append_assoc octets a b) (q (octets ++ a) (p octets h))
 
 pub added-more : (all others more rest : List ℕ) (x y z : Output) → IsAddedSoFar all others x y → IsAdded more y z
     → others ≡ more ++ rest → IsAddedSoFar all rest x z
@@ -90,10 +96,10 @@ pub none-added : (all : List ℕ) (x : Output) → IsAddedSoFar all all x x
 none-added all x = record { so_far = []; added = λ octets h. nothing-more x octets h; are = refl }
 
 -- an output and a row after those that were added
-pub row-more : (old before after : List ℕ) (n : ℕ) (row : List ℕ) → before ≡ old ++ repeated n row
-    → after ≡ before ++ row → after ≡ old ++ repeated (n + 1) row
+pub row-more : (old before after : List ℕ) (n : ℕ) (row : List ℕ) → before ≡ old ++ octets_repeated n row
+    → after ≡ before ++ row → after ≡ old ++ octets_repeated (n + 1) row
 row-more old before after n row i pushed =
     pushed
     ∙ ap (λ (t : List ℕ). t ++ row) i
-    ∙ append_assoc old (repeated n row) row
+    ∙ append_assoc old (octets_repeated n row) row
     ∙ ap (λ (t : List ℕ). old ++ t) (sym (repeated-more n row))

@@ -9,8 +9,8 @@ use Rattle.hex.specs.Hex.{is_hex_digit}
 use Rattle.tlv_text.proofs.DumpLemmas.{pair_octets-length}
 use Rattle.tlv_text.proofs.PairLemmas.{pair_octets-more}
 use Rattle.tlv_text.proofs.Slices.{after-two, slice_from}
-use Rattle.tlv_text.specs.Dump.{after_gap, before_pairs, begins_pair, first_octet, has_more_pairs, octets_if}
-use Rattle.tlv_text.specs.Dump.{pairs_after, repeated, row_fits, row_octets}
+use Rattle.tlv_text.specs.Dump.{after_gap, before_pairs, begins_pair, leading_octet, has_more_pairs, octets_if}
+use Rattle.tlv_text.specs.Dump.{pairs_after, octets_repeated, row_fits, dump_row_octets}
 use Rattle.tlv_text.specs.Pairs.{pair_octet}
 use Rattle.tlv_text.specs.Private.PairSteps.{AreWholePairs, pair_octets}
 use Rattle.tlv_text.specs.TextRead.{TextRead, nothing_read, octets_then}
@@ -18,7 +18,7 @@ use Rattle.tlv_text.specs.TextRead.{TextRead, nothing_read, octets_then}
 -- what is read of a text by what follows its gap
 abbrev with_next : ℕ → ℕ → List ℕ → List ℕ → TextRead
 with_next n gap text next =
-    if begins_pair next then octets_then (first_octet next ∷ []) (pairs_after n gap (drop 2 next))
+    if begins_pair next then octets_then (leading_octet next ∷ []) (pairs_after n gap (drop 2 next))
     else nothing_read text
 
 next-pair : (n gap : ℕ) (text next : List ℕ) → 2 ≤ length next → is_hex_digit (slice_index next 0) ≡ true
@@ -129,7 +129,7 @@ row-read size text rest digits few read last =
 pub row-octets : (size : ℕ) (line text rest octets : List ℕ) (fits : Bool) → text ≡ before_pairs line
     → begins_pair text ≡ true → pairs_after size 2 text ≡ record { octets = octets; rest = rest }
     → fits ≡ not ((length octets == size) && has_more_pairs rest)
-    → octets_if fits octets ≡ row_octets size line
+    → octets_if fits octets ≡ dump_row_octets size line
 row-octets size line text rest octets fits e begins read f =
     let one : octets_if fits octets ≡ octets_if (row_fits size text (record { octets = octets; rest = rest })) octets =
     rw (begins, f) refl in
@@ -144,7 +144,7 @@ pub some-read : (left n : ℕ) (text rest digits : List ℕ)
     → pairs_after left 1 text
     ≡ octets_then (pair_octets digits) (pairs_after (left - length (pair_octets digits)) 1 rest)
     → n ≡ length digits
-    → (pairs_after left 1 text).octets ≡ repeated 1 (pair_octets digits) ++ (pairs_after (left - n / 2) 1 rest).octets
+    → (pairs_after left 1 text).octets ≡ octets_repeated 1 (pair_octets digits) ++ (pairs_after (left - n / 2) 1 rest).octets
 some-read left n text rest digits read e =
     let size : length (pair_octets digits) ≡ n / 2 = pair_octets-length digits ∙ ap (λ (m : ℕ). m / 2) (sym e) in
     ap (λ (r : TextRead). r.octets) read

@@ -1,7 +1,7 @@
 -- Dumps of some tools, and the octets that are read from them.
 use Rattle.std.proofs.Common.{◌≡◌, ℕ, List, [], ◌∷◌, ◌++◌, refl, Some, None}
 use Rattle.std.specs.Prelude.{codes}
-use Rattle.tlv_text.specs.Dump.{DumpRead, dump_read, refused_in, refused_with, repeated}
+use Rattle.tlv_text.specs.Dump.{DumpRead, dump_read, refused_in, refused_with, octets_repeated}
 
 -- 16 octets, and two more
 octets : List ℕ
@@ -47,7 +47,7 @@ both-row : dump_read (
     codes "0000000 00 00 00 00 00 00 00 00 00 00 00 00 00 00 00 00\n*\n"
     ++ codes "0000020 30 31\n0000022\n"
     )
-    ≡ whole (repeated 32 (0 ∷ []) ++ more)
+    ≡ whole (octets_repeated 32 (0 ∷ []) ++ more)
 unfolding more whole
 both-row = refl
 

@@ -4,10 +4,10 @@ use Rattle.std.proofs.Common.{◌∙◌, append_assoc, arith, subst, Option, Som
 use Rattle.std.proofs.lemmas.Bool.{eq-eqb, ne_eqb}
 use Rattle.std.proofs.lemmas.List.{append-nil}
 use Rattle.tlv_text.proofs.DumpOutputLemmas.{added-both}
-use Rattle.tlv_text.specs.Dump.{DumpRead, Place, Step, first_then, place_after, place_at, refused_with, rows_read}
-use Rattle.tlv_text.specs.Dump.{step, step_then, times_before, times_in}
-use Rattle.tlv_text.specs.DumpLines.{LineKind, TextLine, line_kind, text_line}
-use Rattle.tlv_text.specs.Private.DumpSteps.{IsAdded, IsReadSoFar, IsFirst, IsTaken, Holds, Reads, place_of}
+use Rattle.tlv_text.specs.Dump.{DumpRead, DumpPlace, Step, first_then, dump_place_after, dump_place_at, refused_with, rows_read}
+use Rattle.tlv_text.specs.Dump.{dump_line_step, dump_step_then, times_before, times_in}
+use Rattle.tlv_text.specs.DumpLines.{LineKind, TextLine, line_kind, new_text_line}
+use Rattle.tlv_text.specs.Private.DumpSteps.{IsAdded, IsFirstRow, IsTaken, RowHolds, Reads, dump_place_of}
 use Rattle.tlv_text.specs.Private.PairSteps.{pair_octets}
 use Rattle.tlv_text.specs.declared.dump.Reading.{Reading}
 use Rattle.tlv_text.specs.declared.dump.lines.Radix.{Radix}
@@ -15,35 +15,42 @@ use Rattle.tlv_text.specs.declared.dump.output.Output.{Output}
 use Rattle.tlv_text.specs.declared.dump.rows.LastRow.{LastRow}
 use Rattle.tlv_text.specs.declared.dump.rows.Phase.{Phase}
 
+-- octets are added of what is read, and the others remain
+pub record IsDumpReadSoFar (all others : DumpRead) (old new : Output) : Type 0 where
+  pub so_far : List ℕ
+  pub added : IsAdded so_far old new
+  pub are : all.octets ≡ so_far ++ others.octets
+  pub left : all.left ≡ others.left
+
 -- a row comes at the offset that follows
-at-next : (size offset more : ℕ) (place : Place) → place.offset ≤ offset → more ≡ offset - place.offset
+at-next : (size offset more : ℕ) (place : DumpPlace) → place.offset ≤ offset → more ≡ offset - place.offset
     → more ≡ length place.octets → times_in size Phase.Row place offset ≡ Some 0
 at-next size offset more place le m same =
     rw (eq-eqb offset (place.offset + length place.octets) (omega arith)) refl
 
-not-at_next : (size offset more : ℕ) (place : Place) → place.offset ≤ offset → more ≡ offset - place.offset
+not-at_next : (size offset more : ℕ) (place : DumpPlace) → place.offset ≤ offset → more ≡ offset - place.offset
     → (more ≡ length place.octets → ⊥) → times_in size Phase.Row place offset ≡ None
 not-at_next size offset more place le m other =
     rw (ne_eqb offset (place.offset + length place.octets) (λ e. other (omega arith))) refl
 
-pub row-at_next : (size offset more : ℕ) (place : Place) → place.phase ≡ Phase.Row → place.offset ≤ offset
+pub row-at_next : (size offset more : ℕ) (place : DumpPlace) → place.phase ≡ Phase.Row → place.offset ≤ offset
     → more ≡ offset - place.offset → more ≡ length place.octets → Some 0 ≡ times_before size place offset
 row-at_next size offset more place e le m same =
     sym (ap (λ (p : Phase). times_in size p place offset) e ∙ at-next size offset more place le m same)
 
-pub row-not_next : (size offset more : ℕ) (place : Place) → place.phase ≡ Phase.Row → place.offset ≤ offset
+pub row-not_next : (size offset more : ℕ) (place : DumpPlace) → place.phase ≡ Phase.Row → place.offset ≤ offset
     → more ≡ offset - place.offset → (more ≡ length place.octets → ⊥) → None ≡ times_before size place offset
 row-not_next size offset more place e le m other =
     sym (ap (λ (p : Phase). times_in size p place offset) e ∙ not-at_next size offset more place le m other)
 
 -- ---- a line after the first row
 
-line-read : (radix : Radix) (size left : ℕ) (place : Place) (line : List ℕ) (lines : List TextLine)
-    (found : Option Step) → found ≡ step size place left (line_kind radix line)
-    → rows_read radix size place (text_line line left ∷ lines)
-    ≡ step_then found left (rows_read radix size (place_after found place) lines)
+line-read : (radix : Radix) (size left : ℕ) (place : DumpPlace) (line : List ℕ) (lines : List TextLine)
+    (found : Option Step) → found ≡ dump_line_step size place left (line_kind radix line)
+    → rows_read radix size place (new_text_line line left ∷ lines)
+    ≡ dump_step_then found left (rows_read radix size (dump_place_after found place) lines)
 line-read radix size left place line lines found e =
-    ap (λ (n : Option Step). step_then n left (rows_read radix size (place_after n place) lines)) (sym e)
+    ap (λ (n : Option Step). dump_step_then n left (rows_read radix size (dump_place_after n place) lines)) (sym e)
 
 -- a line that is not taken
 pub not-taken : (found : Option Step) (fits : Bool) (row : LastRow) (old new : Output) → fits ≡ false
@@ -55,20 +62,20 @@ not-taken None false row old new e t = (refl, t)
 
 pub line-refused : (all more : DumpRead) (radix : Radix) (size left : ℕ) (last row : LastRow) (line : List ℕ)
     (kind : LineKind) (lines : List TextLine) (fits : Bool) (x y z : Output)
-    → IsReadSoFar all more x y → more ≡ rows_read radix size (place_of last) (text_line line left ∷ lines)
+    → IsDumpReadSoFar all more x y → more ≡ rows_read radix size (dump_place_of last) (new_text_line line left ∷ lines)
     → kind ≡ line_kind radix line → fits ≡ false
-    → IsTaken (step size (place_of last) left kind) fits row y z → IsReadSoFar all (refused_with left) x z
+    → IsTaken (dump_line_step size (dump_place_of last) left kind) fits row y z → IsDumpReadSoFar all (refused_with left) x z
 line-refused all more radix size left last row line kind lines fits x y z i e k f t =
-    let n = not-taken (step size (place_of last) left kind) fits row y z f t in
-    let found : None ≡ step size (place_of last) left (line_kind radix line) =
-    sym n.0 ∙ ap (step size (place_of last) left) k in
-    let same : more ≡ refused_with left = e ∙ line-read radix size left (place_of last) line lines None found in
-    subst (λ (out : Output). IsReadSoFar all (refused_with left) x out) n.1
-    (subst (λ (r : DumpRead). IsReadSoFar all r x y) same i)
+    let n = not-taken (dump_line_step size (dump_place_of last) left kind) fits row y z f t in
+    let found : None ≡ dump_line_step size (dump_place_of last) left (line_kind radix line) =
+    sym n.0 ∙ ap (dump_line_step size (dump_place_of last) left) k in
+    let same : more ≡ refused_with left = e ∙ line-read radix size left (dump_place_of last) line lines None found in
+    subst (λ (out : Output). IsDumpReadSoFar all (refused_with left) x out) n.1
+    (subst (λ (r : DumpRead). IsDumpReadSoFar all r x y) same i)
 
 pub is-taken : (found : Option Step) (fits : Bool) (row : LastRow) (old new : Output) → fits ≡ true
     → IsTaken found fits row old new
-    → (s : Step) × (found ≡ Some s) × (place_of row ≡ s.place) × IsAdded s.octets old new
+    → (s : Step) × (found ≡ Some s) × (dump_place_of row ≡ s.place) × IsAdded s.octets old new
 is-taken (Some s) true row old new e t = (s, refl, t.0, t.1)
 is-taken (Some s) false row old new e t = absurd t
 is-taken None true row old new e t = absurd t
@@ -76,19 +83,19 @@ is-taken None false row old new e t = cc e
 
 pub line-taken : (all more : DumpRead) (radix : Radix) (size left : ℕ) (last row : LastRow) (line : List ℕ)
     (kind : LineKind) (lines : List TextLine) (fits : Bool) (x y z : Output)
-    → IsReadSoFar all more x y → more ≡ rows_read radix size (place_of last) (text_line line left ∷ lines)
+    → IsDumpReadSoFar all more x y → more ≡ rows_read radix size (dump_place_of last) (new_text_line line left ∷ lines)
     → kind ≡ line_kind radix line → fits ≡ true
-    → IsTaken (step size (place_of last) left kind) fits row y z
-    → IsReadSoFar all (rows_read radix size (place_of row) lines) x z
+    → IsTaken (dump_line_step size (dump_place_of last) left kind) fits row y z
+    → IsDumpReadSoFar all (rows_read radix size (dump_place_of row) lines) x z
 line-taken all more radix size left last row line kind lines fits x y z i e k f t =
-    let n = is-taken (step size (place_of last) left kind) fits row y z f t in
+    let n = is-taken (dump_line_step size (dump_place_of last) left kind) fits row y z f t in
     let s : Step = n.0 in
-    let found : Some s ≡ step size (place_of last) left (line_kind radix line) =
-    sym n.1 ∙ ap (step size (place_of last) left) k in
-    let rest : DumpRead = rows_read radix size (place_of row) lines in
-    let same : more ≡ step_then (Some s) left rest =
-    e ∙ line-read radix size left (place_of last) line lines (Some s) found
-    ∙ ap (λ (p : Place). step_then (Some s) left (rows_read radix size p lines)) (sym n.2) in
+    let found : Some s ≡ dump_line_step size (dump_place_of last) left (line_kind radix line) =
+    sym n.1 ∙ ap (dump_line_step size (dump_place_of last) left) k in
+    let rest : DumpRead = rows_read radix size (dump_place_of row) lines in
+    let same : more ≡ dump_step_then (Some s) left rest =
+    e ∙ line-read radix size left (dump_place_of last) line lines (Some s) found
+    ∙ ap (λ (p : DumpPlace). dump_step_then (Some s) left (rows_read radix size p lines)) (sym n.2) in
     record {
       so_far = i.so_far ++ s.octets;
       added = added-both i.so_far s.octets x y z i.added n.3;
@@ -97,7 +104,7 @@ line-taken all more radix size left last row line kind lines fits x y z i e k f 
     }
 
 -- what is read of all lines
-pub all-read : (all more : DumpRead) (x y : Output) → IsReadSoFar all more x y → more.octets ≡ []
+pub all-read : (all more : DumpRead) (x y : Output) → IsDumpReadSoFar all more x y → more.octets ≡ []
     → IsAdded all.octets x y
 all-read all more x y i none =
     let are : all.octets ≡ i.so_far =
@@ -107,7 +114,7 @@ all-read all more x y i none =
 -- ---- the first row
 
 pub first-refused : (first : Option (List ℕ)) (fits : Bool) (x y : Output) (left : ℕ) (more : DumpRead)
-    (reading : Reading) → fits ≡ false → IsFirst first fits x y → Reads (refused_with left) reading
+    (reading : Reading) → fits ≡ false → IsFirstRow first fits x y → Reads (refused_with left) reading
     → Reads (first_then first left more) reading
 first-refused (Some octets) true x y left more reading e t r = cc e
 first-refused (Some octets) false x y left more reading e t r = absurd t
@@ -115,7 +122,7 @@ first-refused None true x y left more reading e t r = absurd t
 first-refused None false x y left more reading e t r = r
 
 pub first-read : (first : Option (List ℕ)) (fits : Bool) (x y : Output) (left : ℕ) (more : DumpRead)
-    (reading : Reading) → fits ≡ true → IsFirst first fits x y → Holds x [] → IsAdded more.octets y reading.output
+    (reading : Reading) → fits ≡ true → IsFirstRow first fits x y → RowHolds x [] → IsAdded more.octets y reading.output
     → reading.left ≡ more.left → Reads (first_then first left more) reading
 first-read (Some octets) true x y left more reading e t h a l =
     record { output = a octets (t [] h); left = l }
@@ -125,5 +132,5 @@ first-read None false x y left more reading e t h a l = cc e
 
 -- the place of a row without digits
 pub place-of_none : (phase : Phase) (offset : ℕ) (digits : List ℕ) → digits ≡ []
-    → place_at phase offset (pair_octets digits) ≡ place_at phase offset []
-place-of_none phase offset digits e = ap (λ (d : List ℕ). place_at phase offset (pair_octets d)) e
+    → dump_place_at phase offset (pair_octets digits) ≡ dump_place_at phase offset []
+place-of_none phase offset digits e = ap (λ (d : List ℕ). dump_place_at phase offset (pair_octets d)) e

@@ -3,7 +3,7 @@ use Rattle.std.proofs.Common.{◌≡◌, ℕ, zero, suc, ◌≤◌, List, [], �
 use Rattle.std.proofs.Common.{append_assoc, arith, Option, Some, None}
 use Rattle.std.specs.Prelude.{option_map}
 use Rattle.tlv_text.proofs.Slices.{from-on, slice_from}
-use Rattle.tlv_text.specs.Numbers.{inside_after, items_read, place_after, step_at, step_then}
+use Rattle.tlv_text.specs.Numbers.{in_list_after, items_read, list_place_after, step_at, list_step_then}
 use Rattle.tlv_text.specs.declared.numbers.Number.{Number}
 use Rattle.tlv_text.specs.declared.numbers.Place.{Place}
 use Rattle.tlv_text.specs.declared.numbers.Place.TheVariants.{AfterNumber}
@@ -15,7 +15,7 @@ abbrev pub octets_before : List ℕ → Option (List ℕ) → Option (List ℕ)
 octets_before front more = option_map (λ (octets : List ℕ). front ++ octets) more
 
 one-more : (front : List ℕ) (n : Number) (more : Option (List ℕ))
-    → octets_before front (step_then (Reads n) more) ≡ octets_before (front ++ n.octet ∷ []) more
+    → octets_before front (list_step_then (Reads n) more) ≡ octets_before (front ++ n.octet ∷ []) more
 one-more front n None = refl
 one-more front n (Some octets) = ap Some (sym (append_assoc front (n.octet ∷ []) octets))
 
@@ -32,13 +32,13 @@ after-one x text = from-on 1 (x ∷ text)
 -- a step, and what is read after it
 step-first : (close : ℕ) (place : Place) (text : List ℕ) (step : Step) → 1 ≤ length text
     → step ≡ step_at close place text
-    → items_read close 0 place text ≡ step_then step
-    (items_read close 0 (place_after step) (drop (inside_after step) (slice_from 1 text)))
+    → items_read close 0 place text ≡ list_step_then step
+    (items_read close 0 (list_place_after step) (drop (in_list_after step) (slice_from 1 text)))
 step-first close place [] step one e = absurd (omega arith)
 step-first close place (x ∷ text) step one e =
-    ap (λ (s : Step). step_then s (items_read close (inside_after s) (place_after s) text)) (sym e)
-    ∙ ap (step_then step) (inside-skipped close (inside_after step) (place_after step) text
-    ∙ ap (λ (rest : List ℕ). items_read close 0 (place_after step) (drop (inside_after step) rest))
+    ap (λ (s : Step). list_step_then s (items_read close (in_list_after s) (list_place_after s) text)) (sym e)
+    ∙ ap (list_step_then step) (inside-skipped close (in_list_after step) (list_place_after step) text
+    ∙ ap (λ (rest : List ℕ). items_read close 0 (list_place_after step) (drop (in_list_after step) rest))
     (sym (after-one x text)))
 
 -- a number is read after others

@@ -7,7 +7,7 @@ use Rattle.std.proofs.lemmas.Bool.{and_parts, cases_order, eqb-true}
 use Rattle.std.proofs.lemmas.List.{drop-drop, drop_all, length-drop, length-take-le, take-append-drop}
 use Rattle.tlv_text.proofs.Slices.{from-on, slice_from}
 use Rattle.tlv_text.specs.Base64.{is_symbol}
-use Rattle.tlv_text.specs.Runs.{HasNoRun, IsAfterNoSymbol, IsFirstRun, Stretch, break_size, is_blank, padding_size}
+use Rattle.tlv_text.specs.Runs.{HasNoRun, IsAfterNoSymbol, IsFirstRun, Stretch, break_size, is_run_blank, padding_size}
 use Rattle.tlv_text.specs.Runs.{stretch_after, stretch_of, symbol_before, up_to_symbol}
 use Rattle.tlv_text.specs.declared.base64_text.Alphabet.TheVariants.{Standard}
 
@@ -73,11 +73,11 @@ up_to-clear : (n : ℕ) (text : List ℕ) (k : ℕ) → n + k < up_to_symbol n t
     → is_symbol Standard (slice_index text k) ≡ false
 up_to-clear n [] k less = absurd (omega arith)
 up_to-clear n (x ∷ text) k less =
-    cases (is_symbol Standard x) (is_blank x) k (λ j. up_to-clear (1 + n) text j) refl refl less
+    cases (is_symbol Standard x) (is_run_blank x) k (λ j. up_to-clear (1 + n) text j) refl refl less
   where
     cases : (s b : Bool) (k : ℕ)
         → ((j : ℕ) → 1 + n + j < up_to_symbol (1 + n) text → is_symbol Standard (slice_index text j) ≡ false)
-        → is_symbol Standard x ≡ s → is_blank x ≡ b
+        → is_symbol Standard x ≡ s → is_run_blank x ≡ b
         → n + k < (if s then n else (if b then up_to_symbol (1 + n) text else 0))
         → is_symbol Standard (slice_index (x ∷ text) k) ≡ false
     cases true b k further e f less = absurd (omega arith)

@@ -14,8 +14,8 @@ use Rattle.std.specs.Prelude.{nat_lt, if◌then◌else◌, List, [], ◌∷◌, 
 use Rattle.std.specs.Prelude.{option_map}
 use Rattle.std.specs.List.{list_all}
 use Rattle.hex.specs.Hex.{is_hex_digit}
-use Rattle.tlv_text.specs.DumpLines.{LineKind, RowRead, TextLine, after_blanks, begins_colon, is_blank, line_kind}
-use Rattle.tlv_text.specs.DumpLines.{lines_of}
+use Rattle.tlv_text.specs.DumpLines.{LineKind, RowRead, TextLine, after_blanks, begins_colon, is_dump_blank, line_kind}
+use Rattle.tlv_text.specs.DumpLines.{dump_lines}
 use Rattle.tlv_text.specs.Pairs.{pair_octet}
 use Rattle.tlv_text.specs.TextRead.{TextRead, nothing_read, octets_then}
 use Rattle.tlv_text.specs.declared.dump.lines.Radix.{Radix}
@@ -37,7 +37,7 @@ before_pairs rest = after_blanks (after_one 45 (after_one 58 (after_blanks rest)
 abbrev pub after_few : ℕ → List ℕ → List ℕ
 after_few zero text = text
 after_few (suc n) [] = []
-after_few (suc n) (x ∷ text) = if is_blank x then after_few n text else x ∷ text
+after_few (suc n) (x ∷ text) = if is_dump_blank x then after_few n text else x ∷ text
 
 -- after what may be between two pairs: a hyphen, or so many blanks at most
 abbrev pub after_gap : ℕ → List ℕ → List ℕ
@@ -49,22 +49,22 @@ begins_pair (x ∷ y ∷ text) = is_hex_digit x && is_hex_digit y
 begins_pair text = false
 
 -- the octet of the pair with which a text begins
-abbrev pub first_octet : List ℕ → ℕ
-first_octet (x ∷ y ∷ text) = pair_octet x y
-first_octet text = 0
+abbrev pub leading_octet : List ℕ → ℕ
+leading_octet (x ∷ y ∷ text) = pair_octet x y
+leading_octet text = 0
 
 -- the octets of so many pairs at most, each after a gap, and the rest after the last of them
 abbrev pub pairs_after : ℕ → ℕ → List ℕ → TextRead
 pairs_after zero gap text = nothing_read text
 pairs_after (suc n) gap text =
     let next : List ℕ = after_gap gap text in
-    if begins_pair next then octets_then (first_octet next ∷ []) (pairs_after n gap (drop 2 next))
+    if begins_pair next then octets_then (leading_octet next ∷ []) (pairs_after n gap (drop 2 next))
     else nothing_read text
 
 -- a blank or the end of the line comes first
 abbrev pub begins_blank : List ℕ → Bool
 begins_blank [] = true
-begins_blank (x ∷ text) = is_blank x
+begins_blank (x ∷ text) = is_dump_blank x
 
 -- a pair that a blank or the end follows comes first
 abbrev pub begins_lone_pair : List ℕ → Bool
@@ -82,15 +82,15 @@ abbrev pub octets_if : Bool → List ℕ → Option (List ℕ)
 octets_if fits octets = if fits then Some octets else None
 
 -- the octets of a row among others, if it fits; a row has so many octets, and the last may have fewer
-abbrev pub row_octets : ℕ → List ℕ → Option (List ℕ)
-row_octets size rest =
+abbrev pub dump_row_octets : ℕ → List ℕ → Option (List ℕ)
+dump_row_octets size rest =
     let text : List ℕ = before_pairs rest in
     let read : TextRead = pairs_after size 2 text in
     octets_if (row_fits size text read) read.octets
 
 -- the octets of a row that is alone: its offset is 0 or a colon follows it, and it has one pair or more
-abbrev pub single_octets : RowRead → Option (List ℕ)
-single_octets r =
+abbrev pub single_row_octets : RowRead → Option (List ℕ)
+single_row_octets r =
     let text : List ℕ = before_pairs r.rest in
     octets_if (((r.offset == 0) || begins_colon r.rest) && begins_pair text)
     (pairs_after (length text) 1 text).octets
@@ -105,13 +105,13 @@ pub record DumpRead : Type 0 where
 abbrev pub refused_with : ℕ → DumpRead
 refused_with left = record { octets = []; left = Some left }
 
-abbrev pub repeated : ℕ → List ℕ → List ℕ
-repeated zero octets = []
-repeated (suc n) octets = octets ++ repeated n octets
+abbrev pub octets_repeated : ℕ → List ℕ → List ℕ
+octets_repeated zero octets = []
+octets_repeated (suc n) octets = octets ++ octets_repeated n octets
 
 -- where the reading is: the offset of the last row and its octets, and whether it is that row, a repeat with so many
 -- characters from it on, or the end that came last
-pub record Place : Type 0 where
+pub record DumpPlace : Type 0 where
   pub phase : Phase
   pub offset : ℕ
   pub octets : List ℕ
@@ -119,14 +119,14 @@ pub record Place : Type 0 where
 -- a step reads octets and leads to a place
 pub record Step : Type 0 where
   pub octets : List ℕ
-  pub place : Place
+  pub place : DumpPlace
 
 -- as many octets as a row has
-abbrev pub is_full : ℕ → Place → Bool
+abbrev pub is_full : ℕ → DumpPlace → Bool
 is_full size place = length place.octets == size
 
 -- how many times the row before is repeated in front of a row with this offset; none if it does not fit
-abbrev pub times_in : ℕ → Phase → Place → ℕ → Option ℕ
+abbrev pub times_in : ℕ → Phase → DumpPlace → ℕ → Option ℕ
 times_in size Phase.Row place offset =
     if offset == place.offset + length place.octets then Some 0 else None
 times_in size (Phase.Repeat left) place offset =
@@ -135,7 +135,7 @@ times_in size (Phase.Repeat left) place offset =
     else None
 times_in size Phase.End place offset = None
 
-abbrev pub times_before : ℕ → Place → ℕ → Option ℕ
+abbrev pub times_before : ℕ → DumpPlace → ℕ → Option ℕ
 times_before size place offset = times_in size place.phase place offset
 
 abbrev pub at_row : Phase → Bool
@@ -149,30 +149,30 @@ with_row before offset (Some octets) =
     Some (record { octets = before ++ octets; place = record { phase = Phase.Row; offset = offset; octets = octets } })
 
 -- a row: an end row, or one with pairs after one that has as many as a row has
-abbrev pub row_step : ℕ → Place → RowRead → Option ℕ → Option Step
-row_step size place r None = None
-row_step size place r (Some times) =
-    let before : List ℕ = repeated times place.octets in
-    if list_all is_blank r.rest then Some (record { octets = before; place = record place { phase = Phase.End } })
-    else (if is_full size place then with_row before r.offset (row_octets size r.rest) else None)
+abbrev pub dump_row_step : ℕ → DumpPlace → RowRead → Option ℕ → Option Step
+dump_row_step size place r None = None
+dump_row_step size place r (Some times) =
+    let before : List ℕ = octets_repeated times place.octets in
+    if list_all is_dump_blank r.rest then Some (record { octets = before; place = record place { phase = Phase.End } })
+    else (if is_full size place then with_row before r.offset (dump_row_octets size r.rest) else None)
 
 -- what a line adds at a place, if it fits there; `left` is how many characters there are from it on
-abbrev pub step : ℕ → Place → ℕ → LineKind → Option Step
-step size place left LineKind.blank = Some (record { octets = []; place = place })
-step size place left LineKind.repeat =
+abbrev pub dump_line_step : ℕ → DumpPlace → ℕ → LineKind → Option Step
+dump_line_step size place left LineKind.blank = Some (record { octets = []; place = place })
+dump_line_step size place left LineKind.repeat =
     if at_row place.phase && is_full size place then
     Some (record { octets = []; place = record place { phase = Phase.Repeat left } })
     else None
-step size place left (LineKind.row r) = row_step size place r (times_before size place r.offset)
-step size place left LineKind.other = None
+dump_line_step size place left (LineKind.row r) = dump_row_step size place r (times_before size place r.offset)
+dump_line_step size place left LineKind.other = None
 
-abbrev pub place_after : Option Step → Place → Place
-place_after (Some s) place = s.place
-place_after None place = place
+abbrev pub dump_place_after : Option Step → DumpPlace → DumpPlace
+dump_place_after (Some s) place = s.place
+dump_place_after None place = place
 
-abbrev pub step_then : Option Step → ℕ → DumpRead → DumpRead
-step_then (Some s) left more = record more { octets = s.octets ++ more.octets }
-step_then None left more = refused_with left
+abbrev pub dump_step_then : Option Step → ℕ → DumpRead → DumpRead
+dump_step_then (Some s) left more = record more { octets = s.octets ++ more.octets }
+dump_step_then None left more = refused_with left
 
 -- a repeat after which no row comes does not fit
 abbrev pub left_in : Phase → Option ℕ
@@ -181,11 +181,11 @@ left_in (Phase.Repeat left) = Some left
 left_in Phase.End = None
 
 -- what is read of the lines after the first row, up to the first that does not fit
-abbrev pub rows_read : Radix → ℕ → Place → List TextLine → DumpRead
+abbrev pub rows_read : Radix → ℕ → DumpPlace → List TextLine → DumpRead
 rows_read radix size place [] = record { octets = []; left = left_in place.phase }
 rows_read radix size place (line ∷ lines) =
-    let next : Option Step = step size place line.left (line_kind radix line.characters) in
-    step_then next line.left (rows_read radix size (place_after next place) lines)
+    let next : Option Step = dump_line_step size place line.left (line_kind radix line.characters) in
+    dump_step_then next line.left (rows_read radix size (dump_place_after next place) lines)
 
 -- ---- a whole dump
 
@@ -214,16 +214,16 @@ abbrev pub octets_or_none : Option (List ℕ) → List ℕ
 octets_or_none (Some octets) = octets
 octets_or_none None = []
 
-abbrev pub place_at : Phase → ℕ → List ℕ → Place
-place_at phase offset octets = record { phase = phase; offset = offset; octets = octets }
+abbrev pub dump_place_at : Phase → ℕ → List ℕ → DumpPlace
+dump_place_at phase offset octets = record { phase = phase; offset = offset; octets = octets }
 
 -- what is read from the first row on
 abbrev pub read_from : Radix → RowRead → ℕ → List TextLine → Option ℕ → DumpRead
 read_from radix r left lines None =
-    first_then (single_octets r) left (rows_read radix 16 (place_at Phase.End r.offset []) lines)
+    first_then (single_row_octets r) left (rows_read radix 16 (dump_place_at Phase.End r.offset []) lines)
 read_from radix r left lines (Some size) =
-    first_then (row_octets size r.rest) left
-    (rows_read radix size (place_at Phase.Row r.offset (octets_or_none (row_octets size r.rest))) lines)
+    first_then (dump_row_octets size r.rest) left
+    (rows_read radix size (dump_place_at Phase.Row r.offset (octets_or_none (dump_row_octets size r.rest))) lines)
 
 -- other lines before the first row are passed over; a text without a row is refused at its end
 abbrev pub first_at : Radix → LineKind → ℕ → List TextLine → DumpRead → DumpRead
@@ -238,7 +238,7 @@ lines_read radix (line ∷ lines) =
     first_at radix (line_kind radix line.characters) line.left lines (lines_read radix lines)
 
 abbrev pub dump_in : Radix → List ℕ → DumpRead
-dump_in radix text = lines_read radix (lines_of text)
+dump_in radix text = lines_read radix (dump_lines text)
 
 -- offsets are hexadecimal, unless the text is refused so and not in octal. An octal dump in which no row follows
 -- another without a repeat between them, as of octets that are all alike, may fit both, and is then read so

@@ -3,7 +3,7 @@ use Rattle.std.specs.Prelude.{ℕ, ◌+◌, ◌-◌, ◌*◌, ◌==◌, Bool, tr
 use Rattle.std.specs.Prelude.{List, [], ◌∷◌, length, slice_index, take, Option, Some, None}
 use Rattle.std.specs.List.{list_all}
 use Rattle.hex.specs.Hex.{is_hex_digit}
-use Rattle.tlv_text.specs.Pairs.{digit_value}
+use Rattle.tlv_text.specs.Pairs.{hex_value}
 use Rattle.tlv_text.specs.declared.dump.lines.Radix.{Radix}
 use Rattle.tlv_text.specs.declared.dump.lines.Radix.TheVariants.{Hexadecimal, Octal}
 
@@ -12,20 +12,20 @@ pub record TextLine : Type 0 where
   pub characters : List ℕ
   pub left : ℕ
 
-abbrev pub text_line : List ℕ → ℕ → TextLine
-text_line characters left = record { characters = characters; left = left }
+abbrev pub new_text_line : List ℕ → ℕ → TextLine
+new_text_line characters left = record { characters = characters; left = left }
 
 -- a character in front of a line
 abbrev pub into_line : ℕ → ℕ → List TextLine → List TextLine
-into_line x left [] = text_line (x ∷ []) left ∷ []
-into_line x left (line ∷ lines) = text_line (x ∷ line.characters) left ∷ lines
+into_line x left [] = new_text_line (x ∷ []) left ∷ []
+into_line x left (line ∷ lines) = new_text_line (x ∷ line.characters) left ∷ lines
 
 -- each line ends with a line feed, or with the text
-abbrev pub lines_of : List ℕ → List TextLine
-lines_of [] = []
-lines_of (x ∷ text) =
-    if x == 10 then text_line [] (length (x ∷ text)) ∷ lines_of text
-    else into_line x (length (x ∷ text)) (lines_of text)
+abbrev pub dump_lines : List ℕ → List TextLine
+dump_lines [] = []
+dump_lines (x ∷ text) =
+    if x == 10 then new_text_line [] (length (x ∷ text)) ∷ dump_lines text
+    else into_line x (length (x ∷ text)) (dump_lines text)
 
 -- a carriage return at a line's end is dropped
 abbrev pub without_return : List ℕ → List ℕ
@@ -35,12 +35,12 @@ without_return line =
 -- ---- what a line is
 
 -- a space or a tab
-abbrev pub is_blank : ℕ → Bool
-is_blank x = (x == 32) || (x == 9)
+abbrev pub is_dump_blank : ℕ → Bool
+is_dump_blank x = (x == 32) || (x == 9)
 
 abbrev pub after_blanks : List ℕ → List ℕ
 after_blanks [] = []
-after_blanks (x ∷ text) = if is_blank x then after_blanks text else x ∷ text
+after_blanks (x ∷ text) = if is_dump_blank x then after_blanks text else x ∷ text
 
 abbrev pub is_digit_of : Radix → ℕ → Bool
 is_digit_of Hexadecimal x = is_hex_digit x
@@ -61,7 +61,7 @@ abbrev pub offset_read : Radix → ℕ → ℕ → List ℕ → OffsetRead
 offset_read radix count number [] = record { count = count; number = number; rest = [] }
 offset_read radix count number (x ∷ text) =
     if nat_lt count 16 && is_digit_of radix x then
-    offset_read radix (count + 1) (number * base radix + digit_value x) text
+    offset_read radix (count + 1) (number * base radix + hex_value x) text
     else record { count = count; number = number; rest = x ∷ text }
 
 -- after `0x` or `0X`, if the text begins with it
@@ -77,7 +77,7 @@ begins_colon (x ∷ text) = x == 58
 -- the end, a colon or a blank
 abbrev pub ends_offset : List ℕ → Bool
 ends_offset [] = true
-ends_offset (x ∷ text) = (x == 58) || is_blank x
+ends_offset (x ∷ text) = (x == 58) || is_dump_blank x
 
 -- a row has an offset, and a rest after it
 pub record RowRead : Type 0 where
@@ -107,7 +107,7 @@ row_or_other None = LineKind.other
 abbrev pub kind_from : Radix → List ℕ → LineKind
 kind_from radix [] = LineKind.blank
 kind_from radix (x ∷ text) =
-    if (x == 42) && list_all is_blank text then LineKind.repeat else row_or_other (row_at radix (x ∷ text))
+    if (x == 42) && list_all is_dump_blank text then LineKind.repeat else row_or_other (row_at radix (x ∷ text))
 
 abbrev pub line_kind : Radix → List ℕ → LineKind
 line_kind radix line = kind_from radix (after_blanks (without_return line))

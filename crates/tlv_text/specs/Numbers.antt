@@ -18,22 +18,22 @@ is_decimal x = nat_le 48 x && nat_le x 57
 abbrev pub digits_of : ℕ → ℕ → Digits
 digits_of value more = record { value = value; more = more }
 
-abbrev pub one_digit : ℕ → Option Digits
-one_digit x = if is_decimal x then Some (digits_of (x - 48) 0) else None
+abbrev pub number_of_one : ℕ → Option Digits
+number_of_one x = if is_decimal x then Some (digits_of (x - 48) 0) else None
 
-abbrev pub two_digits : ℕ → ℕ → Option Digits
-two_digits x y =
-    if is_decimal x && is_decimal y then Some (digits_of ((x - 48) * 10 + (y - 48)) 1) else one_digit x
+abbrev pub number_of_two : ℕ → ℕ → Option Digits
+number_of_two x y =
+    if is_decimal x && is_decimal y then Some (digits_of ((x - 48) * 10 + (y - 48)) 1) else number_of_one x
 
 -- the digits with which a text begins, three of them at most
 abbrev pub digits_at : List ℕ → Option Digits
 digits_at [] = None
-digits_at (x ∷ []) = one_digit x
-digits_at (x ∷ y ∷ []) = two_digits x y
+digits_at (x ∷ []) = number_of_one x
+digits_at (x ∷ y ∷ []) = number_of_two x y
 digits_at (x ∷ y ∷ z ∷ text) =
     if is_decimal x && is_decimal y && is_decimal z
     then Some (digits_of ((x - 48) * 100 + (y - 48) * 10 + (z - 48)) 2)
-    else two_digits x y
+    else number_of_two x y
 
 -- a number has an octet, and so many more characters come after its first
 abbrev pub number_of : ℕ → ℕ → Number
@@ -83,25 +83,25 @@ step_at close AfterNumber text = after_number close text
 step_at close AfterComma text = before_number AfterComma true close text
 
 -- the place after a step
-abbrev pub place_after : Step → Place
-place_after (Passes place) = place
-place_after (Reads n) = AfterNumber
-place_after Closes = AfterNumber
-place_after Fails = AfterNumber
+abbrev pub list_place_after : Step → Place
+list_place_after (Passes place) = place
+list_place_after (Reads n) = AfterNumber
+list_place_after Closes = AfterNumber
+list_place_after Fails = AfterNumber
 
 -- how many characters of a number are still to come
-abbrev pub inside_after : Step → ℕ
-inside_after (Reads n) = n.more
-inside_after (Passes place) = 0
-inside_after Closes = 0
-inside_after Fails = 0
+abbrev pub in_list_after : Step → ℕ
+in_list_after (Reads n) = n.more
+in_list_after (Passes place) = 0
+in_list_after Closes = 0
+in_list_after Fails = 0
 
 -- the octets from a step on, given those after it
-abbrev pub step_then : Step → Option (List ℕ) → Option (List ℕ)
-step_then (Passes place) more = more
-step_then (Reads n) more = option_map (λ octets. n.octet ∷ octets) more
-step_then Closes more = Some []
-step_then Fails more = None
+abbrev pub list_step_then : Step → Option (List ℕ) → Option (List ℕ)
+list_step_then (Passes place) more = more
+list_step_then (Reads n) more = option_map (λ octets. n.octet ∷ octets) more
+list_step_then Closes more = Some []
+list_step_then Fails more = None
 
 -- the octets of a list from a place on, if it is closed; the second argument is how many characters of the text belong
 -- to a number that began before
@@ -110,7 +110,7 @@ items_read close inside place [] = None
 items_read close (suc n) place (x ∷ text) = items_read close n place text
 items_read close zero place (x ∷ text) =
     let step : Step = step_at close place (x ∷ text) in
-    step_then step (items_read close (inside_after step) (place_after step) text)
+    list_step_then step (items_read close (in_list_after step) (list_place_after step) text)
 
 -- the octets of the list with which a text begins: 91 and 93 are brackets, 123 and 125 braces
 abbrev pub list_at : List ℕ → Option (List ℕ)

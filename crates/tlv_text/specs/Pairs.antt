@@ -8,12 +8,12 @@ use Rattle.tlv_text.specs.TextRead.{TextRead, nothing_read, octets_then}
 abbrev pub is_between_pairs : ℕ → Bool
 is_between_pairs x = is_white x || (x == 58) || (x == 44) || (x == 45) || is_quote x
 
-abbrev pub digit_value : ℕ → ℕ
-digit_value x = unwrap_or (hex_digit_value x) 0
+abbrev pub hex_value : ℕ → ℕ
+hex_value x = unwrap_or (hex_digit_value x) 0
 
 -- the octet of two digits
 abbrev pub pair_octet : ℕ → ℕ → ℕ
-pair_octet x y = digit_value x * 16 + digit_value y
+pair_octet x y = hex_value x * 16 + hex_value y
 
 -- the octets of pairs of digits, and the rest from the first character on that is no pair and not between pairs
 abbrev pub pairs_read : List ℕ → TextRead

@@ -5,13 +5,13 @@ use Rattle.tlv_text.specs.Base64.{is_symbol}
 use Rattle.tlv_text.specs.declared.base64_text.Alphabet.TheVariants.{Standard}
 
 -- a space or a tab
-abbrev pub is_blank : ℕ → Bool
-is_blank x = (x == 32) || (x == 9)
+abbrev pub is_run_blank : ℕ → Bool
+is_run_blank x = (x == 32) || (x == 9)
 
 -- n characters and then so many blanks, if a symbol stands after them; otherwise 0
 abbrev pub up_to_symbol : ℕ → List ℕ → ℕ
 up_to_symbol n [] = 0
-up_to_symbol n (x ∷ text) = if is_symbol Standard x then n else (if is_blank x then up_to_symbol (1 + n) text else 0)
+up_to_symbol n (x ∷ text) = if is_symbol Standard x then n else (if is_run_blank x then up_to_symbol (1 + n) text else 0)
 
 -- the size of a break between two symbols: a line end (a line feed, or a carriage return and one), and blanks after
 -- it; 0 if the text does not begin with such a break and a symbol

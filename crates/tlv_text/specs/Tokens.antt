@@ -1,10 +1,11 @@
--- Octets as tokens of a source text: `0x30`, `0x3` or `\x30`, as arrays and strings of C, Rust, Go and Python have them.
+-- Octets as tokens of a source text: `0x30`, `0x3` or `\x30`, as arrays and strings of C, Rust, Go and Python have
+-- them.
 use Rattle.std.specs.Prelude.{ℕ, zero, suc, ◌+◌, ◌==◌, Bool, true, false, ◌&&◌, ◌||◌, not, nat_le, if◌then◌else◌}
 use Rattle.std.specs.Prelude.{List, [], ◌∷◌, Option, Some, None}
 use Rattle.hex.specs.Hex.{is_hex_digit}
 use Rattle.tlv_text.specs.Base64.{is_letter_or_digit}
 use Rattle.tlv_text.specs.Characters.{is_quote, is_white}
-use Rattle.tlv_text.specs.Pairs.{digit_value, pair_octet}
+use Rattle.tlv_text.specs.Pairs.{hex_value, pair_octet}
 use Rattle.tlv_text.specs.TextRead.{TextRead, nothing_read, octets_then}
 use Rattle.tlv_text.specs.declared.tokens.Token.{Token}
 
@@ -29,9 +30,9 @@ token_of octet more = record { octet = octet; more = more }
 -- after `0x`: one or two digits that no word character follows
 abbrev pub number_token : List ℕ → Option Token
 number_token [] = None
-number_token (x ∷ []) = if is_hex_digit x then Some (token_of (digit_value x) 2) else None
+number_token (x ∷ []) = if is_hex_digit x then Some (token_of (hex_value x) 2) else None
 number_token (x ∷ y ∷ text) =
-    if is_hex_digit x && not (is_word y) then Some (token_of (digit_value x) 2)
+    if is_hex_digit x && not (is_word y) then Some (token_of (hex_value x) 2)
     else (
     if is_hex_digit x && is_hex_digit y && not (begins_word text) then Some (token_of (pair_octet x y) 3)
     else None
@@ -45,8 +46,8 @@ escape_token (x ∷ y ∷ text) =
     if is_hex_digit x && is_hex_digit y && ends_escape text then Some (token_of (pair_octet x y) 3) else None
 
 -- `0x` or `0X`, not in a word
-abbrev pub begins_number : ℕ → ℕ → ℕ → Bool
-begins_number before x y = (x == 48) && ((y == 120) || (y == 88)) && not (is_word before)
+abbrev pub begins_hex_number : ℕ → ℕ → ℕ → Bool
+begins_hex_number before x y = (x == 48) && ((y == 120) || (y == 88)) && not (is_word before)
 
 -- `\x` after white space or a quote
 abbrev pub begins_escape : ℕ → ℕ → ℕ → Bool
@@ -58,7 +59,7 @@ abbrev pub token_at : ℕ → List ℕ → Option Token
 token_at before [] = None
 token_at before (x ∷ []) = None
 token_at before (x ∷ y ∷ text) =
-    if begins_number before x y then number_token text
+    if begins_hex_number before x y then number_token text
     else (if begins_escape before x y then escape_token text else None)
 
 -- from the left, a text is tokens, each with its octet, and other characters, each with the text after it

@@ -1,10 +1,10 @@
 //! Octets of a hex dump with offsets.
 ghost use Rattle.std.specs.Prelude.{◌≡◌, ◌<◌, ◌≤◌, IfErr, IfOk, MatchOption, OnOk, Some, None, length};
 ghost use Rattle.tlv_text.specs.Dump.{dump_in, dump_limit, dump_read, left_in, pairs_after, read_from, refused_in};
-ghost use Rattle.tlv_text.specs.Dump.{refused_with, rows_read, single_octets, size_by, size_in};
-ghost use Rattle.tlv_text.specs.DumpLines.{begins_colon, lines_of};
+ghost use Rattle.tlv_text.specs.Dump.{refused_with, rows_read, single_row_octets, size_by, size_in};
+ghost use Rattle.tlv_text.specs.DumpLines.{begins_colon, dump_lines};
 ghost use Rattle.tlv_text.specs.DumpFault.{IsFault};
-ghost use Rattle.tlv_text.specs.Private.DumpSteps.{IsAdded, IsFirst, Reads, place_of, row_seen};
+ghost use Rattle.tlv_text.specs.Private.DumpSteps.{IsAdded, IsFirstRow, Reads, dump_place_of, row_seen};
 ghost use Rattle.tlv_text.specs.Private.PairSteps.{AreWholePairs};
 
 mod lines;
@@ -116,8 +116,8 @@ fn read_from(
     left: usize,
     rest: &[u8],
 ) -> Result<Reading, AllocError>
-    ensures { IfOk result (Reads (read_from radix (row_seen row.entry) left (lines_of rest.now)
-        (size_in radix row.entry.offset (lines_of rest.now)))) }
+    ensures { IfOk result (Reads (read_from radix (row_seen row.entry) left (dump_lines rest.now)
+        (size_in radix row.entry.offset (dump_lines rest.now)))) }
 {
     match size_in(radix, row.offset, rest) {
         Some(size) => read_among(alloc, radix, size, row, left, rest),
@@ -136,7 +136,7 @@ fn read_among(
 ) -> Result<Reading, AllocError>
     requires some { 0 < size }
     requires few { size ≤ 256 }
-    ensures { IfOk result (Reads (read_from radix (row_seen row.entry) left (lines_of rest.now) (Some size))) }
+    ensures { IfOk result (Reads (read_from radix (row_seen row.entry) left (dump_lines rest.now) (Some size))) }
 {
     let mut output = no_octets(alloc);
     let mut digits = ArrayVec::new();
@@ -161,7 +161,7 @@ fn read_alone(
     left: usize,
     rest: &[u8],
 ) -> Result<Reading, AllocError>
-    ensures { IfOk result (Reads (read_from radix (row_seen row.entry) left (lines_of rest.now) None)) }
+    ensures { IfOk result (Reads (read_from radix (row_seen row.entry) left (dump_lines rest.now) None)) }
 {
     let mut output = no_octets(alloc);
     if !add_single(alloc, row, &mut output)? {
@@ -178,7 +178,7 @@ fn read_alone(
 
 /// Adds the octets of a row that is alone, if it fits.
 fn add_single(alloc: Global, row: RowLine<'_>, output: &mut Output) -> Result<bool, AllocError>
-    ensures { IfOk result (λ fits. IsFirst (single_octets (row_seen row.entry)) fits output.old output.new) }
+    ensures { IfOk result (λ fits. IsFirstRow (single_row_octets (row_seen row.entry)) fits output.old output.new) }
 {
     let text = before_pairs(row.rest);
     if !(row.offset == 0 || begins_colon(row.rest)) || !begins_pair(text) {
@@ -214,7 +214,7 @@ fn begins_colon(text: &[u8]) -> bool
 
 /// The octets of a row by the lines after the first, which has this offset; `None` if it is alone.
 fn size_in(radix: Radix, first: u64, text: &[u8]) -> Option<usize>
-    ensures value { result ≡ size_in radix first (lines_of text.now) }
+    ensures value { result ≡ size_in radix first (dump_lines text.now) }
     ensures range { MatchOption result Unit (λ size. (0 < size) × (size ≤ 256)) }
 {
     let mut rest = text;
@@ -255,8 +255,8 @@ fn read_rows(
     requires few { size ≤ 256 }
     requires pairs { AreWholePairs last.digits.items }
     ensures octets { OnOk result
-        (IsAdded (rows_read radix size (place_of last) (lines_of text.now)).octets output.old output.new) }
-    ensures left { IfOk result (λ left. left ≡ (rows_read radix size (place_of last) (lines_of text.now)).left) }
+        (IsAdded (rows_read radix size (dump_place_of last) (dump_lines text.now)).octets output.old output.new) }
+    ensures left { IfOk result (λ left. left ≡ (rows_read radix size (dump_place_of last) (dump_lines text.now)).left) }
 {
     let mut last = last;
     let mut rest = text;

@@ -14,8 +14,8 @@ pub fn after_mark(text: &[u8]) -> &[u8]
     }
 }
 
-/// The ASCII characters of a text in UTF-16 that begins with its mark (`ff fe` or `fe ff`). `None` if it does not, or if
-/// a character of it is not ASCII.
+/// The ASCII characters of a text in UTF-16 that begins with its mark (`ff fe` or `fe ff`). `None` if it does not, or
+/// if a character of it is not ASCII.
 ///
 /// # Errors
 ///

@@ -3,7 +3,7 @@ ghost use Rattle.std.specs.Prelude.{◌≡◌, ◌≤◌, ◌+◌, ◌-◌, IfOk
 ghost use Rattle.tlv_text.specs.Characters.{is_white};
 ghost use Rattle.tlv_text.specs.Numbers.{after_number, after_opening, before_number, digits_at, first_list, is_decimal};
 ghost use Rattle.tlv_text.specs.Numbers.{items_read, list_at, number_at, numbers_of, step_at};
-ghost use Rattle.tlv_text.specs.Private.NumberSteps.{IsWithin};
+ghost use Rattle.tlv_text.specs.Private.NumberSteps.{IsWithinText};
 ghost use Rattle.tlv_text.specs.declared.numbers.Place.TheVariants.{AtStart};
 
 use std::alloc::{AllocError, Global};
@@ -50,9 +50,9 @@ pub(crate) enum Step {
     Fails,
 }
 
-/// The octets of a text with one list of decimal numbers from -128 to 255, in brackets or in braces, with commas between
-/// them and perhaps one after the last. `None` if the text has no such list, or two of them. What is around the list may
-/// be anything. The time is linear, since no list has a second opening in it.
+/// The octets of a text with one list of decimal numbers from -128 to 255, in brackets or in braces, with commas
+/// between them and perhaps one after the last. `None` if the text has no such list, or two of them. What is around the
+/// list may be anything. The time is linear, since no list has a second opening in it.
 ///
 /// # Errors
 ///
@@ -122,7 +122,7 @@ fn read_items(alloc: Global, close: u8, text: &[u8]) -> Result<Option<Vec<u8>>, 
 /// What the first characters of a text are at a place of a list that this character closes.
 fn step_at(close: u8, place: Place, text: &[u8]) -> Step
     ensures step { result ≡ step_at close place text.now }
-    ensures within { IsWithin result (length text.now) }
+    ensures within { IsWithinText result (length text.now) }
 {
     match place {
         Place::AtStart => before_number(place, false, close, text),
@@ -134,7 +134,7 @@ fn step_at(close: u8, place: Place, text: &[u8]) -> Step
 /// The step where a number may begin.
 fn before_number(place: Place, may_close: bool, close: u8, text: &[u8]) -> Step
     ensures step { result ≡ before_number place may_close close text.now }
-    ensures within { IsWithin result (length text.now) }
+    ensures within { IsWithinText result (length text.now) }
 {
     match text {
         [x, ..] if is_white(*x) => Step::Passes(place),
@@ -149,7 +149,7 @@ fn before_number(place: Place, may_close: bool, close: u8, text: &[u8]) -> Step
 /// The step after a number.
 fn after_number(close: u8, text: &[u8]) -> Step
     ensures step { result ≡ after_number close text.now }
-    ensures within { IsWithin result (length text.now) }
+    ensures within { IsWithinText result (length text.now) }
 {
     match text {
         [x, ..] if is_white(*x) => Step::Passes(Place::AfterNumber),

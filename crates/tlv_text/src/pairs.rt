@@ -14,8 +14,8 @@ use std::alloc::{AllocError, Global};
 /// How many digits are decoded at once.
 const DIGITS: usize = 4096;
 
-/// The octets of a text that is pairs of hexadecimal digits in either case, with white space, colons, commas, hyphens and
-/// quotes between them. A text is refused at the first character that is neither between pairs nor begins one.
+/// The octets of a text that is pairs of hexadecimal digits in either case, with white space, colons, commas, hyphens
+/// and quotes between them. A text is refused at the first character that is neither between pairs nor begins one.
 ///
 /// # Errors
 ///

@@ -24,12 +24,13 @@ pub struct PemBlock<'a> {
     pub label: &'a [u8],
     /// What is between its marker and the next five hyphens, or the end of the text.
     pub body: &'a [u8],
-    /// What comes after the body. It begins with `-----END ` if the block is ended, and is empty if the text ends before.
+    /// What comes after the body. It begins with `-----END ` if the block is ended, and is empty if the text ends
+    /// before.
     pub rest: &'a [u8],
 }
 
-/// The first block of PEM in a text (RFC 7468), wherever in a line it begins: `-----BEGIN `, a label, `-----`, and a body
-/// up to the next `-----`.
+/// The first block of PEM in a text (RFC 7468), wherever in a line it begins: `-----BEGIN `, a label, `-----`, and a
+/// body up to the next `-----`.
 pub fn first_block(text: &[u8]) -> Option<PemBlock<'_>>
     ensures { MatchOption result (HasNoBlock text.now)
         (λ b. IsFirstBlock text.now b.start b.label.now b.body.now b.rest.now) }

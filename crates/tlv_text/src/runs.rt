@@ -1,7 +1,7 @@
 //! Runs of base64 inside another text: in LDIF, mail, XML and JSON.
 ghost use Rattle.std.specs.Prelude.{◌≡◌, ◌≤◌, ◌+◌, length, MatchOption};
 ghost use Rattle.tlv_text.specs.Base64.{is_symbol};
-ghost use Rattle.tlv_text.specs.Runs.{HasNoRun, IsFirstRun, break_size, is_blank, padding_size, stretch_of};
+ghost use Rattle.tlv_text.specs.Runs.{HasNoRun, IsFirstRun, break_size, is_run_blank, padding_size, stretch_of};
 ghost use Rattle.tlv_text.specs.Runs.{up_to_symbol};
 ghost use Rattle.tlv_text.specs.declared.base64_text.Alphabet.TheVariants.{Standard};
 
@@ -106,7 +106,7 @@ fn up_to_symbol(before: usize, text: &[u8]) -> usize
 /// Whether this is a space or a tab.
 #[inline(always)]
 fn is_blank(character: u8) -> bool
-    ensures { result ≡ is_blank character }
+    ensures { result ≡ is_run_blank character }
 {
     matches!(character, b' ' | b'\t')
 }

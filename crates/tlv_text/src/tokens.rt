@@ -2,7 +2,7 @@
 ghost use Rattle.hex.specs.Hex.{is_hex_digit};
 ghost use Rattle.std.specs.Prelude.{◌≡◌, ◌<◌, ◌≤◌, ◌+◌, ◌↔◌, ◌||◌, IfOk, IsTrue, MatchOption, length, true};
 ghost use Rattle.tlv_text.specs.Characters.{is_quote, is_white};
-ghost use Rattle.tlv_text.specs.Pairs.{digit_value};
+ghost use Rattle.tlv_text.specs.Pairs.{hex_value};
 ghost use Rattle.tlv_text.specs.TextRead.{refused_at};
 ghost use Rattle.tlv_text.specs.Tokens.{begins_word, ends_escape, escape_token, is_word, number_token, pieces};
 ghost use Rattle.tlv_text.specs.Tokens.{token_at, token_count, tokens_in, tokens_read};
@@ -180,7 +180,7 @@ fn is_digit(character: u8) -> bool
 /// The value of a hexadecimal digit.
 fn digit_value(digit: u8) -> u8
     requires { is_hex_digit digit ≡ true }
-    ensures value { result ≡ digit_value digit }
+    ensures value { result ≡ hex_value digit }
     ensures few { result < 16 }
 {
     match digit {

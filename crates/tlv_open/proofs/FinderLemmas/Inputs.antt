@@ -15,7 +15,7 @@ use Rattle.tlv_open.specs.declared.extent.Extent.{Extent}
 use Rattle.tlv_open.specs.declared.spot.Spot.{Spot}
 use Rattle.tlv_open.specs.Breaks.{AreBroken}
 use Rattle.tlv_open.specs.Opens.{AreOpened, closed_framing}
-use Rattle.tlv_open.specs.Private.Adds.{SaysSound, place_in}
+use Rattle.tlv_open.specs.Private.Adds.{SaysSound, place_among}
 use Rattle.tlv_open.specs.Private.Elements.{BeginsWithElements, is_elements_end}
 use Rattle.tlv_open.specs.Private.Finds.{AddsAll, AddsStrings, FoundStrings, spot_before}
 use Rattle.tlv_open.proofs.FinderLemmas.NothingFound.{nothing_found}
@@ -107,7 +107,7 @@ at_end (x ∷ o) w = absurd (cc (w))
 
 -- of sound elements all is read
 pub all-read : (padding : Bool) (octets : List ℕ) (n : ℕ) (f : Forest)
-    → BeginsWithElements (place_in (top_spot padding) 0) false false octets n
+    → BeginsWithElements (place_among (top_spot padding) 0) false false octets n
     → IsReading (closed_framing padding) octets f → length octets ≡ length (spelling f)
 all-read padding octets n f b r =
     let spelled : spelling b.elements ++ [] ≡ octets =

@@ -7,9 +7,9 @@ use Rattle.tlv_walk.specs.Forest.{PaddingOctet}
 use Rattle.tlv_walk.specs.Place.{Place}
 use Rattle.tlv_open.specs.declared.extent.Extent.{Extent}
 use Rattle.tlv_open.specs.declared.spot.Spot.{Spot}
-use Rattle.tlv_open.specs.Private.Adds.{SaysSound, place_in}
+use Rattle.tlv_open.specs.Private.Adds.{SaysSound, place_among}
 use Rattle.tlv_open.specs.Private.Elements.{BeginsWithElement, BeginsWithElements, BeginsWithNoElement}
-use Rattle.tlv_open.specs.Private.Elements.{BeginsWithNoElements, IfSound, SaysElement, SaysElements}
+use Rattle.tlv_open.specs.Private.Elements.{BeginsWithNoElements, IfSound, SaysElement}
 use Rattle.tlv_open.specs.Private.Elements.{is_elements_end, place_at}
 use Rattle.tlv_open.specs.Private.Finds.{AddsFirst, FoundStrings}
 use Rattle.tlv_open.proofs.ElementLemmas.Elements.{elements-cons, elements-nil, elements-none, elements-rest}
@@ -21,19 +21,19 @@ use Rattle.tlv_open.proofs.FinderLemmas.Inputs.{sound-padded}
 -- as far as the octets were gone over: more elements make a longer list, if all were sound; and a list goes on there
 pub record SaysSoFar (s : Spot) (offset : ℕ) (ends : Bool) (octets : List ℕ) (at : ℕ) (sound : Bool) : Type 0 where
   pub onward : sound ≡ true → (n : ℕ)
-      → BeginsWithElements (place_in s (offset + at)) s.likely ends (drop at octets) n
-      → BeginsWithElements (place_in s offset) s.likely ends octets (at + n)
+      → BeginsWithElements (place_among s (offset + at)) s.likely ends (drop at octets) n
+      → BeginsWithElements (place_among s offset) s.likely ends octets (at + n)
   pub back : s.padding ≡ false → (n : ℕ) → BeginsWithElements (place_at offset s.depth) s.likely ends octets n
       → (sound ≡ true)
       × ((m : ℕ) × BeginsWithElements (place_at (offset + at) s.depth) s.likely ends (drop at octets) m)
 
 element-in : (s : Spot) (offset : ℕ) (octets : List ℕ) (n : ℕ)
     → BeginsWithElement (place_at offset s.depth) s.likely octets n
-    → BeginsWithElement (place_in s offset) s.likely octets n
+    → BeginsWithElement (place_among s offset) s.likely octets n
 element-in s offset octets n b = record {
   element = b.element;
   is_one = b.is_one;
-  sound = sound-padded (place_at offset s.depth) (place_in s offset) b.element refl refl refl refl b.sound;
+  sound = sound-padded (place_at offset s.depth) (place_among s offset) b.element refl refl refl refl b.sound;
   probable = b.probable;
   rest = b.rest;
   spelled = b.spelled;
@@ -49,11 +49,11 @@ and-false true = refl
 and-false false = refl
 
 module _ (s : Spot) (offset : ℕ) (ends : Bool) (octets : List ℕ) where
-  moved : (o l n m : ℕ) → o ≡ l → n ≡ m → BeginsWithElements (place_in s o) s.likely ends octets n
-      → BeginsWithElements (place_in s l) s.likely ends octets m
+  moved : (o l n m : ℕ) → o ≡ l → n ≡ m → BeginsWithElements (place_among s o) s.likely ends octets n
+      → BeginsWithElements (place_among s l) s.likely ends octets m
   moved o l n m e d b =
-      subst (λ (k : ℕ). BeginsWithElements (place_in s l) s.likely ends octets k) d
-      (subst (λ (k : ℕ). BeginsWithElements (place_in s k) s.likely ends octets n) e b)
+      subst (λ (k : ℕ). BeginsWithElements (place_among s l) s.likely ends octets k) d
+      (subst (λ (k : ℕ). BeginsWithElements (place_among s k) s.likely ends octets n) e b)
 
   pub so_far-start : SaysSoFar s offset ends octets 0 true
   so_far-start = record {
@@ -73,13 +73,13 @@ module _ (s : Spot) (offset : ℕ) (ends : Bool) (octets : List ℕ) where
     nonzero n b z = no_element-at_zero there s.likely octets at less z n b
 
     next : (n m : ℕ) → BeginsWithElement there s.likely left n
-        → BeginsWithElements (place_in s (offset + (at + n))) s.likely ends (drop (at + n) octets) m
-        → BeginsWithElements (place_in s (offset + at)) s.likely ends left (n + m)
+        → BeginsWithElements (place_among s (offset + (at + n))) s.likely ends (drop (at + n) octets) m
+        → BeginsWithElements (place_among s (offset + at)) s.likely ends left (n + m)
     next n m b r =
         let place : offset + (at + n) ≡ (offset + at) + n = omega arith in
-        elements-cons (place_in s (offset + at)) s.likely ends left n m (element-in s (offset + at) left n b)
-        (subst (λ (o : ℕ). BeginsWithElements (place_in s o) s.likely ends (drop n left) m) place
-        (subst (λ (o : List ℕ). BeginsWithElements (place_in s (offset + (at + n))) s.likely ends o m)
+        elements-cons (place_among s (offset + at)) s.likely ends left n m (element-in s (offset + at) left n b)
+        (subst (λ (o : ℕ). BeginsWithElements (place_among s o) s.likely ends (drop n left) m) place
+        (subst (λ (o : List ℕ). BeginsWithElements (place_among s (offset + (at + n))) s.likely ends o m)
         (sym (drop-drop n at octets)) r))
 
     pub so_far-sound : (n : ℕ) → BeginsWithElement there s.likely left n → SaysSoFar s offset ends octets (at + n) sound
@@ -117,12 +117,12 @@ module _ (s : Spot) (offset : ℕ) (ends : Bool) (octets : List ℕ) where
         ∙ (ap (λ (x : ℕ). x ∷ drop (suc at) octets) z ∙ ap (λ (n : ℕ). 0 ∷ drop n octets) same)
 
     padded : (n : ℕ) → get_or octets at 0 ≡ 0 → s.padding ≡ true
-        → BeginsWithElements (place_in s (offset + (at + 1))) s.likely ends (drop (at + 1) octets) n
-        → BeginsWithElements (place_in s (offset + at)) s.likely ends left (1 + n)
+        → BeginsWithElements (place_among s (offset + (at + 1))) s.likely ends (drop (at + 1) octets) n
+        → BeginsWithElements (place_among s (offset + at)) s.likely ends left (1 + n)
     padded n z pad e =
         let place : offset + (at + 1) ≡ (offset + at) + 1 = omega arith in
-        let e' : BeginsWithElements (place_in s ((offset + at) + 1)) s.likely ends (drop (at + 1) octets) n =
-        subst (λ (o : ℕ). BeginsWithElements (place_in s o) s.likely ends (drop (at + 1) octets) n) place e in
+        let e' : BeginsWithElements (place_among s ((offset + at) + 1)) s.likely ends (drop (at + 1) octets) n =
+        subst (λ (o : ℕ). BeginsWithElements (place_among s o) s.likely ends (drop (at + 1) octets) n) place e in
         record {
           elements = PaddingOctet e'.elements;
           sound = (pad, e'.sound);
@@ -158,7 +158,7 @@ module _ (s : Spot) (offset : ℕ) (ends : Bool) (octets : List ℕ) where
         let both : (sound ≡ true) × (is_elements_end ends (drop at octets) ≡ true) =
         and_parts sound (is_elements_end ends (drop at octets)) t in
         moved offset offset (at + 0) at refl (omega arith)
-        (far.onward both.0 0 (elements-nil (place_in s (offset + at)) s.likely ends (drop at octets) both.1));
+        (far.onward both.0 0 (elements-nil (place_among s (offset + at)) s.likely ends (drop at octets) both.1));
     unsound = λ z t n e.
         let h = far.back z n e in
         let no_end : is_elements_end ends (drop at octets) ≡ false =
@@ -190,14 +190,15 @@ module _ (s : Spot) (offset : ℕ) (ends : Bool) (octets : List ℕ) where
 -- where no padding may be, as it is said of octets by themselves
 pub says-inside : (u : Spot) (offset depth : ℕ) (likely ends : Bool) (octets : List ℕ) (e : Extent) → u.depth ≡ depth
     → u.likely ≡ likely → u.padding ≡ false → SaysSound u offset ends octets e
-    → SaysElements (place_at offset depth) likely ends octets e
+    → IfSound e.sound (BeginsWithElements (place_at offset depth) likely ends octets e.size)
+    (BeginsWithNoElements (place_at offset depth) likely ends octets)
 says-inside u offset depth likely ends octets e d l z s = by_sound e.sound refl
   where
     by_sound : (k : Bool) → e.sound ≡ k
         → IfSound k (BeginsWithElements (place_at offset depth) likely ends octets e.size)
         (BeginsWithNoElements (place_at offset depth) likely ends octets)
     by_sound true t =
-        let place : place_in u offset ≡ place_at offset depth = λ i. record {
+        let place : place_among u offset ≡ place_at offset depth = λ i. record {
           offset = offset;
           depth = d i;
           bound = (place_at offset depth).bound;

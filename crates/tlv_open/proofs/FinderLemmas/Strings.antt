@@ -23,7 +23,7 @@ use Rattle.tlv_open.specs.Held.{HoldsEncodings, IsClearPrimitive, after_unused_b
 use Rattle.tlv_open.specs.Opens as opens
 use Rattle.tlv_open.specs.Opens.{Opens, Where, where_of_held}
 use Rattle.tlv_open.specs.Private.Finds.{AddsAll, AddsPrimitive, AddsStrings, FoundStrings, IsReadAt, found_in_turn}
-use Rattle.tlv_open.specs.Private.Adds.{AddsHeld, IsWholePrimitive, Tries}
+use Rattle.tlv_open.specs.Private.Adds.{AddsHeld, IsAllOfPrimitive, Tries}
 use Rattle.tlv_open.specs.Private.Finds.{list_of, spot_before, spot_held, where_of}
 use Rattle.tlv_open.proofs.FinderLemmas.NothingFound.{nothing_found}
 use Rattle.tlv_open.specs.Private.Held.{inner_octets_of}
@@ -284,7 +284,7 @@ begins-taken octets offset f count m b few =
 
 pub whole-taken : (octets : List ℕ) (offset : ℕ) (f : HeaderFields) (count m : ℕ)
     → BeginsWithFields octets offset false f count → m ≡ announced_length f.size → m ≤ length (drop count octets)
-    → count + m ≤ length octets → IsWholePrimitive (take (count + m) octets) offset
+    → count + m ≤ length octets → IsAllOfPrimitive (take (count + m) octets) offset
 whole-taken octets offset f count m b all few within = record {
   fields = f;
   count = count;

@@ -17,13 +17,13 @@ pub record IsKept (old new : FoundStrings) : Type 0 where
   pub added : new ≡ found_in_turn old more
 
 -- where the elements at a spot are, so many octets further on
-abbrev pub place_in : Spot → ℕ → Place
-place_in s offset = record (place_at offset s.depth) { padding = s.padding }
+abbrev pub place_among : Spot → ℕ → Place
+place_among s offset = record (place_at offset s.depth) { padding = s.padding }
 
 -- an extent says whether the octets begin with sound elements, and of how many octets; where padding may be, it may be
 -- silent
 pub record SaysSound (s : Spot) (offset : ℕ) (end_octets : Bool) (octets : List ℕ) (e : Extent) : Type 0 where
-  pub sound : e.sound ≡ true → BeginsWithElements (place_in s offset) s.likely end_octets octets e.size
+  pub sound : e.sound ≡ true → BeginsWithElements (place_among s offset) s.likely end_octets octets e.size
   pub unsound : s.padding ≡ false → e.sound ≡ false
       → BeginsWithNoElements (place_at offset s.depth) s.likely end_octets octets
 
@@ -41,7 +41,7 @@ pub record IsPlain (octets : List ℕ) (offset : ℕ) (likely : Bool) (n : ℕ) 
   pub no_string : (contents : List ℕ) → inner_octets (new_header fields (take count octets)) contents ≡ None
 
 -- the octets are a header, and as many others as it announces
-pub record IsWholePrimitive (octets : List ℕ) (offset : ℕ) : Type 0 where
+pub record IsAllOfPrimitive (octets : List ℕ) (offset : ℕ) : Type 0 where
   pub fields : HeaderFields
   pub count : ℕ
   pub begins : BeginsWithFields octets offset false fields count

@@ -64,9 +64,3 @@ IfSound false this other = other
 abbrev pub SaysElement : Place → Bool → List ℕ → Extent → Type 0
 SaysElement p likely octets e =
     IfSound e.sound (BeginsWithElement p likely octets e.size) (BeginsWithNoElement p likely octets)
-
--- and the same of elements
-abbrev pub SaysElements : Place → Bool → Bool → List ℕ → Extent → Type 0
-SaysElements p likely end_octets octets e =
-    IfSound e.sound (BeginsWithElements p likely end_octets octets e.size)
-    (BeginsWithNoElements p likely end_octets octets)

@@ -4,8 +4,8 @@ use Rattle.tlv_text.specs.declared.numbers.Step.{Step}
 use Rattle.tlv_text.specs.declared.numbers.Step.TheVariants.{Closes, Fails, Passes, Reads}
 
 -- a number that is read is no longer than the text
-abbrev pub IsWithin : Step → ℕ → Type 0
-IsWithin (Reads n) size = 1 + n.more ≤ size
-IsWithin (Passes place) size = Unit {0}
-IsWithin Closes size = Unit {0}
-IsWithin Fails size = Unit {0}
+abbrev pub IsWithinText : Step → ℕ → Type 0
+IsWithinText (Reads n) size = 1 + n.more ≤ size
+IsWithinText (Passes place) size = Unit {0}
+IsWithinText Closes size = Unit {0}
+IsWithinText Fails size = Unit {0}

@@ -35,13 +35,6 @@ IsFailure alphabet symbols OutOfMemory = Unit {0}
 abbrev pub PaddingFits : List ℕ → List ℕ → Type 0
 PaddingFits symbols rest = fits_after (length symbols) (padding_of rest) ≡ true
 
--- these octets are those of whole groups, and the rest of the text comes after them
-pub record IsReadSoFar (alphabet : Alphabet) (text octets rest : List ℕ) : Type 0 where
-  pub read : symbols_read alphabet text ≡ symbols_then (base64_of alphabet octets) (symbols_read alphabet rest)
-  pub are_octets : IsBytes octets
-  pub whole : length octets % 3 ≡ 0
-  pub less : length rest ≤ length text
-
 -- these symbols come after them, as the last of the text
 pub record IsAtEnd (alphabet : Alphabet) (text octets symbols rest : List ℕ) : Type 0 where
   pub read : symbols_read alphabet text

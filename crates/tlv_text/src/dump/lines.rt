@@ -2,11 +2,11 @@
 ghost use Rattle.std.specs.List.{list_all};
 ghost use Rattle.std.specs.Prelude.{◌≡◌, ◌<◌, ◌≤◌, ◌∷◌, length, option_map, true};
 ghost use Rattle.hex.specs.Hex.{is_hex_digit};
-ghost use Rattle.tlv_text.specs.DumpLines.{after_blanks, after_prefix, base, ends_offset, is_blank, is_digit_of};
-ghost use Rattle.tlv_text.specs.DumpLines.{kind_from, line_kind, lines_of, offset_read, row_at, text_line};
+ghost use Rattle.tlv_text.specs.DumpLines.{after_blanks, after_prefix, base, ends_offset, is_dump_blank, is_digit_of};
+ghost use Rattle.tlv_text.specs.DumpLines.{kind_from, line_kind, dump_lines, offset_read, row_at, new_text_line};
 ghost use Rattle.tlv_text.specs.DumpLines.{without_return};
-ghost use Rattle.tlv_text.specs.Pairs.{digit_value};
-ghost use Rattle.tlv_text.specs.Private.DumpSteps.{kind_of, offset_seen, row_seen};
+ghost use Rattle.tlv_text.specs.Pairs.{hex_value};
+ghost use Rattle.tlv_text.specs.Private.DumpSteps.{dump_kind_of, offset_seen, row_seen};
 
 use memchr::memchr;
 
@@ -55,7 +55,7 @@ pub(crate) enum DumpLine<'a> {
 /// The first line of a text, and what comes after its line feed.
 pub(super) fn split_line(text: &[u8]) -> (&[u8], &[u8])
     requires { 0 < length text.now }
-    ensures lines { lines_of text.now ≡ text_line result.0.now (length text.now) ∷ lines_of result.1.now }
+    ensures lines { dump_lines text.now ≡ new_text_line result.0.now (length text.now) ∷ dump_lines result.1.now }
     ensures less { length result.1.now < length text.now }
 {
     match memchr(b'\n', text) {
@@ -66,7 +66,7 @@ pub(super) fn split_line(text: &[u8]) -> (&[u8], &[u8])
 
 /// What a line is.
 pub(super) fn line_of(radix: Radix, line: &[u8]) -> DumpLine<'_>
-    ensures { kind_of result ≡ line_kind radix line.now }
+    ensures { dump_kind_of result ≡ line_kind radix line.now }
 {
     kind_from(radix, after_blanks(without_return(line)))
 }
@@ -83,7 +83,7 @@ fn without_return(line: &[u8]) -> &[u8]
 
 /// What a line is, from its first character on that is no blank.
 fn kind_from(radix: Radix, text: &[u8]) -> DumpLine<'_>
-    ensures { kind_of result ≡ kind_from radix text.now }
+    ensures { dump_kind_of result ≡ kind_from radix text.now }
 {
     match text {
         [] => DumpLine::Blank,
@@ -160,7 +160,7 @@ fn is_digit_of(radix: Radix, character: u8) -> bool
 #[inline(always)]
 fn digit_value(digit: u8) -> u64
     requires { is_hex_digit digit ≡ true }
-    ensures value { result ≡ digit_value digit }
+    ensures value { result ≡ hex_value digit }
     ensures few { result < 16 }
 {
     let value = match digit {
@@ -191,14 +191,14 @@ fn ends_offset(text: &[u8]) -> bool
 /// Whether this is a space or a tab.
 #[inline(always)]
 pub(super) fn is_blank(character: u8) -> bool
-    ensures { result ≡ is_blank character }
+    ensures { result ≡ is_dump_blank character }
 {
     matches!(character, b' ' | b'\t')
 }
 
 /// Whether all of these are blanks.
 pub(super) fn are_blanks(text: &[u8]) -> bool
-    ensures { result ≡ list_all is_blank text.now }
+    ensures { result ≡ list_all is_dump_blank text.now }
 {
     for character in text {
         if !is_blank(*character) {

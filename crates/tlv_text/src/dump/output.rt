@@ -1,7 +1,7 @@
 //! Octets of a hex dump that are decoded so far.
 ghost use Rattle.std.specs.Prelude.{◌≡◌, ◌<◌, ◌≤◌, ◌↔◌, ◌+◌, ◌*◌, [], IsTrue, OnOk};
-ghost use Rattle.tlv_text.specs.Dump.{repeated};
-ghost use Rattle.tlv_text.specs.Private.DumpSteps.{Holds, IsAdded};
+ghost use Rattle.tlv_text.specs.Dump.{octets_repeated};
+ghost use Rattle.tlv_text.specs.Private.DumpSteps.{RowHolds, IsAdded};
 ghost use Rattle.tlv_text.specs.Private.PairSteps.{AreWholePairs, pair_octets};
 
 use std::alloc::{AllocError, Global};
@@ -20,7 +20,7 @@ pub(crate) struct Output {
 
 /// No octets.
 pub(super) fn no_octets(alloc: Global) -> Output
-    ensures { Holds result [] }
+    ensures { RowHolds result [] }
 {
     Output {
         octets: Vec::new(alloc),
@@ -36,7 +36,7 @@ pub(super) fn add_octets(
     output: &mut Output,
 ) -> Result<(), AllocError>
     requires pairs { AreWholePairs digits.now }
-    ensures { OnOk result (IsAdded (repeated times (pair_octets digits.now)) output.old output.new) }
+    ensures { OnOk result (IsAdded (octets_repeated times (pair_octets digits.now)) output.old output.new) }
 {
     if output.over || times == 0 {
         return Ok(());

@@ -2,7 +2,7 @@
 ghost use Rattle.hex.specs.Hex.{is_hex_digit};
 ghost use Rattle.std.specs.Prelude.{◌≡◌, ◌<◌, ◌≤◌, ◌-◌, [], length, true};
 ghost use Rattle.tlv_text.specs.Dump.{after_few, after_gap, after_one, before_pairs, begins_blank, begins_lone_pair};
-ghost use Rattle.tlv_text.specs.Dump.{begins_pair, has_more_pairs, octets_if, pairs_after, row_octets};
+ghost use Rattle.tlv_text.specs.Dump.{begins_pair, has_more_pairs, octets_if, pairs_after, dump_row_octets};
 ghost use Rattle.tlv_text.specs.Private.PairSteps.{AreWholePairs, pair_octets};
 ghost use Rattle.tlv_text.specs.TextRead.{nothing_read, octets_then};
 
@@ -17,7 +17,7 @@ pub(super) fn row_digits(size: usize, rest: &[u8], digits: &mut ArrayVec<u8, DIG
     requires none { digits.old.items ≡ [] }
     requires few { size ≤ 256 }
     ensures pairs { AreWholePairs digits.new.items }
-    ensures octets { octets_if result (pair_octets digits.new.items) ≡ row_octets size rest.now }
+    ensures octets { octets_if result (pair_octets digits.new.items) ≡ dump_row_octets size rest.now }
 {
     let mut after = before_pairs(rest);
     if !begins_pair(after) {

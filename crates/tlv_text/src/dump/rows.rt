@@ -1,8 +1,8 @@
 //! Rows of a hex dump after the first.
 ghost use Rattle.std.specs.Prelude.{◌≡◌, ◌<◌, ◌≤◌, IfOk, length};
-ghost use Rattle.tlv_text.specs.Dump.{at_row, is_full, row_step, step, times_before};
+ghost use Rattle.tlv_text.specs.Dump.{at_row, is_full, dump_row_step, dump_line_step, times_before};
 ghost use Rattle.tlv_text.specs.DumpLines.{LineKind};
-ghost use Rattle.tlv_text.specs.Private.DumpSteps.{IsTaken, kind_of, place_of, row_seen};
+ghost use Rattle.tlv_text.specs.Private.DumpSteps.{IsTaken, dump_kind_of, dump_place_of, row_seen};
 ghost use Rattle.tlv_text.specs.Private.PairSteps.{AreWholePairs};
 ghost use Rattle.tlv_text.specs.declared.dump.output.Output.{Output};
 
@@ -48,7 +48,8 @@ pub(super) fn take_line(
     requires pairs { AreWholePairs last.old.digits.items }
     ensures pairs { AreWholePairs last.new.digits.items }
     ensures taken { IfOk result (λ fits.
-        IsTaken (step size (place_of last.old) left (kind_of line.entry)) fits last.new output.old output.new) }
+        IsTaken (dump_line_step size (dump_place_of last.old)
+        left (dump_kind_of line.entry)) fits last.new output.old output.new) }
 {
     match line {
         DumpLine::Blank => Ok(true),
@@ -63,7 +64,7 @@ fn take_repeat(size: usize, left: usize, last: &mut LastRow) -> bool
     requires { AreWholePairs last.old.digits.items }
     ensures pairs { AreWholePairs last.new.digits.items }
     ensures taken { (output : Output)
-        → IsTaken (step size (place_of last.old) left LineKind.repeat) result last.new output output }
+        → IsTaken (dump_line_step size (dump_place_of last.old) left LineKind.repeat) result last.new output output }
 {
     if !at_row(last.phase) || !is_full(size, last) {
         return false;
@@ -85,8 +86,8 @@ fn take_row(
     requires pairs { AreWholePairs last.old.digits.items }
     ensures pairs { AreWholePairs last.new.digits.items }
     ensures taken { IfOk result (λ fits. IsTaken
-        (row_step size (place_of last.old) (row_seen row.entry)
-        (times_before size (place_of last.old) row.entry.offset))
+        (dump_row_step size (dump_place_of last.old) (row_seen row.entry)
+        (times_before size (dump_place_of last.old) row.entry.offset))
         fits last.new output.old output.new) }
 {
     let Some(times) = times_before(size, last, row.offset) else {
@@ -115,7 +116,7 @@ fn take_row(
 fn times_before(size: usize, last: &LastRow, offset: u64) -> Option<u64>
     requires some { 0 < size }
     requires pairs { AreWholePairs last.now.digits.items }
-    ensures { result ≡ times_before size (place_of last.now) offset }
+    ensures { result ≡ times_before size (dump_place_of last.now) offset }
 {
     let size = size as u64;
     let more = offset.checked_sub(last.offset)?;
@@ -136,7 +137,7 @@ fn at_row(phase: Phase) -> bool
 /// Whether the last row has as many octets as a row has.
 fn is_full(size: usize, last: &LastRow) -> bool
     requires { AreWholePairs last.now.digits.items }
-    ensures { result ≡ is_full size (place_of last.now) }
+    ensures { result ≡ is_full size (dump_place_of last.now) }
 {
     last.digits.len() / 2 == size
 }

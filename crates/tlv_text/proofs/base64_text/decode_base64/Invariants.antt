@@ -1,5 +1,5 @@
 use Rattle.std.proofs.Common.{length}
-use Rattle.tlv_text.specs.Private.SymbolSteps.{IsReadSoFar}
+use Rattle.tlv_text.proofs.TextLemmas.{IsReadSoFar}
 use Rattle.tlv_text.proofs.base64_text.decode_base64.Given as goal
 
 abbrev pub invariant-loop-rest : goal.invariant-loop-rest

@@ -1,5 +1,5 @@
 use Rattle.tlv_text.specs.Dump.{pairs_after}
-use Rattle.tlv_text.specs.Private.DumpSteps.{IsAddedSoFar}
+use Rattle.tlv_text.proofs.DumpOutputLemmas.{IsAddedSoFar}
 use Rattle.std.proofs.Common.{length}
 use Rattle.tlv_text.proofs.dump.add_pairs.Given as goal
 

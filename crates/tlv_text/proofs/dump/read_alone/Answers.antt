@@ -1,7 +1,7 @@
 use Rattle.std.proofs.Common.{ap, ◌∙◌, subst}
 use Rattle.tlv_text.proofs.DumpStepLemmas.{first-read, first-refused, place-of_none}
-use Rattle.tlv_text.specs.Dump.{Place, rows_read}
-use Rattle.tlv_text.specs.DumpLines.{lines_of}
+use Rattle.tlv_text.specs.Dump.{DumpPlace, rows_read}
+use Rattle.tlv_text.specs.DumpLines.{dump_lines}
 use Rattle.tlv_text.specs.Private.DumpSteps.{IsAdded}
 use Rattle.tlv_text.specs.declared.dump.rows.Phase.{Phase}
 use Rattle.tlv_text.proofs.dump.read_alone.Goals as goal
@@ -16,7 +16,7 @@ returns c =
     let place = place-of_none Phase.End c.args.row.offset c.new.result.items c.new.ensures in
     first-read _ c.in_ok-add_single.field-0 c.no_octets-output.result c.add_single.new.output c.args.left _ _
     c.if-not-branch.false c.in_ok-add_single.ensures c.no_octets-output.ensures
-    (subst (λ (p : Place). IsAdded (rows_read c.args.radix 16 p (lines_of c.args.rest.now)).octets
+    (subst (λ (p : DumpPlace). IsAdded (rows_read c.args.radix 16 p (dump_lines c.args.rest.now)).octets
     c.add_single.new.output c.read_rows.new.output) place c.in_ok-left.ensures.octets)
     (c.in_ok-left.ensures.left
-    ∙ ap (λ (p : Place). (rows_read c.args.radix 16 p (lines_of c.args.rest.now)).left) place)
+    ∙ ap (λ (p : DumpPlace). (rows_read c.args.radix 16 p (dump_lines c.args.rest.now)).left) place)

@@ -3,7 +3,7 @@ use Rattle.std.proofs.lemmas.List.{drop_all}
 use Rattle.std.proofs.Math.Seq.{take-length}
 use Rattle.tlv_text.proofs.DumpLemmas.{line-alone, line-found}
 use Rattle.tlv_text.proofs.Slices.{from-on}
-use Rattle.tlv_text.specs.DumpLines.{lines_of, text_line}
+use Rattle.tlv_text.specs.DumpLines.{dump_lines, new_text_line}
 use Rattle.tlv_text.proofs.dump.lines.split_line.Goals as goal
 
 pub returns-in-Some-clause-lines : goal.returns-in-Some-clause-lines
@@ -12,7 +12,7 @@ returns-in-Some-clause-lines c =
     let n : ℕ = c.in-Some.length in
     let size : suc n ≡ n + 1 = omega arith in
     line-found text n c.in-Some.ensures
-    ∙ ap (λ (rest : List ℕ). text_line (take n text) (length text) ∷ lines_of rest)
+    ∙ ap (λ (rest : List ℕ). new_text_line (take n text) (length text) ∷ dump_lines rest)
     (ap (λ (k : ℕ). drop k text) size ∙ sym (from-on (n + 1) text))
 
 pub returns-in-None-clause-lines : goal.returns-in-None-clause-lines
