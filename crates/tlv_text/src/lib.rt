@@ -22,6 +22,6 @@ pub use marks::{after_mark, ascii_of_utf16};
 pub use numbers::numbers_of;
 pub use pairs::decode_pairs;
 pub use pem::{PemBlock, first_block};
-pub use runs::{Run, first_run};
+pub use runs::{Base64Run, first_run};
 pub use text_fault::TextFault;
 pub use tokens::{decode_tokens, has_tokens};

@@ -10,7 +10,7 @@ const FEWEST: usize = 40;
 
 /// A run of base64 in a text.
 #[derive(Clone, Copy, Debug, PartialEq, Eq)]
-pub struct Run<'a> {
+pub struct Base64Run<'a> {
     /// How many characters of the text come before it.
     pub start: usize,
     /// From its first symbol to its last one or to its padding.
@@ -28,7 +28,7 @@ struct Stretch {
 
 /// The first run of base64 in a text: 40 symbols or more of the standard alphabet (RFC 4648, section 4), the first of
 /// them not after a symbol. Between two of them may be a line end and blanks after it; one or two of `=` may follow.
-pub fn first_run(text: &[u8]) -> Option<Run<'_>>
+pub fn first_run(text: &[u8]) -> Option<Base64Run<'_>>
     ensures { MatchOption result (HasNoRun text.now) (λ r. IsFirstRun text.now r.start r.text.now r.rest.now) }
 {
     let mut start = 0;
@@ -38,7 +38,7 @@ pub fn first_run(text: &[u8]) -> Option<Run<'_>>
         if stretch.symbols >= FEWEST {
             let padding = padding_size(&here[stretch.size..]);
             let (run, rest) = here.split_at(stretch.size + padding);
-            return Some(Run {
+            return Some(Base64Run {
                 start,
                 text: run,
                 rest,
