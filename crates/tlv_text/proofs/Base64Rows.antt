@@ -51,7 +51,7 @@ octets-are (x ∷ octets) e (suc i) =
     octets-are octets parts.1 i
 
 -- all of it is base64
-row-of : (alphabet : Alphabet) (text octets : List ℕ) → list_all (λ x. ltb x 256) octets ≡ true
+pub row-of : (alphabet : Alphabet) (text octets : List ℕ) → list_all (λ x. ltb x 256) octets ≡ true
     → base64_of alphabet octets ≡ (symbols_read alphabet text).symbols
     → fits_after (length (symbols_read alphabet text).symbols) (padding_of (symbols_read alphabet text).rest) ≡ true
     → ReadsBase64 alphabet text octets None
@@ -59,7 +59,7 @@ row-of alphabet text octets each symbols padding =
     ReadsBase64.whole (record { are_octets = octets-are octets each; symbols = symbols; padding = padding })
 
 -- what comes after the last symbol is not its padding
-row-of_unpadded : (alphabet : Alphabet) (text octets : List ℕ) → list_all (λ x. ltb x 256) octets ≡ true
+pub row-of_unpadded : (alphabet : Alphabet) (text octets : List ℕ) → list_all (λ x. ltb x 256) octets ≡ true
     → base64_of alphabet octets ≡ whole_groups (symbols_read alphabet text).symbols
     → fits_after (length (symbols_read alphabet text).symbols) (padding_of (symbols_read alphabet text).rest) ≡ false
     → ReadsBase64 alphabet text octets (Some (length text - length (symbols_read alphabet text).rest))
@@ -100,6 +100,19 @@ row-quoted = row-of Standard _ _ refl refl refl
 row-escaped : ReadsBase64 Standard (codes "MA\\nMCAQ\\r\\nU=\\n") (0x30 ∷ 0x3 ∷ 0x2 ∷ 0x1 ∷ 0x5 ∷ []) None
 unfolding base64_on_literals
 row-escaped = row-of Standard _ _ refl refl refl
+
+-- slashes as PHP writes them into JSON; with the other alphabet a slash is no symbol, and it is refused there
+row-escaped_slash : ReadsBase64 Standard (codes "+\\/+\\/") (0xfb ∷ 0xff ∷ 0xbf ∷ []) None
+unfolding base64_on_literals
+row-escaped_slash = row-of Standard _ _ refl refl refl
+
+row-escaped_slash_in_url_safe : ReadsBase64 UrlSafe (codes "-_\\/_") [] (Some 3)
+unfolding base64_on_literals
+row-escaped_slash_in_url_safe = row-of_unpadded UrlSafe _ _ refl refl refl
+
+row-two_backslashes : ReadsBase64 Standard (codes "+\\\\/8") [] (Some 1)
+unfolding base64_on_literals
+row-two_backslashes = row-of_unpadded Standard _ _ refl refl refl
 
 -- the last two symbols of each alphabet
 row-alphabet : ReadsBase64 Standard (codes "+/8=") (0xfb ∷ 0xff ∷ []) None

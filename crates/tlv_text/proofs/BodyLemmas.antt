@@ -75,7 +75,7 @@ counted-other all size blank next (x ∷ y ∷ more) two n f e t i =
     counted-on all size 1 blank next (x ∷ y ∷ more) (omega arith)
     (rw (from-on 1 (x ∷ y ∷ more), n, f, e, t) refl) i
 
-true-not : (b : Bool) → (b ≡ true → ⊥) → b ≡ false
+pub true-not : (b : Bool) → (b ≡ true → ⊥) → b ≡ false
 true-not true none = absurd (none refl)
 true-not false none = refl
 

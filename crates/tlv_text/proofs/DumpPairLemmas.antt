@@ -1,27 +1,31 @@
 -- Pairs of a row of a dump.
 use Rattle.std.proofs.Common.{◌≡◌, ℕ, zero, suc, ◌+◌, ◌-◌, ◌/◌, ◌==◌, ◌<◌, ◌≤◌, Bool, true, false, ◌&&◌, not}
-use Rattle.std.proofs.Common.{List, [], ◌∷◌, ◌++◌, length, drop, slice_index, refl, ap, sym, ◌∙◌, append_assoc, arith}
+use Rattle.std.proofs.Common.{◌||◌, List, [], ◌∷◌, ◌++◌, length, take, drop, slice_index, refl, ap, sym, ◌∙◌}
+use Rattle.std.proofs.Common.{append_assoc, arith}
 use Rattle.std.proofs.Common.{inl, inr}
 use Rattle.std.specs.Prelude.{if◌then◌else◌}
 use Rattle.std.proofs.lemmas.Bool.{cases_lt}
 use Rattle.std.proofs.lemmas.List.{append-nil, length-append}
+use Rattle.std.proofs.lemmas.List.Elements.{All-nil}
 use Rattle.hex.specs.Hex.{is_hex_digit}
 use Rattle.tlv_text.proofs.DumpLemmas.{pair_octets-length}
-use Rattle.tlv_text.proofs.PairLemmas.{pair_octets-more}
+use Rattle.tlv_text.proofs.PairLemmas.{pair_octets-more, pairs-and_one}
 use Rattle.tlv_text.proofs.Slices.{after-two, slice_from}
-use Rattle.tlv_text.specs.Dump.{after_gap, before_pairs, begins_pair, leading_octet, has_more_pairs, octets_if}
-use Rattle.tlv_text.specs.Dump.{pairs_after, octets_repeated, row_fits, dump_row_octets}
+use Rattle.tlv_text.specs.Dump.{after_few, after_gap, before_pairs, begins_digit, begins_lone_pair, begins_pair}
+use Rattle.tlv_text.specs.Dump.{dump_row_octets, gap_of, leading_octet, octets_if, octets_repeated, pairs_after}
+use Rattle.tlv_text.specs.Dump.{pairs_at, row_fits}
 use Rattle.tlv_text.specs.Pairs.{pair_octet}
 use Rattle.tlv_text.specs.Private.PairSteps.{AreWholePairs, pair_octets}
 use Rattle.tlv_text.specs.TextRead.{TextRead, nothing_read, octets_then}
+use Rattle.tlv_text.specs.declared.dump.pairs.Gap.{Gap}
 
 -- what is read of a text by what follows its gap
-abbrev with_next : ℕ → ℕ → List ℕ → List ℕ → TextRead
+abbrev with_next : ℕ → Gap → List ℕ → List ℕ → TextRead
 with_next n gap text next =
     if begins_pair next then octets_then (leading_octet next ∷ []) (pairs_after n gap (drop 2 next))
     else nothing_read text
 
-next-pair : (n gap : ℕ) (text next : List ℕ) → 2 ≤ length next → is_hex_digit (slice_index next 0) ≡ true
+next-pair : (n : ℕ) (gap : Gap) (text next : List ℕ) → 2 ≤ length next → is_hex_digit (slice_index next 0) ≡ true
     → is_hex_digit (slice_index next 1) ≡ true
     → with_next n gap text next
     ≡ octets_then (pair_octet (slice_index next 0) (slice_index next 1) ∷ []) (pairs_after n gap (slice_from 2 next))
@@ -31,7 +35,7 @@ next-pair n gap text (x ∷ y ∷ more) two dx dy =
     rw (dx, dy)
     (ap (λ (rest : List ℕ). octets_then (pair_octet x y ∷ []) (pairs_after n gap rest)) (sym (after-two x y more)))
 
-pair-first : (left gap : ℕ) (text next : List ℕ) → 0 < left → next ≡ after_gap gap text → 2 ≤ length next
+pair-first : (left : ℕ) (gap : Gap) (text next : List ℕ) → 0 < left → next ≡ after_gap gap text → 2 ≤ length next
     → is_hex_digit (slice_index next 0) ≡ true → is_hex_digit (slice_index next 1) ≡ true
     → pairs_after left gap text
     ≡ octets_then (pair_octet (slice_index next 0) (slice_index next 1) ∷ [])
@@ -48,8 +52,9 @@ then-more a b r =
     ap (λ (octets : List ℕ). record { octets = octets; rest = r.rest }) (sym (append_assoc a b r.octets))
 
 -- a pair is read after others
-pub pair-more : (all : TextRead) (left gap : ℕ) (text next digits : List ℕ) → 0 < left → next ≡ after_gap gap text
-    → 2 ≤ length next → is_hex_digit (slice_index next 0) ≡ true → is_hex_digit (slice_index next 1) ≡ true
+pub pair-more : (all : TextRead) (left : ℕ) (gap : Gap) (text next digits : List ℕ) → 0 < left
+    → next ≡ after_gap gap text → 2 ≤ length next → is_hex_digit (slice_index next 0) ≡ true
+    → is_hex_digit (slice_index next 1) ≡ true
     → AreWholePairs digits → all ≡ octets_then (pair_octets digits) (pairs_after left gap text)
     → all ≡ octets_then (pair_octets (digits ++ slice_index next 0 ∷ slice_index next 1 ∷ []))
     (pairs_after (left - 1) gap (slice_from 2 next))
@@ -72,8 +77,8 @@ pair-counted digits x y left most some p e =
     )
 
 -- no pair follows
-pub no-pair : (left gap : ℕ) (text next : List ℕ) → 0 < left → next ≡ after_gap gap text → begins_pair next ≡ false
-    → pairs_after left gap text ≡ nothing_read text
+pub no-pair : (left : ℕ) (gap : Gap) (text next : List ℕ) → 0 < left → next ≡ after_gap gap text
+    → begins_pair next ≡ false → pairs_after left gap text ≡ nothing_read text
 no-pair zero gap text next some e none = absurd (omega arith)
 no-pair (suc n) gap text next some e none = ap (with_next n gap text) (sym e) ∙ rw none refl
 
@@ -93,11 +98,43 @@ second-is_no_digit [] d e = refl
 second-is_no_digit (x ∷ []) d e = refl
 second-is_no_digit (x ∷ y ∷ next) d e = rw (d, e) refl
 
--- nothing follows pairs that were counted
-pub last-pairs : (most left gap : ℕ) (text octets : List ℕ) → length octets + left ≡ most
-    → pairs_after left gap text ≡ nothing_read text
-    → pairs_after (most - length octets) gap text ≡ nothing_read text
-last-pairs most left gap text octets e none = ap (λ (n : ℕ). pairs_after n gap text) (omega arith) ∙ none
+-- ---- the pair that comes first
+
+pub two-first : (text : List ℕ) → begins_pair text ≡ true → 2 ≤ length text
+two-first [] begins = cc begins
+two-first (x ∷ []) begins = cc begins
+two-first (x ∷ y ∷ text) begins = omega arith
+
+both-true : (a b : Bool) → (a && b) ≡ true → (a ≡ true) × (b ≡ true)
+both-true true true e = (refl, refl)
+both-true true false e = cc e
+both-true false b e = cc e
+
+pub two-taken : (text : List ℕ) → begins_pair text ≡ true → length (take 2 text) ≡ 2
+two-taken [] begins = cc begins
+two-taken (x ∷ []) begins = cc begins
+two-taken (x ∷ y ∷ text) begins = refl
+
+pub no-pairs_whole : AreWholePairs []
+no-pairs_whole = record { even = refl; digits = All-nil (λ d. is_hex_digit d ≡ true) }
+
+pub first-pair_whole : (text : List ℕ) → begins_pair text ≡ true → AreWholePairs (take 2 text)
+first-pair_whole [] begins = cc begins
+first-pair_whole (x ∷ []) begins = cc begins
+first-pair_whole (x ∷ y ∷ text) begins =
+    pairs-and_one [] x y no-pairs_whole
+    (both-true (is_hex_digit x) (is_hex_digit y) begins).0 (both-true (is_hex_digit x) (is_hex_digit y) begins).1
+
+-- what is read from the first pair on
+pub pairs-from_first : (most : ℕ) (gap : Gap) (text : List ℕ) → 0 < most → begins_pair text ≡ true
+    → pairs_at most gap text
+    ≡ octets_then (pair_octets (take 2 text)) (pairs_after (most - 1) gap (drop 2 text))
+pairs-from_first zero gap text some begins = absurd (omega arith)
+pairs-from_first (suc n) gap [] some begins = cc begins
+pairs-from_first (suc n) gap (x ∷ []) some begins = cc begins
+pairs-from_first (suc n) gap (x ∷ y ∷ text) some begins =
+    rw begins
+    (ap (λ (m : ℕ). octets_then (pair_octet x y ∷ []) (pairs_after m gap text)) (omega arith))
 
 -- ---- a row among others
 
@@ -105,48 +142,52 @@ nothing-then : (octets rest : List ℕ) → octets_then octets (nothing_read res
 nothing-then octets rest = ap (λ (t : List ℕ). record { octets = t; rest = rest }) (append-nil octets)
 
 -- so many pairs that all are taken
-pub nothing-left : (size gap : ℕ) (rest digits : List ℕ) → size ≤ 256
-    → (length digits < 512 → pairs_after (size - length (pair_octets digits)) gap rest ≡ nothing_read rest)
-    → pairs_after (size - length (pair_octets digits)) gap rest ≡ nothing_read rest
-nothing-left size gap rest digits few last =
+nothing-left : (size left : ℕ) (gap : Gap) (rest digits : List ℕ) → size ≤ 256
+    → length (pair_octets digits) + left ≡ size
+    → (length digits < 512 → pairs_after left gap rest ≡ nothing_read rest)
+    → pairs_after left gap rest ≡ nothing_read rest
+nothing-left size left gap rest digits few count last =
     elim (cases_lt (length digits) 512) [
       | inl less ↦ last less
       | inr more ↦
-          let none : size - length (pair_octets digits) ≡ 0 = omega (arith, pair_octets-length digits) in
+          let none : left ≡ 0 = omega (arith, pair_octets-length digits) in
           ap (λ (n : ℕ). pairs_after n gap rest) none
     ]
 
-pub row-read : (size : ℕ) (text rest digits : List ℕ) → size ≤ 256
-    → pairs_after size 2 text
-    ≡ octets_then (pair_octets digits) (pairs_after (size - length (pair_octets digits)) 2 rest)
-    → (length digits < 512 → pairs_after (size - length (pair_octets digits)) 2 rest ≡ nothing_read rest)
-    → pairs_after size 2 text ≡ record { octets = pair_octets digits; rest = rest }
-row-read size text rest digits few read last =
-    read
-    ∙ ap (octets_then (pair_octets digits)) (nothing-left size 2 rest digits few last)
+pub row-read : (size left : ℕ) (gap : Gap) (text first rest digits : List ℕ) → 0 < size → size ≤ 256
+    → begins_pair text ≡ true → first ≡ take 2 text
+    → octets_then (pair_octets first) (pairs_after (size - 1) gap (drop 2 text))
+    ≡ octets_then (pair_octets digits) (pairs_after left gap rest)
+    → length (pair_octets digits) + left ≡ length (pair_octets first) + (size - 1)
+    → (length digits < 512 → pairs_after left gap rest ≡ nothing_read rest)
+    → pairs_at size gap text ≡ record { octets = pair_octets digits; rest = rest }
+row-read size left gap text first rest digits some few begins f read count last =
+    let one : length (pair_octets first) ≡ 1 =
+    pair_octets-length first ∙ ap (λ (t : List ℕ). length t / 2) f ∙ ap (λ (n : ℕ). n / 2) (two-taken text begins) in
+    pairs-from_first size gap text some begins
+    ∙ ap (λ (t : List ℕ). octets_then (pair_octets t) (pairs_after (size - 1) gap (drop 2 text))) (sym f)
+    ∙ read
+    ∙ ap (octets_then (pair_octets digits)) (nothing-left size left gap rest digits few (omega arith) last)
     ∙ nothing-then (pair_octets digits) rest
 
 pub row-octets : (size : ℕ) (line text rest octets : List ℕ) (fits : Bool) → text ≡ before_pairs line
-    → begins_pair text ≡ true → pairs_after size 2 text ≡ record { octets = octets; rest = rest }
-    → fits ≡ not ((length octets == size) && has_more_pairs rest)
+    → begins_pair text ≡ true → pairs_at size (gap_of 2 line) text ≡ record { octets = octets; rest = rest }
+    → fits ≡ not (begins_digit rest || ((length octets == size) && begins_lone_pair (after_few 1 rest)))
     → octets_if fits octets ≡ dump_row_octets size line
 row-octets size line text rest octets fits e begins read f =
     let one : octets_if fits octets ≡ octets_if (row_fits size text (record { octets = octets; rest = rest })) octets =
     rw (begins, f) refl in
     one
     ∙ ap (λ (r : TextRead). octets_if (row_fits size text r) r.octets) (sym read)
-    ∙ ap (λ (t : List ℕ). octets_if (row_fits size t (pairs_after size 2 t)) (pairs_after size 2 t).octets) e
+    ∙ ap (λ (t : List ℕ). octets_if (row_fits size t (pairs_at size (gap_of 2 line) t))
+    (pairs_at size (gap_of 2 line) t).octets) e
 
 -- ---- a row alone
 
--- pairs that are read at once
-pub some-read : (left n : ℕ) (text rest digits : List ℕ)
-    → pairs_after left 1 text
-    ≡ octets_then (pair_octets digits) (pairs_after (left - length (pair_octets digits)) 1 rest)
-    → n ≡ length digits
-    → (pairs_after left 1 text).octets ≡ octets_repeated 1 (pair_octets digits) ++ (pairs_after (left - n / 2) 1 rest).octets
-some-read left n text rest digits read e =
-    let size : length (pair_octets digits) ≡ n / 2 = pair_octets-length digits ∙ ap (λ (m : ℕ). m / 2) (sym e) in
-    ap (λ (r : TextRead). r.octets) read
-    ∙ ap (λ (m : ℕ). pair_octets digits ++ (pairs_after (left - m) 1 rest).octets) size
-    ∙ ap (λ (t : List ℕ). t ++ (pairs_after (left - n / 2) 1 rest).octets) (sym (append-nil (pair_octets digits)))
+-- pairs are read, and others remain
+pub some-read : (left : ℕ) (gap : Gap) (rest digits : List ℕ) (read : TextRead)
+    → read ≡ octets_then (pair_octets digits) (pairs_after left gap rest)
+    → read.octets ≡ octets_repeated 1 (pair_octets digits) ++ (pairs_after left gap rest).octets
+some-read left gap rest digits read e =
+    ap (λ (r : TextRead). r.octets) e
+    ∙ ap (λ (t : List ℕ). t ++ (pairs_after left gap rest).octets) (sym (append-nil (pair_octets digits)))

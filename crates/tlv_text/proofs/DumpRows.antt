@@ -1,5 +1,5 @@
 -- Dumps of some tools, and the octets that are read from them.
-use Rattle.std.proofs.Common.{◌≡◌, ℕ, List, [], ◌∷◌, ◌++◌, refl, Some, None}
+use Rattle.std.proofs.Common.{◌≡◌, ℕ, zero, suc, ◌+◌, List, [], ◌∷◌, ◌++◌, refl, Some, None}
 use Rattle.std.specs.Prelude.{codes}
 use Rattle.tlv_text.specs.Dump.{DumpRead, dump_read, refused_in, refused_with, octets_repeated}
 
@@ -9,6 +9,11 @@ octets = 0x30 ∷ 0x82 ∷ 1 ∷ 0x22 ∷ 4 ∷ 5 ∷ 6 ∷ 7 ∷ 8 ∷ 9 ∷ 10
 
 more : List ℕ
 more = 0x30 ∷ 0x31 ∷ []
+
+-- so many octets, each one more than the one before
+octets_from : ℕ → ℕ → List ℕ
+octets_from first zero = []
+octets_from first (suc n) = first ∷ octets_from (first + 1) n
 
 whole : List ℕ → DumpRead
 whole read = record { octets = read; left = None }
@@ -42,14 +47,47 @@ octal-row : dump_read (codes "0000000 30 82 01 22 04 05 06 07 08 09 0a 0b 0c 0d 
 unfolding octets more whole
 octal-row = refl
 
--- what fits both is read with hexadecimal offsets: 34 octets, and not 18
+-- what fits both is read with octal offsets, if the first has seven digits: 82 octets, and not 290
 both-row : dump_read (
     codes "0000000 00 00 00 00 00 00 00 00 00 00 00 00 00 00 00 00\n*\n"
-    ++ codes "0000020 30 31\n0000022\n"
+    ++ codes "0000120 30 31\n0000122\n"
     )
-    ≡ whole (octets_repeated 32 (0 ∷ []) ++ more)
+    ≡ whole (octets_repeated 80 (0 ∷ []) ++ more)
 unfolding more whole
 both-row = refl
+
+-- else with hexadecimal ones
+six-row : dump_read (
+    codes "000000 00 00 00 00 00 00 00 00 00 00 00 00 00 00 00 00\n*\n"
+    ++ codes "000040 30 31\n000042\n"
+    )
+    ≡ whole (octets_repeated 64 (0 ∷ []) ++ more)
+unfolding more whole
+six-row = refl
+
+-- the first offset is not octal, so no octal dump begins at the second
+seven-row : dump_read (
+    codes "00000f0 00 00 00 00 00 00 00 00 00 00 00 00 00 00 00 00\n"
+    ++ codes "0000100 00 00 00 00 00 00 00 00 00 00 00 00 00 00 00 00\n*\n"
+    ++ codes "0000140 30 31\n"
+    )
+    ≡ whole (octets_repeated 80 (0 ∷ []) ++ more)
+unfolding more whole
+seven-row = refl
+
+-- seven digits and a colon, as xxd once wrote them: not 8 octets of each row
+xxd_seven-row : dump_read (
+    codes "0000000: 3082 0122 0405 0607 0809 0a0b 0c0d 0e0f  0..\"............\n"
+    ++ codes "0000010: 3031                                     01\n"
+    )
+    ≡ whole (octets ++ more)
+unfolding octets more whole
+xxd_seven-row = refl
+
+-- lines with an offset and no pair come before the first row
+offset_only-row : dump_read (codes "0000 zz\n2024\n0000: 3031\n") ≡ whole more
+unfolding more whole
+offset_only-row = refl
 
 -- the column of characters begins with what looks like a pair
 wireshark-row : dump_read (
@@ -122,8 +160,27 @@ offset-row = refl
 
 -- a digit of the second row is lost
 digit-row : dump_read (codes "0000: 3031\n0002: 323\n0004: 3435\n")
-    ≡ record { octets = 0x30 ∷ 0x31 ∷ 0x32 ∷ []; left = Some 11 }
+    ≡ record { octets = 0x30 ∷ 0x31 ∷ []; left = Some 21 }
 digit-row = refl
+
+-- words of 16 bits, swapped
+words-row : dump_read (codes "0000000 0330 0102 0005\n0000005\n") ≡ refused_with 31
+words-row = refl
+
+single_words-row : dump_read (codes "0000 0330 0102\n") ≡ refused_with 15
+single_words-row = refl
+
+-- words of 32 bits in the second row, where a lone pair may be
+last_words-row : dump_read (codes "0000 30 31\n0002 31323334\n") ≡ record { octets = 0x30 ∷ 0x31 ∷ []; left = Some 14 }
+last_words-row = refl
+
+-- octal words
+octal_words-row : dump_read (codes "0000000 001460 000402 000005\n0000005\n") ≡ refused_with 37
+octal_words-row = refl
+
+-- bits
+bits-row : dump_read (codes "0000: 00110000 00000011\n0002: 00000010\n") ≡ refused_with 39
+bits-row = refl
 
 -- the second row has a pair more
 pair-row : dump_read (codes "0000: 30 31\n0002: 32 33 34\n0004: 34 35\n")
@@ -150,3 +207,13 @@ none-row = refl
 
 refused-row : refused_in (codes "30 03\n") (dump_read (codes "30 03\n")).left ≡ Some 6
 refused-row = refl
+
+-- a row of hexdump -C that is broken in its second half: with octal offsets, the first halves would be all octets
+broken-row : dump_read (
+    codes "00000000  30 31 32 33 34 35 36 37  38 39 3a 3b 3c 3d 3e 3f\n"
+    ++ codes "00000010  30 31 32 33 34 35 36 37  38 3z 3a 3b 3c 3d 3e 3f\n"
+    ++ codes "00000020  30 31 32 33 34 35 36 37  38\n"
+    )
+    ≡ record { octets = octets_from 0x30 16 ++ octets_from 0x30 9; left = Some 38 }
+unfolding octets_from
+broken-row = refl

@@ -1,4 +1,6 @@
 pub mod Base64Rows
+pub mod BlockLemmas
+pub mod BlockRows
 pub mod BodyLemmas
 pub mod BodyRows
 pub mod DumpLemmas
@@ -7,6 +9,7 @@ pub mod DumpPairLemmas
 pub mod DumpRows
 pub mod DumpStepLemmas
 pub mod GroupLemmas
+pub mod LineLemmas
 pub mod MarkLemmas
 pub mod NumberLemmas
 pub mod NumberRows
@@ -18,4 +21,5 @@ pub mod RunRows
 pub mod Slices
 pub mod TextLemmas
 pub mod TokenLemmas
+pub mod TokenPlaceLemmas
 pub mod TokenRows

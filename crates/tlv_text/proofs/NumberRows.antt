@@ -46,5 +46,15 @@ open-row : numbers_of (codes "[1,2") ≡ None
 open-row = refl
 
 -- two lists
-two-row : numbers_of (codes "[[1],[2]]") ≡ None
+two-row : numbers_of (codes "[[1,2],[3,4]]") ≡ None
 two-row = refl
+
+-- one number alone is no list
+size-row : numbers_of (codes "[3]byte{48, 3, 2}") ≡ Some (48 ∷ 3 ∷ 2 ∷ [])
+size-row = refl
+
+place-row : numbers_of (codes "a[0] = {48, 1}; b[1]") ≡ Some (48 ∷ 1 ∷ [])
+place-row = refl
+
+single-row : numbers_of (codes "[48,]") ≡ None
+single-row = refl

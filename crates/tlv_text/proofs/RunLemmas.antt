@@ -3,12 +3,12 @@ use Rattle.std.proofs.Common.{◌≡◌, ℕ, zero, suc, ◌+◌, ◌-◌, ◌==
 use Rattle.std.proofs.Common.{length, take, drop, slice_index, refl, ap, sym}
 use Rattle.std.proofs.Common.{◌∙◌, ◌⊎◌, inl, inr, arith, subst}
 use Rattle.std.specs.Prelude.{if◌then◌else◌, max}
-use Rattle.std.proofs.lemmas.Bool.{and_parts, cases_order, eqb-true}
+use Rattle.std.proofs.lemmas.Bool.{and_parts, cases_order, eqb-true, or_cases}
 use Rattle.std.proofs.lemmas.List.{drop-drop, drop_all, length-drop, length-take-le, take-append-drop}
 use Rattle.tlv_text.proofs.Slices.{from-on, slice_from}
 use Rattle.tlv_text.specs.Base64.{is_symbol}
 use Rattle.tlv_text.specs.Runs.{HasNoRun, IsAfterNoSymbol, IsFirstRun, Stretch, break_size, is_run_blank, padding_size}
-use Rattle.tlv_text.specs.Runs.{stretch_after, stretch_of, symbol_before, up_to_symbol}
+use Rattle.tlv_text.specs.Runs.{reaches_line_end, stretch_after, stretch_of, symbol_before, up_to_symbol}
 use Rattle.tlv_text.specs.declared.base64_text.Alphabet.TheVariants.{Standard}
 
 -- ---- a stretch, while it is read
@@ -69,21 +69,28 @@ is_true_or false = inr refl
 abbrev NoSymbols : ℕ → List ℕ → Type 0
 NoSymbols n text = (k : ℕ) → k < n → is_symbol Standard (slice_index text k) ≡ false
 
+blank-clear : (x : ℕ) → is_run_blank x ≡ true → is_symbol Standard x ≡ false
+blank-clear x e =
+    elim (or_cases (x == 32) (x == 9) e) [
+      | inl space ↦ rw (eqb-true x 32 space) refl
+      | inr tab ↦ rw (eqb-true x 9 tab) refl
+    ]
+
 up_to-clear : (n : ℕ) (text : List ℕ) (k : ℕ) → n + k < up_to_symbol n text
     → is_symbol Standard (slice_index text k) ≡ false
 up_to-clear n [] k less = absurd (omega arith)
 up_to-clear n (x ∷ text) k less =
-    cases (is_symbol Standard x) (is_run_blank x) k (λ j. up_to-clear (1 + n) text j) refl refl less
+    cases (is_symbol Standard x && reaches_line_end text) (is_run_blank x) k (λ j. up_to-clear (1 + n) text j) refl less
   where
     cases : (s b : Bool) (k : ℕ)
         → ((j : ℕ) → 1 + n + j < up_to_symbol (1 + n) text → is_symbol Standard (slice_index text j) ≡ false)
-        → is_symbol Standard x ≡ s → is_run_blank x ≡ b
+        → is_run_blank x ≡ b
         → n + k < (if s then n else (if b then up_to_symbol (1 + n) text else 0))
         → is_symbol Standard (slice_index (x ∷ text) k) ≡ false
-    cases true b k further e f less = absurd (omega arith)
-    cases false b zero further e f less = e
-    cases false true (suc k) further e f less = further k (omega (arith, less))
-    cases false false (suc k) further e f less = absurd (omega arith)
+    cases true b k further f less = absurd (omega arith)
+    cases false true zero further f less = blank-clear x f
+    cases false true (suc k) further f less = further k (omega (arith, less))
+    cases false false k further f less = absurd (omega arith)
 
 break-clear : (text : List ℕ) → NoSymbols (break_size text) text
 break-clear [] k less = absurd (omega arith)

@@ -75,6 +75,33 @@ row-json : IsFirstRun (codes "{\"x5c\":[\"MIICAzCCAWygAwIBAgIBATANBgkqhkiG9w0BAQ
 unfolding all_short
 row-json = row-of _ 9 _ _ refl refl refl refl
 
+-- without padding, the first word of the next line is not joined: LDIF, and YAML, where more blanks come before it
+row-next_word : IsFirstRun (codes "cert:: MIICAzCCAWygAwIBAgIB\n ATANBgkqhkiG9w0BAQEB\ncn: foo\n") 7
+    (codes "MIICAzCCAWygAwIBAgIB\n ATANBgkqhkiG9w0BAQEB") (codes "\ncn: foo\n")
+unfolding all_short
+row-next_word = row-of _ 7 _ _ refl refl refl refl
+
+row-next_key : IsFirstRun (codes "  tls.crt: MIICAzCCAWygAwIBAgIBATANBgkqhkiG9w0BAQEB\r\n  tls.key: MC4C\r\n") 11
+    (codes "MIICAzCCAWygAwIBAgIBATANBgkqhkiG9w0BAQEB") (codes "\r\n  tls.key: MC4C\r\n")
+unfolding all_short
+row-next_key = row-of _ 11 _ _ refl refl refl refl
+
+-- a last line that ends with a quote, with the text, or with an element
+row-quote_after : IsFirstRun (codes "cert: \"MIICAzCCAWygAwIBAgIB\n  ATANBgkqhkiG9w0BAQEB\"\n") 7
+    (codes "MIICAzCCAWygAwIBAgIB\n  ATANBgkqhkiG9w0BAQEB") (codes "\"\n")
+unfolding all_short
+row-quote_after = row-of _ 7 _ _ refl refl refl refl
+
+row-end_after : IsFirstRun (codes "cert: MIICAzCCAWygAwIBAgIB\n  ATANBgkqhkiG9w0BAQEB") 6
+    (codes "MIICAzCCAWygAwIBAgIB\n  ATANBgkqhkiG9w0BAQEB") []
+unfolding all_short
+row-end_after = row-of _ 6 _ _ refl refl refl refl
+
+row-element_after : IsFirstRun (codes "<c>MIICAzCCAWygAwIBAgIB\nATANBgkqhkiG9w0BAQEB</c>") 3
+    (codes "MIICAzCCAWygAwIBAgIB\nATANBgkqhkiG9w0BAQEB") (codes "</c>")
+unfolding all_short
+row-element_after = row-of _ 3 _ _ refl refl refl refl
+
 -- an empty line, and a blank at the end of a line, end a run
 row-empty_line : HasNoRun (codes "MIICAzCCAWygAwIBAgIB\n\nATANBgkqhkiG9w0BAQEB")
 unfolding all_short
@@ -83,6 +110,10 @@ row-empty_line = row-of_none _ refl
 row-blank_before_end : HasNoRun (codes "MIICAzCCAWygAwIBAgIB \nATANBgkqhkiG9w0BAQEB")
 unfolding all_short
 row-blank_before_end = row-of_none _ refl
+
+row-blank_after_word : HasNoRun (codes "MIICAzCCAWygAwIBAgIBATANBgkqhkiG9w0BAQE\nB C")
+unfolding all_short
+row-blank_after_word = row-of_none _ refl
 
 -- prose
 row-prose : HasNoRun (codes "A certificate binds a name to a key, and an authority signs it.\n")

@@ -21,16 +21,39 @@ comment-row = refl
 word-row : tokens_read (codes "0x30 then a word 0x03") ≡ record { octets = 0x30 ∷ []; rest = codes "then a word 0x03" }
 word-row = refl
 
--- no word is one of these
-long-row : tokens_read (codes "0x3082, 0x01") ≡ record { octets = 1 ∷ []; rest = [] }
+-- no token is one of these, and none of them begins like one
+other-row : tokens_read (codes "10x30, 0x, 0xg") ≡ nothing_read []
+other-row = refl
+
+-- what begins like a token and is none: first, last, and behind words
+long-row : tokens_read (codes "0x3082, 0x01") ≡ nothing_read (codes "0x3082, 0x01")
 long-row = refl
 
-suffix-row : tokens_read (codes "10x30, 0x30u8, 0x, 0xg") ≡ nothing_read []
+suffix-row : tokens_read (codes "[0x30u8, 0x03, 0x02]") ≡ nothing_read (codes "0x30u8, 0x03, 0x02]")
 suffix-row = refl
+
+last-row : tokens_read (codes "[0x30, 0x03, 0x02u8]")
+    ≡ record { octets = 0x30 ∷ 3 ∷ []; rest = codes "0x02u8]" }
+last-row = refl
+
+behind-row : tokens_read (codes "{0x30}; int n = 0X3082;")
+    ≡ record { octets = 0x30 ∷ []; rest = codes "0X3082;" }
+behind-row = refl
+
+-- letters of a string after a token, in Python and in C
+letters-row : tokens_read (codes "b'\\x04\\x05\\x06abc'")
+    ≡ record { octets = 4 ∷ 5 ∷ []; rest = codes "\\x06abc'" }
+letters-row = refl
+
+digits-row : tokens_read (codes "\"\\x30\\x03ab\"") ≡ record { octets = 0x30 ∷ []; rest = codes "\\x03ab\"" }
+digits-row = refl
 
 -- characters of a string that are no tokens
 literal-row : token_count (codes "b'0\\x82\\x01'") ≡ 0
 literal-row = refl
+
+literal_read-row : tokens_read (codes "b'0\\x82\\x01'") ≡ nothing_read []
+literal_read-row = refl
 
 newline-row : tokens_read (codes "\"\\x30\\n\" \"\\x31\"")
     ≡ record { octets = 0x30 ∷ []; rest = codes "n\" \"\\x31\"" }

@@ -29,6 +29,10 @@ is_left_out x = is_white x || is_quote x || (x == 62)
 abbrev pub is_escaped_line_end : ℕ → ℕ → Bool
 is_escaped_line_end x y = (x == 92) && ((y == 110) || (y == 114))
 
+-- a slash as JSON may have it (RFC 8259, section 7): the backslash before it is left out, the slash is not
+abbrev pub is_escaped_slash : ℕ → ℕ → Bool
+is_escaped_slash x y = (x == 92) && (y == 47)
+
 -- the symbols with which a text begins, and the rest of it, from the first character on that is none and not left out
 pub record SymbolsRead : Type 0 where
   pub symbols : List ℕ
@@ -49,7 +53,10 @@ symbols_read alphabet (x ∷ y ∷ text) =
     if is_symbol alphabet x then symbol_then x (symbols_read alphabet (y ∷ text))
     else (
     if is_left_out x then symbols_read alphabet (y ∷ text)
-    else (if is_escaped_line_end x y then symbols_read alphabet text else no_symbols (x ∷ y ∷ text))
+    else (
+    if is_escaped_line_end x y then symbols_read alphabet text
+    else (if is_escaped_slash x y then symbols_read alphabet (y ∷ text) else no_symbols (x ∷ y ∷ text))
+    )
     )
 
 -- how much padding a text is, if it is nothing else but what is left out; 61 is `=`

@@ -8,18 +8,20 @@
 --   repeat = *blank "*" *blank                 the octets of the row before, up to the offset of the row after
 --   end    = *blank ["0x" / "0X"] 4*16digit *blank
 --   empty  = *blank
---   gap    = "-" / 0*2blank                    0*1blank in a single row
+--   gap    = "-" / 1*2blank                    "-" / blank in a single row; or nothing, if a colon follows the offset
+--                                              at once
 use Rattle.std.specs.Prelude.{ℕ, zero, suc, ◌+◌, ◌-◌, ◌/◌, ◌%◌, ◌==◌, Bool, true, false, ◌&&◌, ◌||◌, not, nat_le}
 use Rattle.std.specs.Prelude.{nat_lt, if◌then◌else◌, List, [], ◌∷◌, ◌++◌, drop, length, Option, Some, None, is_none}
 use Rattle.std.specs.Prelude.{option_map}
 use Rattle.std.specs.List.{list_all}
 use Rattle.hex.specs.Hex.{is_hex_digit}
 use Rattle.tlv_text.specs.DumpLines.{LineKind, RowRead, TextLine, after_blanks, begins_colon, is_dump_blank, line_kind}
-use Rattle.tlv_text.specs.DumpLines.{dump_lines}
+use Rattle.tlv_text.specs.DumpLines.{dump_lines, has_od_offset}
 use Rattle.tlv_text.specs.Pairs.{pair_octet}
 use Rattle.tlv_text.specs.TextRead.{TextRead, nothing_read, octets_then}
 use Rattle.tlv_text.specs.declared.dump.lines.Radix.{Radix}
 use Rattle.tlv_text.specs.declared.dump.lines.Radix.TheVariants.{Hexadecimal, Octal}
+use Rattle.tlv_text.specs.declared.dump.pairs.Gap.{Gap}
 use Rattle.tlv_text.specs.declared.dump.rows.Phase.{Phase}
 
 -- ---- the pairs of a row
@@ -39,10 +41,22 @@ after_few zero text = text
 after_few (suc n) [] = []
 after_few (suc n) (x ∷ text) = if is_dump_blank x then after_few n text else x ∷ text
 
--- after what may be between two pairs: a hyphen, or so many blanks at most
-abbrev pub after_gap : ℕ → List ℕ → List ℕ
+-- after what may be between two pairs: a hyphen, or blanks, or nothing where pairs may be joined; where that is not
+-- so, no pair follows a pair at once
+abbrev pub after_gap : Gap → List ℕ → List ℕ
 after_gap gap [] = []
-after_gap gap (x ∷ text) = if x == 45 then text else after_few gap (x ∷ text)
+after_gap gap (x ∷ text) =
+    if x == 45 then text
+    else (if gap.joined || is_dump_blank x then after_few gap.blanks (x ∷ text) else [])
+
+-- with so many blanks at most. Pairs may be joined only if a colon follows the offset at once: without one, they are
+-- words of 16 or 32 bits, as hexdump and od -tx2 write them, and their octets may be swapped
+abbrev pub gap_of : ℕ → List ℕ → Gap
+gap_of blanks rest = record { blanks = blanks; joined = begins_colon rest }
+
+abbrev pub begins_digit : List ℕ → Bool
+begins_digit [] = false
+begins_digit (x ∷ text) = is_hex_digit x
 
 abbrev pub begins_pair : List ℕ → Bool
 begins_pair (x ∷ y ∷ text) = is_hex_digit x && is_hex_digit y
@@ -54,11 +68,18 @@ leading_octet (x ∷ y ∷ text) = pair_octet x y
 leading_octet text = 0
 
 -- the octets of so many pairs at most, each after a gap, and the rest after the last of them
-abbrev pub pairs_after : ℕ → ℕ → List ℕ → TextRead
+abbrev pub pairs_after : ℕ → Gap → List ℕ → TextRead
 pairs_after zero gap text = nothing_read text
 pairs_after (suc n) gap text =
     let next : List ℕ = after_gap gap text in
     if begins_pair next then octets_then (leading_octet next ∷ []) (pairs_after n gap (drop 2 next))
+    else nothing_read text
+
+-- the same with the first pair at once
+abbrev pub pairs_at : ℕ → Gap → List ℕ → TextRead
+pairs_at zero gap text = nothing_read text
+pairs_at (suc n) gap text =
+    if begins_pair text then octets_then (leading_octet text ∷ []) (pairs_after n gap (drop 2 text))
     else nothing_read text
 
 -- a blank or the end of the line comes first
@@ -70,13 +91,14 @@ begins_blank (x ∷ text) = is_dump_blank x
 abbrev pub begins_lone_pair : List ℕ → Bool
 begins_lone_pair text = begins_pair text && begins_blank (drop 2 text)
 
--- such a pair follows at once or after one blank
-abbrev pub has_more_pairs : List ℕ → Bool
-has_more_pairs rest = begins_lone_pair rest || begins_lone_pair (after_few 1 rest)
+-- after pairs a digit follows at once; or after as many as a row has, a lone pair follows after one blank
+abbrev pub has_more_digits : ℕ → TextRead → Bool
+has_more_digits size read =
+    begins_digit read.rest || ((length read.octets == size) && begins_lone_pair (after_few 1 read.rest))
 
--- one pair or more; after as many as a row has, no more
+-- one pair or more, and no more digits after them
 abbrev pub row_fits : ℕ → List ℕ → TextRead → Bool
-row_fits size text read = begins_pair text && not ((length read.octets == size) && has_more_pairs read.rest)
+row_fits size text read = begins_pair text && not (has_more_digits size read)
 
 abbrev pub octets_if : Bool → List ℕ → Option (List ℕ)
 octets_if fits octets = if fits then Some octets else None
@@ -85,15 +107,20 @@ octets_if fits octets = if fits then Some octets else None
 abbrev pub dump_row_octets : ℕ → List ℕ → Option (List ℕ)
 dump_row_octets size rest =
     let text : List ℕ = before_pairs rest in
-    let read : TextRead = pairs_after size 2 text in
+    let read : TextRead = pairs_at size (gap_of 2 rest) text in
     octets_if (row_fits size text read) read.octets
 
--- the octets of a row that is alone: its offset is 0 or a colon follows it, and it has one pair or more
+-- the octets of a row that is alone: its offset is 0 or a colon follows it, and it has one pair or more, with no digit
+-- at once after them
 abbrev pub single_row_octets : RowRead → Option (List ℕ)
 single_row_octets r =
     let text : List ℕ = before_pairs r.rest in
-    octets_if (((r.offset == 0) || begins_colon r.rest) && begins_pair text)
-    (pairs_after (length text) 1 text).octets
+    let read : TextRead = pairs_at (length text) (gap_of 1 r.rest) text in
+    octets_if (((r.offset == 0) || begins_colon r.rest) && begins_pair text && not (begins_digit read.rest)) read.octets
+
+-- a row with a pair; without one it is an end, and before the first row another line
+abbrev pub has_pair : RowRead → Bool
+has_pair r = begins_pair (before_pairs r.rest)
 
 -- ---- rows
 
@@ -229,7 +256,8 @@ read_from radix r left lines (Some size) =
 abbrev pub first_at : Radix → LineKind → ℕ → List TextLine → DumpRead → DumpRead
 first_at radix LineKind.blank left lines more = more
 first_at radix LineKind.repeat left lines more = refused_with left
-first_at radix (LineKind.row r) left lines more = read_from radix r left lines (size_in radix r.offset lines)
+first_at radix (LineKind.row r) left lines more =
+    if has_pair r then read_from radix r left lines (size_in radix r.offset lines) else more
 first_at radix LineKind.other left lines more = more
 
 abbrev pub lines_read : Radix → List TextLine → DumpRead
@@ -240,12 +268,25 @@ lines_read radix (line ∷ lines) =
 abbrev pub dump_in : Radix → List ℕ → DumpRead
 dump_in radix text = lines_read radix (dump_lines text)
 
--- offsets are hexadecimal, unless the text is refused so and not in octal. An octal dump in which no row follows
--- another without a repeat between them, as of octets that are all alike, may fit both, and is then read so
+-- whether the offset of the first row has seven octal digits and no colon after it, as od writes it, by what each line
+-- is with hexadecimal offsets and with octal ones
+abbrev pub octal_first_at : LineKind → LineKind → Bool → Bool
+octal_first_at LineKind.blank octal more = more
+octal_first_at LineKind.repeat octal more = more
+octal_first_at (LineKind.row r) octal more = if has_pair r then has_od_offset octal else more
+octal_first_at LineKind.other octal more = more
+
+abbrev pub is_octal_first : List TextLine → Bool
+is_octal_first [] = false
+is_octal_first (line ∷ lines) =
+    octal_first_at (line_kind Hexadecimal line.characters) (line_kind Octal line.characters) (is_octal_first lines)
+
+-- offsets are hexadecimal; but octal where they look like those of od, unless the text is refused so. Other dumps are
+-- not read as octal if they are refused: of rows of 16 in two halves, that would be the octets of the first halves
 abbrev pub dump_read : List ℕ → DumpRead
 dump_read text =
-    if is_none (dump_in Hexadecimal text).left then dump_in Hexadecimal text
-    else (if is_none (dump_in Octal text).left then dump_in Octal text else dump_in Hexadecimal text)
+    if is_octal_first (dump_lines text) && is_none (dump_in Octal text).left then dump_in Octal text
+    else dump_in Hexadecimal text
 
 -- how many characters come before the place where a text is refused, if it is
 abbrev pub refused_in : List ℕ → Option ℕ → Option ℕ

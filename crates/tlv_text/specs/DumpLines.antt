@@ -1,5 +1,5 @@
 -- Lines of a hex dump, and what each of them is.
-use Rattle.std.specs.Prelude.{ℕ, ◌+◌, ◌-◌, ◌*◌, ◌==◌, Bool, true, false, ◌&&◌, ◌||◌, if◌then◌else◌, nat_le, nat_lt}
+use Rattle.std.specs.Prelude.{ℕ, ◌+◌, ◌-◌, ◌*◌, ◌==◌, Bool, true, false, ◌&&◌, ◌||◌, not, if◌then◌else◌, nat_le, nat_lt}
 use Rattle.std.specs.Prelude.{List, [], ◌∷◌, length, slice_index, take, Option, Some, None}
 use Rattle.std.specs.List.{list_all}
 use Rattle.hex.specs.Hex.{is_hex_digit}
@@ -79,15 +79,17 @@ abbrev pub ends_offset : List ℕ → Bool
 ends_offset [] = true
 ends_offset (x ∷ text) = (x == 58) || is_dump_blank x
 
--- a row has an offset, and a rest after it
+-- a row has an offset of so many digits, and a rest after it
 pub record RowRead : Type 0 where
+  pub digits : ℕ
   pub offset : ℕ
   pub rest : List ℕ
 
 -- 4 digits or more
 abbrev pub row_of : OffsetRead → Option RowRead
 row_of read =
-    if nat_le 4 read.count && ends_offset read.rest then Some (record { offset = read.number; rest = read.rest })
+    if nat_le 4 read.count && ends_offset read.rest then
+    Some (record { digits = read.count; offset = read.number; rest = read.rest })
     else None
 
 abbrev pub row_at : Radix → List ℕ → Option RowRead
@@ -111,3 +113,10 @@ kind_from radix (x ∷ text) =
 
 abbrev pub line_kind : Radix → List ℕ → LineKind
 line_kind radix line = kind_from radix (after_blanks (without_return line))
+
+-- a row whose offset has seven digits and no colon after it
+abbrev pub has_od_offset : LineKind → Bool
+has_od_offset LineKind.blank = false
+has_od_offset LineKind.repeat = false
+has_od_offset (LineKind.row r) = (r.digits == 7) && not (begins_colon r.rest)
+has_od_offset LineKind.other = false

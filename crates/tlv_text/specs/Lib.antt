@@ -12,3 +12,4 @@ pub mod Private
 pub mod Dump
 pub mod DumpFault
 pub mod DumpLines
+pub mod Blocks

@@ -1,6 +1,6 @@
 -- Octets as decimal numbers from -128 to 255 in brackets or braces, as JSON, Go and Java have them.
 use Rattle.std.specs.Prelude.{ℕ, zero, suc, ◌+◌, ◌-◌, ◌*◌, ◌%◌, ◌==◌, Bool, true, false, ◌&&◌, nat_le, if◌then◌else◌}
-use Rattle.std.specs.Prelude.{List, [], ◌∷◌, Option, Some, None, is_some, option_map}
+use Rattle.std.specs.Prelude.{List, [], ◌∷◌, Option, Some, None, is_some, length, option_map}
 use Rattle.tlv_text.specs.Characters.{is_white}
 use Rattle.tlv_text.specs.declared.numbers.Digits.{Digits}
 use Rattle.tlv_text.specs.declared.numbers.Number.{Number}
@@ -112,12 +112,17 @@ items_read close zero place (x ∷ text) =
     let step : Step = step_at close place (x ∷ text) in
     list_step_then step (items_read close (in_list_after step) (list_place_after step) text)
 
+-- one number alone is no list: it may be a size, as in `[5]byte{48, 3, 2, 1, 5}`
+abbrev pub two_or_more : Option (List ℕ) → Option (List ℕ)
+two_or_more None = None
+two_or_more (Some octets) = if nat_le 2 (length octets) then Some octets else None
+
 -- the octets of the list with which a text begins: 91 and 93 are brackets, 123 and 125 braces
 abbrev pub list_at : List ℕ → Option (List ℕ)
 list_at [] = None
 list_at (x ∷ text) =
-    if x == 91 then items_read 93 0 AtStart text
-    else (if x == 123 then items_read 125 0 AtStart text else None)
+    if x == 91 then two_or_more (items_read 93 0 AtStart text)
+    else (if x == 123 then two_or_more (items_read 125 0 AtStart text) else None)
 
 -- ---- the lists of a text
 

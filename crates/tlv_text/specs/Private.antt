@@ -1,5 +1,7 @@
+pub mod BlockSteps
 pub mod NumberSteps
 pub mod DumpSteps
 pub mod PairSteps
 pub mod PemSteps
 pub mod SymbolSteps
+pub mod TokenSteps

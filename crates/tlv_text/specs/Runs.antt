@@ -1,20 +1,35 @@
 -- Runs of base64 inside another text: in LDIF, mail, XML and JSON.
-use Rattle.std.specs.Prelude.{◌≡◌, ℕ, zero, suc, ◌+◌, ◌<◌, ◌≤◌, ◌==◌, Bool, false, ◌&&◌, ◌||◌, if◌then◌else◌}
+use Rattle.std.specs.Prelude.{◌≡◌, ℕ, zero, suc, ◌+◌, ◌<◌, ◌≤◌, ◌==◌, Bool, true, false, ◌&&◌, ◌||◌, if◌then◌else◌}
 use Rattle.std.specs.Prelude.{List, [], ◌∷◌, ◌++◌, drop, length, slice_index}
 use Rattle.tlv_text.specs.Base64.{is_symbol}
+use Rattle.tlv_text.specs.Characters.{is_quote}
 use Rattle.tlv_text.specs.declared.base64_text.Alphabet.TheVariants.{Standard}
 
 -- a space or a tab
 abbrev pub is_run_blank : ℕ → Bool
 is_run_blank x = (x == 32) || (x == 9)
 
--- n characters and then so many blanks, if a symbol stands after them; otherwise 0
+-- what comes after symbols that reach to the end of their line, if the text goes on: a line feed, a carriage return,
+-- `=`, `<` or a quote
+abbrev pub ends_symbols : ℕ → Bool
+ends_symbols x = (x == 10) || (x == 13) || (x == 61) || (x == 60) || is_quote x
+
+-- the symbols with which a text begins reach to the end of their line
+abbrev pub reaches_line_end : List ℕ → Bool
+reaches_line_end [] = true
+reaches_line_end (x ∷ text) = if is_symbol Standard x then reaches_line_end text else ends_symbols x
+
+-- n characters and then so many blanks, if symbols stand after them, one or more, that reach to the end of their line;
+-- otherwise 0
 abbrev pub up_to_symbol : ℕ → List ℕ → ℕ
 up_to_symbol n [] = 0
-up_to_symbol n (x ∷ text) = if is_symbol Standard x then n else (if is_run_blank x then up_to_symbol (1 + n) text else 0)
+up_to_symbol n (x ∷ text) =
+    if is_symbol Standard x && reaches_line_end text then n
+    else (if is_run_blank x then up_to_symbol (1 + n) text else 0)
 
 -- the size of a break between two symbols: a line end (a line feed, or a carriage return and one), and blanks after
--- it; 0 if the text does not begin with such a break and a symbol
+-- it; 0 if the text does not begin with such a break and symbols that reach to the end of their line. So the first
+-- word of the line after base64 does not belong to it: that of `cn: x` in LDIF, of `tls.key: x` in YAML
 abbrev pub break_size : List ℕ → ℕ
 break_size [] = 0
 break_size (x ∷ []) = 0

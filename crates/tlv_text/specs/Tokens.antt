@@ -62,14 +62,25 @@ token_at before (x ∷ y ∷ text) =
     if begins_hex_number before x y then number_token text
     else (if begins_escape before x y then escape_token text else None)
 
--- from the left, a text is tokens, each with its octet, and other characters, each with the text after it
+-- the start of a token and a hexadecimal digit. Where no token begins, an octet is written there that would be lost
+abbrev pub begins_like_token : ℕ → List ℕ → Bool
+begins_like_token before [] = false
+begins_like_token before (x ∷ []) = false
+begins_like_token before (x ∷ y ∷ []) = false
+begins_like_token before (x ∷ y ∷ z ∷ text) =
+    (begins_hex_number before x y || begins_escape before x y) && is_hex_digit z
+
+-- from the left, a text is tokens, each with its octet; starts of tokens that are none; and other characters. The last
+-- two have the text after the character
 pub data Piece : Type 0 where
   token : ℕ → Piece
+  broken : ℕ → List ℕ → Piece
   other : ℕ → List ℕ → Piece
 
-abbrev pub piece_of : Option Token → ℕ → List ℕ → Piece
-piece_of (Some t) x text = Piece.token t.octet
-piece_of None x text = Piece.other x text
+-- the second argument is whether the text begins like a token
+abbrev pub piece_of : Option Token → Bool → ℕ → List ℕ → Piece
+piece_of (Some t) begins x text = Piece.token t.octet
+piece_of None begins x text = if begins then Piece.broken x text else Piece.other x text
 
 -- how many characters of the token are still to come
 abbrev pub inside_after : Option Token → ℕ
@@ -87,7 +98,8 @@ pieces inside before [] = []
 pieces (suc n) before (x ∷ text) = pieces n before text
 pieces zero before (x ∷ text) =
     let found : Option Token = token_at before (x ∷ text) in
-    piece_of found x text ∷ pieces (inside_after found) (before_after found x) text
+    piece_of found (begins_like_token before (x ∷ text)) x text
+    ∷ pieces (inside_after found) (before_after found x) text
 
 abbrev pub pieces_of : List ℕ → List Piece
 pieces_of text = pieces 0 32 text
@@ -96,19 +108,21 @@ pieces_of text = pieces 0 32 text
 abbrev pub tokens_in : List Piece → ℕ
 tokens_in [] = 0
 tokens_in (Piece.token octet ∷ more) = 1 + tokens_in more
+tokens_in (Piece.broken x text ∷ more) = tokens_in more
 tokens_in (Piece.other x text ∷ more) = tokens_in more
 
 abbrev pub token_count : List ℕ → ℕ
 token_count text = tokens_in (pieces_of text)
 
--- the octets of tokens, in order; the first argument is whether a token came before. A word character between two
--- tokens is refused. Before the first token and after the last one anything may stand.
+-- the octets of tokens, in order; the first argument is whether a token came before. A start of a token that is none is
+-- refused wherever it stands, and a word character between two tokens. Before the first token and after the last one
+-- anything else may stand.
 abbrev pub pieces_read : Bool → List Piece → TextRead
 pieces_read begun [] = nothing_read []
 pieces_read begun (Piece.token octet ∷ more) = octets_then (octet ∷ []) (pieces_read true more)
+pieces_read begun (Piece.broken x text ∷ more) = nothing_read (x ∷ text)
 pieces_read begun (Piece.other x text ∷ more) =
-    if begun && is_word x then (if nat_le 1 (tokens_in more) then nothing_read (x ∷ text) else nothing_read [])
-    else pieces_read begun more
+    if begun && is_word x && nat_le 1 (tokens_in more) then nothing_read (x ∷ text) else pieces_read begun more
 
 abbrev pub tokens_read : List ℕ → TextRead
 tokens_read text = pieces_read false (pieces_of text)

@@ -2,7 +2,7 @@
 ghost use Rattle.base64.specs.GeneralPurpose.{IsBytes};
 ghost use Rattle.std.specs.Prelude.{◌≡◌, ◌<◌, ◌≤◌, ◌%◌, [], IfErr, IfOk, OnOk, length, true, false};
 ghost use Rattle.tlv_text.specs.Base64.{ReadsBase64, base64_of, fits_after, is_escaped_line_end};
-ghost use Rattle.tlv_text.specs.Base64.{is_left_out, is_symbol, no_symbols, padding_of, symbols_read};
+ghost use Rattle.tlv_text.specs.Base64.{is_escaped_slash, is_left_out, is_symbol, no_symbols, padding_of, symbols_read};
 ghost use Rattle.tlv_text.specs.Private.SymbolSteps.{AreAdded, AreSymbols, IsAtEnd, IsFailure, IsOfNone};
 ghost use Rattle.tlv_text.specs.Private.SymbolSteps.{PaddingFits, symbols_then};
 
@@ -25,8 +25,8 @@ pub enum Alphabet {
 }
 
 /// The octets of a text that is base64, with padding or without (RFC 4648, sections 3.2, 4 and 5). White space, quotes,
-/// `>` and the pairs `\n` and `\r` are left out, wherever they stand. A text that is base64 of no octets is refused
-/// after its last symbol; the octets are then those of whole groups of four symbols.
+/// `>` and the pairs `\n` and `\r` are left out, wherever they stand, and so is a backslash before `/`. A text that is
+/// base64 of no octets is refused after its last symbol; the octets are then those of whole groups of four symbols.
 ///
 /// # Errors
 ///
@@ -66,6 +66,7 @@ fn take_symbols(alphabet: Alphabet, rest: &mut &[u8], symbols: &mut ArrayVec<u8,
             }
             [x, more @ ..] if is_left_out(*x) => *rest = more,
             [x, y, more @ ..] if is_escaped_line_end(*x, *y) => *rest = more,
+            [x, y, ..] if is_escaped_slash(*x, *y) => *rest = &rest[1..],
             _ => return,
         }
     }
@@ -103,6 +104,14 @@ fn is_escaped_line_end(first: u8, second: u8) -> bool
     ensures { result ≡ is_escaped_line_end first second }
 {
     first == b'\\' && matches!(second, b'n' | b'r')
+}
+
+/// Whether this is a slash as JSON may have it.
+#[inline(always)]
+fn is_escaped_slash(first: u8, second: u8) -> bool
+    ensures { result ≡ is_escaped_slash first second }
+{
+    first == b'\\' && second == b'/'
 }
 
 /// Adds the octets of whole groups of symbols.

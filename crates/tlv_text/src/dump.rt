@@ -1,22 +1,28 @@
 //! Octets of a hex dump with offsets.
-ghost use Rattle.std.specs.Prelude.{◌≡◌, ◌<◌, ◌≤◌, IfErr, IfOk, MatchOption, OnOk, Some, None, length};
-ghost use Rattle.tlv_text.specs.Dump.{dump_in, dump_limit, dump_read, left_in, pairs_after, read_from, refused_in};
-ghost use Rattle.tlv_text.specs.Dump.{refused_with, rows_read, single_row_octets, size_by, size_in};
-ghost use Rattle.tlv_text.specs.DumpLines.{begins_colon, dump_lines};
+ghost use Rattle.std.specs.Prelude.{◌≡◌, ◌<◌, ◌≤◌, IfErr, IfOk, OnOk, Some, None, length, true};
+ghost use Rattle.tlv_text.specs.Dump.{begins_pair, dump_in, dump_limit, dump_read};
+ghost use Rattle.tlv_text.specs.Dump.{left_in, pairs_at, read_from};
+ghost use Rattle.tlv_text.specs.Dump.{refused_in, refused_with, rows_read, single_row_octets, size_in};
+ghost use Rattle.tlv_text.specs.DumpLines.{dump_lines};
 ghost use Rattle.tlv_text.specs.DumpFault.{IsFault};
 ghost use Rattle.tlv_text.specs.Private.DumpSteps.{IsAdded, IsFirstRow, Reads, dump_place_of, row_seen};
 ghost use Rattle.tlv_text.specs.Private.PairSteps.{AreWholePairs};
 
+mod ahead;
 mod lines;
 mod output;
 mod pairs;
 mod rows;
 
 use crate::{Decoded, TextFault};
+use ahead::{has_pair, is_octal_first, size_in};
 use arrayvec::ArrayVec;
-use lines::{DumpLine, Radix, RowLine, line_of, split_line};
+use lines::{DumpLine, Radix, RowLine, begins_colon, line_of, split_line};
 use output::{Output, add_octets, no_octets};
-use pairs::{DIGITS, before_pairs, begins_pair, row_digits, take_pairs};
+use pairs::{
+    DIGITS, Gap, before_pairs, begins_digit, begins_pair, gap_of, row_digits, take_first,
+    take_pairs,
+};
 use rows::{LastRow, Phase, take_line};
 use std::alloc::{AllocError, Global};
 
@@ -30,8 +36,8 @@ pub(crate) struct Reading {
 }
 
 /// The octets of a hex dump with offsets, as xxd, hexdump, od, Wireshark, tcpdump, Format-Hex and OpenSSL write it. A
-/// text is refused at the first line that does not fit. Offsets are hexadecimal, unless the text is refused so and not
-/// in octal.
+/// text is refused at the first line that does not fit. Offsets are hexadecimal; but octal, if that of the first row
+/// has seven octal digits and no colon after it, as od writes it, and the text is not refused so.
 ///
 /// # Errors
 ///
@@ -68,16 +74,13 @@ fn refused_in(text: &[u8], left: Option<usize>) -> Option<usize>
 fn read_dump(alloc: Global, text: &[u8]) -> Result<Reading, AllocError>
     ensures { IfOk result (Reads (dump_read text.now)) }
 {
-    let hexadecimal = read_lines(alloc, Radix::Hexadecimal, text)?;
-    if hexadecimal.left.is_none() {
-        return Ok(hexadecimal);
+    if is_octal_first(text) {
+        let octal = read_lines(alloc, Radix::Octal, text)?;
+        if octal.left.is_none() {
+            return Ok(octal);
+        }
     }
-    let octal = read_lines(alloc, Radix::Octal, text)?;
-    if octal.left.is_none() {
-        Ok(octal)
-    } else {
-        Ok(hexadecimal)
-    }
+    read_lines(alloc, Radix::Hexadecimal, text)
 }
 
 /// Reads a dump with offsets of this radix.
@@ -89,9 +92,11 @@ fn read_lines(alloc: Global, radix: Radix, text: &[u8]) -> Result<Reading, Alloc
         let left = rest.len();
         let (line, after) = split_line(rest);
         match line_of(radix, line) {
-            DumpLine::Row(row) => return read_from(alloc, radix, row, left, after),
+            DumpLine::Row(row) if has_pair(row) => {
+                return read_from(alloc, radix, row, left, after);
+            }
             DumpLine::Repeat => return Ok(refused(alloc, left)),
-            DumpLine::Blank | DumpLine::Other => rest = after,
+            _ => rest = after,
         }
     }
     Ok(refused(alloc, 0))
@@ -184,61 +189,32 @@ fn add_single(alloc: Global, row: RowLine<'_>, output: &mut Output) -> Result<bo
     if !(row.offset == 0 || begins_colon(row.rest)) || !begins_pair(text) {
         return Ok(false);
     }
-    add_pairs(alloc, text, output)?;
-    Ok(true)
+    let rest = add_pairs(alloc, gap_of(1, row.rest), text, output)?;
+    Ok(!begins_digit(rest))
 }
 
-/// Adds the octets of the pairs of a row that is alone.
-fn add_pairs(alloc: Global, text: &[u8], output: &mut Output) -> Result<(), AllocError>
-    ensures { OnOk result (IsAdded (pairs_after (length text.now) 1 text.now).octets output.old output.new) }
+/// Adds the octets of the pairs of a row that is alone. Answers the rest after them.
+fn add_pairs<'a>(
+    alloc: Global,
+    gap: Gap,
+    text: &'a [u8],
+    output: &mut Output,
+) -> Result<&'a [u8], AllocError>
+    requires { begins_pair text.now ≡ true }
+    ensures octets { OnOk result (IsAdded (pairs_at (length text.now) gap text.now).octets output.old output.new) }
+    ensures rest { IfOk result (λ rest. rest.now ≡ (pairs_at (length text.now) gap text.now).rest) }
 {
-    let mut left = text.len();
     let mut rest = text;
+    let mut digits = ArrayVec::new();
+    take_first(&mut rest, &mut digits);
+    let mut left = text.len() - 1;
     loop {
-        let mut digits = ArrayVec::new();
-        take_pairs(left, 1, &mut rest, &mut digits);
+        left = take_pairs(left, gap, &mut rest, &mut digits);
         add_octets(alloc, digits.as_slice(), 1, output)?;
         if digits.len() < DIGITS {
-            return Ok(());
+            return Ok(rest);
         }
-        left -= digits.len() / 2;
-    }
-}
-
-/// Whether a colon comes first.
-fn begins_colon(text: &[u8]) -> bool
-    ensures { result ≡ begins_colon text.now }
-{
-    matches!(text, [b':', ..])
-}
-
-/// The octets of a row by the lines after the first, which has this offset; `None` if it is alone.
-fn size_in(radix: Radix, first: u64, text: &[u8]) -> Option<usize>
-    ensures value { result ≡ size_in radix first (dump_lines text.now) }
-    ensures range { MatchOption result Unit (λ size. (0 < size) × (size ≤ 256)) }
-{
-    let mut rest = text;
-    while !rest.is_empty() {
-        let (line, after) = split_line(rest);
-        match line_of(radix, line) {
-            DumpLine::Row(row) => return Some(size_by(row.offset.saturating_sub(first))),
-            DumpLine::Repeat => return Some(16),
-            DumpLine::Blank | DumpLine::Other => rest = after,
-        }
-    }
-    None
-}
-
-/// The octets of a row by the difference of two offsets.
-fn size_by(difference: u64) -> usize
-    ensures value { result ≡ size_by difference }
-    ensures some { 0 < result }
-    ensures few { result ≤ 256 }
-{
-    if difference >= 1 && difference <= 256 {
-        difference as usize
-    } else {
-        16
+        digits.clear();
     }
 }
 

@@ -3,6 +3,8 @@
 #![tactic(auto)]
 
 mod base64_text;
+mod block;
+mod blocks;
 mod body;
 mod decoded;
 mod dump;
@@ -15,6 +17,8 @@ mod text_fault;
 mod tokens;
 
 pub use base64_text::{Alphabet, decode_base64};
+pub use block::{Block, BlockState, Form};
+pub use blocks::blocks_of;
 pub use body::{PemBody, pem_body};
 pub use decoded::Decoded;
 pub use dump::decode_dump;

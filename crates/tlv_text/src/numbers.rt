@@ -2,7 +2,7 @@
 ghost use Rattle.std.specs.Prelude.{◌≡◌, ◌≤◌, ◌+◌, ◌-◌, IfOk, MatchOption, length, option_map, true};
 ghost use Rattle.tlv_text.specs.Characters.{is_white};
 ghost use Rattle.tlv_text.specs.Numbers.{after_number, after_opening, before_number, digits_at, first_list, is_decimal};
-ghost use Rattle.tlv_text.specs.Numbers.{items_read, list_at, number_at, numbers_of, step_at};
+ghost use Rattle.tlv_text.specs.Numbers.{items_read, list_at, number_at, numbers_of, step_at, two_or_more};
 ghost use Rattle.tlv_text.specs.Private.NumberSteps.{IsWithinText};
 ghost use Rattle.tlv_text.specs.declared.numbers.Place.TheVariants.{AtStart};
 
@@ -50,9 +50,9 @@ pub(crate) enum Step {
     Fails,
 }
 
-/// The octets of a text with one list of decimal numbers from -128 to 255, in brackets or in braces, with commas
-/// between them and perhaps one after the last. `None` if the text has no such list, or two of them. What is around the
-/// list may be anything. The time is linear, since no list has a second opening in it.
+/// The octets of a text with one list of two or more decimal numbers from -128 to 255, in brackets or in braces, with
+/// commas between them and perhaps one after the last. `None` if the text has no such list, or two of them. What is
+/// around the list may be anything. The time is linear, since no list has a second opening in it.
 ///
 /// # Errors
 ///
@@ -88,9 +88,19 @@ fn list_at(alloc: Global, text: &[u8]) -> Result<Option<Vec<u8>>, AllocError>
     ensures { IfOk result (λ r. option_map (λ octets. octets.items) r ≡ list_at text.now) }
 {
     match text {
-        [b'[', rest @ ..] => read_items(alloc, b']', rest),
-        [b'{', rest @ ..] => read_items(alloc, b'}', rest),
+        [b'[', rest @ ..] => Ok(two_or_more(read_items(alloc, b']', rest)?)),
+        [b'{', rest @ ..] => Ok(two_or_more(read_items(alloc, b'}', rest)?)),
         _ => Ok(None),
+    }
+}
+
+/// The octets of a list, unless it is one number alone: that may be a size, as in `[5]byte{48, 3, 2, 1, 5}`.
+fn two_or_more(octets: Option<Vec<u8>>) -> Option<Vec<u8>>
+    ensures { option_map (λ list. list.items) result ≡ two_or_more (option_map (λ list. list.items) octets) }
+{
+    match octets {
+        Some(list) if list.len() >= 2 => Some(list),
+        _ => None,
     }
 }
 

@@ -1,8 +1,8 @@
 //! Runs of base64 inside another text: in LDIF, mail, XML and JSON.
 ghost use Rattle.std.specs.Prelude.{◌≡◌, ◌≤◌, ◌+◌, length, MatchOption};
 ghost use Rattle.tlv_text.specs.Base64.{is_symbol};
-ghost use Rattle.tlv_text.specs.Runs.{HasNoRun, IsFirstRun, break_size, is_run_blank, padding_size, stretch_of};
-ghost use Rattle.tlv_text.specs.Runs.{up_to_symbol};
+ghost use Rattle.tlv_text.specs.Runs.{HasNoRun, IsFirstRun, break_size, ends_symbols, is_run_blank, padding_size};
+ghost use Rattle.tlv_text.specs.Runs.{reaches_line_end, stretch_of, up_to_symbol};
 ghost use Rattle.tlv_text.specs.declared.base64_text.Alphabet.TheVariants.{Standard};
 
 /// The fewest symbols of a run.
@@ -27,7 +27,9 @@ struct Stretch {
 }
 
 /// The first run of base64 in a text: 40 symbols or more of the standard alphabet (RFC 4648, section 4), the first of
-/// them not after a symbol. Between two of them may be a line end and blanks after it; one or two of `=` may follow.
+/// them not after a symbol. Between two of them may be a line end and blanks after it, if the symbols after these reach
+/// to the end of their line: to the end of the text, a line feed, a carriage return, `=`, `<` or a quote. One or two of
+/// `=` may follow.
 pub fn first_run(text: &[u8]) -> Option<Base64Run<'_>>
     ensures { MatchOption result (HasNoRun text.now) (λ r. IsFirstRun text.now r.start r.text.now r.rest.now) }
 {
@@ -70,7 +72,7 @@ fn stretch_of(text: &[u8]) -> Stretch
 }
 
 /// The size of a break between two symbols: a line end and blanks after it. It is 0 if the text does not begin with
-/// such a break and a symbol.
+/// such a break and symbols that reach to the end of their line.
 #[inline(always)]
 fn break_size(text: &[u8]) -> usize
     ensures size { result ≡ break_size text.now }
@@ -83,7 +85,7 @@ fn break_size(text: &[u8]) -> usize
     }
 }
 
-/// So many characters and then blanks, if a symbol stands after them; otherwise 0.
+/// So many characters and then blanks, if symbols stand after them that reach to the end of their line; otherwise 0.
 fn up_to_symbol(before: usize, text: &[u8]) -> usize
     requires { before ≤ 2 }
     ensures size { result ≡ up_to_symbol before text.now }
@@ -93,7 +95,7 @@ fn up_to_symbol(before: usize, text: &[u8]) -> usize
     let mut size = before;
     loop {
         match rest {
-            [x, ..] if is_symbol(*x) => return size,
+            [x, more @ ..] if is_symbol(*x) && reaches_line_end(more) => return size,
             [x, more @ ..] if is_blank(*x) => {
                 size += 1;
                 rest = more;
@@ -101,6 +103,28 @@ fn up_to_symbol(before: usize, text: &[u8]) -> usize
             _ => return 0,
         }
     }
+}
+
+/// Whether the symbols with which a text begins reach to the end of their line.
+fn reaches_line_end(text: &[u8]) -> bool
+    ensures { result ≡ reaches_line_end text.now }
+{
+    let mut rest = text;
+    while let [x, more @ ..] = rest {
+        if !is_symbol(*x) {
+            return ends_symbols(*x);
+        }
+        rest = more;
+    }
+    true
+}
+
+/// Whether symbols that this comes after reach to the end of their line.
+#[inline(always)]
+fn ends_symbols(character: u8) -> bool
+    ensures { result ≡ ends_symbols character }
+{
+    matches!(character, b'\n' | b'\r' | b'=' | b'<' | b'"' | b'\'')
 }
 
 /// Whether this is a space or a tab.

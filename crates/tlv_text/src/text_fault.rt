@@ -1,4 +1,5 @@
 //! Why a text is not decoded.
+use std::alloc::AllocError;
 use thiserror::Error;
 
 /// Why a text is not decoded.
@@ -10,4 +11,15 @@ pub enum TextFault {
     /// Memory was refused.
     #[error("out of memory")]
     Memory,
+}
+
+impl From<AllocError> for TextFault {
+    ghost use Rattle.std.specs.Prelude.{◌≡◌};
+    ghost use Rattle.tlv_text.specs.declared.text_fault.TextFault.TheVariants.{Memory};
+
+    ghost from_gives = { λ _ e. e ≡ Memory };
+
+    fn from(_error: AllocError) -> TextFault {
+        TextFault::Memory
+    }
 }

@@ -1,13 +1,16 @@
 //! Octets as tokens of a source text.
 ghost use Rattle.hex.specs.Hex.{is_hex_digit};
-ghost use Rattle.std.specs.Prelude.{◌≡◌, ◌<◌, ◌≤◌, ◌+◌, ◌↔◌, ◌||◌, IfOk, IsTrue, MatchOption, length, true};
+ghost use Rattle.std.specs.Prelude.{◌≡◌, ◌<◌, ◌≤◌, ◌+◌, ◌↔◌, ◌||◌, ◌&&◌, IfOk, IsTrue, MatchOption, length};
+ghost use Rattle.std.specs.Prelude.{nat_le, true};
 ghost use Rattle.tlv_text.specs.Characters.{is_quote, is_white};
 ghost use Rattle.tlv_text.specs.Pairs.{hex_value};
+ghost use Rattle.tlv_text.specs.Private.TokenSteps.{token_around};
 ghost use Rattle.tlv_text.specs.TextRead.{refused_at};
-ghost use Rattle.tlv_text.specs.Tokens.{begins_word, ends_escape, escape_token, is_word, number_token, pieces};
-ghost use Rattle.tlv_text.specs.Tokens.{token_at, token_count, tokens_in, tokens_read};
+ghost use Rattle.tlv_text.specs.Tokens.{begins_like_token, begins_word, ends_escape, escape_token, is_word};
+ghost use Rattle.tlv_text.specs.Tokens.{number_token, pieces, token_at, token_count, tokens_in, tokens_read};
 
 use crate::Decoded;
+use memchr::memchr2;
 use std::alloc::{AllocError, Global};
 
 /// A token of a text.
@@ -20,8 +23,9 @@ pub(crate) struct Token {
 }
 
 /// The octets of a text that has them as tokens: `0x30`, `0x3` or `\x30`. Before the first token and after the last one
-/// anything may stand; between two of them no letter, no digit and no `_`: a text is refused at the first such
-/// character. The time is linear: whether another token comes is asked once at most.
+/// anything else may stand; between two of them no letter, no digit and no `_`: a text is refused at the first such
+/// character. It is refused too, wherever that is, at what begins like a token and is none: `0x30u8`, or `\x03` before
+/// `ab`. The time is linear: whether another token comes is asked once at most.
 ///
 /// # Errors
 ///
@@ -42,15 +46,15 @@ pub fn decode_tokens(alloc: Global, text: &[u8]) -> Result<Decoded, AllocError>
                 rest = &more[token.more..];
                 before = b' ';
             }
-            None if begun && is_word(*x) => {
-                let refused = if after_token(*x, more).is_some() {
-                    Some(text.len() - rest.len())
-                } else {
-                    None
-                };
-                return Ok(Decoded { octets, refused });
+            None if begins_like_token(before, rest) || (begun && is_between(*x, more)) => {
+                return Ok(Decoded {
+                    octets,
+                    refused: Some(text.len() - rest.len()),
+                });
             }
             None => {
+                // A word that is not between tokens has no token after it.
+                begun = begun && !is_word(*x);
                 rest = more;
                 before = *x;
             }
@@ -60,6 +64,13 @@ pub fn decode_tokens(alloc: Global, text: &[u8]) -> Result<Decoded, AllocError>
         octets,
         refused: None,
     })
+}
+
+/// Whether this is a word character, and a token comes somewhere after it.
+fn is_between(character: u8, more: &[u8]) -> bool
+    ensures { result ≡ (is_word character && nat_le 1 (tokens_in (pieces 0 character more.now))) }
+{
+    is_word(character) && after_token(character, more).is_some()
 }
 
 /// Whether a text has two tokens or more.
@@ -79,14 +90,28 @@ fn after_token(before: u8, text: &[u8]) -> Option<&[u8]>
 {
     let mut rest = text;
     let mut before = before;
-    while let [x, more @ ..] = rest {
-        if let Some(token) = token_at(before, rest) {
-            return Some(&more[token.more..]);
+    // The second character of a token is an x.
+    while let Some(place) = memchr2(b'x', b'X', rest) {
+        if let Some(token) = token_around(before, rest, place) {
+            return Some(&rest[place + token.more..]);
         }
-        rest = more;
-        before = *x;
+        before = rest[place];
+        rest = &rest[place + 1..];
     }
     None
+}
+
+/// The token whose second character has this place in a text. `before` is the character before the text.
+fn token_around(before: u8, text: &[u8], place: usize) -> Option<Token>
+    requires { place < length text.now }
+    ensures token { result ≡ token_around place before text.now }
+    ensures within { MatchOption result Unit (λ t. place + t.more ≤ length text.now) }
+{
+    match place {
+        0 => None,
+        1 => token_at(before, text),
+        _ => token_at(text[place - 2], &text[place - 1..]),
+    }
 }
 
 /// The token with which a text begins. `before` is the character before the text: a space at its start and after a
@@ -99,6 +124,18 @@ fn token_at(before: u8, text: &[u8]) -> Option<Token>
         [b'0', b'x' | b'X', digits @ ..] if !is_word(before) => number_token(digits),
         [b'\\', b'x', digits @ ..] if is_white_or_quote(before) => escape_token(digits),
         _ => None,
+    }
+}
+
+/// Whether a text begins as a token does, and a hexadecimal digit comes then. `before` is the character before the
+/// text.
+fn begins_like_token(before: u8, text: &[u8]) -> bool
+    ensures { result ≡ begins_like_token before text.now }
+{
+    match text {
+        [b'0', b'x' | b'X', digit, ..] => !is_word(before) && is_digit(*digit),
+        [b'\\', b'x', digit, ..] => is_white_or_quote(before) && is_digit(*digit),
+        _ => false,
     }
 }
 

@@ -10,10 +10,13 @@ static OCTETS: &[u8] =
     b"\x30\x82\x01\x22\x04\x05\x06\x07\x08\x09\x0a\x0b\x0c\x0d\x0e\x0f\x30\x31\x32";
 
 /// Texts that are these octets.
-static TOOLS: [&[u8]; 8] = [
+static TOOLS: [&[u8]; 10] = [
     // xxd
     b"00000000: 3082 0122 0405 0607 0809 0a0b 0c0d 0e0f  0..\"............\n\
       00000010: 3031 32                                  012\n",
+    // xxd before 2014, with seven digits
+    b"0000000: 3082 0122 0405 0607 0809 0a0b 0c0d 0e0f  0..\"............\n\
+      0000010: 3031 32                                  012\n",
     // hexdump -C
     b"00000000  30 82 01 22 04 05 06 07  08 09 0a 0b 0c 0d 0e 0f  |0..\"............|\n\
       00000010  30 31 32                                          |012|\n00000013\n",
@@ -30,6 +33,8 @@ static TOOLS: [&[u8]; 8] = [
     // BIO_dump
     b"0000 - 30 82 01 22 04 05 06 07-08 09 0a 0b 0c 0d 0e 0f   0..\"............\n\
       0010 - 30 31 32                                          012\n",
+    // Lines with an offset alone, and then rows
+    b"0000 zz\n2024\n0000  30 82 01 22 04 05 06 07 08 09 0a 0b 0c 0d 0e 0f\n0010  30 31 32\n0013\n",
     // Format-Hex
     b"\n           Path: C:\\a.der\n\n           00 01 02 03\n\n\
       00000000   30 82 01 22 04 05 06 07 08 09 0A 0B 0C 0D 0E 0F  0..\"............\n\
@@ -37,7 +42,7 @@ static TOOLS: [&[u8]; 8] = [
 ];
 
 /// Other texts.
-static DUMPS: [Row<'static>; 6] = [
+static DUMPS: [Row<'static>; 14] = [
     (
         b"0000  30 03 02 01 05   0....",
         b"\x30\x03\x02\x01\x05",
@@ -53,6 +58,33 @@ static DUMPS: [Row<'static>; 6] = [
         b"00000000: 3003\n00000002: 0201\n00000005: 05\n",
         b"\x30\x03\x02\x01",
         Some(30),
+    ),
+    // Words of 16 bits, as hexdump and od -tx2 write them, and of 32 bits.
+    (b"0000000 0330 0102 0005\n0000005\n", b"", Some(0)),
+    (b"0000000 0330 0102 0005\n", b"", Some(0)),
+    (b"0000000 02010330 00000005\n0000005\n", b"", Some(0)),
+    // With a colon, words are pairs in their order.
+    (
+        b"0000: 3003 0201 05\n0005: 06\n",
+        b"\x30\x03\x02\x01\x05\x06",
+        None,
+    ),
+    // Octal words, as od writes them, and bits, as xxd -b does.
+    (b"0000000 001460 000402 000005\n0000005\n", b"", Some(0)),
+    (
+        b"00000000: 00110000 00000011 00000010  0..\n00000003: 00000001            .\n",
+        b"",
+        Some(0),
+    ),
+    // A digit is lost.
+    (b"00000000: 3003\n00000002: 020\n", b"\x30\x03", Some(15)),
+    // The second row is broken in its second half. In octal, the first halves would be 24 octets.
+    (
+        b"00000000  30 31 32 33 34 35 36 37  38 39 3a 3b 3c 3d 3e 3f\n\
+          00000010  30 31 32 33 34 35 36 37  38 3z 3a 3b 3c 3d 3e 3f\n\
+          00000020  30 31 32 33 34 35 36 37  38\n",
+        b"0123456789:;<=>?012345678",
+        Some(118),
     ),
     (b"no dump\n", b"", Some(8)),
     (b"3003 0201 05\n", b"", Some(0)),
@@ -86,17 +118,20 @@ fn other_dumps_are_decoded_or_refused(rt: HostRuntime) -> Result<(), Fail> {
     Ok(())
 }
 
-/// A row that `*` repeats up to the next offset.
+/// A row that `*` repeats up to the next offset, which is hexadecimal as hexdump -C writes it, or octal as od does.
 #[test]
 fn rows_are_repeated(rt: HostRuntime) -> Result<(), Fail> {
     let text = b"00000000  41 41 41 41 41 41 41 41  41 41 41 41 41 41 41 41  |AAAAAAAAAAAAAAAA|\n\
       *\n00000040  42                                                |B|\n00000041\n";
+    let octal =
+        b"0000000 41 41 41 41 41 41 41 41 41 41 41 41 41 41 41 41\n*\n0000100 42\n0000101\n";
     let mut octets = Vec::new(rt.alloc());
     for _ in 0..64 {
         octets.push(b'A')?;
     }
     octets.push(b'B')?;
     expect_dump(&rt, rt.alloc(), text, octets.as_slice(), None);
+    expect_dump(&rt, rt.alloc(), octal, octets.as_slice(), None);
     Ok(())
 }
 

@@ -7,7 +7,7 @@ use tlv_text::{PemBody, decode_tokens, first_run, has_tokens, numbers_of, pem_bo
 /// A text, whether it has two tokens or more, its octets, and how many characters come before what is refused.
 type TokenRow<'a> = (&'a [u8], bool, &'a [u8], Option<usize>);
 
-static TOKENS: [TokenRow<'static>; 10] = [
+static TOKENS: [TokenRow<'static>; 17] = [
     (b"{0x30, 0x03,\n 0X2}", true, b"\x30\x03\x02", None),
     (
         b"unsigned char a[2] = {0x30, 0x03}; int n = 2;",
@@ -17,8 +17,30 @@ static TOKENS: [TokenRow<'static>; 10] = [
     ),
     (b"\"\\x30\\x03\" \"\\x02\"", true, b"\x30\x03\x02", None),
     (b"0x30 and 0x03", true, b"\x30", Some(5)),
-    (b"0x3082, 0x01", false, b"\x01", None),
-    (b"0x30u8, 0x03", false, b"\x03", None),
+    (b"0x3082, 0x01", false, b"", Some(0)),
+    (b"0x30u8, 0x03", false, b"", Some(0)),
+    (b"[0x30u8, 0x03, 0x02]", true, b"", Some(1)),
+    (b"0x, 0xg, 10x30", false, b"", None),
+    (
+        b"{0x30, 0x03, 0x02u}; int n = 3;",
+        true,
+        b"\x30\x03",
+        Some(13),
+    ),
+    (
+        b"{0x30, 0x03}; long n = 0x3082;",
+        true,
+        b"\x30\x03",
+        Some(23),
+    ),
+    (
+        b"{0x30, 0x03}; long n = 0x30, m = 3;",
+        true,
+        b"\x30\x03",
+        Some(14),
+    ),
+    (b"b'\\x04\\x05\\x06abc'", true, b"\x04\x05", Some(10)),
+    (b"\"\\x30\\x03ab\"", false, b"\x30", Some(5)),
     (b"b'0\\x82\\x01'", false, b"", None),
     (b"0x30", false, b"\x30", None),
     (b"no token", false, b"", None),
@@ -44,7 +66,7 @@ fn tokens_are_decoded(rt: HostRuntime) -> Result<(), Fail> {
 /// A text, and the octets of its numbers.
 type NumberRow<'a> = (&'a [u8], Option<&'a [u8]>);
 
-static NUMBERS: [NumberRow<'static>; 12] = [
+static NUMBERS: [NumberRow<'static>; 16] = [
     (b"[48, 130, -1]", Some(b"\x30\x82\xff")),
     (b"[]byte{48,130,}", Some(b"\x30\x82")),
     (b"new byte[]{48, -126}", Some(b"\x30\x82")),
@@ -59,6 +81,10 @@ static NUMBERS: [NumberRow<'static>; 12] = [
     (b"[]", None),
     (b"[1, 2", None),
     (b"[1, 2}", None),
+    (b"[1, 2] [3, 4]", None),
+    (b"[5]byte{48, 3, 2, 1, 5}", Some(b"\x30\x03\x02\x01\x05")),
+    (b"int a[2] = {5, 0};", Some(b"\x05\x00")),
+    (b"[48]", None),
     (b"[1] [2]", None),
 ];
 
@@ -107,7 +133,7 @@ fn bodies_are_taken_apart(rt: HostRuntime) {
 /// A text, and its first run of base64: where it begins, and what comes after it.
 type RunRow<'a> = (&'a [u8], Option<(usize, &'a [u8])>);
 
-static RUNS: [RunRow<'static>; 5] = [
+static RUNS: [RunRow<'static>; 8] = [
     (
         b"<X>AAAAAAAAAAAAAAAAAAAA\n  AAAAAAAAAAAAAAAAAAAA</X>",
         Some((3, b"</X>")),
@@ -115,6 +141,18 @@ static RUNS: [RunRow<'static>; 5] = [
     (
         b"jpeg:: AAAAAAAAAAAAAAAAAAAAAAAAAAAAAAAAAAAAAAAA==\nsn: x",
         Some((7, b"\nsn: x")),
+    ),
+    (
+        b"jpeg:: AAAAAAAAAAAAAAAAAAAA\n AAAAAAAAAAAAAAAAAAAA\nsn: x",
+        Some((7, b"\nsn: x")),
+    ),
+    (
+        b"tls.crt: AAAAAAAAAAAAAAAAAAAAAAAAAAAAAAAAAAAAAAAA\r\n  tls.key: AAAA",
+        Some((9, b"\r\n  tls.key: AAAA")),
+    ),
+    (
+        b"x: 'AAAAAAAAAAAAAAAAAAAA\n    AAAAAAAAAAAAAAAAAAAA'",
+        Some((4, b"'")),
     ),
     (
         b"words of prose, of which none is long enough to be one",

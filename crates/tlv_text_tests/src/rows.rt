@@ -26,18 +26,27 @@ static PAIRS: [Row<'static>; 10] = [
 ];
 
 /// Base64 with `+` and `/`.
-static STANDARD_TEXTS: [Row<'static>; 11] = [
+static STANDARD_TEXTS: [Row<'static>; 13] = [
     (b"", b"", None),
     (b"MAMCAQU=", b"\x30\x03\x02\x01\x05", None),
     (b"MAMCAQU", b"\x30\x03\x02\x01\x05", None),
     (b"> MAMC\r\n> AQU=\r\n", b"\x30\x03\x02\x01\x05", None),
     (b"\"MAMC\\nAQU=\\n\"", b"\x30\x03\x02\x01\x05", None),
     (b"+/+/", b"\xfb\xff\xbf", None),
+    (b"\"+\\/+\\/\"", b"\xfb\xff\xbf", None),
+    (b"+\\\\/+/", b"", Some(1)),
     (b"MAMCAQ===", b"\x30\x03\x02", Some(6)),
     (b"MAMCA", b"\x30\x03\x02", Some(5)),
     (b"MAMCAQV=", b"\x30\x03\x02", Some(7)),
     (b"MAMC AQU= x", b"\x30\x03\x02", Some(8)),
     (b"MAMC*AQU=", b"\x30\x03\x02", Some(4)),
+];
+
+/// Base64 with `-` and `_`.
+static URL_SAFE_TEXTS: [Row<'static>; 3] = [
+    (b"-_-_", b"\xfb\xff\xbf", None),
+    (b"-_+/", b"", Some(2)),
+    (b"-_\\/_", b"", Some(3)),
 ];
 
 pub(crate) fn expect_of<W: Copy + Debug, T: Copy + PartialEq + Debug>(
@@ -72,18 +81,13 @@ fn base64_is_decoded(rt: HostRuntime) -> Result<(), Fail> {
             &decode_base64(rt.alloc(), Alphabet::Standard, row.0)?,
         );
     }
-    let url_safe: Row<'static> = (b"-_-_", b"\xfb\xff\xbf", None);
-    expect_row(
-        &rt,
-        &url_safe,
-        &decode_base64(rt.alloc(), Alphabet::UrlSafe, url_safe.0)?,
-    );
-    let mixed: Row<'static> = (b"-_+/", b"", Some(2));
-    expect_row(
-        &rt,
-        &mixed,
-        &decode_base64(rt.alloc(), Alphabet::UrlSafe, mixed.0)?,
-    );
+    for row in URL_SAFE_TEXTS.as_slice() {
+        expect_row(
+            &rt,
+            row,
+            &decode_base64(rt.alloc(), Alphabet::UrlSafe, row.0)?,
+        );
+    }
     Ok(())
 }
 

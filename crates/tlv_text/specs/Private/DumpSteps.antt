@@ -14,7 +14,7 @@ abbrev pub offset_seen : Offset → OffsetRead
 offset_seen offset = record { count = offset.count; number = offset.number; rest = offset.rest.now }
 
 abbrev pub row_seen : RowLine → RowRead
-row_seen row = record { offset = row.offset; rest = row.rest.now }
+row_seen row = record { digits = row.digits; offset = row.offset; rest = row.rest.now }
 
 abbrev pub dump_kind_of : DumpLine → LineKind
 dump_kind_of DumpLine.Blank = LineKind.blank

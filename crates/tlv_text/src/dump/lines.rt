@@ -4,7 +4,7 @@ ghost use Rattle.std.specs.Prelude.{◌≡◌, ◌<◌, ◌≤◌, ◌∷◌, le
 ghost use Rattle.hex.specs.Hex.{is_hex_digit};
 ghost use Rattle.tlv_text.specs.DumpLines.{after_blanks, after_prefix, base, ends_offset, is_dump_blank, is_digit_of};
 ghost use Rattle.tlv_text.specs.DumpLines.{kind_from, line_kind, dump_lines, offset_read, row_at, new_text_line};
-ghost use Rattle.tlv_text.specs.DumpLines.{without_return};
+ghost use Rattle.tlv_text.specs.DumpLines.{begins_colon, has_od_offset, without_return};
 ghost use Rattle.tlv_text.specs.Pairs.{hex_value};
 ghost use Rattle.tlv_text.specs.Private.DumpSteps.{dump_kind_of, offset_seen, row_seen};
 
@@ -33,6 +33,8 @@ pub(crate) struct Offset<'a> {
 /// A row of a dump.
 #[derive(Clone, Copy, Debug)]
 pub(crate) struct RowLine<'a> {
+    /// How many digits its offset has.
+    pub(crate) digits: usize,
     /// Its offset.
     pub(crate) offset: u64,
     /// What comes after the digits of the offset.
@@ -71,6 +73,16 @@ pub(super) fn line_of(radix: Radix, line: &[u8]) -> DumpLine<'_>
     kind_from(radix, after_blanks(without_return(line)))
 }
 
+/// Whether this is a row whose offset has seven digits and no colon after it.
+pub(super) fn has_od_offset(line: DumpLine<'_>) -> bool
+    ensures { result ≡ has_od_offset (dump_kind_of line.entry) }
+{
+    match line {
+        DumpLine::Row(row) => row.digits == 7 && !begins_colon(row.rest),
+        DumpLine::Blank | DumpLine::Repeat | DumpLine::Other => false,
+    }
+}
+
 /// A line without the carriage return at its end.
 fn without_return(line: &[u8]) -> &[u8]
     ensures { result.now ≡ without_return line.now }
@@ -102,6 +114,7 @@ fn row_at(radix: Radix, text: &[u8]) -> Option<RowLine<'_>>
     let offset = read_offset(radix, after_prefix(text));
     if offset.count >= 4 && ends_offset(offset.rest) {
         Some(RowLine {
+            digits: offset.count,
             offset: offset.number,
             rest: offset.rest,
         })
@@ -186,6 +199,13 @@ fn ends_offset(text: &[u8]) -> bool
     ensures { result ≡ ends_offset text.now }
 {
     matches!(text, [] | [b':' | b' ' | b'\t', ..])
+}
+
+/// Whether a colon comes first.
+pub(super) fn begins_colon(text: &[u8]) -> bool
+    ensures { result ≡ begins_colon text.now }
+{
+    matches!(text, [b':', ..])
 }
 
 /// Whether this is a space or a tab.

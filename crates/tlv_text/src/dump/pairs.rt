@@ -1,20 +1,30 @@
 //! Pairs of digits in a row of a hex dump.
 ghost use Rattle.hex.specs.Hex.{is_hex_digit};
-ghost use Rattle.std.specs.Prelude.{◌≡◌, ◌<◌, ◌≤◌, ◌-◌, [], length, true};
-ghost use Rattle.tlv_text.specs.Dump.{after_few, after_gap, after_one, before_pairs, begins_blank, begins_lone_pair};
-ghost use Rattle.tlv_text.specs.Dump.{begins_pair, has_more_pairs, octets_if, pairs_after, dump_row_octets};
+ghost use Rattle.std.specs.Prelude.{◌≡◌, ◌<◌, ◌≤◌, ◌+◌, ◌||◌, ◌&&◌, [], drop, length, take, true};
+ghost use Rattle.tlv_text.specs.Dump.{after_few, after_gap, after_one, before_pairs, begins_blank, begins_digit};
+ghost use Rattle.tlv_text.specs.Dump.{begins_lone_pair, begins_pair, dump_row_octets, gap_of, octets_if, pairs_after};
 ghost use Rattle.tlv_text.specs.Private.PairSteps.{AreWholePairs, pair_octets};
 ghost use Rattle.tlv_text.specs.TextRead.{nothing_read, octets_then};
 
-use super::lines::{after_blanks, is_blank};
+use super::lines::{after_blanks, begins_colon, is_blank};
 use arrayvec::ArrayVec;
 
 /// The most digits of a row.
 pub(super) const DIGITS: usize = 512;
 
+/// What may be between two pairs of a row, besides a hyphen.
+#[derive(Clone, Copy, Debug)]
+pub(crate) struct Gap {
+    /// So many blanks at most.
+    pub(crate) blanks: usize,
+    /// Whether it may be nothing.
+    pub(crate) joined: bool,
+}
+
 /// Takes the digits of a row among others, if it fits; a row has so many octets, and the last may have fewer.
 pub(super) fn row_digits(size: usize, rest: &[u8], digits: &mut ArrayVec<u8, DIGITS>) -> bool
     requires none { digits.old.items ≡ [] }
+    requires some { 0 < size }
     requires few { size ≤ 256 }
     ensures pairs { AreWholePairs digits.new.items }
     ensures octets { octets_if result (pair_octets digits.new.items) ≡ dump_row_octets size rest.now }
@@ -23,8 +33,39 @@ pub(super) fn row_digits(size: usize, rest: &[u8], digits: &mut ArrayVec<u8, DIG
     if !begins_pair(after) {
         return false;
     }
-    take_pairs(size, 2, &mut after, digits);
-    digits.len() / 2 != size || !has_more_pairs(after)
+    take_first(&mut after, digits);
+    take_pairs(size - 1, gap_of(2, rest), &mut after, digits);
+    !has_more_digits(digits.len() / 2 == size, after)
+}
+
+/// Whether a digit follows pairs at once; or after as many as a row has, a lone pair follows after one blank.
+fn has_more_digits(full: bool, rest: &[u8]) -> bool
+    ensures { result ≡ begins_digit rest.now || full && begins_lone_pair (after_few 1 rest.now) }
+{
+    begins_digit(rest) || full && begins_lone_pair(after_few(1, rest))
+}
+
+/// The gap of a row, by what comes after its offset, with so many blanks at most.
+pub(super) fn gap_of(blanks: usize, rest: &[u8]) -> Gap
+    ensures { result ≡ gap_of blanks rest.now }
+{
+    Gap {
+        blanks,
+        joined: begins_colon(rest),
+    }
+}
+
+/// Takes the pair that comes first.
+pub(super) fn take_first(rest: &mut &[u8], digits: &mut ArrayVec<u8, DIGITS>)
+    requires none { digits.old.items ≡ [] }
+    requires pair { begins_pair rest.old.now ≡ true }
+    ensures pair { digits.new.items ≡ take 2 rest.old.now }
+    ensures whole { AreWholePairs digits.new.items }
+    ensures rest { rest.new.now ≡ drop 2 rest.old.now }
+{
+    let (pair, more) = rest.split_at(2);
+    let _ = digits.try_extend_from_slice(pair);
+    *rest = more;
 }
 
 /// A text after blanks, a colon, a hyphen and blanks.
@@ -44,20 +85,20 @@ fn after_one(character: u8, text: &[u8]) -> &[u8]
     }
 }
 
-/// Takes so many pairs at most, and at most 256, each after a gap.
+/// Takes so many pairs at most, each after a gap, as long as there is room for their digits. Answers how many of them
+/// are left.
 pub(super) fn take_pairs(
     most: usize,
-    gap: usize,
+    gap: Gap,
     rest: &mut &[u8],
     digits: &mut ArrayVec<u8, DIGITS>,
-)
-    requires { digits.old.items ≡ [] }
+) -> usize
+    requires { AreWholePairs digits.old.items }
     ensures pairs { AreWholePairs digits.new.items }
-    ensures read { pairs_after most gap rest.old.now ≡ octets_then (pair_octets digits.new.items)
-        (pairs_after (most - length (pair_octets digits.new.items)) gap rest.new.now) }
-    ensures few { length (pair_octets digits.new.items) ≤ most }
-    ensures last { length digits.new.items < 512
-        → pairs_after (most - length (pair_octets digits.new.items)) gap rest.new.now ≡ nothing_read rest.new.now }
+    ensures read { octets_then (pair_octets digits.old.items) (pairs_after most gap rest.old.now)
+        ≡ octets_then (pair_octets digits.new.items) (pairs_after result gap rest.new.now) }
+    ensures count { length (pair_octets digits.new.items) + result ≡ length (pair_octets digits.old.items) + most }
+    ensures last { length digits.new.items < 512 → pairs_after result gap rest.new.now ≡ nothing_read rest.new.now }
 {
     let mut left = most;
     while left > 0 && digits.len() < DIGITS {
@@ -67,18 +108,20 @@ pub(super) fn take_pairs(
                 left -= 1;
                 *rest = more;
             }
-            _ => return,
+            _ => return left,
         }
     }
+    left
 }
 
-/// A text after what may be between two pairs.
-fn after_gap(gap: usize, text: &[u8]) -> &[u8]
+/// A text after what may be between two pairs; without it, nothing.
+fn after_gap(gap: Gap, text: &[u8]) -> &[u8]
     ensures { result.now ≡ after_gap gap text.now }
 {
     match text {
         [b'-', rest @ ..] => rest,
-        _ => after_few(gap, text),
+        [x, ..] if gap.joined || is_blank(*x) => after_few(gap.blanks, text),
+        _ => &[],
     }
 }
 
@@ -96,13 +139,6 @@ fn after_few(most: usize, text: &[u8]) -> &[u8]
         left -= 1;
     }
     rest
-}
-
-/// Whether a pair that a blank or the end follows comes at once or after one blank.
-fn has_more_pairs(rest: &[u8]) -> bool
-    ensures { result ≡ has_more_pairs rest.now }
-{
-    begins_lone_pair(rest) || begins_lone_pair(after_few(1, rest))
 }
 
 /// Whether a pair that a blank or the end follows comes first.
@@ -127,6 +163,16 @@ pub(super) fn begins_pair(text: &[u8]) -> bool
     match text {
         [x, y, ..] => is_digit(*x) && is_digit(*y),
         _ => false,
+    }
+}
+
+/// Whether a digit comes first.
+pub(super) fn begins_digit(text: &[u8]) -> bool
+    ensures { result ≡ begins_digit text.now }
+{
+    match text {
+        [x, ..] => is_digit(*x),
+        [] => false,
     }
 }
 

@@ -1,12 +1,18 @@
-use Rattle.tlv_text.specs.Dump.{pairs_after}
+use Rattle.tlv_text.specs.Dump.{pairs_after, pairs_at}
 use Rattle.tlv_text.proofs.DumpOutputLemmas.{IsAddedSoFar}
-use Rattle.std.proofs.Common.{length}
+use Rattle.std.proofs.Common.{◌≡◌, ◌≤◌, length}
+use Rattle.tlv_text.specs.Private.PairSteps.{AreWholePairs, pair_octets}
+use Rattle.tlv_text.specs.TextRead.{octets_then}
 use Rattle.tlv_text.proofs.dump.add_pairs.Given as goal
 
 abbrev pub invariant-loop-digits : goal.invariant-loop-digits
-invariant-loop-digits l =
-    IsAddedSoFar (pairs_after (length l.text) 1 l.text).octets (pairs_after l.left 1 l.rest).octets l.initial.output
-    l.output
+invariant-loop-digits l = record {
+  pairs : AreWholePairs l.digits.items;
+  few : length l.digits.items ≤ 2;
+  added : IsAddedSoFar (pairs_at (length l.text) l.gap l.text).octets
+      (octets_then (pair_octets l.digits.items) (pairs_after l.left l.gap l.rest)).octets l.initial.output l.output;
+  rest : (pairs_at (length l.text) l.gap l.text).rest ≡ (pairs_after l.left l.gap l.rest).rest;
+}
 
 abbrev pub decreases-loop-digits : goal.decreases-loop-digits
 decreases-loop-digits l = l.left

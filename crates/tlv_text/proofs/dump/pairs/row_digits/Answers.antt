@@ -1,33 +1,23 @@
-use Rattle.std.proofs.Common.{◌≡◌, ◌/◌, ◌==◌, ◌∙◌, ℕ, ap, length, refl, sym, false, true}
-use Rattle.std.proofs.lemmas.Bool.{eq-eqb, ne_eqb}
+use Rattle.std.proofs.Common.{◌≡◌, ◌/◌, ◌==◌, ◌∙◌, ◌&&◌, ◌||◌, ℕ, ap, length, not, sym}
 use Rattle.tlv_text.proofs.DumpLemmas.{pair_octets-length}
 use Rattle.tlv_text.proofs.DumpPairLemmas.{row-octets, row-read}
+use Rattle.tlv_text.specs.Dump.{after_few, begins_digit, begins_lone_pair, gap_of}
 use Rattle.tlv_text.specs.Private.PairSteps.{pair_octets}
 use Rattle.tlv_text.proofs.dump.pairs.row_digits.Goals as goal
 
-pub returns-then-len-size-clause-octets : goal.returns-then-len-size-clause-octets
-returns-then-len-size-clause-octets c =
+pub returns-clause-octets : goal.returns-clause-octets
+returns-clause-octets c =
     let t = c.take_pairs.ensures in
-    let size : c.len.result / 2 ≡ length (pair_octets c.take_pairs.new.digits.items) =
-    ap (λ (n : ℕ). n / 2) c.len.ensures.value ∙ sym (pair_octets-length c.take_pairs.new.digits.items) in
-    let other : (c.len.result / 2 == c.args.size) ≡ false = ne_eqb _ _ c.if-len-size.true in
-    let other2 : (length (pair_octets c.take_pairs.new.digits.items) == c.args.size) ≡ false =
-    ap (λ (n : ℕ). n == c.args.size) (sym size) ∙ other in
+    let digits = c.take_pairs.new.digits.items in
+    let begins = sym c.begins_pair.ensures.pair ∙ c.if-not-begins_pair.false in
+    let size : c.len.result / 2 ≡ length (pair_octets digits) =
+    ap (λ (n : ℕ). n / 2) c.len.ensures.value ∙ sym (pair_octets-length digits) in
     row-octets c.args.size c.args.rest.now c.before_pairs-after.result.now c.take_pairs.new.rest.now
-    (pair_octets c.take_pairs.new.digits.items) _ c.before_pairs-after.ensures
-    (sym c.begins_pair.ensures.pair ∙ c.if-not-begins_pair.false)
-    (row-read c.args.size _ _ c.take_pairs.new.digits.items c.requires.few t.read t.last)
-    (rw (other, other2) refl)
-
-pub returns-else-len-size-clause-octets : goal.returns-else-len-size-clause-octets
-returns-else-len-size-clause-octets c =
-    let t = c.take_pairs.ensures in
-    let size : c.len.result / 2 ≡ length (pair_octets c.take_pairs.new.digits.items) =
-    ap (λ (n : ℕ). n / 2) c.len.ensures.value ∙ sym (pair_octets-length c.take_pairs.new.digits.items) in
-    let same : (length (pair_octets c.take_pairs.new.digits.items) == c.args.size) ≡ true =
-    eq-eqb _ _ (sym size ∙ c.if-len-size.false) in
-    row-octets c.args.size c.args.rest.now c.before_pairs-after.result.now c.take_pairs.new.rest.now
-    (pair_octets c.take_pairs.new.digits.items) _ c.before_pairs-after.ensures
-    (sym c.begins_pair.ensures.pair ∙ c.if-not-begins_pair.false)
-    (row-read c.args.size _ _ c.take_pairs.new.digits.items c.requires.few t.read t.last)
-    (rw (same, c.has_more_pairs.ensures) refl)
+    (pair_octets digits) _ c.before_pairs-after.ensures begins
+    (row-read c.args.size c.take_pairs.result (gap_of 2 c.args.rest.now) c.before_pairs-after.result.now
+    c.take_first.new.digits.items c.take_pairs.new.rest.now digits c.requires.some c.requires.few begins
+    c.take_first.ensures.pair (rw (c.gap_of.ensures, c.take_first.ensures.rest) at t.read) t.count
+    (rw c.gap_of.ensures at t.last))
+    (ap not c.has_more_digits.ensures
+    ∙ ap (λ (n : ℕ). not (begins_digit c.take_pairs.new.rest.now
+    || ((n == c.args.size) && begins_lone_pair (after_few 1 c.take_pairs.new.rest.now)))) size)

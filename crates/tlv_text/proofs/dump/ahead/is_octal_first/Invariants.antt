@@ -1,10 +1,10 @@
 use Rattle.std.proofs.Common.{◌≡◌, length}
-use Rattle.tlv_text.specs.Dump.{size_in}
+use Rattle.tlv_text.specs.Dump.{is_octal_first}
 use Rattle.tlv_text.specs.DumpLines.{dump_lines}
-use Rattle.tlv_text.proofs.dump.size_in.Given as goal
+use Rattle.tlv_text.proofs.dump.ahead.is_octal_first.Given as goal
 
 abbrev pub invariant-loop-rest : goal.invariant-loop-rest
-invariant-loop-rest l = size_in l.radix l.first (dump_lines l.text) ≡ size_in l.radix l.first (dump_lines l.rest)
+invariant-loop-rest l = is_octal_first (dump_lines l.text) ≡ is_octal_first (dump_lines l.rest)
 
 abbrev pub decreases-loop-rest : goal.decreases-loop-rest
 decreases-loop-rest l = length l.rest

@@ -1,0 +1,158 @@
+-- Blocks of a text: octets that are written in it in one form, each with what is to be said of it.
+use Rattle.std.specs.Prelude.{◌≡◌, ℕ, ◌+◌, ◌-◌, ◌==◌, Bool, true, false, ◌||◌, nat_le, nat_lt, if◌then◌else◌}
+use Rattle.std.specs.Prelude.{List, [], ◌∷◌, length, take, Option, Some, None}
+use Rattle.std.specs.List.{list_any}
+use Rattle.tlv_text.specs.Base64.{ReadsBase64}
+use Rattle.tlv_text.specs.Dump.{dump_limit, dump_read, refused_in}
+use Rattle.tlv_text.specs.Numbers.{numbers_of}
+use Rattle.tlv_text.specs.Pairs.{pairs_read}
+use Rattle.tlv_text.specs.Pem.{HasNoBlock, IsFirstBlock}
+use Rattle.tlv_text.specs.PemBody.{base64_part, is_encrypted}
+use Rattle.tlv_text.specs.Runs.{HasNoRun, IsFirstRun}
+use Rattle.tlv_text.specs.TextRead.{TextRead, refused_at}
+use Rattle.tlv_text.specs.Tokens.{token_count, tokens_read}
+use Rattle.tlv_text.specs.declared.base64_text.Alphabet.{Alphabet}
+use Rattle.tlv_text.specs.declared.base64_text.Alphabet.TheVariants.{Standard, UrlSafe}
+use Rattle.tlv_text.specs.declared.block.Block.{Block}
+use Rattle.tlv_text.specs.declared.block.BlockState.{BlockState}
+use Rattle.tlv_text.specs.declared.block.BlockState.TheVariants.{Whole, Unended, Encrypted, Refused, Absent}
+use Rattle.tlv_text.specs.declared.block.Form.{Form}
+use Rattle.tlv_text.specs.declared.block.Form.TheVariants.{Pem, Dump, Hex, Numbers, Base64, Runs}
+use Rattle.tlv_text.specs.declared.text_fault.TextFault.{TextFault}
+use Rattle.tlv_text.specs.declared.text_fault.TextFault.TheVariants.{Memory, TooLong}
+
+-- ---- lines
+
+-- how many line feeds a text has
+abbrev pub line_feeds : List ℕ → ℕ
+line_feeds [] = 0
+line_feeds (x ∷ text) = if x == 10 then 1 + line_feeds text else line_feeds text
+
+-- the number of the line, from 1 on, of the character before which so many others come
+abbrev pub line_at : List ℕ → ℕ → ℕ
+line_at text place = 1 + line_feeds (take place text)
+
+-- ---- blocks
+
+-- a block: the line at which it begins, its label, its octets, and its state
+pub record BlockValue : Type 0 where
+  pub line : ℕ
+  pub label : List ℕ
+  pub octets : List ℕ
+  pub state : BlockState
+
+-- a block as contracts see it
+abbrev pub block_value : Block → BlockValue
+block_value b = record { line = b.line; label = b.label.items; octets = b.octets.items; state = b.state }
+
+-- a text of which all is one block, without a label
+abbrev pub only_block : List ℕ → BlockState → BlockValue
+only_block octets state = record { line = 1; label = []; octets = octets; state = state }
+
+-- a text without a block of the form
+abbrev pub absent_block : BlockValue
+absent_block = only_block [] Absent
+
+abbrev pub or_absent : List BlockValue → List BlockValue
+or_absent [] = absent_block ∷ []
+or_absent (b ∷ bs) = b ∷ bs
+
+-- the state of octets that are refused at a place in a text, if they are: so many characters come before the place in
+-- the part that is decoded, and so many more before that part
+abbrev pub state_at_place : List ℕ → ℕ → Option ℕ → BlockState
+state_at_place text before None = Whole
+state_at_place text before (Some place) = Refused (line_at text (before + place))
+
+-- ---- forms of one block
+
+-- two tokens or more are read alone, wherever they stand; otherwise the text is pairs
+abbrev pub hex_read : List ℕ → TextRead
+hex_read text = if nat_le 2 (token_count text) then tokens_read text else pairs_read text
+
+abbrev pub hex_block : List ℕ → BlockValue
+hex_block text = only_block (hex_read text).octets (state_at_place text 0 (refused_at text (hex_read text).rest))
+
+abbrev pub dump_block : List ℕ → BlockValue
+dump_block text = only_block (dump_read text).octets (state_at_place text 0 (refused_in text (dump_read text).left))
+
+abbrev pub numbers_block : Option (List ℕ) → BlockValue
+numbers_block (Some octets) = only_block octets Whole
+numbers_block None = absent_block
+
+-- `-` or `_`
+abbrev pub is_url_symbol : ℕ → Bool
+is_url_symbol x = (x == 45) || (x == 95)
+
+-- the alphabet of RFC 4648, section 5, if one of its symbols is in the text, and that of section 4 otherwise
+abbrev pub alphabet_of : List ℕ → Alphabet
+alphabet_of text = if list_any is_url_symbol text then UrlSafe else Standard
+
+pub data IsBase64Block (text : List ℕ) : BlockValue → Type 0 where
+  base64 : (octets : List ℕ) (refused : Option ℕ) → ReadsBase64 (alphabet_of text) text octets refused
+      → IsBase64Block text (only_block octets (state_at_place text 0 refused))
+
+-- ---- forms of several blocks
+
+-- how many characters of a text come before its end part
+abbrev pub place_in_text : List ℕ → List ℕ → ℕ
+place_in_text text part = length text - length part
+
+-- a body that its text ends without a marker is not ended, if nothing else is wrong with it
+abbrev pub state_with_end : List ℕ → BlockState → BlockState
+state_with_end [] Whole = Unended
+state_with_end rest state = state
+
+-- the block of PEM that begins at a place in a text, with this label and body; this comes after the body
+pub data IsPemBlock (text : List ℕ) (place : ℕ) (label body rest : List ℕ) : BlockValue → Type 0 where
+  encrypted : is_encrypted body ≡ true
+      → IsPemBlock text place label body rest
+      (record { line = line_at text place; label = label; octets = []; state = Encrypted })
+  decoded : (octets : List ℕ) (refused : Option ℕ) → is_encrypted body ≡ false
+      → ReadsBase64 Standard (base64_part body) octets refused
+      → IsPemBlock text place label body rest
+      (record {
+        line = line_at text place;
+        label = label;
+        octets = octets;
+        state = state_with_end rest (state_at_place text (length text - (length (base64_part body) + length rest)) refused);
+      })
+
+-- the blocks of PEM of a text, in order, from this part of it on
+pub data ArePemBlocks (text : List ℕ) : List ℕ → List BlockValue → Type 0 where
+  no_more : {part : List ℕ} → HasNoBlock part → ArePemBlocks text part []
+  next : {part : List ℕ} (start : ℕ) (label body rest : List ℕ) {b : BlockValue} {bs : List BlockValue}
+      → IsFirstBlock part start label body rest → IsPemBlock text (place_in_text text part + start) label body rest b
+      → ArePemBlocks text rest bs → ArePemBlocks text part (b ∷ bs)
+
+-- the runs of base64 of a text, in order, from this part of it on
+pub data AreRunBlocks (text : List ℕ) : List ℕ → List BlockValue → Type 0 where
+  no_more : {part : List ℕ} → HasNoRun part → AreRunBlocks text part []
+  next : {part : List ℕ} (start : ℕ) (run rest octets : List ℕ) (refused : Option ℕ) {bs : List BlockValue}
+      → IsFirstRun part start run rest → ReadsBase64 Standard run octets refused → AreRunBlocks text rest bs
+      → AreRunBlocks text part (record {
+        line = line_at text (place_in_text text part + start);
+        label = [];
+        octets = octets;
+        state = state_at_place text (place_in_text text part + start) refused;
+      } ∷ bs)
+
+-- ---- all forms
+
+-- the blocks of a text in a form: a line for each form
+pub data AreBlocks (text : List ℕ) : Form → List BlockValue → Type 0 where
+  pem : {bs : List BlockValue} → ArePemBlocks text text bs → AreBlocks text Pem (or_absent bs)
+  dump : AreBlocks text Dump (dump_block text ∷ [])
+  hex : AreBlocks text Hex (hex_block text ∷ [])
+  numbers : AreBlocks text Numbers (numbers_block (numbers_of text) ∷ [])
+  base64 : {b : BlockValue} → IsBase64Block text b → AreBlocks text Base64 (b ∷ [])
+  runs : {bs : List BlockValue} → AreRunBlocks text text bs → AreBlocks text Runs (or_absent bs)
+
+-- a block has more octets than a text may have
+abbrev pub is_too_long : BlockValue → Bool
+is_too_long b = nat_lt dump_limit (length b.octets)
+
+-- why the blocks of a text cannot be had: one has too many octets, or memory is refused
+pub data IsBlocksFault (text : List ℕ) (form : Form) : TextFault → Type 0 where
+  too_long : (bs : List BlockValue) → AreBlocks text form bs → list_any is_too_long bs ≡ true
+      → IsBlocksFault text form TooLong
+  no_memory : IsBlocksFault text form Memory

@@ -1,0 +1,47 @@
+//! Blocks of a text.
+use arrayvec::ArrayVec;
+
+/// How octets are written in a text.
+#[derive(Clone, Copy, Debug, PartialEq, Eq)]
+pub enum Form {
+    /// Blocks of PEM (RFC 7468).
+    Pem,
+    /// A hex dump with offsets.
+    Dump,
+    /// Pairs of hexadecimal digits, or tokens of a source text.
+    Hex,
+    /// Decimal numbers in brackets or braces.
+    Numbers,
+    /// Base64, and nothing else (RFC 4648).
+    Base64,
+    /// Runs of base64 inside another text.
+    Runs,
+}
+
+/// What is to be said of a block beside its octets.
+#[derive(Clone, Copy, Debug, PartialEq, Eq)]
+pub enum BlockState {
+    /// Nothing.
+    Whole,
+    /// It is PEM, and the text ends before its end marker.
+    Unended,
+    /// It is PEM, and its headers say that it is encrypted. It has no octets.
+    Encrypted,
+    /// The text is refused in this line, the first being 1. The octets are those before that place.
+    Refused(usize),
+    /// The text has no block of the form.
+    Absent,
+}
+
+/// Octets that are written in a text in one form.
+#[derive(Debug, Drop)]
+pub struct Block {
+    /// The line at which the block begins, the first being 1. Of a form that has one block it is 1.
+    pub line: usize,
+    /// Of PEM the label; otherwise it is empty.
+    pub label: ArrayVec<u8, 64>,
+    /// The octets.
+    pub octets: Vec<u8>,
+    /// What is to be said beside.
+    pub state: BlockState,
+}

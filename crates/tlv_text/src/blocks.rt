@@ -1,0 +1,85 @@
+//! The blocks of a text in a form.
+ghost use Rattle.std.specs.List.{list_any};
+ghost use Rattle.std.specs.Prelude.{◌≡◌, [], ◌∷◌, IfErr, IfOk, false, map};
+ghost use Rattle.tlv_text.specs.Blocks.{AreBlocks, IsBlocksFault, block_value, is_too_long, or_absent};
+
+mod lines;
+mod pem;
+mod runs;
+mod single;
+
+use crate::{Block, Form, TextFault};
+use pem::pem_blocks;
+use runs::run_blocks;
+use single::{absent_block, base64_block, dump_block, hex_block, numbers_block};
+use std::alloc::{AllocError, Global};
+
+/// The most octets of a block.
+const LIMIT: usize = 1_073_741_824;
+
+/// The blocks of a text in a form, in order, each with its octets decoded. Of dumps, hexadecimal, numbers and base64
+/// there is one. If a text has no block of PEM, no run of base64 or no list of numbers, there is one block that says
+/// so.
+///
+/// # Errors
+///
+/// `TextFault::TooLong` if a block has more than 2^30 octets, `TextFault::Memory` if memory is refused.
+pub fn blocks_of(alloc: Global, form: Form, text: &[u8]) -> Result<Vec<Block>, TextFault>
+    ensures blocks { IfOk result (λ blocks. AreBlocks text.now form (map block_value blocks.items)) }
+    ensures fit { IfOk result (λ blocks. list_any is_too_long (map block_value blocks.items) ≡ false) }
+    ensures fault { IfErr result (IsBlocksFault text.now form) }
+{
+    let blocks = decoded_blocks(alloc, form, text)?;
+    if is_any_too_long(blocks.as_slice()) {
+        return Err(TextFault::TooLong);
+    }
+    Ok(blocks)
+}
+
+/// The blocks of a text in a form, however long.
+#[tactic(auto, using(crate::proofs::BlockLemmas::block_forms))]
+fn decoded_blocks(alloc: Global, form: Form, text: &[u8]) -> Result<Vec<Block>, TextFault>
+    ensures blocks { IfOk result (λ blocks. AreBlocks text.now form (map block_value blocks.items)) }
+    ensures fault { IfErr result (IsBlocksFault text.now form) }
+{
+    match form {
+        Form::Pem => Ok(or_absent(alloc, pem_blocks(alloc, text)?)?),
+        Form::Dump => Ok(one_block(alloc, dump_block(alloc, text)?)?),
+        Form::Hex => Ok(one_block(alloc, hex_block(alloc, text)?)?),
+        Form::Numbers => Ok(one_block(alloc, numbers_block(alloc, text)?)?),
+        Form::Base64 => Ok(one_block(alloc, base64_block(alloc, text)?)?),
+        Form::Runs => Ok(or_absent(alloc, run_blocks(alloc, text)?)?),
+    }
+}
+
+/// The blocks, or one that says that there is none.
+fn or_absent(alloc: Global, blocks: Vec<Block>) -> Result<Vec<Block>, AllocError>
+    ensures { IfOk result (λ all. map block_value all.items ≡ or_absent (map block_value blocks.items)) }
+{
+    if blocks.is_empty() {
+        one_block(alloc, absent_block(alloc))
+    } else {
+        Ok(blocks)
+    }
+}
+
+/// A block alone.
+fn one_block(alloc: Global, block: Block) -> Result<Vec<Block>, AllocError>
+    ensures { IfOk result (λ blocks. map block_value blocks.items ≡ block_value block ∷ []) }
+{
+    let mut blocks = Vec::new(alloc);
+    blocks.push(block)?;
+    Ok(blocks)
+}
+
+/// Whether a block has more octets than a text may have.
+fn is_any_too_long(blocks: &[Block]) -> bool
+    ensures { result ≡ list_any is_too_long (map block_value blocks.now) }
+{
+    for block in blocks {
+        if block.octets.len() > LIMIT {
+            return true;
+        }
+    }
+    false
+}

@@ -1,0 +1,104 @@
+//! Texts of which all is one block.
+ghost use Rattle.std.specs.Prelude.{◌≡◌, IfErr, IfOk, length};
+ghost use Rattle.tlv_text.specs.Blocks.{IsBase64Block, absent_block, alphabet_of, block_value, dump_block, hex_block};
+ghost use Rattle.tlv_text.specs.Blocks.{hex_read, numbers_block, only_block, state_at_place};
+ghost use Rattle.tlv_text.specs.DumpFault.{IsFault};
+ghost use Rattle.tlv_text.specs.Numbers.{numbers_of};
+ghost use Rattle.tlv_text.specs.Private.BlockSteps.{IsRefusedWithin};
+ghost use Rattle.tlv_text.specs.TextRead.{refused_at};
+
+use super::lines::{TEXT_START, state_at_place};
+use crate::{
+    Alphabet, Block, BlockState, Decoded, TextFault, decode_base64, decode_dump, decode_pairs,
+    decode_tokens, has_tokens, numbers_of,
+};
+use arrayvec::ArrayVec;
+use memchr::memchr2;
+use std::alloc::{AllocError, Global};
+
+/// The block of a hex dump.
+pub(super) fn dump_block(alloc: Global, text: &[u8]) -> Result<Block, TextFault>
+    ensures block { IfOk result (λ b. block_value b ≡ dump_block text.now) }
+    ensures fault { IfErr result (IsFault text.now) }
+{
+    match decode_dump(alloc, text) {
+        Ok(decoded) => Ok(decoded_block(text, decoded)),
+        Err(fault) => Err(fault),
+    }
+}
+
+/// The block of hexadecimal digits.
+pub(super) fn hex_block(alloc: Global, text: &[u8]) -> Result<Block, AllocError>
+    ensures { IfOk result (λ b. block_value b ≡ hex_block text.now) }
+{
+    let decoded = decode_hex(alloc, text)?;
+    Ok(decoded_block(text, decoded))
+}
+
+/// The octets of tokens, if there are two or more of them, and otherwise of pairs.
+fn decode_hex(alloc: Global, text: &[u8]) -> Result<Decoded, AllocError>
+    ensures octets { IfOk result (λ d. d.octets.items ≡ (hex_read text.now).octets) }
+    ensures refused { IfOk result (λ d. d.refused ≡ refused_at text.now (hex_read text.now).rest) }
+{
+    if has_tokens(text) {
+        decode_tokens(alloc, text)
+    } else {
+        decode_pairs(alloc, text)
+    }
+}
+
+/// The block of decimal numbers.
+pub(super) fn numbers_block(alloc: Global, text: &[u8]) -> Result<Block, AllocError>
+    ensures { IfOk result (λ b. block_value b ≡ numbers_block (numbers_of text.now)) }
+{
+    match numbers_of(alloc, text)? {
+        Some(octets) => Ok(only_block(octets, BlockState::Whole)),
+        None => Ok(absent_block(alloc)),
+    }
+}
+
+/// The block of a text that is base64.
+pub(super) fn base64_block(alloc: Global, text: &[u8]) -> Result<Block, AllocError>
+    ensures { IfOk result (λ b. IsBase64Block text.now (block_value b)) }
+{
+    let decoded = decode_base64(alloc, alphabet_of(text), text)?;
+    Ok(decoded_block(text, decoded))
+}
+
+/// The alphabet of a text: that with `-` and `_` if it has one of them.
+fn alphabet_of(text: &[u8]) -> Alphabet
+    ensures { result ≡ alphabet_of text.now }
+{
+    match memchr2(b'-', b'_', text) {
+        Some(_) => Alphabet::UrlSafe,
+        None => Alphabet::Standard,
+    }
+}
+
+/// A text without a block.
+pub(super) fn absent_block(alloc: Global) -> Block
+    ensures { block_value result ≡ absent_block }
+{
+    only_block(Vec::new(alloc), BlockState::Absent)
+}
+
+/// All of a text that is decoded.
+fn decoded_block(text: &[u8], decoded: Decoded) -> Block
+    requires { IsRefusedWithin (length text.now) decoded.refused }
+    ensures { block_value result ≡ only_block decoded.octets.items (state_at_place text.now 0 decoded.refused) }
+{
+    let state = state_at_place(text, TEXT_START, 0, decoded.refused);
+    only_block(decoded.octets, state)
+}
+
+/// A block from the first line on, without a label.
+fn only_block(octets: Vec<u8>, state: BlockState) -> Block
+    ensures { block_value result ≡ only_block octets.items state }
+{
+    Block {
+        line: 1,
+        label: ArrayVec::new(),
+        octets,
+        state,
+    }
+}

@@ -1,0 +1,62 @@
+//! What the lines of a hex dump say of it before they are read.
+ghost use Rattle.std.specs.Prelude.{◌≡◌, ◌<◌, ◌≤◌, MatchOption};
+ghost use Rattle.tlv_text.specs.Dump.{has_pair, is_octal_first, size_by, size_in};
+ghost use Rattle.tlv_text.specs.DumpLines.{dump_lines};
+ghost use Rattle.tlv_text.specs.Private.DumpSteps.{row_seen};
+
+use super::lines::{DumpLine, Radix, RowLine, has_od_offset, line_of, split_line};
+use super::pairs::{before_pairs, begins_pair};
+
+/// Whether the offset of the first row has seven octal digits and no colon after it, as od writes it.
+pub(super) fn is_octal_first(text: &[u8]) -> bool
+    ensures { result ≡ is_octal_first (dump_lines text.now) }
+{
+    let mut rest = text;
+    while !rest.is_empty() {
+        let (line, after) = split_line(rest);
+        match line_of(Radix::Hexadecimal, line) {
+            DumpLine::Row(row) if has_pair(row) => {
+                return has_od_offset(line_of(Radix::Octal, line));
+            }
+            _ => rest = after,
+        }
+    }
+    false
+}
+
+/// Whether a row has a pair.
+pub(super) fn has_pair(row: RowLine<'_>) -> bool
+    ensures { result ≡ has_pair (row_seen row.entry) }
+{
+    begins_pair(before_pairs(row.rest))
+}
+
+/// The octets of a row by the lines after the first, which has this offset; `None` if it is alone.
+pub(super) fn size_in(radix: Radix, first: u64, text: &[u8]) -> Option<usize>
+    ensures value { result ≡ size_in radix first (dump_lines text.now) }
+    ensures range { MatchOption result Unit (λ size. (0 < size) × (size ≤ 256)) }
+{
+    let mut rest = text;
+    while !rest.is_empty() {
+        let (line, after) = split_line(rest);
+        match line_of(radix, line) {
+            DumpLine::Row(row) => return Some(size_by(row.offset.saturating_sub(first))),
+            DumpLine::Repeat => return Some(16),
+            DumpLine::Blank | DumpLine::Other => rest = after,
+        }
+    }
+    None
+}
+
+/// The octets of a row by the difference of two offsets.
+fn size_by(difference: u64) -> usize
+    ensures value { result ≡ size_by difference }
+    ensures some { 0 < result }
+    ensures few { result ≤ 256 }
+{
+    if difference >= 1 && difference <= 256 {
+        difference as usize
+    } else {
+        16
+    }
+}
