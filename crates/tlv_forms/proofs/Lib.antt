@@ -1,0 +1,6 @@
+pub mod CharacterLemmas
+pub mod CountLemmas
+pub mod CountingLemmas
+pub mod FormLemmas
+pub mod InputLemmas
+pub mod TakenLemmas

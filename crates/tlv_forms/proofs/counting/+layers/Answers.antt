@@ -1,0 +1,224 @@
+use Rattle.std.proofs.Common.{◌≡◌, ◌+◌, ◌∷◌, ◌++◌, ◌∙◌, [], List, ap, append_assoc, arith, length, map, subst, sym}
+use Rattle.std.specs.List.{All}
+use Rattle.std.specs.Vec.Iter.{into_iter_items}
+use Rattle.std.proofs.lemmas.List.{length-map, nil_from_length}
+use Rattle.std.proofs.lemmas.List.Elements.{All-append}
+use Rattle.std.proofs.lemmas.Result.{IfErr-weaker, IfOk-from_err, IfOk-weaker}
+use Rattle.tlv_forms.specs.Private.Counting.{IsBounded, IsFaultAmong}
+use Rattle.tlv_forms.specs.Taken.{BlocksCount, TextBlocks, all_forms, in_layer, taken_value}
+use Rattle.tlv_forms.specs.declared.taken.Taken.{Taken}
+use Rattle.tlv_forms.proofs.CountLemmas.{next-fit}
+use Rattle.tlv_forms.proofs.CountingLemmas.{among-text, base64-broken, base64-counts, blocks-text, counts-encodings}
+use Rattle.tlv_forms.proofs.CountingLemmas.{counts-nothing, counts-other, counts-text, memory-is_fault, next-among}
+use Rattle.tlv_forms.proofs.CountingLemmas.{octets-none, returned-fault, octets-some, written-back}
+use Rattle.tlv_forms.proofs.FormLemmas.{first-here, first-later, first-none, inner-control, inner-text, kept-count}
+use Rattle.tlv_forms.proofs.FormLemmas.{more-bounded, runs-done, runs-next}
+use Rattle.tlv_forms.proofs.InputLemmas.{none-taken, text-is}
+use Rattle.tlv_text.specs.Blocks.{block_value}
+use Rattle.tlv_text.specs.declared.block.Form.TheVariants.{Pem}
+use Rattle.tlv_text.specs.declared.text_fault.TextFault.TheVariants.{Memory}
+use Rattle.tlv_forms.proofs.counting.+layers.Goals as goal
+
+pub counted-returns-then-is_empty-clause-taken : goal.counted-returns-then-is_empty-clause-taken
+counted-returns-then-is_empty-clause-taken t c =
+    let b = c.args.block in
+    counts-nothing _ _ _ (block_value b) c.new.result.items c.new.ensures.items
+    (octets-none _ b.octets.items b.octets.ok.0 (sym c.is_empty.ensures ∙ c.if-is_empty.true))
+
+pub counted-returns-in_err-one_taken-clause-fault :
+    goal.counted-returns-in_err-one_taken-clause-fault
+counted-returns-in_err-one_taken-clause-fault t c =
+    returned-fault _ Memory _ c.from_residual-in_err-one_taken.ensures.1 (memory-is_fault c.args.block.octets.items)
+
+pub counted-returns-then-are_taken_as_encodings-clause-taken :
+    goal.counted-returns-then-are_taken_as_encodings-clause-taken
+counted-returns-then-are_taken_as_encodings-clause-taken t c =
+    let b = c.args.block in
+    let inner = c.in_ok-inner.inner in
+    counts-encodings _ _ _ (block_value b)
+    (octets-some _ b.octets.items b.octets.ok.0 (sym c.is_empty.ensures ∙ c.if-is_empty.false))
+    inner.items c.in_ok-inner.ensures.taken _ c.taken_as.result _ _
+    (none-taken _ inner.items inner.ok.0 (sym c.is_empty-2.ensures ∙ c.if-is_empty-2.true))
+    c.in_ok-one_taken.ensures c.taken_as.ensures.value c.as_slice.ensures.value c.are_taken_as_encodings.ensures
+    c.if-are_taken_as_encodings.true
+
+pub counted-returns-clause-taken : goal.counted-returns-clause-taken
+counted-returns-clause-taken t c =
+    let b = c.args.block in
+    let inner = c.in_ok-inner.inner in
+    let some = octets-some _ b.octets.items b.octets.ok.0 (sym c.is_empty.ensures ∙ c.if-is_empty.false) in
+    let written = written-back _ c.add_layer.new.taken inner.items inner.ok.0
+    (c.add_layer.auto.taken ∙ ap length c.as_mut_slice.ensures.value) in
+    let values = ap (map taken_value) written ∙ c.add_layer.ensures.values
+    ∙ ap (λ (ts : List Taken). map (in_layer c.args.layer) (map taken_value ts)) c.as_mut_slice.ensures.value in
+    elim c.else-is_empty-2.branch [
+      | goal.counted-else-is_empty-2-via-then-is_empty-2+else-are_taken_as_encodings w ↦
+          counts-other _ _ _ (block_value b) some inner.items c.in_ok-inner.ensures.taken _ _ _
+          (none-taken _ inner.items inner.ok.0 (sym c.is_empty-2.ensures ∙ w.if-is_empty-2.true))
+          w.as_slice.ensures.value w.are_taken_as_encodings.ensures w.if-are_taken_as_encodings.false values
+      | goal.counted-else-is_empty-2-via-else-is_empty-2 w ↦
+          counts-text _ _ _ (block_value b) _ inner.items _ some c.in_ok-inner.ensures.taken inner.ok.0
+          (sym c.is_empty-2.ensures ∙ w.if-is_empty-2.false) values
+    ]
+
+pub counted-returns-clause-bounded : goal.counted-returns-clause-bounded
+counted-returns-clause-bounded t c =
+    let inner = c.in_ok-inner.inner in
+    let written = written-back _ c.add_layer.new.taken inner.items inner.ok.0
+    (c.add_layer.auto.taken ∙ ap length c.as_mut_slice.ensures.value) in
+    subst (λ (ts : List Taken). All (IsBounded (c.args.layers + 1)) ts) (sym written)
+    (c.add_layer.ensures.layers c.args.layers
+    (subst (λ (ts : List Taken). All (IsBounded c.args.layers) ts) (sym c.as_mut_slice.ensures.value)
+    c.in_ok-inner.ensures.bounded))
+
+pub counted_base64-returns-in-Some-clause-taken : goal.counted_base64-returns-in-Some-clause-taken
+counted_base64-returns-in-Some-clause-taken t c =
+    IfOk-weaker c.counted.result _ _
+    (λ ts.
+    base64-counts (TextBlocks c.args.layers) c.args.blocks.items c.pop.new.self.items c.in-Some.block _
+    c.in-Some.ensures.items c.requires.fitting (sym c.is_complete.ensures ∙ c.if-is_complete.true))
+    c.counted.ensures.taken
+
+pub counted_base64-returns-in-Some-clause-fault : goal.counted_base64-returns-in-Some-clause-fault
+counted_base64-returns-in-Some-clause-fault t c =
+    IfErr-weaker c.counted.result _ _
+    (λ fault.
+    next-among c.pop.new.self.items [] c.args.blocks.items c.in-Some.block fault (sym c.in-Some.ensures.items))
+    c.counted.ensures.fault
+
+pub counted_base64-returns-clause-taken : goal.counted_base64-returns-clause-taken
+counted_base64-returns-clause-taken t c =
+    elim c.in_default.branch [
+      | goal.counted_base64-in_default-via-in-Some+else-is_complete w ↦
+          base64-broken (TextBlocks c.args.layers) c.args.blocks.items c.pop.new.self.items w.in-Some.block _
+          w.in-Some.ensures.items c.requires.fitting (sym w.is_complete.ensures ∙ w.if-is_complete.false)
+          c.new.ensures.items
+      | goal.counted_base64-in_default-via-in_default w ↦
+          let none = rw w.in_default.is at c.pop.ensures.cases in
+          let size = c.args.blocks.ok.0 in
+          let one = c.requires.fitting in
+          absurd (omega (arith, none.0, length-map c.args.blocks.items block_value))
+    ]
+
+pub counted_blocks-returns-in_err-kept_blocks-in-Pem :
+    goal.counted_blocks-returns-in_err-kept_blocks-in-Pem
+counted_blocks-returns-in_err-kept_blocks-in-Pem t c = record {
+  taken = IfOk-from_err _ _ c.from_residual.ensures.0;
+  bounded = IfOk-from_err _ _ c.from_residual.ensures.0;
+  fault = returned-fault _ Memory _ c.from_residual.ensures.1 IsFaultAmong.no_memory;
+}
+
+pub counted_blocks-returns-in-Runs-clause-taken : goal.counted_blocks-returns-in-Runs-clause-taken
+counted_blocks-returns-in-Runs-clause-taken t c =
+    rw c.in-Runs.is
+    (IfOk-weaker c.counted_runs.result _ _ (λ ts runs. BlocksCount.runs runs) c.counted_runs.ensures.taken)
+
+pub counted_blocks-returns-in_ok-kept_blocks-in-Pem :
+    goal.counted_blocks-returns-in_ok-kept_blocks-in-Pem
+counted_blocks-returns-in_ok-kept_blocks-in-Pem t c = record {
+  taken = kept-count (TextBlocks c.args.layers) c.args.form _ _ c.in-Pem.is c.requires.fitting
+      c.in_ok-kept_blocks-in-Pem.ensures.taken;
+  bounded = more-bounded c.args.layers _ c.in_ok-kept_blocks-in-Pem.ensures.bounded;
+  fault = tt;
+}
+
+pub counted_runs-returns-in_err-more-clause-fault :
+    goal.counted_runs-returns-in_err-more-clause-fault
+counted_runs-returns-in_err-more-clause-fault t c =
+    let at = c.loop-block in
+    let steps : into_iter_items at.block-iterator ≡ c.in-Some.block ∷ into_iter_items c.next.new.self =
+    c.in-Some.ensures.steps.0 in
+    let passed : at.yielded ++ (c.in-Some.block ∷ into_iter_items c.next.new.self)
+    ≡ into_iter_items c.into_iter-block-iterator.result = rw (← steps) at.invariant.passed in
+    returned-fault _ c.in_err-more.field-0.0 _ c.from_residual.ensures.1
+    (next-among at.yielded _ c.args.blocks.items c.in-Some.block _
+    (passed ∙ c.into_iter-block-iterator.ensures.into_iter_gives.0)
+    c.in_err-more.ensures.fault)
+
+pub counted_runs-returns-in_err-append-clause-fault :
+    goal.counted_runs-returns-in_err-append-clause-fault
+counted_runs-returns-in_err-append-clause-fault t c =
+    returned-fault _ Memory _ c.from_residual-in_err-append.ensures.1 IsFaultAmong.no_memory
+
+pub counted_runs-loop-block-preserved : goal.counted_runs-loop-block-preserved
+counted_runs-loop-block-preserved t c =
+    let at = c.loop-block in
+    let b = c.in-Some.block in
+    let steps : into_iter_items at.block-iterator ≡ b ∷ into_iter_items c.next.new.self = c.in-Some.ensures.steps.0 in
+    let append = c.in_ok-append.ensures.items in
+    record {
+      onward = runs-next (TextBlocks c.args.layers) _ _ _ b at.taken.items c.in_ok-more.more.items _ steps
+          c.in_ok-more.ensures.taken append at.invariant.onward;
+      bounded = subst (λ (ts : List Taken). All (IsBounded (c.args.layers + 1)) ts) (sym append)
+          (All-append (IsBounded (c.args.layers + 1)) at.taken.items c.in_ok-more.more.items at.invariant.bounded
+          c.in_ok-more.ensures.bounded);
+      fit = (next-fit _ _ _ steps at.invariant.fit).1;
+      passed = append_assoc at.yielded (b ∷ []) _ ∙ rw (← steps) at.invariant.passed;
+      left = let was = at.invariant.left in
+          let gone = c.in-Some.ensures.steps.1 in
+          let short = ap length steps in
+          omega arith;
+    }
+
+pub counted_runs-returns-clause-taken : goal.counted_runs-returns-clause-taken
+counted_runs-returns-clause-taken t c =
+    let at = c.loop-block in
+    let none = c.in-None.ensures.steps in
+    let empty : into_iter_items at.block-iterator ≡ [] = nil_from_length _ (sym at.invariant.left ∙ none.0) in
+    runs-done (TextBlocks c.args.layers) _ _ c.args.blocks.items at.taken.items empty
+    c.into_iter-block-iterator.ensures.into_iter_gives.0 at.invariant.onward
+
+pub first_blocks-returns-in_err-blocks-clause-fault :
+    goal.first_blocks-returns-in_err-blocks-clause-fault
+first_blocks-returns-in_err-blocks-clause-fault t c =
+    returned-fault _ c.in_err-blocks.field-0.0 _ c.from_residual.ensures.1
+    (blocks-text c.args.text.now _ _ c.in_err-blocks.ensures.fault)
+
+pub first_blocks-returns-in_err-taken-clause-fault :
+    goal.first_blocks-returns-in_err-taken-clause-fault
+first_blocks-returns-in_err-taken-clause-fault t c =
+    returned-fault _ c.in_err-taken.field-0.0 _ c.from_residual-in_err-taken.ensures.1
+    (among-text c.args.text.now _ _ _ c.in_ok-blocks.ensures.blocks c.in_err-taken.ensures.fault)
+
+pub first_blocks-returns-then-not-is_empty-clause-taken :
+    goal.first_blocks-returns-then-not-is_empty-clause-taken
+first_blocks-returns-then-not-is_empty-clause-taken t c =
+    let taken = c.in_ok-taken.taken in
+    c.loop-form.invariant _
+    (first-here (TextBlocks c.args.layers) c.args.text.now all_forms c.loop-form.form-index Pem _ taken.items _
+    c.loop-form-test.true c.in_ok-blocks.ensures.blocks c.in_ok-taken.ensures.taken taken.ok.0
+    (sym c.is_empty.ensures ∙ c.if-not-is_empty.true))
+
+pub first_blocks-loop-form-preserved : goal.first_blocks-loop-form-preserved
+first_blocks-loop-form-preserved t c = λ others rests.
+    let taken = c.in_ok-taken.taken in
+    c.loop-form.invariant others
+    (first-later (TextBlocks c.args.layers) c.args.text.now all_forms c.loop-form.form-index Pem _ taken.items _ others
+    c.loop-form-test.true c.in_ok-blocks.ensures.blocks c.in_ok-taken.ensures.taken taken.ok.0
+    (sym c.is_empty.ensures ∙ c.if-not-is_empty.false) rests)
+
+pub first_blocks-returns-clause-taken : goal.first_blocks-returns-clause-taken
+first_blocks-returns-clause-taken t c =
+    c.loop-form.invariant _
+    (first-none (TextBlocks c.args.layers) c.args.text.now all_forms c.loop-form.form-index c.new.result.items
+    c.loop-form-test.false c.new.ensures.items)
+
+pub text_blocks-returns-in_err-ascii-clause-fault :
+    goal.text_blocks-returns-in_err-ascii-clause-fault
+text_blocks-returns-in_err-ascii-clause-fault t c =
+    returned-fault _ Memory _ c.from_residual.ensures.1 (memory-is_fault c.args.octets.now)
+
+pub text_blocks-returns-then-has_controls-clause-taken : goal.text_blocks-returns-then-has_controls-clause-taken
+text_blocks-returns-then-has_controls-clause-taken t c =
+    inner-control c.args.layers c.args.octets.now c.text_in-text.result.now _ c.if-layers-eq0.false
+    (text-is c.args.octets.now _ _ c.text_in-text.ensures c.in_ok-ascii.ensures)
+    (sym c.has_controls.ensures ∙ c.if-has_controls.true) c.new-then-has_controls.ensures.items
+
+pub text_blocks-returns-clause-taken : goal.text_blocks-returns-clause-taken
+text_blocks-returns-clause-taken t c =
+    IfOk-weaker c.first_blocks.result _ _
+    (λ ts.
+    inner-text c.args.layers c.args.octets.now c.text_in-text.result.now _ c.if-layers-eq0.false
+    (text-is c.args.octets.now _ _ c.text_in-text.ensures c.in_ok-ascii.ensures)
+    (sym c.has_controls.ensures ∙ c.if-has_controls.false))
+    c.first_blocks.ensures.taken

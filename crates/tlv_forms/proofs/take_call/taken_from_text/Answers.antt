@@ -1,0 +1,49 @@
+use Rattle.std.proofs.Common.{◌∙◌, sym}
+use Rattle.tlv_forms.proofs.CountingLemmas.{memory-is_fault, returned-fault}
+use Rattle.tlv_forms.proofs.InputLemmas.{control-taken, no_text-taken, none-taken, other-taken, sound-taken, text-is}
+use Rattle.tlv_forms.proofs.InputLemmas.{text-taken}
+use Rattle.tlv_text.specs.declared.text_fault.TextFault.TheVariants.{Memory}
+use Rattle.tlv_forms.proofs.take_call.taken_from_text.Goals as goal
+
+pub returns-in_err-ascii-clause-fault : goal.returns-in_err-ascii-clause-fault
+returns-in_err-ascii-clause-fault c =
+    returned-fault _ Memory _ c.from_residual.ensures.1 (memory-is_fault c.args.octets.now)
+
+pub returns-then-has_controls-clause-taken : goal.returns-then-has_controls-clause-taken
+returns-then-has_controls-clause-taken c =
+    control-taken c.args.octets.now _
+    (text-is c.args.octets.now _ _ c.text_in-text.ensures c.in_ok-ascii.ensures)
+    _ c.new.ensures.items (sym c.has_controls.ensures ∙ c.if-has_controls.true)
+
+pub returns-in_err-one_taken-clause-fault : goal.returns-in_err-one_taken-clause-fault
+returns-in_err-one_taken-clause-fault c =
+    returned-fault _ Memory _ c.from_residual-in_err-one_taken.ensures.1 (memory-is_fault c.args.octets.now)
+
+pub returns-then-not-are_encodings-clause-taken : goal.returns-then-not-are_encodings-clause-taken
+returns-then-not-are_encodings-clause-taken c =
+    let taken = c.in_ok-taken.taken in
+    other-taken c.args.octets.now _ (text-is c.args.octets.now _ _ c.text_in-text.ensures c.in_ok-ascii.ensures)
+    (sym c.has_controls.ensures ∙ c.if-has_controls.false)
+    taken.items c.in_ok-taken.ensures.taken _ c.taken_other_text.result
+    (none-taken _ taken.items taken.ok.0 (sym c.is_empty.ensures ∙ c.if-is_empty.true))
+    (λ encodings. absurd (cc (c.are_encodings.ensures.1 encodings, c.if-not-are_encodings.true)))
+    (sym c.is_other_text.ensures ∙ c.if-is_other_text.true) c.in_ok-one_taken.ensures c.taken_other_text.ensures.value
+
+pub returns-clause-taken : goal.returns-clause-taken
+returns-clause-taken c =
+    let taken = c.in_ok-taken.taken in
+    let is = text-is c.args.octets.now _ _ c.text_in-text.ensures c.in_ok-ascii.ensures in
+    let no_control = sym c.has_controls.ensures ∙ c.if-has_controls.false in
+    elim c.else-is_empty.branch [
+      | goal.else-is_empty-via-then-is_empty+then-is_other_text+else-not-are_encodings w ↦
+          sound-taken c.args.octets.now _ is no_control taken.items c.in_ok-taken.ensures.taken
+          (none-taken _ taken.items taken.ok.0 (sym c.is_empty.ensures ∙ w.if-is_empty.true))
+          (w.are_encodings.ensures.0 w.if-not-are_encodings.false)
+      | goal.else-is_empty-via-then-is_empty+else-is_other_text w ↦
+          no_text-taken c.args.octets.now _ is no_control taken.items c.in_ok-taken.ensures.taken
+          (none-taken _ taken.items taken.ok.0 (sym c.is_empty.ensures ∙ w.if-is_empty.true))
+          (sym w.is_other_text.ensures ∙ w.if-is_other_text.false)
+      | goal.else-is_empty-via-else-is_empty w ↦
+          text-taken c.args.octets.now _ is no_control taken.items c.in_ok-taken.ensures.taken
+          _ taken.ok.0 (sym c.is_empty.ensures ∙ w.if-is_empty.false)
+    ]

@@ -1,0 +1,216 @@
+//! Which blocks of a text count.
+ghost use Rattle.std.specs.List.{list_any};
+ghost use Rattle.std.specs.Prelude.{◌≡◌, [], ◌∷◌, ◌+◌, ◌≤◌, All, IfErr, IfOk, Some, false, filter, map};
+ghost use Rattle.tlv_forms.specs.Private.Counting.{IsBounded, IsFaultAmong, IsFittingForm, IsTextFault, is_kept};
+ghost use Rattle.tlv_forms.specs.Taken.{AreFirstBlocks, BlocksCount, Counts, HasInner, IsTakingFault, RunsCount};
+ghost use Rattle.tlv_forms.specs.Taken.{TextBlocks, all_forms, begins_with_zeros, is_complete, is_whole_block};
+ghost use Rattle.tlv_forms.specs.Taken.{taken_as, taken_value};
+ghost use Rattle.tlv_text.specs.Blocks.{block_value, is_too_long};
+ghost use Rattle.tlv_text.specs.declared.block.Form.{Form};
+ghost use Rattle.tlv_text.specs.declared.block.Form.TheVariants.{Base64};
+
+use crate::characters::{has_controls, text_in};
+use crate::encodings::are_taken_as_encodings;
+use crate::values::{add_layer, one_taken, taken_as};
+use crate::{Taken, TakenFor};
+use std::alloc::{AllocError, Global};
+use tlv_text::{Block, BlockState, Form, TextFault, ascii_of_utf16, blocks_of};
+
+/// The forms in the order in which they are tried.
+const FORMS: [Form; 6] = [
+    Form::Pem,
+    Form::Dump,
+    Form::Hex,
+    Form::Numbers,
+    Form::Base64,
+    Form::Runs,
+];
+
+/// The blocks of a text in the first form in which one counts. There is none if the text has no form. What is base64
+/// in it may be a text in its turn, in this many layers at most.
+#[cycle(layers)]
+pub(crate) fn first_blocks(alloc: Global, layers: u8, text: &[u8]) -> Result<Vec<Taken>, TextFault>
+    requires { layers ≤ 3 }
+    ensures taken { IfOk result
+        (λ ts. AreFirstBlocks (TextBlocks layers) text.now all_forms (map taken_value ts.items)) }
+    ensures bounded { IfOk result (λ ts. All (IsBounded (layers + 1)) ts.items) }
+    ensures fault { IfErr result (IsTextFault text.now) }
+{
+    for form in &FORMS {
+        let blocks = blocks_of(alloc, *form, text)?;
+        let taken = counted_blocks(alloc, layers, *form, blocks)?;
+        if !taken.is_empty() {
+            return Ok(taken);
+        }
+    }
+    Ok(Vec::new(alloc))
+}
+
+/// What the blocks of a text in a form count as.
+#[cycle(layers)]
+fn counted_blocks(
+    alloc: Global,
+    layers: u8,
+    form: Form,
+    blocks: Vec<Block>,
+) -> Result<Vec<Taken>, TextFault>
+    requires few { layers ≤ 3 }
+    requires fitting { IsFittingForm form (map block_value blocks.items) }
+    requires fit { list_any is_too_long (map block_value blocks.items) ≡ false }
+    ensures taken { IfOk result
+        (λ ts. BlocksCount (TextBlocks layers) form (map block_value blocks.items) (map taken_value ts.items)) }
+    ensures bounded { IfOk result (λ ts. All (IsBounded (layers + 1)) ts.items) }
+    ensures fault { IfErr result (IsFaultAmong (map block_value blocks.items)) }
+{
+    match form {
+        Form::Base64 => counted_base64(alloc, layers, blocks),
+        Form::Runs => counted_runs(alloc, layers, blocks),
+        Form::Pem | Form::Dump | Form::Hex | Form::Numbers => Ok(kept_blocks(alloc, form, blocks)?),
+    }
+}
+
+/// What the block of a text that is base64 counts as.
+#[cycle(layers)]
+fn counted_base64(
+    alloc: Global,
+    layers: u8,
+    mut blocks: Vec<Block>,
+) -> Result<Vec<Taken>, TextFault>
+    requires few { layers ≤ 3 }
+    requires fitting { IsFittingForm Base64 (map block_value blocks.items) }
+    requires fit { list_any is_too_long (map block_value blocks.items) ≡ false }
+    ensures taken { IfOk result
+        (λ ts. BlocksCount (TextBlocks layers) Base64 (map block_value blocks.items) (map taken_value ts.items)) }
+    ensures bounded { IfOk result (λ ts. All (IsBounded (layers + 1)) ts.items) }
+    ensures fault { IfErr result (IsFaultAmong (map block_value blocks.items)) }
+{
+    match blocks.pop() {
+        Some(block) if is_complete(&block) => { counted(alloc, layers, Form::Base64, None, block) }
+        _ => Ok(Vec::new(alloc)),
+    }
+}
+
+/// What runs of base64 count as.
+#[cycle(layers)]
+fn counted_runs(alloc: Global, layers: u8, blocks: Vec<Block>) -> Result<Vec<Taken>, TextFault>
+    requires few { layers ≤ 3 }
+    requires fit { list_any is_too_long (map block_value blocks.items) ≡ false }
+    ensures taken { IfOk result
+        (λ ts. RunsCount (TextBlocks layers) (map block_value blocks.items) (map taken_value ts.items)) }
+    ensures bounded { IfOk result (λ ts. All (IsBounded (layers + 1)) ts.items) }
+    ensures fault { IfErr result (IsFaultAmong (map block_value blocks.items)) }
+{
+    let mut taken = Vec::new(alloc);
+    for block in blocks {
+        let line = block.line;
+        let mut more = counted(alloc, layers, Form::Runs, Some(line), block)?;
+        taken.append(&mut more)?;
+    }
+    Ok(taken)
+}
+
+/// What a block of base64 counts as: the blocks of the text that it is base64 of, or itself.
+#[cycle(layers)]
+fn counted(
+    alloc: Global,
+    layers: u8,
+    form: Form,
+    layer: Option<usize>,
+    block: Block,
+) -> Result<Vec<Taken>, TextFault>
+    requires few { layers ≤ 3 }
+    requires fit { is_too_long (block_value block) ≡ false }
+    ensures taken { IfOk result
+        (λ ts. Counts (TextBlocks layers) form layer (block_value block) (map taken_value ts.items)) }
+    ensures bounded { IfOk result (λ ts. All (IsBounded (layers + 1)) ts.items) }
+    ensures fault { IfErr result (IsTakingFault block.octets.items) }
+{
+    if block.octets.is_empty() {
+        return Ok(Vec::new(alloc));
+    }
+    let mut inner = inner_blocks(alloc, layers, &block)?;
+    if inner.is_empty() && are_taken_as_encodings(block.octets.as_slice()) {
+        return Ok(one_taken(alloc, taken_as(TakenFor::Text(form), block))?);
+    }
+    add_layer(inner.as_mut_slice(), layer);
+    Ok(inner)
+}
+
+/// The blocks of the text that a block is base64 of. There is none if not all of it is decoded.
+#[cycle(layers)]
+fn inner_blocks(alloc: Global, layers: u8, block: &Block) -> Result<Vec<Taken>, TextFault>
+    requires { layers ≤ 3 }
+    ensures taken { IfOk result
+        (λ ts. HasInner (TextBlocks layers) (is_whole_block block.now.state) block.now.octets.items
+        (map taken_value ts.items)) }
+    ensures bounded { IfOk result (λ ts. All (IsBounded layers) ts.items) }
+    ensures fault { IfErr result (IsTakingFault block.now.octets.items) }
+{
+    match block.state {
+        BlockState::Whole => text_blocks(alloc, layers, block.octets.as_slice()),
+        _ => Ok(Vec::new(alloc)),
+    }
+}
+
+/// The blocks of octets that are a text in this many layers of base64 at most. There is none if they have a control
+/// character, which no text has.
+#[cycle(layers)]
+fn text_blocks(alloc: Global, layers: u8, octets: &[u8]) -> Result<Vec<Taken>, TextFault>
+    requires { layers ≤ 3 }
+    ensures taken { IfOk result (λ ts. TextBlocks layers octets.now (map taken_value ts.items)) }
+    ensures bounded { IfOk result (λ ts. All (IsBounded layers) ts.items) }
+    ensures fault { IfErr result (IsTakingFault octets.now) }
+{
+    if layers == 0 {
+        return Ok(Vec::new(alloc));
+    }
+    let ascii = ascii_of_utf16(alloc, octets)?;
+    let text = text_in(&ascii, octets);
+    if has_controls(text) {
+        return Ok(Vec::new(alloc));
+    }
+    first_blocks(alloc, layers - 1, text)
+}
+
+/// The blocks of a text in a form of which each block counts for itself.
+fn kept_blocks(alloc: Global, form: Form, blocks: Vec<Block>) -> Result<Vec<Taken>, AllocError>
+    requires { list_any is_too_long (map block_value blocks.items) ≡ false }
+    ensures taken { IfOk result
+        (λ ts. map taken_value ts.items
+        ≡ map (taken_as (TakenFor.Text form)) (filter (is_kept form) (map block_value blocks.items))) }
+    ensures bounded { IfOk result (λ ts. All (IsBounded 1) ts.items) }
+{
+    let mut kept = Vec::new(alloc);
+    for block in blocks {
+        if is_kept(form, &block) {
+            kept.push(taken_as(TakenFor::Text(form), block))?;
+        }
+    }
+    Ok(kept)
+}
+
+/// Whether a block counts in a form of which each block counts for itself. All blocks of PEM do. A dump that is refused
+/// is no hexadecimal: its first offset gives two octets 00.
+fn is_kept(form: Form, block: &Block) -> bool
+    ensures { result ≡ is_kept form (block_value block.now) }
+{
+    match form {
+        Form::Pem => block.state != BlockState::Absent,
+        Form::Hex => is_complete(block) && !begins_with_zeros(block.octets.as_slice()),
+        _ => is_complete(block),
+    }
+}
+
+/// Whether all of a text is decoded, and gives octets.
+fn is_complete(block: &Block) -> bool
+    ensures { result ≡ is_complete (block_value block.now) }
+{
+    block.state == BlockState::Whole && !block.octets.is_empty()
+}
+
+/// Whether two octets 00 come first, which no encoding has.
+fn begins_with_zeros(octets: &[u8]) -> bool
+    ensures { result ≡ begins_with_zeros octets.now }
+{
+    matches!(octets, [0, 0, ..])
+}
