@@ -1,0 +1,5 @@
+pub mod PartLemmas
+pub mod ShownLemmas
+pub mod TrackLemmas
+pub mod WhyLemmas
+mod WhyRows

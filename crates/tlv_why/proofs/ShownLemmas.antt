@@ -1,0 +1,5 @@
+pub mod ShownWords
+pub mod ShownCuts
+pub mod ShownEnds
+pub mod ShownHeaders
+pub mod ShownWhy

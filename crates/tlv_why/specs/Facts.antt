@@ -1,0 +1,79 @@
+-- What is open where the reading of an input ends, and what comes before that.
+use Rattle.std.specs.Prelude.{◌≡◌, ℕ, ◌+◌, Bool, false, List, [], ◌∷◌, MatchOption, Option, Some, None, drop, take}
+use Rattle.tlv_head.specs.Header.{HeaderValue}
+use Rattle.tlv_head.specs.Refusal.{BeginsWith, BeginsWithNoHeader}
+use Rattle.tlv_open.specs.Opens.{closed_framing}
+use Rattle.tlv_walk.specs.Ending.{OpenEnd, open_end}
+use Rattle.tlv_walk.specs.Forest.{Forest, Holder, OpenEndOctets, OpenHeader, OpenHolder}
+use Rattle.tlv_walk.specs.Forest.{OpenPrimitive, PaddingOctet, Primitive, extent, primitive_extent}
+use Rattle.tlv_walk.specs.Place.{top_place}
+use Rattle.tlv_walk.specs.Reading.{IsReading}
+use Rattle.tlv_why.specs.declared.element.Element.{Element}
+use Rattle.tlv_why.specs.declared.facts.Facts.{Facts}
+use Rattle.tlv_why.specs.declared.facts.Unfinished.{Unfinished}
+use Rattle.tlv_why.specs.declared.facts.Unfinished.TheVariants as unfinished
+use Rattle.tlv_why.specs.Elements.{element_of}
+
+-- 8.1.4: the elements that hold others and have not ended, outermost first. No string is named, so none is a wrapper
+abbrev pub open_holders : Forest → List Element
+open_holders (PaddingOctet rest) = open_holders rest
+open_holders (Primitive h contents rest) = open_holders rest
+open_holders (Holder h children rest) = open_holders rest
+open_holders (OpenHolder h children) = element_of h ∷ open_holders children
+open_holders end = []
+
+-- the last whole element before the open end, in the element that is innermost there, if there is one; the first
+-- argument is the whole element before the forest
+abbrev pub last_whole : Option Element → Forest → Option Element
+last_whole before (PaddingOctet rest) = last_whole before rest
+last_whole before (Primitive h contents rest) = last_whole (Some (element_of h)) rest
+last_whole before (Holder h children rest) = last_whole (Some (element_of h)) rest
+last_whole before (OpenHolder h children) = last_whole None children
+last_whole before end = before
+
+-- the offset after the last whole element of the outermost ones; the first argument is that offset before the forest
+abbrev pub whole_end : ℕ → Forest → ℕ
+whole_end before (PaddingOctet rest) = whole_end before rest
+whole_end before (Primitive h contents rest) = whole_end (h.offset + primitive_extent h contents) rest
+whole_end before (Holder h children rest) = whole_end (h.offset + extent h children) rest
+whole_end before end = before
+
+-- the offsets of the elements before the open end, the nearest first; the first argument has those before the forest
+abbrev pub offsets_before : List ℕ → Forest → List ℕ
+offsets_before before (PaddingOctet rest) = offsets_before before rest
+offsets_before before (Primitive h contents rest) = offsets_before (h.offset ∷ before) rest
+offsets_before before (Holder h children rest) = offsets_before (offsets_before (h.offset ∷ before) children) rest
+offsets_before before (OpenHolder h children) = offsets_before (h.offset ∷ before) children
+offsets_before before end = before
+
+-- what stands at an open end
+abbrev pub unfinished_in : Forest → Unfinished
+unfinished_in (OpenPrimitive h contents) = unfinished.Primitive (element_of h)
+unfinished_in (OpenHeader octets) = unfinished.Header
+unfinished_in OpenEndOctets = unfinished.EndOctets
+unfinished_in end = unfinished.Nothing
+
+-- the element whose whole header the input has at this offset, if there is one
+abbrev pub IsElementThere : List ℕ → ℕ → Option Element → Type 0
+IsElementThere octets offset found = MatchOption found (BeginsWithNoHeader (drop offset octets))
+    (λ e. (h : HeaderValue) × BeginsWith (drop offset octets) offset false h × (e ≡ element_of h))
+
+-- the open end of a reading in which no string is named
+abbrev pub end_of_reading : Bool → Forest → OpenEnd
+end_of_reading padding reading = open_end (top_place (closed_framing padding)) reading
+
+-- what is said of the open end of this reading, and of what comes before it
+pub record AreFactsOf (padding : Bool) (octets : List ℕ) (reading : Forest) (facts : Facts) : Type 0 where
+  pub holders : facts.holders.items ≡ open_holders reading
+  pub before : facts.before ≡ last_whole None reading
+  pub top : facts.top ≡ whole_end 0 reading
+  pub nearest : facts.nearest.items ≡ take 25 (offsets_before [] reading)
+  pub next : facts.next ≡ (end_of_reading padding reading).place.offset
+  pub unfinished : facts.unfinished ≡ unfinished_in (end_of_reading padding reading).forest
+  pub there : IsElementThere octets facts.next facts.there
+
+-- what is said of these octets, by their reading in which no string is named
+pub record AreFacts (padding : Bool) (octets : List ℕ) (facts : Facts) : Type 0 where
+  pub reading : Forest
+  pub is_reading : IsReading (closed_framing padding) octets reading
+  pub are_facts : AreFactsOf padding octets reading facts

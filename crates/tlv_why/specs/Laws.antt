@@ -1,0 +1,18 @@
+-- What is written is printable ASCII, in lines.
+use Rattle.std.specs.Prelude.{◌≡◌, ℕ, Bool, true, ◌&&◌, ◌||◌, eqb, nat_le, List}
+use Rattle.std.specs.List.{list_all}
+use Rattle.tlv_walk.specs.Reading.{AreOctets}
+use Rattle.tlv_why.specs.Why.{IsWhy}
+
+-- a line feed, or a printable character of ASCII
+abbrev pub is_shown_octet : ℕ → Bool
+is_shown_octet x = eqb x 10 || (nat_le 0x20 x && nat_le x 0x7e)
+
+-- line feeds and printable ASCII alone
+abbrev pub AreShown : List ℕ → Type 0
+AreShown text = list_all is_shown_octet text ≡ true
+
+-- what is said of octets is printable ASCII, in lines
+abbrev pub LinesAreShown : Type 0
+LinesAreShown = (padding : Bool) (octets : List ℕ) (parses : Bool) (text : List ℕ) → AreOctets octets
+    → IsWhy padding octets parses text → AreShown text

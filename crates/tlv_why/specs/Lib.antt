@@ -1,0 +1,12 @@
+pub mod Elements
+pub mod Facts
+pub mod OpenHolders
+pub mod CutLines
+pub mod EndLines
+pub mod TryLines
+pub mod HeaderFaultLines
+pub mod Laws
+pub mod Leftovers
+pub mod Why
+pub mod Words
+pub mod Private

@@ -1,0 +1,129 @@
+-- What is kept of the events of a walk.
+use Rattle.std.specs.Prelude.{◌≡◌, ℕ, ◌+◌, ◌-◌, eqb, if◌then◌else◌, nat_lt, List, [], ◌∷◌, ◌++◌, length, take}
+use Rattle.std.specs.Prelude.{Option, Some, None, slice_get, slice_index}
+use Rattle.std.specs.Option.{option_map_or}
+use Rattle.tlv_walk.specs.Events.{Begin, Bytes, Close, End, Enter, EventValue, Leave, Open, Pad, Unused, event_octets}
+use Rattle.tlv_walk.specs.HasRead.{StandsAtEnd}
+use Rattle.tlv_walk.specs.Phase.{Between}
+use Rattle.tlv_walk.specs.Stands.{IsIdle, Stands}
+use Rattle.tlv_walk.specs.WalkerState.{WalkerState}
+use Rattle.tlv_walk.specs.declared.ending.Ending.{Ending}
+use Rattle.tlv_walk.specs.declared.ending.Ending.TheVariants as ending
+use Rattle.tlv_walk.specs.declared.framing.Framing.{Framing}
+use Rattle.tlv_why.specs.declared.element.Element.{Element}
+use Rattle.tlv_why.specs.declared.facts.Facts.{Facts}
+use Rattle.tlv_why.specs.declared.facts.Unfinished.{Unfinished}
+use Rattle.tlv_why.specs.declared.facts.Unfinished.TheVariants as unfinished
+use Rattle.tlv_why.specs.declared.tracker.Tracker.{Tracker}
+use Rattle.tlv_why.specs.Elements.{element_of}
+use Rattle.tlv_why.specs.Facts.{IsElementThere}
+
+-- before the first event
+abbrev pub new_tracker : Tracker
+new_tracker = record {
+  holders = record { items = [] };
+  current = None;
+  before = None;
+  top = 0;
+  nearest = record { items = [] };
+  offset = 0;
+}
+
+-- the offset of an element more, among the 25 nearest ones
+abbrev pub with_nearest : ℕ → Tracker → Tracker
+with_nearest offset t = record t { nearest = record { items = take 25 (offset ∷ t.nearest.items) } }
+
+-- an element that holds others begins: of more than 128 there is none
+abbrev pub holder_noted : Element → Tracker → Tracker
+holder_noted e t =
+    if nat_lt (length t.holders.items) 128
+    then record (with_nearest e.offset t) { holders = record { items = t.holders.items ++ e ∷ [] }; before = None }
+    else t
+
+-- an element is whole
+abbrev pub element_ended : Element → Tracker → Tracker
+element_ended e t =
+    record t { before = Some e; top = if eqb (length t.holders.items) 0 then t.offset else t.top }
+
+-- the primitive has ended, if one has begun
+abbrev pub primitive_ended : Option Element → Tracker → Tracker
+primitive_ended None t = t
+primitive_ended (Some e) t = element_ended e (record (with_nearest e.offset t) { current = None })
+
+-- the innermost element that holds others has ended, if there is one
+abbrev pub holder_ended : Option Element → Tracker → Tracker
+holder_ended None t = t
+holder_ended (Some e) t =
+    element_ended e
+    (record t { holders = record { items = take (length t.holders.items - 1) t.holders.items } })
+
+-- the innermost element that holds others
+abbrev pub innermost : Tracker → Option Element
+innermost t = slice_get t.holders.items (length t.holders.items - 1)
+
+-- after an event, by what it is; its octets are counted
+abbrev pub tracked_event : EventValue → Tracker → Tracker
+tracked_event (Open h) t = holder_noted (element_of h) t
+tracked_event (Enter h) t = holder_noted (element_of h) t
+tracked_event (Begin h) t = record t { current = Some (element_of h) }
+tracked_event End t = primitive_ended t.current t
+tracked_event (Close offset) t = holder_ended (innermost t) t
+tracked_event Leave t = holder_ended (innermost t) t
+tracked_event (Bytes octets) t = t
+tracked_event (Pad octets) t = t
+tracked_event Unused t = t
+
+-- after an event
+abbrev pub track : Tracker → EventValue → Tracker
+track t e = tracked_event e (record t { offset = t.offset + length (event_octets e) })
+
+-- after events, one after another
+abbrev pub track_all : Tracker → List EventValue → Tracker
+track_all t [] = t
+track_all t (e ∷ es) = track_all (track t e) es
+
+-- a walker that has taken nothing
+pub record IsNewWalker (w : WalkerState) : Type 0 where
+  pub stands : Stands w [] []
+  pub idle : IsIdle w
+  pub phase : w.phase ≡ Between
+  pub offset : w.offset ≡ 0
+
+-- the walker has walked over the octets to their end, or to one that it refused, and this is kept of the events
+pub record HasTracked (framing : Framing) (octets : List ℕ) (w : WalkerState) (t : Tracker) : Type 0 where
+  pub framing_is : w.framing ≡ framing
+  pub yielded : List EventValue
+  pub at_end : StandsAtEnd w octets yielded
+  pub idle : IsIdle w
+  pub tracked : t ≡ track_all new_tracker yielded
+
+-- how many octets are read of so many that have this ending
+abbrev pub count_read : Ending → ℕ → ℕ
+count_read ending.Done size = size
+count_read (ending.Fault f) size = f.offset
+
+-- where the open end begins: with the primitive that has begun, or after the last event
+abbrev pub open_end_offset : Tracker → ℕ
+open_end_offset t = option_map_or (λ e. e.offset) t.current t.offset
+
+-- what stands where no primitive has begun: nothing if the octets are read up to there, else what the octet there
+-- begins
+abbrev pub unfinished_octet : List ℕ → ℕ → ℕ → Unfinished
+unfinished_octet octets offset count =
+    if eqb offset count then unfinished.Nothing
+    else (if eqb (slice_index octets offset) 0 then unfinished.EndOctets else unfinished.Header)
+
+-- what stands at the open end of octets of which so many are read
+abbrev pub unfinished_at : Tracker → List ℕ → ℕ → Unfinished
+unfinished_at t octets count =
+    option_map_or unfinished.Primitive t.current (unfinished_octet octets t.offset count)
+
+-- what is said of octets of which so many are read, by what is kept of the events
+pub record MakesFacts (t : Tracker) (octets : List ℕ) (count : ℕ) (facts : Facts) : Type 0 where
+  pub holders : facts.holders.items ≡ t.holders.items
+  pub before : facts.before ≡ t.before
+  pub top : facts.top ≡ t.top
+  pub nearest : facts.nearest.items ≡ t.nearest.items
+  pub next : facts.next ≡ open_end_offset t
+  pub unfinished : facts.unfinished ≡ unfinished_at t octets count
+  pub there : IsElementThere octets facts.next facts.there

@@ -1,0 +1,36 @@
+-- What is to be tried, and which other lengths may be wrong.
+use Rattle.std.specs.Prelude.{ℕ, eqb, if◌then◌else◌, List, [], ◌++◌, Option, Some, None, codes, decimal}
+use Rattle.tlv_why.specs.declared.element.Element.{Element}
+use Rattle.tlv_why.specs.OpenHolders.{has_end}
+use Rattle.tlv_why.specs.Words.{header_sentence, named_element}
+
+unfoldable pub anew_line : List ℕ
+anew_line =
+    codes "Try: fetch the input anew, in binary; or go on at the next record, with tail -c +M FILE, "
+    ++ codes "where M is its offset and 1.\n"
+
+-- an element in front may have another length than it announces
+unfoldable pub suspect_line_of : List ℕ → Element → List ℕ
+suspect_line_of octets e =
+    codes "Or a length in front is wrong: that of the " ++ named_element e ++ codes ". "
+    ++ header_sentence octets e ++ codes "\n"
+
+-- the element before, if there is one, and it announces a length
+unfoldable pub suspect_line : List ℕ → Option Element → List ℕ
+suspect_line octets None = []
+suspect_line octets (Some e) = if has_end e then suspect_line_of octets e else []
+
+-- after a fault for which a length is to blame; the last argument is the element before
+unfoldable pub anew_lines : List ℕ → Option Element → List ℕ
+anew_lines octets before = anew_line ++ suspect_line octets before
+
+-- what to try if there is no header at this offset
+unfoldable pub look_line : ℕ → List ℕ
+look_line next =
+    if eqb next 0 then codes "No encoding begins so. Try: file FILE, which knows files of other kinds.\n"
+    else
+    codes "Try: look at the element that ends at offset " ++ decimal next
+    ++ codes ", or begins there: its length may be wrong; or fetch the input anew, in binary.\n"
+
+unfoldable pub look_lines : List ℕ → ℕ → Option Element → List ℕ
+look_lines octets next before = look_line next ++ suspect_line octets before

@@ -1,0 +1,107 @@
+-- Why octets do not parse, in sentences. Each is a line that ends with a line feed.
+use Rattle.std.specs.Prelude.{◌≡◌, ℕ, ◌-◌, Bool, true, false, ◌&&◌, not, nat_le, if◌then◌else◌, List, [], ◌++◌, codes}
+use Rattle.std.specs.Prelude.{IfOk, Result, decimal, length}
+use Rattle.std.specs.Option.{is_some}
+use Rattle.tlv_head.specs.Fault.{fault_code, fault_text}
+use Rattle.tlv_head.specs.declared.fault.Fault.{Fault}
+use Rattle.tlv_head.specs.declared.fault.FaultCode.{FaultCode}
+use Rattle.tlv_head.specs.declared.fault.FaultCode.TheVariants.{BadEnd, BadInside, Empty, IndefinitePrimitive}
+use Rattle.tlv_head.specs.declared.fault.FaultCode.TheVariants.{LengthTooLarge, MissingEnd, Overrun, ReservedLength}
+use Rattle.tlv_head.specs.declared.fault.FaultCode.TheVariants.{Short, StrayEnd, TagTooLong, TooDeep}
+use Rattle.tlv_io.specs.Device.{DrainState}
+use Rattle.tlv_io.specs.Out.{Sends}
+use Rattle.tlv_io.specs.declared.drain.WriteFault.{WriteFault}
+use Rattle.tlv_walk.specs.declared.ending.Ending.TheVariants as ending
+use Rattle.tlv_walk.specs.Ending.{IsEnding}
+use Rattle.tlv_open.specs.Opens.{closed_framing}
+use Rattle.tlv_why.specs.declared.facts.Facts.{Facts}
+use Rattle.tlv_why.specs.CutLines.{cut_lines, empty_lines}
+use Rattle.tlv_why.specs.EndLines.{bad_end_lines, missing_end_lines, stray_lines}
+use Rattle.tlv_why.specs.Facts.{AreFacts}
+use Rattle.tlv_why.specs.HeaderFaultLines.{deep_lines, header_fault_lines, past_lines}
+use Rattle.tlv_why.specs.Leftovers.{following_lines, is_followed_by_filler, left_over_lines}
+use Rattle.tlv_why.specs.OpenHolders.{innermost_holder}
+use Rattle.tlv_why.specs.Words.{octets_in_words}
+
+-- the first line if the octets parse
+unfoldable pub parses_line : ℕ → List ℕ
+parses_line size = codes "It parses: " ++ octets_in_words size ++ codes ", which are whole encodings.\n"
+
+-- the first line if they do not: an offset, a code and its text
+unfoldable pub no_parse_line_of : ℕ → List ℕ → List ℕ → List ℕ
+no_parse_line_of offset code text =
+    codes "It does not parse: fault at " ++ decimal offset ++ codes ": " ++ code ++ codes " " ++ text ++ codes ".\n"
+
+abbrev pub no_parse_line : Fault → List ℕ
+no_parse_line fault = no_parse_line_of fault.offset (fault_code fault.code) (fault_text fault.code)
+
+-- the lines about a fault with this code, at this offset. F12 is none where no string is read as encodings
+unfoldable pub code_lines : FaultCode → ℕ → List ℕ → Facts → List ℕ
+code_lines Empty offset octets facts = empty_lines (length octets)
+code_lines Short offset octets facts = cut_lines octets facts
+code_lines StrayEnd offset octets facts = stray_lines octets offset (innermost_holder facts) facts.before
+code_lines BadEnd offset octets facts = bad_end_lines octets offset (innermost_holder facts)
+code_lines MissingEnd offset octets facts =
+    missing_end_lines octets facts.unfinished facts.holders.items (innermost_holder facts)
+code_lines TagTooLong offset octets facts = header_fault_lines TagTooLong octets offset facts.next facts.before
+code_lines ReservedLength offset octets facts =
+    header_fault_lines ReservedLength octets offset facts.next facts.before
+code_lines IndefinitePrimitive offset octets facts =
+    header_fault_lines IndefinitePrimitive octets offset facts.next facts.before
+code_lines LengthTooLarge offset octets facts =
+    header_fault_lines LengthTooLarge octets offset facts.next facts.before
+code_lines TooDeep offset octets facts = deep_lines facts.next
+code_lines Overrun offset octets facts = past_lines octets offset facts
+code_lines BadInside offset octets facts = []
+
+-- the lines of this code say by themselves what is left over: there is no element, or 00 outside of all elements
+abbrev pub says_rest : FaultCode → Facts → Bool
+says_rest Empty facts = true
+says_rest StrayEnd facts = not (is_some (innermost_holder facts))
+says_rest code facts = false
+
+-- the whole encodings in front are half of so many octets, or more
+abbrev pub is_mostly_whole : ℕ → ℕ → Bool
+is_mostly_whole size top = nat_le (size - top) top
+
+-- what is left over, if it is said there, and the lines about the fault
+unfoldable pub front_lines : Bool → Fault → List ℕ → Facts → List ℕ
+front_lines is_said fault octets facts =
+    left_over_lines is_said facts.top (length octets - facts.top) ++ code_lines fault.code fault.offset octets facts
+
+-- what is left over is said before the lines about the fault, or after them
+unfoldable pub reason_lines_in : Bool → Bool → Fault → List ℕ → Facts → List ℕ
+reason_lines_in is_said_before is_said_after fault octets facts =
+    front_lines is_said_before fault octets facts
+    ++ left_over_lines is_said_after facts.top (length octets - facts.top)
+
+unfoldable pub reason_lines : Fault → List ℕ → Facts → List ℕ
+reason_lines fault octets facts =
+    reason_lines_in (not (says_rest fault.code facts) && is_mostly_whole (length octets) facts.top)
+    (not (says_rest fault.code facts) && not (is_mostly_whole (length octets) facts.top)) fault octets facts
+
+-- all but the first line
+unfoldable pub later_lines : Fault → List ℕ → Facts → List ℕ
+later_lines fault octets facts =
+    if is_followed_by_filler octets facts.top then following_lines octets facts.top
+    else reason_lines fault octets facts
+
+-- the lines about octets that do not parse
+unfoldable pub fault_lines : Fault → List ℕ → Facts → List ℕ
+fault_lines fault octets facts = no_parse_line fault ++ later_lines fault octets facts
+
+-- the lines about octets, of which no string is read as encodings: that they parse, or why they do not
+pub data IsWhy (padding : Bool) (octets : List ℕ) : Bool → List ℕ → Type 0 where
+  parses : IsEnding (closed_framing padding) octets ending.Done
+      → IsWhy padding octets true (parses_line (length octets))
+  refused : (fault : Fault) (facts : Facts) → IsEnding (closed_framing padding) octets (ending.Fault fault)
+      → AreFacts padding octets facts → IsWhy padding octets false (fault_lines fault octets facts)
+
+-- these lines are sent to a drain; what is returned is whether the octets parse
+pub record WritesWhy (padding : Bool) (octets : List ℕ) (old new : DrainState) (result : Result Bool WriteFault)
+    : Type 0 where
+  pub parses : Bool
+  pub text : List ℕ
+  pub is_why : IsWhy padding octets parses text
+  pub sends : Sends old new text result
+  pub says : IfOk result (λ said. said ≡ parses)

@@ -1,0 +1,60 @@
+-- The words of which sentences about octets are made.
+use Rattle.std.specs.Prelude.{ℕ, ◌-◌, Bool, eqb, nat_lt, if◌then◌else◌, List, [], ◌++◌, codes, decimal, drop}
+use Rattle.std.specs.Prelude.{length, take}
+use Rattle.tlv_head.specs.declared.header.Size.{Size}
+use Rattle.tlv_head.specs.declared.header.Size.TheVariants.{Definite, Indefinite}
+use Rattle.tlv_head.specs.Tag.{tag_text}
+use Rattle.tlv_io.specs.LineTexts.{spaced_pairs}
+use Rattle.tlv_why.specs.declared.element.Element.{Element}
+use Rattle.tlv_why.specs.declared.part.Part.{Part}
+use Rattle.tlv_why.specs.declared.part.Part.TheVariants as part
+
+-- so many octets
+unfoldable pub octets_in_words : ℕ → List ℕ
+octets_in_words n = decimal n ++ (if eqb n 1 then codes " octet" else codes " octets")
+
+-- the octets from the offset `start` on, up to the offset `end`
+unfoldable pub octets_between : List ℕ → ℕ → ℕ → List ℕ
+octets_between octets start end = take (end - start) (drop start octets)
+
+-- dots if there is more
+abbrev pub dots_if : Bool → List ℕ
+dots_if is_more = if is_more then codes " ..." else []
+
+-- octets in hexadecimal, each after a space: at most 16, and then dots if there are more
+unfoldable pub first_pairs : List ℕ → List ℕ
+first_pairs octets = spaced_pairs (take 16 octets) ++ dots_if (nat_lt 16 (length octets))
+
+-- what an element is called, and where it is
+unfoldable pub named_element : Element → List ℕ
+named_element e = tag_text e.class e.number ++ codes " at offset " ++ decimal e.offset
+
+-- 8.1.3: how many contents octets are announced
+unfoldable pub size_in_words : Size → List ℕ
+size_in_words (Definite n) = octets_in_words n
+size_in_words Indefinite = codes "an indefinite number of octets"
+
+-- what a sentence about a header begins with
+unfoldable pub header_opening : ℕ → List ℕ
+header_opening offset = codes "The header at offset " ++ decimal offset ++ codes ","
+
+-- what a sentence about a header ends with
+unfoldable pub header_closing : Size → List ℕ
+header_closing size = codes ", says that its contents are " ++ size_in_words size ++ codes "."
+
+-- where a header is, and its octets
+unfoldable pub header_octets : List ℕ → Element → List ℕ
+header_octets octets e = header_opening e.offset ++ first_pairs (octets_between octets e.offset e.contents)
+
+-- a sentence about a header
+unfoldable pub header_sentence : List ℕ → Element → List ℕ
+header_sentence octets e = header_octets octets e ++ header_closing e.size
+
+-- the text of a part of a sentence about these octets
+abbrev pub part_text : List ℕ → Part → List ℕ
+part_text octets (part.Text text) = text.now
+part_text octets (part.Number n) = decimal n
+part_text octets (part.Octets n) = octets_in_words n
+part_text octets (part.Pairs start end) = first_pairs (octets_between octets start end)
+part_text octets (part.Name e) = named_element e
+part_text octets (part.Header e) = header_sentence octets e

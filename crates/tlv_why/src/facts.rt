@@ -1,0 +1,37 @@
+//! What is open where the reading of an input ends.
+
+use crate::Element;
+use arrayvec::ArrayVec;
+
+/// What stands where the reading of an input ends.
+#[derive(Clone, Copy, Debug, PartialEq, Eq)]
+pub enum Unfinished {
+    /// Nothing: an element could begin there, or an end.
+    Nothing,
+    /// A primitive that lacks contents octets.
+    Primitive(Element),
+    /// A header that lacks octets.
+    Header,
+    /// The first of two end-of-contents octets.
+    EndOctets,
+}
+
+/// What is said of octets, of which no string is read as encodings: what is open where their reading ends, and what
+/// comes before that. Offsets are in octets from the start of the input.
+#[derive(Debug, Drop)]
+pub struct Facts {
+    /// The elements that hold others and have not ended, outermost first.
+    pub holders: ArrayVec<Element, 128>,
+    /// The last whole element before the open end, among those that are directly in the innermost open element.
+    pub before: Option<Element>,
+    /// The offset after the last whole element of the outermost ones; 0 if there is none.
+    pub top: u64,
+    /// The offsets of the last 25 elements before the open end, the nearest first.
+    pub nearest: ArrayVec<u64, 25>,
+    /// Where the open end begins.
+    pub next: u64,
+    /// What stands there.
+    pub unfinished: Unfinished,
+    /// The element whose whole header the input has there, also one that is refused.
+    pub there: Option<Element>,
+}

@@ -1,0 +1,255 @@
+//! Writes why octets do not parse, in sentences.
+ghost use Rattle.std.specs.Prelude.{◌≡◌, ◌≤◌, length};
+ghost use Rattle.tlv_head.specs.InputLimit.{input_limit};
+ghost use Rattle.tlv_io.specs.Out.{Puts, Sends};
+ghost use Rattle.tlv_why.specs.Why.{WritesWhy, code_lines, no_parse_line, no_parse_line_of, fault_lines, front_lines};
+ghost use Rattle.tlv_why.specs.Why.{is_mostly_whole, later_lines, parses_line, reason_lines, reason_lines_in};
+ghost use Rattle.tlv_why.specs.Why.{says_rest};
+
+use crate::cut::put_cut_lines;
+use crate::empty::put_empty_lines;
+use crate::ends::{put_bad_end_lines, put_missing_end_lines, put_stray_lines};
+use crate::header_faults::{put_deep_lines, put_header_fault_lines, put_past_lines};
+use crate::holders::innermost_holder;
+use crate::leftovers::{is_followed_by_filler, put_following_lines, put_left_over_lines};
+use crate::part::{Part, put_parts};
+use crate::{Facts, facts_of};
+use tlv_head::{Fault, FaultCode};
+use tlv_io::{Drain, Out, WriteFault};
+use tlv_open::ending_of;
+use tlv_walk::Ending;
+
+/// Writes whether the octets parse, of which no string is read as encodings, and if not, why: the fault, the headers
+/// that may be at fault, how many octets are missing or left over, and what to try. With `padding`, octets `00` are
+/// allowed at the top. All is printable ASCII, in lines that end with a line feed.
+///
+/// Returns whether they parse.
+///
+/// # Errors
+///
+/// `WriteFault` if a write failed. What was written is then a prefix of the lines.
+pub fn write_why<D: Drain>(octets: &[u8], padding: bool, drain: &mut D) -> Result<bool, WriteFault>
+    requires { length octets.now ≤ input_limit }
+    ensures { WritesWhy padding octets.now (D.state drain.old) (D.state drain.new) result }
+{
+    match ending_of(octets, padding) {
+        Ending::Done => {
+            write_parses_line(octets.len() as u64, drain)?;
+            Ok(true)
+        }
+        Ending::Fault(fault) => {
+            let facts = facts_of(octets, padding);
+            write_fault_lines(fault, octets, &facts, drain)?;
+            Ok(false)
+        }
+    }
+}
+
+/// Writes that so many octets parse.
+#[tactic(auto, using(tlv_io::proofs::Sends::sends))]
+fn write_parses_line<D: Drain>(size: u64, drain: &mut D) -> Result<(), WriteFault>
+    ensures { Sends (D.state drain.old) (D.state drain.new) (parses_line size) result }
+{
+    let mut out = Out::new(drain);
+    put_parses_line(size, &mut out)?;
+    out.flush()?;
+    Ok(())
+}
+
+#[tactic(auto, unfolding(crate::specs::Why::parses_line))]
+fn put_parses_line<D: Drain>(size: u64, out: &mut Out<'_, D>) -> Result<(), WriteFault>
+    ensures { Puts D.state out.old out.new (parses_line size) result }
+{
+    put_parts(
+        &[
+            Part::Text(b"It parses: "),
+            Part::Octets(size),
+            Part::Text(b", which are whole encodings.\n"),
+        ],
+        &[],
+        out,
+    )
+}
+
+/// Writes why octets do not parse.
+#[tactic(auto, using(tlv_io::proofs::Sends::sends))]
+fn write_fault_lines<D: Drain>(
+    fault: Fault,
+    octets: &[u8],
+    facts: &Facts,
+    drain: &mut D,
+) -> Result<(), WriteFault>
+    ensures { Sends (D.state drain.old) (D.state drain.new) (fault_lines fault octets.now facts.now) result }
+{
+    let mut out = Out::new(drain);
+    put_fault_lines(fault, octets, facts, &mut out)?;
+    out.flush()?;
+    Ok(())
+}
+
+#[tactic(auto, using(tlv_io::proofs::Puts::puts), unfolding(crate::specs::Why::fault_lines))]
+fn put_fault_lines<D: Drain>(
+    fault: Fault,
+    octets: &[u8],
+    facts: &Facts,
+    out: &mut Out<'_, D>,
+) -> Result<(), WriteFault>
+    ensures { Puts D.state out.old out.new (fault_lines fault octets.now facts.now) result }
+{
+    put_no_parse_line(fault, out)?;
+    put_later_lines(fault, octets, facts, out)
+}
+
+fn put_no_parse_line<D: Drain>(fault: Fault, out: &mut Out<'_, D>) -> Result<(), WriteFault>
+    ensures { Puts D.state out.old out.new (no_parse_line fault) result }
+{
+    put_no_parse_line_of(fault.offset, fault.code.code(), fault.text(), out)
+}
+
+fn put_no_parse_line_of<'x, D: Drain>(
+    offset: u64,
+    code: &'x [u8],
+    text: &'x [u8],
+    out: &mut Out<'_, D>,
+) -> Result<(), WriteFault>
+    ensures { Puts D.state out.old out.new (no_parse_line_of offset code.now text.now) result }
+{
+    put_parts(
+        &[
+            Part::Text(b"It does not parse: fault at "),
+            Part::Number(offset),
+            Part::Text(b": "),
+            Part::Text(code),
+            Part::Text(b" "),
+            Part::Text(text),
+            Part::Text(b".\n"),
+        ],
+        &[],
+        out,
+    )
+}
+
+/// Puts all but the first line.
+#[tactic(auto, unfolding(crate::specs::Why::later_lines))]
+fn put_later_lines<D: Drain>(
+    fault: Fault,
+    octets: &[u8],
+    facts: &Facts,
+    out: &mut Out<'_, D>,
+) -> Result<(), WriteFault>
+    ensures { Puts D.state out.old out.new (later_lines fault octets.now facts.now) result }
+{
+    if is_followed_by_filler(octets, facts.top) {
+        return put_following_lines(octets, facts.top, out);
+    }
+    put_reason_lines(fault, octets, facts, out)
+}
+
+#[tactic(auto, unfolding(crate::specs::Why::reason_lines))]
+fn put_reason_lines<D: Drain>(
+    fault: Fault,
+    octets: &[u8],
+    facts: &Facts,
+    out: &mut Out<'_, D>,
+) -> Result<(), WriteFault>
+    ensures { Puts D.state out.old out.new (reason_lines fault octets.now facts.now) result }
+{
+    let is_said = !says_rest(fault.code, facts);
+    let is_before = is_mostly_whole(octets.len() as u64, facts.top);
+    put_reason_lines_in(
+        is_said && is_before,
+        is_said && !is_before,
+        fault,
+        octets,
+        facts,
+        out,
+    )
+}
+
+/// Whether the lines of this code say by themselves what is left over.
+fn says_rest(code: FaultCode, facts: &Facts) -> bool
+    ensures { result ≡ says_rest code facts.now }
+{
+    match code {
+        FaultCode::Empty => true,
+        FaultCode::StrayEnd => innermost_holder(facts).is_none(),
+        _ => false,
+    }
+}
+
+/// Whether the whole encodings, which end at the offset `top`, are half of so many octets, or more.
+fn is_mostly_whole(size: u64, top: u64) -> bool
+    ensures { result ≡ is_mostly_whole size top }
+{
+    size.saturating_sub(top) <= top
+}
+
+#[tactic(auto, using(tlv_io::proofs::Puts::puts), unfolding(crate::specs::Why::reason_lines_in))]
+fn put_reason_lines_in<D: Drain>(
+    is_said_before: bool,
+    is_said_after: bool,
+    fault: Fault,
+    octets: &[u8],
+    facts: &Facts,
+    out: &mut Out<'_, D>,
+) -> Result<(), WriteFault>
+    ensures { Puts D.state out.old out.new
+        (reason_lines_in is_said_before is_said_after fault octets.now facts.now) result }
+{
+    put_front_lines(is_said_before, fault, octets, facts, out)?;
+    let left = (octets.len() as u64).saturating_sub(facts.top);
+    put_left_over_lines(is_said_after, facts.top, left, out)
+}
+
+#[tactic(auto, using(tlv_io::proofs::Puts::puts), unfolding(crate::specs::Why::front_lines))]
+fn put_front_lines<D: Drain>(
+    is_said: bool,
+    fault: Fault,
+    octets: &[u8],
+    facts: &Facts,
+    out: &mut Out<'_, D>,
+) -> Result<(), WriteFault>
+    ensures { Puts D.state out.old out.new (front_lines is_said fault octets.now facts.now) result }
+{
+    let left = (octets.len() as u64).saturating_sub(facts.top);
+    put_left_over_lines(is_said, facts.top, left, out)?;
+    put_code_lines(fault.code, fault.offset, octets, facts, out)
+}
+
+/// Puts the lines about a fault with this code, at this offset.
+#[tactic(auto, unfolding(crate::specs::Why::code_lines))]
+fn put_code_lines<D: Drain>(
+    code: FaultCode,
+    offset: u64,
+    octets: &[u8],
+    facts: &Facts,
+    out: &mut Out<'_, D>,
+) -> Result<(), WriteFault>
+    ensures { Puts D.state out.old out.new (code_lines code offset octets.now facts.now) result }
+{
+    match code {
+        FaultCode::Empty => put_empty_lines(octets.len() as u64, out),
+        FaultCode::Short => put_cut_lines(octets, facts, out),
+        FaultCode::StrayEnd => {
+            put_stray_lines(octets, offset, innermost_holder(facts), facts.before, out)
+        }
+        FaultCode::BadEnd => put_bad_end_lines(octets, offset, innermost_holder(facts), out),
+        FaultCode::MissingEnd => put_missing_end_lines(
+            octets,
+            facts.unfinished,
+            facts.holders.as_slice(),
+            innermost_holder(facts),
+            out,
+        ),
+        FaultCode::TagTooLong
+        | FaultCode::ReservedLength
+        | FaultCode::IndefinitePrimitive
+        | FaultCode::LengthTooLarge => {
+            put_header_fault_lines(code, octets, offset, facts.next, facts.before, out)
+        }
+        FaultCode::TooDeep => put_deep_lines(facts.next, out),
+        FaultCode::Overrun => put_past_lines(octets, offset, facts, out),
+        // Where no string is read as encodings there is no such fault.
+        FaultCode::BadInside => Ok(()),
+    }
+}

@@ -1,0 +1,127 @@
+//! Which one change would make an input sound.
+use crate::expect::expect_of;
+use std::test::Fail;
+use tlv_mend::{
+    TextChange, WrongLength, latin1_of_utf8, laws, next_start, text_change, undone_line_ends,
+    undone_utf8, write_remedies, wrong_length,
+};
+use tlv_walk::MemDrain;
+
+/// The INTEGER at 2 says two octets in place of one.
+const TOO_LONG: &[u8] = b"\x30\x03\x02\x02\x01";
+
+#[test]
+fn a_wrong_length_is_found(rt: HostRuntime) -> Result<(), Fail> {
+    let found = wrong_length(rt.alloc(), TOO_LONG, false, &[2, 0])?;
+    let want = WrongLength {
+        offset: 2,
+        said: 2,
+        would: 1,
+    };
+    expect_of(&rt, "both", found, Some(want));
+    expect_of(
+        &rt,
+        "the holder",
+        wrong_length(rt.alloc(), TOO_LONG, false, &[0])?,
+        None,
+    );
+    expect_of(
+        &rt,
+        "no header",
+        wrong_length(rt.alloc(), TOO_LONG, false, &[])?,
+        None,
+    );
+    Ok(())
+}
+
+/// The octet e9 written in UTF-8, a line feed with 0d in front, and what parses.
+#[test]
+fn what_was_done_to_a_text_is_found(rt: HostRuntime) -> Result<(), Fail> {
+    let utf8 = b"\x04\x01\xc3\xa9";
+    let line_ends = b"\x04\x01\x0d\x0a";
+    let none = b"\x05\x00";
+    expect_of(
+        &rt,
+        "UTF-8",
+        text_change(rt.alloc(), utf8, false)?,
+        Some(TextChange::Utf8),
+    );
+    expect_of(
+        &rt,
+        "lines",
+        text_change(rt.alloc(), line_ends, false)?,
+        Some(TextChange::LineEnds),
+    );
+    expect_of(&rt, "none", text_change(rt.alloc(), none, false)?, None);
+    expect_of(&rt, "UTF-8", undone_utf8(rt.alloc(), utf8, false)?, true);
+    expect_of(
+        &rt,
+        "UTF-8",
+        undone_utf8(rt.alloc(), line_ends, false)?,
+        false,
+    );
+    expect_of(
+        &rt,
+        "lines",
+        undone_line_ends(rt.alloc(), line_ends, false)?,
+        true,
+    );
+    expect_of(
+        &rt,
+        "lines",
+        undone_line_ends(rt.alloc(), none, false)?,
+        false,
+    );
+    Ok(())
+}
+
+#[test]
+fn characters_of_latin1_are_found(rt: HostRuntime) -> Result<(), Fail> {
+    match latin1_of_utf8(rt.alloc(), b"a\xc3\xa9")? {
+        Some(octets) => expect_of(&rt, "two", octets.as_slice(), b"a\xe9"),
+        None => expect_of(&rt, "two", "none", "some"),
+    }
+    expect_of(
+        &rt,
+        "a sign of Euro",
+        latin1_of_utf8(rt.alloc(), b"\xe2\x82\xac")?.is_none(),
+        true,
+    );
+    Ok(())
+}
+
+#[test]
+fn another_start_is_found(rt: HostRuntime) {
+    let behind_three = b"\x00\x00\x00\x30\x03\x02\x01\x05";
+    expect_of(
+        &rt,
+        "three octets",
+        next_start(behind_three, false),
+        Some(3),
+    );
+    expect_of(&rt, "whole", next_start(b"\x05\x00", false), None);
+}
+
+#[test]
+fn remedies_are_written(rt: HostRuntime) -> Result<(), Fail> {
+    let gzip = b"It begins as a file of gzip does. Try: gzip -dc FILE | tlvdump-show\n";
+    let length = b"If the header at offset 2 said 1 octet and not 2, all would parse.\n";
+    for (octets, candidates, want) in [
+        (TOO_LONG, [2, 0].as_slice(), length.as_slice()),
+        (b"\x1f\x8b\x08", &[], gzip),
+        (b"\x04\x05\x01", &[], b""),
+    ] {
+        let mut room = [0; 256];
+        let mut drain = MemDrain::new(&mut room, 5);
+        let sent = write_remedies(rt.alloc(), octets, false, candidates, &mut drain)?;
+        expect_of(&rt, octets, sent, Ok(()));
+        expect_of(&rt, octets, drain.written(), want);
+    }
+    Ok(())
+}
+
+#[test]
+fn the_laws_may_be_called(_rt: HostRuntime) {
+    laws::inputs_have_one_wrong_length();
+    laws::other_lengths_make_headers();
+}

@@ -1,0 +1,103 @@
+//! Why octets do not parse.
+use crate::expect::expect_of;
+use tlv_head::{Class, Size};
+use tlv_walk::{MemDrain, WriteFault};
+use tlv_why::{Element, Unfinished, facts_of, laws, write_why};
+
+/// Octets, whether they parse, and what is written of them.
+type Row<'a> = (&'a [u8], bool, &'a [u8]);
+
+static ROWS: [Row<'static>; 3] = [
+    (
+        b"\x05\x00",
+        true,
+        b"It parses: 2 octets, which are whole encodings.\n",
+    ),
+    (
+        b"\x04\x20\xaa",
+        false,
+        b"It does not parse: fault at 3: F02 input ends inside an encoding.\n\
+          The input ends inside the OCTET STRING at offset 0. The header at offset 0, 04 20, says that its \
+          contents are 32 octets.\n\
+          Missing there: 31 octets.\n\
+          Try: fetch the input anew, since the copy was cut; or, where it is whole, look for a length that \
+          is too great.\n",
+    ),
+    (
+        b"\x30\x03\x02\x02\x01",
+        false,
+        b"It does not parse: fault at 3: F11 element runs past the enclosing length.\n\
+          The octet at offset 3 completes the header of the INTEGER at offset 2. The header at offset 2, \
+          02 02, says that its contents are 2 octets.\n\
+          It would end at offset 6, but the SEQUENCE at offset 0 ends at offset 5. Missing there: 1 octet. \
+          The header at offset 0, 30 03, says that its contents are 3 octets.\n\
+          One of the two lengths is wrong, or octets between them are missing or were put in.\n\
+          Try: fetch the input anew, in binary; or go on at the next record, with tail -c +M FILE, where M \
+          is its offset and 1.\n",
+    ),
+];
+
+#[test]
+fn reasons_are_written(rt: HostRuntime) {
+    for row in ROWS.as_slice() {
+        let (octets, parses, text) = *row;
+        let mut room = [0; 1024];
+        let mut drain = MemDrain::new(&mut room, 7);
+        expect_of(
+            &rt,
+            octets,
+            write_why(octets, false, &mut drain),
+            Ok(parses),
+        );
+        expect_of(&rt, octets, drain.written(), text);
+    }
+}
+
+#[test]
+fn a_failed_write_is_returned(rt: HostRuntime) {
+    let mut room = [0; 5];
+    let mut drain = MemDrain::new(&mut room, 7);
+    expect_of(
+        &rt,
+        "5 octets",
+        write_why(b"\x05\x00", false, &mut drain),
+        Err(WriteFault),
+    );
+    expect_of(&rt, "5 octets", drain.written(), b"It pa");
+}
+
+/// An element with a definite length, and with two octets of header.
+fn element(offset: u64, number: u64, size: u64) -> Element {
+    Element {
+        offset,
+        class: Class::Universal,
+        number,
+        size: Size::Definite(size),
+        contents: offset.saturating_add(2),
+        end: Some(offset.saturating_add(2).saturating_add(size)),
+    }
+}
+
+/// A NULL, and a SEQUENCE with an INTEGER and the header of an OCTET STRING that is too long.
+#[test]
+fn facts_are_those_of_the_reading(rt: HostRuntime) {
+    let octets = b"\x05\x00\x30\x06\x02\x01\x07\x04\x05\xaa";
+    let facts = facts_of(octets, false);
+    expect_of(
+        &rt,
+        "holders",
+        facts.holders.as_slice(),
+        &[element(2, 16, 6)],
+    );
+    expect_of(&rt, "before", facts.before, Some(element(4, 2, 1)));
+    expect_of(&rt, "top", facts.top, 2);
+    expect_of(&rt, "nearest", facts.nearest.as_slice(), &[4, 2, 0]);
+    expect_of(&rt, "next", facts.next, 7);
+    expect_of(&rt, "unfinished", facts.unfinished, Unfinished::Header);
+    expect_of(&rt, "there", facts.there, Some(element(7, 4, 5)));
+}
+
+#[test]
+fn the_law_may_be_called(_rt: HostRuntime) {
+    laws::lines_are_shown();
+}
