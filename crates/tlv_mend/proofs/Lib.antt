@@ -1,0 +1,9 @@
+pub mod FirstLemmas
+pub mod LengthLemmas
+pub mod LengthRows
+pub mod MovedElements
+pub mod StartLemmas
+pub mod TextLemmas
+pub mod TextRows
+pub mod LawLemmas
+pub mod RemedyRows

@@ -1,0 +1,7 @@
+pub mod FirstOf
+pub mod WrongLength
+pub mod NextStart
+pub mod TextCopies
+pub mod Remedies
+pub mod Laws
+pub mod Private

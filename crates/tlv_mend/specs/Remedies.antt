@@ -1,0 +1,98 @@
+-- What may be done of an input that does not parse, in lines: which one change would make it sound, and what it may be.
+use Rattle.std.specs.Prelude.{◌≡◌, ℕ, ◌+◌, Bool, eqb, nat_eq, if◌then◌else◌, List, [], ◌∷◌, ◌++◌}
+use Rattle.std.specs.Prelude.{Option, None, Some, codes, decimal}
+use Rattle.std.specs.List.{starts_with}
+use Rattle.tlv_mend.specs.declared.lengths.WrongLength.{WrongLength}
+use Rattle.tlv_mend.specs.declared.text_changes.TextChange.{TextChange}
+use Rattle.tlv_mend.specs.declared.text_changes.TextChange.TheVariants.{LineEnds, Utf8}
+use Rattle.tlv_mend.specs.NextStart.{IsNextStart}
+use Rattle.tlv_mend.specs.TextCopies.{IsSoundWithLfAlone, IsSoundWithoutUtf8}
+use Rattle.tlv_mend.specs.WrongLength.{IsWrongLength}
+
+-- ---- one length
+
+-- the word after a number of octets
+abbrev pub octets_word : ℕ → List ℕ
+octets_word count = if eqb count 1 then codes " octet" else codes " octets"
+
+-- of a header that says a wrong length, if one does
+abbrev pub length_line : Option WrongLength → List ℕ
+length_line None = []
+length_line (Some w) =
+    codes "If the header at offset " ++ decimal w.offset ++ codes " said " ++ decimal w.would ++ octets_word w.would
+    ++ codes " and not " ++ decimal w.said ++ codes ", all would parse.\n"
+
+-- ---- a text
+
+-- what a program did to the input as to a text, if it is sound once that is undone: UTF-8 is looked for first
+pub data IsTextChange (padding : Bool) (octets : List ℕ) : Option TextChange → Type 0 where
+  utf8 : IsSoundWithoutUtf8 padding octets → IsTextChange padding octets (Some Utf8)
+  line_ends : (IsSoundWithoutUtf8 padding octets → ⊥) → IsSoundWithLfAlone padding octets
+      → IsTextChange padding octets (Some LineEnds)
+  neither : (IsSoundWithoutUtf8 padding octets → ⊥) → (IsSoundWithLfAlone padding octets → ⊥)
+      → IsTextChange padding octets None
+
+-- of what was done, if anything was
+abbrev pub change_line : Option TextChange → List ℕ
+change_line None = []
+change_line (Some Utf8) =
+    codes "It was taken for a text in Latin-1 and written in UTF-8. "
+    ++ codes "Try: fetch it anew, in binary, or: iconv -f UTF-8 -t ISO-8859-1 FILE | tlvdump-show\n"
+change_line (Some LineEnds) =
+    codes "It was taken for a text: octets 0d were put in front of 0a. Try: fetch it anew, in binary.\n"
+
+-- ---- other kinds of file
+
+-- of the octets with which files of some other kinds begin
+abbrev pub kind_line : List ℕ → List ℕ
+kind_line octets =
+    if starts_with nat_eq octets (0x50 ∷ 0x4b ∷ 0x03 ∷ 0x04 ∷ []) then
+    codes "It begins as a ZIP file does: unpack it first.\n"
+    else (if starts_with nat_eq octets (0x1f ∷ 0x8b ∷ []) then
+    codes "It begins as a file of gzip does. Try: gzip -dc FILE | tlvdump-show\n"
+    else (if starts_with nat_eq octets (codes "BZh") then
+    codes "It begins as a file of bzip2 does. Try: bzip2 -dc FILE | tlvdump-show\n"
+    else (if starts_with nat_eq octets (codes "%PDF") then codes "It begins as a PDF file does.\n"
+    else (if starts_with nat_eq octets (codes "<") then
+    codes "It begins with the character <, as XML and HTML do.\n"
+    else (if starts_with nat_eq octets (codes "openssh-key") then
+    codes "It is a key of OpenSSH, which is no encoding by X.690.\n"
+    else [])))))
+
+-- ---- another start
+
+-- what stands in front of it, and how to leave that out: `tail` counts octets from 1
+unfoldable pub start_reason : List ℕ
+start_reason =
+    codes " on it parses: what stands in front may be a header of the file or of the record, or damaged. "
+    ++ codes "Try: tail -c +"
+
+-- of the offset from which on the input is sound, if there is one
+abbrev pub start_line : Option ℕ → List ℕ
+start_line None = []
+start_line (Some offset) =
+    codes "From offset " ++ decimal offset ++ start_reason ++ decimal (offset + 1) ++ codes " FILE | tlvdump-show\n"
+
+-- ---- all lines
+
+-- the lines of what was changed
+abbrev pub changes_lines : Option WrongLength → Option TextChange → List ℕ
+changes_lines wrong change = length_line wrong ++ change_line change
+
+-- the lines of what else an input may be
+abbrev pub other_lines : List ℕ → Option ℕ → List ℕ
+other_lines octets start = kind_line octets ++ start_line start
+
+-- the lines, by what was found
+abbrev pub remedy_lines : List ℕ → Option WrongLength → Option TextChange → Option ℕ → List ℕ
+remedy_lines octets wrong change start = changes_lines wrong change ++ other_lines octets start
+
+-- the lines of an input, with the headers at these offsets as candidates
+pub record AreRemedies (padding : Bool) (octets candidates lines : List ℕ) : Type 0 where
+  pub wrong : Option WrongLength
+  pub is_wrong : IsWrongLength padding octets candidates wrong
+  pub change : Option TextChange
+  pub is_change : IsTextChange padding octets change
+  pub start : Option ℕ
+  pub is_start : IsNextStart padding octets start
+  pub lines_are : lines ≡ remedy_lines octets wrong change start

@@ -1,0 +1,79 @@
+-- Which one length, changed a little, would make an input sound: X.690 8.1.3.
+use Rattle.std.specs.Prelude.{◌≡◌, ℕ, ◌+◌, ◌-◌, ◌/◌, ◌%◌, ◌^◌, ◌<◌, ◌≤◌, Bool, false, eqb, nat_le, nat_lt}
+use Rattle.std.specs.Prelude.{if◌then◌else◌, List, [], ◌∷◌, ◌++◌, length, take, drop, Option, Some, None, zero, suc}
+use Rattle.std.specs.List.{filter}
+use Rattle.std.specs.Option.{option_map_or}
+use Rattle.tlv_head.specs.declared.header.Size.TheVariants.{Definite}
+use Rattle.tlv_head.specs.Header.{HeaderValue, announced_length, definite_length, octets_of}
+use Rattle.tlv_head.specs.Refusal.{BeginsWith}
+use Rattle.tlv_open.specs.Opens.{closed_framing}
+use Rattle.tlv_walk.specs.Reading.{IsSoundList}
+use Rattle.tlv_mend.specs.declared.lengths.WrongLength.{WrongLength}
+use Rattle.tlv_mend.specs.FirstOf.{IsFirstOf}
+
+-- inputs of more octets are not searched: a limit of our own
+abbrev pub search_limit : ℕ
+search_limit = 2 ^ 20
+
+-- the lengths that are so far from this one: the greater, and the smaller, if that is not below 0
+abbrev pub lengths_at_distance : ℕ → ℕ → List ℕ
+lengths_at_distance said by = (said + by) ∷ (if nat_le by said then (said - by) ∷ [] else [])
+
+-- the lengths at distances from 1 to this one, nearer ones first
+abbrev pub lengths_within : ℕ → ℕ → List ℕ
+lengths_within said zero = []
+lengths_within said (suc k) = lengths_within said k ++ lengths_at_distance said (k + 1)
+
+-- 8.1.3.4, 8.1.3.5: the lengths that so many length octets can say are those below this: 128 in the short form, and
+-- 256^n in a long form in which n octets follow the first
+abbrev pub length_bound : ℕ → ℕ
+length_bound count = if eqb count 1 then 128 else 256 ^ (count - 1)
+
+-- the other lengths that a header might say in as many octets, in the order in which they are tried
+abbrev pub other_lengths : HeaderValue → List ℕ
+other_lengths h =
+    filter (λ n. nat_lt n (length_bound (length h.lengths)))
+    (option_map_or (λ said. lengths_within said 5) (definite_length h.size) [])
+
+-- 8.1.3.5: so many octets that say n in base 256, the most significant first
+abbrev pub base_256 : ℕ → ℕ → List ℕ
+base_256 zero n = []
+base_256 (suc k) n = base_256 k (n / 256) ++ (n % 256) ∷ []
+
+-- 8.1.3.4, 8.1.3.5: as many length octets as these, in the same form, that say n
+abbrev pub length_octets_saying : ℕ → List ℕ → List ℕ
+length_octets_saying n [] = []
+length_octets_saying n (x ∷ []) = n ∷ []
+length_octets_saying n (x ∷ y ∷ more) = x ∷ base_256 (length more + 1) n
+
+-- the header that says another length in as many octets
+abbrev pub with_length : HeaderValue → ℕ → HeaderValue
+with_length h n = record h { size = Definite n; lengths = length_octets_saying n h.lengths }
+
+-- the input with that header in the place of this one
+abbrev pub input_with_length : List ℕ → HeaderValue → ℕ → List ℕ
+input_with_length octets h n =
+    take h.offset octets ++ (octets_of (with_length h n) ++ drop (h.offset + length (octets_of h)) octets)
+
+-- the input would be sound if the header said that length
+abbrev pub WouldBeSound : Bool → List ℕ → HeaderValue → ℕ → Type 0
+WouldBeSound padding octets h n = IsSoundList (closed_framing padding) (input_with_length octets h n)
+
+-- the first of these offsets at which a header is that could say another length, so that the input would be sound; with
+-- the first such length
+pub data IsFirstWrongLength (padding : Bool) (octets : List ℕ) : List ℕ → Option WrongLength → Type 0 where
+  no_more : IsFirstWrongLength padding octets [] None
+  here : {offset would : ℕ} {more : List ℕ} → (h : HeaderValue) → BeginsWith (drop offset octets) offset false h
+      → IsFirstOf (WouldBeSound padding octets h) (other_lengths h) (Some would)
+      → IsFirstWrongLength padding octets (offset ∷ more)
+      (Some (record { offset = offset; said = announced_length h.size; would = would }))
+  -- there is no header, or none of its other lengths would do
+  later : {offset : ℕ} {more : List ℕ} {found : Option WrongLength}
+      → ((h : HeaderValue) → BeginsWith (drop offset octets) offset false h
+      → IsFirstOf (WouldBeSound padding octets h) (other_lengths h) None)
+      → IsFirstWrongLength padding octets more found → IsFirstWrongLength padding octets (offset ∷ more) found
+
+-- which of the headers at these offsets says a wrong length: the first, if the input is searched
+pub record IsWrongLength (padding : Bool) (octets candidates : List ℕ) (found : Option WrongLength) : Type 0 where
+  pub searched : length octets ≤ search_limit → IsFirstWrongLength padding octets candidates found
+  pub unsearched : search_limit < length octets → found ≡ None

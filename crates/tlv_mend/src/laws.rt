@@ -1,0 +1,12 @@
+//! Laws of the definitions: each is the contract of a function that does nothing.
+ghost use Rattle.tlv_mend.specs.Laws.{InputsHaveOneWrongLength, OtherLengthsMakeHeaders};
+
+/// Of an input and candidates, one length is found wrong, or none.
+pub fn inputs_have_one_wrong_length()
+    ensures { InputsHaveOneWrongLength }
+{}
+
+/// With another length that its length octets can say, a header is a header of as many octets.
+pub fn other_lengths_make_headers()
+    ensures { OtherLengthsMakeHeaders }
+{}

@@ -1,0 +1,152 @@
+//! Which one length, changed a little, would make an input sound.
+ghost use Rattle.std.specs.Prelude.{◌≡◌, ◌<◌, ◌≤◌, ◌+◌, ◌-◌, ◌^◌, All, IfOk, List, MatchOption, drop, false};
+ghost use Rattle.std.specs.Prelude.{length, ◌∷◌, ℕ};
+ghost use Rattle.tlv_head.specs.Header.{HeaderValue};
+ghost use Rattle.tlv_head.specs.Refusal.{BeginsWith};
+ghost use Rattle.tlv_mend.specs.FirstOf.{IsFirstOf};
+ghost use Rattle.tlv_mend.specs.Private.Lengths.{SoundWithOctets, sayable};
+ghost use Rattle.tlv_mend.specs.WrongLength.{IsFirstWrongLength, IsWrongLength, WouldBeSound, lengths_within};
+ghost use Rattle.tlv_mend.specs.WrongLength.{other_lengths, search_limit};
+
+use crate::length_octets::{LengthPlace, can_say, is_sound_with};
+use arrayvec::ArrayVec;
+use std::alloc::{AllocError, Global};
+use tlv_head::{Size, read_header};
+
+/// The most octets of an input that is searched.
+pub const SEARCH_LIMIT: usize = 1 << 20;
+
+/// A header that says a wrong length: if it said another, the input would be sound.
+#[derive(Clone, Copy, PartialEq, Eq, Debug)]
+pub struct WrongLength {
+    /// Where the header begins, in octets from the start of the input.
+    pub offset: usize,
+    /// How many contents octets it says.
+    pub said: u64,
+    /// How many it would have to say.
+    pub would: u64,
+}
+
+/// Which of the headers at these offsets, in octets from the start of the input, says a wrong length: the first that
+/// could say another, at most 5 octets more or fewer, so that the input would be sound. Nearer lengths are tried first,
+/// and of two that are as near the greater. A header says another length in as many length octets as before. `None` if
+/// there is no such header, or if the input has more than [`SEARCH_LIMIT`] octets. With `padding`, octets `00` are
+/// allowed at the top.
+///
+/// # Errors
+///
+/// `AllocError` if memory for a copy of the input is refused.
+pub fn wrong_length(
+    alloc: Global,
+    octets: &[u8],
+    padding: bool,
+    candidates: &[usize],
+) -> Result<Option<WrongLength>, AllocError>
+    ensures { IfOk result (λ found. IsWrongLength padding octets.now candidates.now found) }
+{
+    if octets.len() > SEARCH_LIMIT {
+        return Ok(None);
+    }
+    let mut copy = Vec::new(alloc);
+    copy.extend_from_slice(octets)?;
+    Ok(first_wrong_length(octets, copy.as_mut_slice(), padding, candidates))
+}
+
+/// [`wrong_length`], with a copy of the input that is changed, and is the same in the end.
+fn first_wrong_length(
+    octets: &[u8],
+    copy: &mut [u8],
+    padding: bool,
+    candidates: &[usize],
+) -> Option<WrongLength>
+    requires copied { copy.old ≡ octets.now }
+    requires limit { length octets.now ≤ search_limit }
+    ensures { IsFirstWrongLength padding octets.now candidates.now result }
+{
+    for &candidate in candidates {
+        if let Some(found) = wrong_length_at(octets, copy, padding, candidate) {
+            return Some(found);
+        }
+    }
+    None
+}
+
+/// The length that the header at this offset says, and the other with which the input would be sound.
+fn wrong_length_at(
+    octets: &[u8],
+    copy: &mut [u8],
+    padding: bool,
+    offset: usize,
+) -> Option<WrongLength>
+    requires copied { copy.old ≡ octets.now }
+    requires limit { length octets.now ≤ search_limit }
+    ensures copied { copy.new ≡ octets.now }
+    ensures found { (more : List ℕ) → MatchOption result
+        ((h : HeaderValue) → BeginsWith (drop offset octets.now) offset false h
+        → IsFirstOf (WouldBeSound padding octets.now h) (other_lengths h) None)
+        (λ w. IsFirstWrongLength padding octets.now (offset ∷ more) (Some w)) }
+{
+    if offset > octets.len() {
+        return None;
+    }
+    let (fields, count) = read_header(offset as u64, false, &octets[offset..])?;
+    let Size::Definite(said) = fields.size else {
+        return None;
+    };
+    let place = LengthPlace {
+        start: offset + usize::from(fields.id_len),
+        end: offset + count,
+    };
+    let lengths = near_lengths(said);
+    match first_right_length(octets, copy, padding, place, lengths.as_slice()) {
+        Some(would) => Some(WrongLength {
+            offset,
+            said,
+            would,
+        }),
+        None => None,
+    }
+}
+
+/// The lengths at distances from 1 to 5 from this one, nearer ones first, and of two that are as near the greater.
+fn near_lengths(said: u64) -> ArrayVec<u64, 10>
+    requires { said < 2 ^ 40 }
+    ensures lengths { result.items ≡ lengths_within said 5 }
+    ensures below { All (λ n. n < 2 ^ 41) result.items }
+{
+    let mut lengths = ArrayVec::new();
+    for by in 0..5 {
+        lengths.push(said + (by + 1));
+        if by < said {
+            lengths.push(said - (by + 1));
+        }
+    }
+    lengths
+}
+
+/// The first of these lengths that the length octets there can say, so that the input is sound.
+fn first_right_length(
+    octets: &[u8],
+    copy: &mut [u8],
+    padding: bool,
+    place: LengthPlace,
+    lengths: &[u64],
+) -> Option<u64>
+    requires copied { copy.old ≡ octets.now }
+    requires limit { length octets.now ≤ search_limit }
+    requires some { place.start < place.end }
+    requires within { place.end ≤ length octets.now }
+    requires below { All (λ n. n < 2 ^ 41) lengths.now }
+    ensures copied { copy.new ≡ octets.now }
+    ensures first { IsFirstOf (SoundWithOctets padding place.start place.end octets.now)
+        (sayable (place.end - place.start) lengths.now) result }
+{
+    for &length in lengths {
+        if can_say(place.end - place.start, length)
+            && is_sound_with(octets, copy, padding, place, length)
+        {
+            return Some(length);
+        }
+    }
+    None
+}

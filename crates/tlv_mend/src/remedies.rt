@@ -1,0 +1,166 @@
+//! What may be done of an input that does not parse, in lines.
+ghost use Rattle.std.specs.Prelude.{◌≡◌, ◌≤◌, IfOk, IfSome, List, OnErr, length, ℕ};
+ghost use Rattle.tlv_head.specs.InputLimit.{input_limit};
+ghost use Rattle.tlv_io.specs.Out.{Puts, Sends};
+ghost use Rattle.tlv_mend.specs.NextStart.{IsNextStart};
+ghost use Rattle.tlv_mend.specs.Remedies.{AreRemedies, IsTextChange, change_line, changes_lines};
+ghost use Rattle.tlv_mend.specs.Remedies.{kind_line, length_line, other_lines, remedy_lines, start_line};
+ghost use Rattle.tlv_mend.specs.WrongLength.{IsWrongLength};
+
+use crate::lengths::{WrongLength, wrong_length};
+use crate::remedy_texts::{change_line, kind_line, length_line, start_line};
+use crate::start::next_start;
+use crate::text_changes::{TextChange, text_change};
+use std::alloc::{AllocError, Global};
+use tlv_walk::{Drain, Out, WriteFault};
+
+/// What was found in an input.
+#[derive(Clone, Copy)]
+struct Findings {
+    /// The header that says a wrong length.
+    wrong: Option<WrongLength>,
+    /// What was done to the input as to a text.
+    change: Option<TextChange>,
+    /// The offset from which on it is sound.
+    start: Option<usize>,
+}
+
+/// Writes what may be done of an input that does not parse, in lines of ASCII: which one length would make it sound;
+/// what was done to it as to a text; of which other kind the file is; and from which offset on it is sound. There is a
+/// line of each if it holds, and nothing if none does. `candidates` are the offsets of headers that may say a wrong
+/// length, the nearest to the fault first. With `padding`, octets `00` are allowed at the top.
+///
+/// # Errors
+///
+/// `AllocError` if memory for copies of the input is refused; nothing is written then. Within, `WriteFault` if a write
+/// failed. What was written is then a prefix of the lines.
+pub fn write_remedies<D: Drain>(
+    alloc: Global,
+    octets: &[u8],
+    padding: bool,
+    candidates: &[usize],
+    drain: &mut D,
+) -> Result<Result<(), WriteFault>, AllocError>
+    requires { length octets.now ≤ input_limit }
+    ensures written { IfOk result (λ sent. (lines : List ℕ)
+        × AreRemedies padding octets.now candidates.now lines
+        × Sends (D.state drain.old) (D.state drain.new) lines sent) }
+    ensures refused { OnErr result (drain.new ≡ drain.old) }
+{
+    let findings = findings_of(alloc, octets, padding, candidates)?;
+    Ok(write_lines(octets, &findings, drain))
+}
+
+/// Looks for each in turn.
+fn findings_of(
+    alloc: Global,
+    octets: &[u8],
+    padding: bool,
+    candidates: &[usize],
+) -> Result<Findings, AllocError>
+    requires { length octets.now ≤ input_limit }
+    ensures { IfOk result (λ f. IsWrongLength padding octets.now candidates.now f.wrong
+        × IsTextChange padding octets.now f.change × IsNextStart padding octets.now f.start) }
+{
+    let wrong = wrong_length(alloc, octets, padding, candidates)?;
+    let change = text_change(alloc, octets, padding)?;
+    Ok(Findings {
+        wrong,
+        change,
+        start: next_start(octets, padding),
+    })
+}
+
+/// Writes the lines of what was found.
+#[tactic(auto, using(tlv_io::proofs::Sends::sends))]
+fn write_lines<D: Drain>(
+    octets: &[u8],
+    findings: &Findings,
+    drain: &mut D,
+) -> Result<(), WriteFault>
+    requires { IfSome findings.now.start (λ n. n ≤ 64) }
+    ensures { Sends (D.state drain.old) (D.state drain.new)
+        (remedy_lines octets.now findings.now.wrong findings.now.change findings.now.start) result }
+{
+    let mut out = Out::new(drain);
+    put_lines(octets, findings, &mut out)?;
+    out.flush()?;
+    Ok(())
+}
+
+/// Puts those lines.
+#[tactic(auto, using(tlv_io::proofs::Puts::puts))]
+fn put_lines<D: Drain>(
+    octets: &[u8],
+    findings: &Findings,
+    out: &mut Out<'_, D>,
+) -> Result<(), WriteFault>
+    requires { IfSome findings.now.start (λ n. n ≤ 64) }
+    ensures { Puts D.state out.old out.new
+        (remedy_lines octets.now findings.now.wrong findings.now.change findings.now.start) result }
+{
+    put_changes(findings.wrong, findings.change, out)?;
+    put_other_lines(octets, findings.start, out)
+}
+
+/// Puts the lines of what was changed in an input.
+#[tactic(auto, using(tlv_io::proofs::Puts::puts))]
+fn put_changes<D: Drain>(
+    wrong: Option<WrongLength>,
+    change: Option<TextChange>,
+    out: &mut Out<'_, D>,
+) -> Result<(), WriteFault>
+    ensures { Puts D.state out.old out.new (changes_lines wrong change) result }
+{
+    put_length_line(wrong, out)?;
+    put_change_line(change, out)
+}
+
+/// Puts the lines of what else an input may be.
+#[tactic(auto, using(tlv_io::proofs::Puts::puts))]
+fn put_other_lines<D: Drain>(
+    octets: &[u8],
+    start: Option<usize>,
+    out: &mut Out<'_, D>,
+) -> Result<(), WriteFault>
+    requires { IfSome start (λ n. n ≤ 64) }
+    ensures { Puts D.state out.old out.new (other_lines octets.now start) result }
+{
+    put_kind_line(octets, out)?;
+    put_start_line(start, out)
+}
+
+/// Puts the line of a wrong length.
+fn put_length_line<D: Drain>(
+    wrong: Option<WrongLength>,
+    out: &mut Out<'_, D>,
+) -> Result<(), WriteFault>
+    ensures { Puts D.state out.old out.new (length_line wrong) result }
+{
+    out.put(length_line(wrong).as_slice())
+}
+
+/// Puts the line of what was done to a text.
+fn put_change_line<D: Drain>(
+    change: Option<TextChange>,
+    out: &mut Out<'_, D>,
+) -> Result<(), WriteFault>
+    ensures { Puts D.state out.old out.new (change_line change) result }
+{
+    out.put(change_line(change))
+}
+
+/// Puts the line of another kind of file.
+fn put_kind_line<D: Drain>(octets: &[u8], out: &mut Out<'_, D>) -> Result<(), WriteFault>
+    ensures { Puts D.state out.old out.new (kind_line octets.now) result }
+{
+    out.put(kind_line(octets))
+}
+
+/// Puts the line of the offset from which on an input is sound.
+fn put_start_line<D: Drain>(start: Option<usize>, out: &mut Out<'_, D>) -> Result<(), WriteFault>
+    requires { IfSome start (λ n. n ≤ 64) }
+    ensures { Puts D.state out.old out.new (start_line start) result }
+{
+    out.put(start_line(start).as_slice())
+}

@@ -1,0 +1,122 @@
+//! The texts of lines that say what may be done of an input that does not parse.
+ghost use Rattle.std.specs.Prelude.{◌≡◌, ◌≤◌, ◌+◌, ◌++◌, IfSome, decimal, length};
+ghost use Rattle.tlv_mend.specs.Remedies.{change_line, kind_line, length_line};
+ghost use Rattle.tlv_mend.specs.Remedies.{octets_word, start_line, start_reason};
+
+use crate::lengths::WrongLength;
+use crate::text_changes::TextChange;
+use arrayvec::ArrayVec;
+use itoa::Buffer;
+
+/// A line that is made.
+type Line = ArrayVec<u8, 256>;
+
+/// The line of a header that says a wrong length; nothing for none.
+pub(crate) fn length_line(wrong: Option<WrongLength>) -> Line
+    ensures { result.items ≡ length_line wrong }
+{
+    let mut line = Line::new();
+    if let Some(wrong) = wrong {
+        add(&mut line, b"If the header at offset ");
+        add_number(&mut line, wrong.offset as u64);
+        add(&mut line, b" said ");
+        add_number(&mut line, wrong.would);
+        add(&mut line, octets_word(wrong.would));
+        add(&mut line, b" and not ");
+        add_number(&mut line, wrong.said);
+        add(&mut line, b", all would parse.\n");
+    }
+    line
+}
+
+/// The word after a number of octets.
+fn octets_word(count: u64) -> &'static [u8]
+    ensures word { result.now ≡ octets_word count }
+    ensures short { length result.now ≤ 7 }
+{
+    match count {
+        1 => b" octet",
+        _ => b" octets",
+    }
+}
+
+/// The line of what was done to a text; nothing for none.
+pub(crate) fn change_line(change: Option<TextChange>) -> &'static [u8]
+    ensures { result.now ≡ change_line change }
+{
+    match change {
+        Some(TextChange::Utf8) => {
+            b"It was taken for a text in Latin-1 and written in UTF-8. \
+              Try: fetch it anew, in binary, or: iconv -f UTF-8 -t ISO-8859-1 FILE | tlvdump-show\n"
+        }
+        Some(TextChange::LineEnds) => {
+            b"It was taken for a text: octets 0d were put in front of 0a. Try: fetch it anew, in binary.\n"
+        }
+        None => b"",
+    }
+}
+
+/// The line of another kind of file, by the octets with which the input begins; nothing if they are no such octets.
+pub(crate) fn kind_line(octets: &[u8]) -> &'static [u8]
+    ensures { result.now ≡ kind_line octets.now }
+{
+    if octets.starts_with(b"PK\x03\x04") {
+        b"It begins as a ZIP file does: unpack it first.\n"
+    } else if octets.starts_with(b"\x1f\x8b") {
+        b"It begins as a file of gzip does. Try: gzip -dc FILE | tlvdump-show\n"
+    } else if octets.starts_with(b"BZh") {
+        b"It begins as a file of bzip2 does. Try: bzip2 -dc FILE | tlvdump-show\n"
+    } else if octets.starts_with(b"%PDF") {
+        b"It begins as a PDF file does.\n"
+    } else if octets.starts_with(b"<") {
+        b"It begins with the character <, as XML and HTML do.\n"
+    } else if octets.starts_with(b"openssh-key") {
+        b"It is a key of OpenSSH, which is no encoding by X.690.\n"
+    } else {
+        b""
+    }
+}
+
+/// The line of the offset from which on an input is sound; nothing for none.
+pub(crate) fn start_line(start: Option<usize>) -> Line
+    requires { IfSome start (λ n. n ≤ 64) }
+    ensures { result.items ≡ start_line start }
+{
+    let mut line = Line::new();
+    if let Some(offset) = start {
+        add(&mut line, b"From offset ");
+        add_number(&mut line, offset as u64);
+        add(&mut line, start_reason());
+        add_number(&mut line, (offset + 1) as u64);
+        add(&mut line, b" FILE | tlvdump-show\n");
+    }
+    line
+}
+
+/// What stands in front of such an offset, and how to leave that out.
+#[tactic(auto, unfolding(crate::specs::Remedies::start_reason))]
+fn start_reason() -> &'static [u8]
+    ensures text { result.now ≡ start_reason }
+    ensures size { length result.now ≡ 108 }
+{
+    b" on it parses: what stands in front may be a header of the file or of the record, or damaged. \
+      Try: tail -c +"
+}
+
+/// Adds octets to a line that has room for them.
+fn add(line: &mut Line, text: &[u8])
+    requires { length line.old.items + length text.now ≤ 256 }
+    ensures { line.new.items ≡ line.old.items ++ text.now }
+{
+    let _ = line.try_extend_from_slice(text);
+}
+
+/// Adds a number in decimal to a line that has room for 40 octets.
+fn add_number(line: &mut Line, number: u64)
+    requires { length line.old.items + 40 ≤ 256 }
+    ensures text { line.new.items ≡ line.old.items ++ decimal number }
+    ensures short { length line.new.items ≤ length line.old.items + 40 }
+{
+    let mut digits = Buffer::new();
+    let _ = line.try_extend_from_slice(digits.format(number).as_bytes());
+}

@@ -1,0 +1,39 @@
+//! Which of the things that programs do to texts was done to an input.
+ghost use Rattle.std.specs.Prelude.{◌≤◌, IfOk, length};
+ghost use Rattle.tlv_head.specs.InputLimit.{input_limit};
+ghost use Rattle.tlv_mend.specs.Remedies.{IsTextChange};
+
+use crate::text_copies::{undone_line_ends, undone_utf8};
+use std::alloc::{AllocError, Global};
+
+/// What a program did to octets that it took for a text.
+#[derive(Clone, Copy, PartialEq, Eq, Debug)]
+pub enum TextChange {
+    /// It took them for characters of Latin-1 and wrote these in UTF-8.
+    Utf8,
+    /// It put octets `0d` in front of `0a`.
+    LineEnds,
+}
+
+/// What was done to the input as to a text, if the input is sound once that is undone: UTF-8 is looked for first.
+/// `None` if neither would make it sound. With `padding`, octets `00` are allowed at the top.
+///
+/// # Errors
+///
+/// `AllocError` if memory for a copy of the input is refused.
+pub fn text_change(
+    alloc: Global,
+    octets: &[u8],
+    padding: bool,
+) -> Result<Option<TextChange>, AllocError>
+    requires { length octets.now ≤ input_limit }
+    ensures { IfOk result (λ change. IsTextChange padding octets.now change) }
+{
+    if undone_utf8(alloc, octets, padding)? {
+        Ok(Some(TextChange::Utf8))
+    } else if undone_line_ends(alloc, octets, padding)? {
+        Ok(Some(TextChange::LineEnds))
+    } else {
+        Ok(None)
+    }
+}
