@@ -1,6 +1,6 @@
 -- Texts that are put for each item of a list.
-use Rattle.std.proofs.Common.{◌≡◌, ◌+◌, ◌<◌, ◌++◌, ℕ, List, [], ◌∷◌, ap, append-nil, append_assoc, drop, flat_map, get_or, length, refl}
-use Rattle.std.proofs.Common.{sym, take, take-append-drop, ◌∙◌}
+use Rattle.std.proofs.Common.{◌≡◌, ◌+◌, ◌<◌, ◌++◌, ℕ, List, [], ◌∷◌, ap, append-nil, append_assoc, drop, flat_map}
+use Rattle.std.proofs.Common.{get_or, length, refl, sym, take, take-append-drop, ◌∙◌}
 use Rattle.std.specs.Prelude.{Result, Ok, Err, IsErr, ⊤}
 use Rattle.std.proofs.lemmas.Grind.{flat_map-append}
 use Rattle.std.proofs.lemmas.List.{take_more}

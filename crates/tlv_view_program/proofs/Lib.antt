@@ -1,2 +1,3 @@
 pub mod Items
-pub mod FileSteps
+pub mod BlockSteps
+pub mod InputBlockLemmas

@@ -1,5 +1,5 @@
--- The lines that are written beside views: what is before a file, and what concerns one.
-use Rattle.std.specs.Prelude.{ℕ, List, [], ◌∷◌, ◌++◌, Option, Some, None, codes, decimal, flat_map}
+-- The lines that are written beside views: what is before a block, and what concerns one.
+use Rattle.std.specs.Prelude.{ℕ, Bool, true, false, List, [], ◌∷◌, ◌++◌, Option, Some, None, codes, decimal, flat_map}
 use Rattle.std.specs.Prelude.{if◌then◌else◌}
 use Rattle.tlv_value.specs.Units.{is_printable}
 
@@ -16,23 +16,43 @@ abbrev pub shown_name : Option (List ℕ) → List ℕ
 shown_name None = codes "standard input"
 shown_name (Some name) = printable_name name
 
--- what the line before a file begins with: its number, and how many there are
+-- what the line before a block begins with: its number, and how many there are
 abbrev pub block_start : ℕ → ℕ → List ℕ
 block_start number count = codes "# block " ++ decimal number ++ codes " of " ++ decimal count ++ codes ": "
 
--- the line before what is shown of a file, if there are several
-abbrev pub block_line : ℕ → ℕ → Option (List ℕ) → List ℕ
-block_line number count file = (block_start number count ++ shown_name file) ++ 10 ∷ []
+-- what a block is called: by its label, or by its file if it has none; of several files by both
+abbrev pub block_title : Bool → Option (List ℕ) → List ℕ → List ℕ
+block_title several file [] = shown_name file
+block_title false file (x ∷ label) = x ∷ label
+block_title true file (x ∷ label) = (shown_name file ++ codes ": ") ++ x ∷ label
 
--- what comes before the text of a line that concerns a file: its name. Standard input has none
-abbrev pub line_prefix_of : Option (List ℕ) → List ℕ
-line_prefix_of None = []
-line_prefix_of (Some name) = printable_name name ++ codes ": "
+-- the line before what is shown of a block, if there are several
+abbrev pub block_line : ℕ → ℕ → List ℕ → List ℕ
+block_line number count title = (block_start number count ++ title) ++ 10 ∷ []
 
--- the line of a message that concerns a file; there is none for no message
-abbrev pub file_line : Option (List ℕ) → List ℕ → List ℕ
-file_line file [] = []
-file_line file (x ∷ message) = (line_prefix_of file ++ x ∷ message) ++ 10 ∷ []
+-- ---- messages
+
+-- what comes before a message that concerns a block: the name of its file, which standard input has not, and the number
+-- of the block if the file has several
+pub record MessagePlace : Type 0 where
+  pub file : Option (List ℕ)
+  pub number : Option ℕ
+
+abbrev pub file_words : Option (List ℕ) → List ℕ
+file_words None = []
+file_words (Some name) = printable_name name ++ codes ": "
+
+abbrev pub number_words : Option ℕ → List ℕ
+number_words None = []
+number_words (Some number) = (codes "block " ++ decimal number) ++ codes ": "
+
+abbrev pub place_words : MessagePlace → List ℕ
+place_words place = file_words place.file ++ number_words place.number
+
+-- the line of a message that concerns a block; there is none for no message
+abbrev pub placed_line : MessagePlace → List ℕ → List ℕ
+placed_line place [] = []
+placed_line place (x ∷ message) = (place_words place ++ x ∷ message) ++ 10 ∷ []
 
 -- the note if no file of names is found
 abbrev pub no_names_note : List ℕ

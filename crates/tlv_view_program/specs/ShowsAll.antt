@@ -1,6 +1,6 @@
 -- What the program does, from its words to its status, and in which order.
 use Rattle.std.specs.Prelude.{◌≡◌, ◌+◌, ◌||◌, ℕ, Bool, true, false, eqb, not, List, [], ◌∷◌, Option, Some, None}
-use Rattle.std.specs.Prelude.{Result, Ok, Err, codes, if◌then◌else◌, length, map, max}
+use Rattle.std.specs.Prelude.{Result, Ok, Err, codes, if◌then◌else◌, length, map, max, nat_lt}
 use Rattle.std.specs.FinMap as finite
 use Rattle.std.specs.Str.{bytes_eq}
 use Rattle.clap.specs.Words.{Text, kind_of}
@@ -10,6 +10,8 @@ use Rattle.tlv_value.specs.NamesReading.{ReadsFrom}
 use Rattle.tlv_value.specs.declared.names.fault.NamesFault.{NamesFault}
 use Rattle.tlv_value.specs.declared.names.fault.NamesFault.TheVariants as names
 use Rattle.tlv_run.specs.Report.{ReportValue, WritesMessage, message_line, names_report}
+use Rattle.tlv_view.specs.ReadWhole.{input_report}
+use Rattle.tlv_view.specs.declared.input.InputFault.TheVariants as input
 use Rattle.tlv_words.specs.Usage.{not_utf8_report, status_of_kind, unprinted_report}
 use Rattle.tlv_view_words.specs.RequestOf.{AreAskedAs, IsRequestFaultOf}
 use Rattle.tlv_view_words.specs.RequestReport.{request_report}
@@ -22,7 +24,8 @@ use Rattle.tlv_program.specs.System.{Allows, IsUnread}
 use Rattle.tlv_program.specs.declared.program.NoWords.{NoWords}
 use Rattle.tlv_program.specs.declared.program.NoWords.TheVariants.{NotUtf8, Memory}
 use Rattle.tlv_view_program.specs.Lines.{input_note, no_names_note}
-use Rattle.tlv_view_program.specs.ShowsBlock.{ShowsBlock}
+use Rattle.tlv_view_program.specs.InputBlocks.{GetsAllBlocks, InputBlockValue}
+use Rattle.tlv_view_program.specs.ShowsBlock.{BlockPlace, ShowsBlock}
 use Rattle.tlv_view_program.specs.Streams.{StreamsValue}
 
 -- ---- files
@@ -40,6 +43,32 @@ files_of_words words = map file_of_word words
 abbrev pub note_of_input : Bool → List (List ℕ) → List ℕ
 note_of_input typed [] = if typed then input_note else []
 note_of_input typed words = []
+
+-- how many blocks there are in all, and whether there are several files
+pub record BlocksPlace : Type 0 where
+  pub count : ℕ
+  pub several_files : Bool
+
+abbrev pub places_of : List (Option (List ℕ)) → List InputBlockValue → BlocksPlace
+places_of files blocks = record { count = length blocks; several_files = nat_lt 1 (length files) }
+
+-- the place of the block with this number
+abbrev pub block_place : BlocksPlace → ℕ → BlockPlace
+block_place p number = record { number = number; count = p.count; several_files = p.several_files }
+
+-- the blocks in order, of which the first has this number: the status is the highest. After a failed write to
+-- standard output no other block is shown
+pub data ShowsBlocks {S : Type 0} (request : Request) (table : NamesValue) (p : BlocksPlace)
+    : ℕ → List InputBlockValue → StreamsValue S → StreamsValue S → ℕ → Type 0 where
+  no_more : {number : ℕ} {states : StreamsValue S} → ShowsBlocks request table p number [] states states 0
+  goes_on : {number status rest : ℕ} {b : InputBlockValue} {bs : List InputBlockValue}
+      {old new : StreamsValue S} (between : StreamsValue S)
+      → ShowsBlock request table (block_place p number) b old between false status
+      → ShowsBlocks request table p (number + 1) bs between new rest
+      → ShowsBlocks request table p number (b ∷ bs) old new (max status rest)
+  stops : {number status : ℕ} {b : InputBlockValue} {bs : List InputBlockValue} {old new : StreamsValue S}
+      → ShowsBlock request table (block_place p number) b old new true status
+      → ShowsBlocks request table p number (b ∷ bs) old new status
 
 -- ---- words that ask for nothing
 
@@ -93,28 +122,25 @@ module _ {S : Type 0} (allows : Allows S) where
     none_found : names_of_wanted wanted ≡ Some None → OpensFirst places old new None
         → GetsTable wanted places old new true (Ok finite.empty)
 
-  -- ---- all files
-
-  -- the files in order, of which the first has this number: the status is the highest. After a failed write to standard
-  -- output no other file is shown
-  pub data ShowsFiles (request : Request) (table : NamesValue) (count : ℕ)
-      : ℕ → List (Option (List ℕ)) → StreamsValue S → StreamsValue S → ℕ → Type 0 where
-    no_more : {number : ℕ} {states : StreamsValue S} → ShowsFiles request table count number [] states states 0
-    goes_on : {number status rest : ℕ} {file : Option (List ℕ)} {files : List (Option (List ℕ))}
-        {old new : StreamsValue S} (between : StreamsValue S)
-        → ShowsBlock allows request table number count file old between false status
-        → ShowsFiles request table count (number + 1) files between new rest
-        → ShowsFiles request table count number (file ∷ files) old new (max status rest)
-    stops : {number status : ℕ} {file : Option (List ℕ)} {files : List (Option (List ℕ))} {old new : StreamsValue S}
-        → ShowsBlock allows request table number count file old new true status
-        → ShowsFiles request table count number (file ∷ files) old new status
-
   -- ---- the program
 
   -- a message is written to standard error, or a write of it failed, and all else is as it was
   abbrev pub IsSaid : List ℕ → StreamsValue S → StreamsValue S → Type 0
   IsSaid message old new =
       WritesMessage (message_line message) old.messages new.messages × (new ≡ record old { messages = new.messages })
+
+  -- all files are read, and then their blocks are shown in order: a line for each case
+  pub data ShowsFiles (request : Request) (table : NamesValue) (files : List (Option (List ℕ)))
+      (old new : StreamsValue S)
+      : ℕ → Type 0 where
+    had : (had : StreamsValue S) (blocks : List InputBlockValue) (status : ℕ)
+        → GetsAllBlocks allows request.form files old had (Some blocks)
+        → ShowsBlocks request table (places_of files blocks) 1 blocks had new status
+        → ShowsFiles request table files old new status
+    -- memory for the blocks is refused, and nothing is shown
+    not_had : (had : StreamsValue S) → GetsAllBlocks allows request.form files old had None
+        → IsSaid (input_report input.Memory).message had new
+        → ShowsFiles request table files old new (input_report input.Memory).status
 
   -- the names are got, and the files are shown; `typed` says whether standard input is a terminal; the status comes
   -- last: a line for each case
@@ -129,8 +155,7 @@ module _ {S : Type 0} (allows : Allows S) where
         → GetsTable request.wanted places old.system between noted (Ok table)
         → IsSaid (if noted then no_names_note else []) (record old { system = between }) warned
         → IsSaid (note_of_input typed request.files) warned ready
-        → ShowsFiles request table (length (files_of_words request.files)) 1 (files_of_words request.files) ready new
-        status
+        → ShowsFiles request table (files_of_words request.files) ready new status
         → ShowsRequest places typed request old new status
 
   -- what `clap` has to say is printed, or cannot be; of another fault nothing is printed here

@@ -1,9 +1,9 @@
--- What is shown of one file, or of standard input, and what is said of it.
-use Rattle.std.specs.Prelude.{◌≡◌, ◌&&◌, ◌++◌, ⊤, ℕ, Bool, true, false, not, List, [], ◌∷◌, Option, Some, None}
-use Rattle.std.specs.Prelude.{Result, Ok, Err, flat_map, if◌then◌else◌, max, nat_lt}
+-- What is shown of a block of the inputs, and what is said of it.
+use Rattle.std.specs.Prelude.{◌≡◌, ◌&&◌, ◌||◌, ◌++◌, ⊤, ℕ, Bool, true, false, eqb, not, List, [], ◌∷◌, Option, Some}
+use Rattle.std.specs.Prelude.{None, Result, Ok, Err, flat_map, if◌then◌else◌, max, nat_lt}
 use Rattle.std.specs.Result.{IsErr, IsOk}
 use Rattle.std.specs.Str.{bytes_eq}
-use Rattle.tlv_io.specs.Device.{DrainState, SourceState}
+use Rattle.tlv_io.specs.Device.{DrainState}
 use Rattle.tlv_io.specs.Out.{Sends}
 use Rattle.tlv_io.specs.declared.drain.WriteFault.{WriteFault}
 use Rattle.tlv_walk.specs.Ending.{IsEnding}
@@ -13,9 +13,12 @@ use Rattle.tlv_value.specs.Names.{NamesValue}
 use Rattle.tlv_open.specs.BrokenLine.{broken_line}
 use Rattle.tlv_open.specs.Opens.{AreOpened, closed_framing}
 use Rattle.tlv_open.specs.declared.strings.BrokenString.{BrokenString}
-use Rattle.tlv_run.specs.Report.{ReportValue, device_report, indef_report, unopened_report}
-use Rattle.tlv_view.specs.ReadWhole.{ReadsWhole, input_report}
-use Rattle.tlv_view.specs.declared.input.InputFault.{InputFault}
+use Rattle.tlv_text.specs.Blocks.{BlockValue}
+use Rattle.tlv_text.specs.declared.block.BlockState.{BlockState}
+use Rattle.tlv_text.specs.declared.block.BlockState.TheVariants.{Whole, Unended}
+use Rattle.tlv_forms.specs.Taken.{TakenValue, has_some}
+use Rattle.tlv_run.specs.Report.{ReportValue, device_report, indef_report, report_with}
+use Rattle.tlv_view.specs.ReadWhole.{input_report}
 use Rattle.tlv_view.specs.declared.input.InputFault.TheVariants.{Memory}
 use Rattle.tlv_view.specs.Offsets.{offsets_line}
 use Rattle.tlv_view.specs.Views.{AreBrokenUnless, Views}
@@ -23,39 +26,63 @@ use Rattle.tlv_view.specs.declared.view_call.View.{View}
 use Rattle.tlv_view.specs.declared.view_call.View.TheVariants as view
 use Rattle.tlv_view_words.specs.declared.request.Request.{Request}
 use Rattle.tlv_view_words.specs.declared.request.Wanted.{Wanted}
-use Rattle.tlv_view_words.specs.declared.request.Wanted.TheVariants.{Dump, Check, Extract, Offsets}
-use Rattle.tlv_program.specs.System.{Allows, IsUnread}
-use Rattle.tlv_view_program.specs.Lines.{block_line, file_line}
+use Rattle.tlv_view_words.specs.declared.request.Wanted.TheVariants.{Dump, Check, Extract, Offsets, Raw, Why}
+use Rattle.tlv_view_program.specs.Reasons.{ShowsReasons}
+use Rattle.tlv_view_program.specs.InputBlocks.{BlockContents, InputBlockValue}
+use Rattle.tlv_view_program.specs.Lines.{MessagePlace, block_line, block_title, placed_line}
+use Rattle.tlv_view_program.specs.Notes.{name_by, note_line}
 use Rattle.tlv_view_program.specs.Streams.{StreamsValue}
 
 -- ---- what is wanted
 
--- the view that is wanted of octets; a list of offsets is none
+-- the view that is wanted of octets; a list of offsets is none, nor are the octets themselves, nor reasons
 abbrev pub view_of : Wanted → Option View
 view_of (Dump rules limit pure text closed names) = Some (view.Dump rules limit pure text)
 view_of (Check rules closed) = Some (view.Check rules)
 view_of (Extract offset contents) = Some (view.Extract offset contents)
 view_of Offsets = None
+view_of Raw = None
+view_of (Why closed) = None
 
 -- all strings stay closed
 abbrev pub stays_closed : Wanted → Bool
 stays_closed (Dump rules limit pure text closed names) = closed
 stays_closed (Check rules closed) = closed
+stays_closed (Why closed) = closed
 stays_closed wanted = false
 
--- of several files each has a line before it: in a dump and a check
+-- of several blocks each has a line before it: in a dump, in a check, and with the reasons
 abbrev pub has_titles : Wanted → Bool
 has_titles (Dump rules limit pure text closed names) = true
 has_titles (Check rules closed) = true
+has_titles (Why closed) = true
 has_titles wanted = false
 
--- broken strings are reported: in a dump and a check, unless all strings stay closed
+-- broken strings are reported: in a dump, in a check, and with the reasons, unless all strings stay closed
 abbrev pub reports_broken : Wanted → Bool
 reports_broken wanted = has_titles wanted && not (stays_closed wanted)
 
--- the line before the file with this number, of so many
-abbrev pub title : Wanted → ℕ → ℕ → Option (List ℕ) → List ℕ
-title wanted number count file = if has_titles wanted && nat_lt 1 count then block_line number count file else []
+-- a block of which there are so many, with its number, and whether there are several files
+pub record BlockPlace : Type 0 where
+  pub number : ℕ
+  pub count : ℕ
+  pub several_files : Bool
+
+-- the label of a block, or the line of a run of base64
+abbrev pub contents_name : BlockContents → List ℕ
+contents_name (BlockContents.reported report) = []
+contents_name (BlockContents.taken t) = name_by t.taken_for t.block
+
+-- the line before a block
+abbrev pub title : Wanted → BlockPlace → InputBlockValue → List ℕ
+title wanted p b =
+    if has_titles wanted && nat_lt 1 p.count
+    then block_line p.number p.count (block_title p.several_files b.file (contents_name b.contents))
+    else []
+
+-- what comes before a message that concerns a block
+abbrev pub message_place : BlockPlace → InputBlockValue → MessagePlace
+message_place p b = record { file = b.file; number = if b.is_one_of_several then Some p.number else None }
 
 -- ---- what is reported
 
@@ -63,6 +90,26 @@ title wanted number count file = if has_titles wanted && nat_lt 1 count then blo
 abbrev pub status_with : ℕ → List BrokenString → ℕ
 status_with status [] = status
 status_with status (string ∷ strings) = max status 1
+
+-- a text that is not decoded, or not to its end
+abbrev pub is_undecoded : BlockState → Bool
+is_undecoded Whole = false
+is_undecoded Unended = false
+is_undecoded state = true
+
+-- octets that are shown: those of a text that is not decoded are shown if there are any
+abbrev pub has_octets : BlockValue → Bool
+has_octets b = not (is_undecoded b.state) || has_some b.octets
+
+abbrev pub refused_status : Wanted → ℕ
+refused_status Raw = 2
+refused_status wanted = 4
+
+-- the status of a block: that of what is shown, or if it is 0 and the text is not decoded to its end, one that says so
+abbrev pub contents_status : Wanted → BlockContents → ℕ → ℕ
+contents_status wanted (BlockContents.reported report) status = status
+contents_status wanted (BlockContents.taken t) status =
+    if is_undecoded t.block.state && eqb status 0 then refused_status wanted else status
 
 -- the report says that a write failed
 abbrev pub has_failed_write : ReportValue → Bool
@@ -72,6 +119,11 @@ has_failed_write report = bytes_eq report.message (device_report WriteFailed).me
 abbrev pub offsets_report : Ending → Result ⊤ WriteFault → ReportValue
 offsets_report ending (Ok done) = indef_report ending
 offsets_report ending (Err fault) = device_report WriteFailed
+
+-- the report of octets that are written as they are
+abbrev pub raw_report : Result ⊤ WriteFault → ReportValue
+raw_report (Ok done) = report_with 0 []
+raw_report (Err fault) = device_report WriteFailed
 
 -- ---- octets
 
@@ -84,74 +136,69 @@ pub data ShowsOctets (request : Request) (table : NamesValue) (octets : List ℕ
       → AreBrokenUnless (not (reports_broken request.wanted)) request.padding octets broken
       → ShowsOctets request table octets old new report broken
   -- the offsets of the strings that are opened; the report has the ending of the octets
-  listed : (offsets : List ℕ) (ending : Ending) (result : Result ⊤ WriteFault) → view_of request.wanted ≡ None
+  listed : (offsets : List ℕ) (ending : Ending) (result : Result ⊤ WriteFault) → request.wanted ≡ Offsets
       → AreOpened request.padding octets offsets → IsEnding (closed_framing request.padding) octets ending
       → Sends old new (offsets_line offsets) result
       → ShowsOctets request table octets old new (offsets_report ending result) []
+  -- the octets themselves
+  raw : (result : Result ⊤ WriteFault) → request.wanted ≡ Raw → Sends old new octets result
+      → ShowsOctets request table octets old new (raw_report result) []
+  -- whether they parse, and if not, why, and what may be done
+  explained : (closed : Bool) (report : ReportValue) (broken : List BrokenString) → request.wanted ≡ Why closed
+      → ShowsReasons closed request.padding table octets old new report broken
+      → ShowsOctets request table octets old new report broken
   -- memory is refused, and nothing is written
   no_memory : new ≡ old → ShowsOctets request table octets old new (input_report Memory) []
 
--- ---- a file
+-- ---- blocks
 
--- the octets, or what is reported if they cannot be had
-abbrev pub octets_or_report : Result (List ℕ) InputFault → Result (List ℕ) ReportValue
-octets_or_report (Ok octets) = Ok octets
-octets_or_report (Err fault) = Err (input_report fault)
+-- what is written of the contents of a block, and reported: a line for each case
+pub data ShowsContents (request : Request) (table : NamesValue) (old new : DrainState)
+    : BlockContents → ReportValue → List BrokenString → Type 0 where
+  no_block : {report : ReportValue} → new ≡ old
+      → ShowsContents request table old new (BlockContents.reported report) report []
+  no_octets : {t : TakenValue} → has_octets t.block ≡ false → new ≡ old
+      → ShowsContents request table old new (BlockContents.taken t) (report_with 0 []) []
+  octets : {t : TakenValue} {report : ReportValue} {broken : List BrokenString} → has_octets t.block ≡ true
+      → ShowsOctets request table t.block.octets old new report broken
+      → ShowsContents request table old new (BlockContents.taken t) report broken
 
-module _ {S : Type 0} (allows : Allows S) where
-  -- the octets of a file, or of standard input, or what is reported if they cannot be had: a line for each case
-  pub data GetsOctets (file : Option (List ℕ)) (old new : StreamsValue S)
-      : Result (List ℕ) ReportValue → Type 0 where
-    standard_input : (result : Result (List ℕ) InputFault) → file ≡ None → ReadsWhole old.input new.input result
-        → new ≡ record old { input = new.input } → GetsOctets file old new (octets_or_report result)
-    -- the file does not open
-    unopened : (name : List ℕ) → file ≡ Some name → allows.opens old.system new.system name None
-        → new ≡ record old { system = new.system } → GetsOctets file old new (Err unopened_report)
-    -- it is opened, read to its end, and given back
-    opened : (name : List ℕ) (between : S) (before after : SourceState) (result : Result (List ℕ) InputFault)
-        → file ≡ Some name → allows.opens old.system between name (Some before) → IsUnread before
-        → ReadsWhole before after result → allows.closes between new.system after
-        → new ≡ record old { system = new.system } → GetsOctets file old new (octets_or_report result)
+-- what is said of a block before it is shown
+abbrev pub contents_note : MessagePlace → BlockContents → List ℕ
+contents_note place (BlockContents.reported report) = []
+contents_note place (BlockContents.taken t) = note_line place t
 
-  module _ (request : Request) (table : NamesValue) where
-    -- what is written of a file and reported, and which of its strings are reported as broken: a line for each case
-    pub data ShowsFile (file : Option (List ℕ)) (old new : StreamsValue S)
-        : ReportValue → List BrokenString → Type 0 where
-      -- its octets cannot be had, and nothing is written
-      no_octets : (report : ReportValue) → GetsOctets file old new (Err report)
-          → ShowsFile file old new report []
-      octets : (between : StreamsValue S) (octets : List ℕ) (report : ReportValue) (broken : List BrokenString)
-          → GetsOctets file old between (Ok octets)
-          → ShowsOctets request table octets between.output new.output report broken
-          → new ≡ record between { output = new.output } → ShowsFile file old new report broken
+-- the same with the line before the block: a line for each case
+pub data ShowsTitled (request : Request) (table : NamesValue) (p : BlockPlace) (b : InputBlockValue)
+    (old new : DrainState)
+    : ReportValue → List BrokenString → Type 0 where
+  -- that line cannot be written, and nothing is written after it
+  title_failed : (result : Result ⊤ WriteFault) → IsErr result → Sends old new (title request.wanted p b) result
+      → ShowsTitled request table p b old new (device_report WriteFailed) []
+  titled : (between : DrainState) (result : Result ⊤ WriteFault) (report : ReportValue)
+      (broken : List BrokenString) → IsOk result → Sends old between (title request.wanted p b) result
+      → ShowsContents request table between new b.contents report broken
+      → ShowsTitled request table p b old new report broken
 
-    -- the same with the line before the file: a line for each case
-    pub data ShowsTitled (number count : ℕ) (file : Option (List ℕ)) (old new : StreamsValue S)
-        : ReportValue → List BrokenString → Type 0 where
-      -- that line cannot be written, and the file is not opened
-      title_failed : (result : Result ⊤ WriteFault) → IsErr result
-          → Sends old.output new.output (title request.wanted number count file) result
-          → new ≡ record old { output = new.output }
-          → ShowsTitled number count file old new (device_report WriteFailed) []
-      titled : (between : DrainState) (result : Result ⊤ WriteFault) (report : ReportValue)
-          (broken : List BrokenString) → IsOk result
-          → Sends old.output between (title request.wanted number count file) result
-          → ShowsFile file (record old { output = between }) new report broken
-          → ShowsTitled number count file old new report broken
+-- the message of a block, and a line for each broken string
+abbrev pub block_messages : MessagePlace → List ℕ → List BrokenString → List ℕ
+block_messages place message broken =
+    placed_line place message ++ flat_map (λ string. placed_line place (broken_line string)) broken
 
-    -- and what is said of it: its message, and a line for each broken string. The Bool says whether standard output
-    -- failed, the last number is the status
-    pub record ShowsBlock (number count : ℕ) (file : Option (List ℕ)) (old new : StreamsValue S) (failed : Bool)
-        (status : ℕ)
-        : Type 0 where
-      pub between : StreamsValue S
-      pub report : ReportValue
-      pub broken : List BrokenString
-      pub shows : ShowsTitled number count file old between report broken
-      pub said : Result ⊤ WriteFault
-      pub says :
-          Sends between.messages new.messages
-          (file_line file report.message ++ flat_map (λ string. file_line file (broken_line string)) broken) said
-      pub same : new ≡ record between { messages = new.messages }
-      pub failed_is : failed ≡ has_failed_write report
-      pub status_is : status ≡ status_with report.status broken
+-- what is shown of a block, what is said before it, and what after it. The Bool says whether standard output failed,
+-- the last number is the status
+pub record ShowsBlock {S : Type 0} (request : Request) (table : NamesValue) (p : BlockPlace) (b : InputBlockValue)
+    (old new : StreamsValue S) (failed : Bool) (status : ℕ)
+    : Type 0 where
+  pub noted : Result ⊤ WriteFault
+  pub messages : DrainState
+  pub notes : Sends old.messages messages (contents_note (message_place p b) b.contents) noted
+  pub report : ReportValue
+  pub broken : List BrokenString
+  pub output : DrainState
+  pub shows : ShowsTitled request table p b old.output output report broken
+  pub said : Result ⊤ WriteFault
+  pub says : Sends messages new.messages (block_messages (message_place p b) report.message broken) said
+  pub same : new ≡ record old { output = output; messages = new.messages }
+  pub failed_is : failed ≡ has_failed_write report
+  pub status_is : status ≡ contents_status request.wanted b.contents (status_with report.status broken)

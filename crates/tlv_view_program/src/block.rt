@@ -1,38 +1,47 @@
-//! What is shown of one file, and what is said of it.
-ghost use Rattle.std.specs.Prelude.{◌≡◌, [], Result};
-ghost use Rattle.std.specs.Result.{result_map_both};
+//! What is shown of a block of the inputs, and what is said of it.
+ghost use Rattle.std.specs.Prelude.{◌≡◌, ◌≤◌, [], length};
+ghost use Rattle.tlv_head.specs.InputLimit.{input_limit};
 ghost use Rattle.tlv_io.specs.Out.{Sends};
-ghost use Rattle.tlv_run.specs.BorrowedText.{text_in};
 ghost use Rattle.tlv_run.specs.Report.{report_value_of};
-ghost use Rattle.tlv_view_program.specs.Private.BlockParts.{octets_had};
-ghost use Rattle.tlv_view_program.specs.ShowsBlock.{GetsOctets, ShowsBlock, ShowsFile, ShowsTitled};
-ghost use Rattle.tlv_view_program.specs.ShowsBlock.{has_failed_write, octets_or_report, status_with, title};
+ghost use Rattle.tlv_text.specs.Blocks.{block_value};
+ghost use Rattle.tlv_view_program.specs.Private.BlockParts.{block_contents, contents_fit, input_block, name_value};
+ghost use Rattle.tlv_view_program.specs.Private.BlockParts.{place_value};
+ghost use Rattle.tlv_view_program.specs.ShowsBlock.{BlockPlace, ShowsBlock, ShowsContents, ShowsTitled};
+ghost use Rattle.tlv_view_program.specs.ShowsBlock.{contents_name, contents_note};
+ghost use Rattle.tlv_view_program.specs.ShowsBlock.{contents_status, has_failed_write, has_octets, is_undecoded};
+ghost use Rattle.tlv_view_program.specs.ShowsBlock.{message_place, refused_status, status_with, title};
 ghost use Rattle.tlv_view_program.specs.Streams.{streams_value};
 
-use crate::lines::{write_block_line, write_messages};
+use crate::input_blocks::{Contents, InputBlock, report_without_blocks};
+use crate::lines::{BlockName, write_block_line, write_messages, write_note};
+use crate::notes::block_label;
 use crate::octets::show_octets;
 use crate::streams::Streams;
 use crate::wanted::has_titles;
+use arrayvec::ArrayVec;
 use std::alloc::Global;
 use tlv_open::BrokenString;
 use tlv_program::System;
-use tlv_run::{Report, device_report, unopened_report};
+use tlv_run::{Report, device_report};
+use tlv_text::{Block, BlockState};
 use tlv_value::Names;
-use tlv_view::{InputFault, Viewed, input_report, read_whole};
-use tlv_view_words::Request;
+use tlv_view::Viewed;
+use tlv_view_words::{Request, Wanted};
 use tlv_walk::{DeviceFault, Drain, Source, WriteFault};
 
-/// What is to be done with each file.
+/// What is to be done with each block.
 #[derive(Clone, Copy)]
 pub(crate) struct Task<'a> {
     pub alloc: Global,
     pub request: &'a Request,
     pub names: &'a Names,
-    /// How many files there are.
+    /// How many blocks there are.
     pub count: usize,
+    /// Whether there are several files.
+    pub several_files: bool,
 }
 
-/// What a file came to.
+/// What a block came to.
 #[derive(Clone, Copy)]
 pub(crate) struct BlockResult {
     pub status: u8,
@@ -41,106 +50,88 @@ pub(crate) struct BlockResult {
 }
 
 impl Task<'_> {
-    /// Shows the file with this number, and says what there is to say of it.
+    /// Shows the block with this number, and says before it and after it what there is to say.
     pub fn block<S: System, I: Source, O: Drain, M: Drain>(
         &self,
         number: usize,
-        file: Option<&str>,
+        block: &InputBlock<'_>,
         streams: &mut Streams<S, I, O, M>,
     ) -> BlockResult
-        ensures { ShowsBlock S.allows self.now.request.now self.now.names.now number self.now.count (text_in file.entry)
+        requires { contents_fit block.now.contents }
+        ensures { ShowsBlock self.now.request.now self.now.names.now (place_value number self.now)
+            (input_block block.now)
             (streams_value I.state O.state M.state streams.old) (streams_value I.state O.state M.state streams.new)
             result.has_failed result.status }
     {
-        let shown = self.titled(number, file, streams);
+        let name = name_of(number, block);
+        let _ = write_contents_note(name, &block.contents, &mut streams.messages);
+        let shown = self.titled(number, block, &mut streams.output);
         let _ = write_messages(
-            file,
+            name,
             shown.report.message.as_slice(),
             shown.broken.as_slice(),
             &mut streams.messages,
         );
+        let status = status_with(shown.report.status, shown.broken.as_slice());
         BlockResult {
-            status: status_with(shown.report.status, shown.broken.as_slice()),
+            status: contents_status(&self.request.wanted, &block.contents, status),
             has_failed: has_failed_write(&shown.report),
         }
     }
 
-    /// Writes the line before a file, if there are several, and shows it.
-    fn titled<S: System, I: Source, O: Drain, M: Drain>(
-        &self,
-        number: usize,
-        file: Option<&str>,
-        streams: &mut Streams<S, I, O, M>,
-    ) -> Viewed
-        ensures { ShowsTitled S.allows self.now.request.now self.now.names.now number self.now.count (text_in file.entry)
-            (streams_value I.state O.state M.state streams.old) (streams_value I.state O.state M.state streams.new)
+    /// Writes the line before a block, if there are several, and shows it.
+    fn titled<D: Drain>(&self, number: usize, block: &InputBlock<'_>, drain: &mut D) -> Viewed
+        requires { contents_fit block.now.contents }
+        ensures { ShowsTitled self.now.request.now self.now.names.now (place_value number self.now)
+            (input_block block.now) (D.state drain.old) (D.state drain.new)
             (report_value_of result.report) result.broken.items }
     {
-        match self.write_title(number, file, &mut streams.output) {
-            Ok(()) => self.file(file, streams),
+        match self.write_title(number, block, drain) {
+            Ok(()) => self.contents(&block.contents, drain),
             Err(_) => self.reported(device_report(DeviceFault::WriteFailed)),
         }
     }
 
-    /// Writes the line before a file, if it has one.
+    /// Writes the line before a block, if it has one.
     fn write_title<D: Drain>(
         &self,
         number: usize,
-        file: Option<&str>,
+        block: &InputBlock<'_>,
         drain: &mut D,
     ) -> Result<(), WriteFault>
         ensures { Sends (D.state drain.old) (D.state drain.new)
-            (title self.now.request.now.wanted number self.now.count (text_in file.entry)) result }
+            (title self.now.request.now.wanted (place_value number self.now) (input_block block.now)) result }
     {
-        if has_titles(&self.request.wanted) && self.count > 1 {
-            write_block_line(number, self.count, file, drain)
-        } else {
-            Ok(())
+        if !has_titles(&self.request.wanted) || self.count <= 1 {
+            return Ok(());
         }
+        let label = contents_name(&block.contents);
+        write_block_line(
+            number,
+            self.count,
+            self.several_files,
+            block.file,
+            label.as_slice(),
+            drain,
+        )
     }
 
-    /// Shows a file, or standard input.
-    fn file<S: System, I: Source, O: Drain, M: Drain>(
-        &self,
-        file: Option<&str>,
-        streams: &mut Streams<S, I, O, M>,
-    ) -> Viewed
-        ensures { ShowsFile S.allows self.now.request.now self.now.names.now (text_in file.entry)
-            (streams_value I.state O.state M.state streams.old) (streams_value I.state O.state M.state streams.new)
-            (report_value_of result.report) result.broken.items }
+    /// Shows what a block has.
+    fn contents<D: Drain>(&self, contents: &Contents, drain: &mut D) -> Viewed
+        requires { contents_fit contents.now }
+        ensures { ShowsContents self.now.request.now self.now.names.now (D.state drain.old) (D.state drain.new)
+            (block_contents contents.now) (report_value_of result.report) result.broken.items }
     {
-        match self.octets(file, streams) {
-            Ok(octets) => show_octets(
+        match contents {
+            Contents::Nothing(why) => self.reported(report_without_blocks(*why)),
+            Contents::Taken(taken) if has_octets(&taken.block) => show_octets(
                 self.alloc,
                 self.request,
                 self.names,
-                octets.as_slice(),
-                &mut streams.output,
+                taken.block.octets.as_slice(),
+                drain,
             ),
-            Err(report) => self.reported(report),
-        }
-    }
-
-    /// The octets of a file, or of standard input, or what is reported if they cannot be had.
-    fn octets<S: System, I: Source, O: Drain, M: Drain>(
-        &self,
-        file: Option<&str>,
-        streams: &mut Streams<S, I, O, M>,
-    ) -> Result<Vec<u8>, Report>
-        ensures { GetsOctets S.allows (text_in file.entry)
-            (streams_value I.state O.state M.state streams.old) (streams_value I.state O.state M.state streams.new)
-            (octets_had result) }
-    {
-        let Some(name) = file else {
-            return octets_or_report(read_whole(self.alloc, &mut streams.input));
-        };
-        match streams.system.open(name) {
-            Some(mut opened) => {
-                let octets = read_whole(self.alloc, &mut opened);
-                streams.system.close(opened);
-                octets_or_report(octets)
-            }
-            None => Err(unopened_report()),
+            Contents::Taken(_) => self.reported(Report::without_message(0)),
         }
     }
 
@@ -156,13 +147,79 @@ impl Task<'_> {
     }
 }
 
-/// The octets, or what is reported if they cannot be had.
-fn octets_or_report(octets: Result<Vec<u8>, InputFault>) -> Result<Vec<u8>, Report>
-    ensures { octets_had result ≡ octets_or_report (result_map_both (λ v. v.items) (λ fault. fault) octets) }
+/// What comes before messages that concern a block.
+fn name_of<'a>(number: usize, block: &InputBlock<'a>) -> BlockName<'a>
+    ensures { (p : BlockPlace) → p.number ≡ number
+        → name_value result ≡ message_place p (input_block block.now) }
 {
-    match octets {
-        Ok(octets) => Ok(octets),
-        Err(fault) => Err(input_report(fault)),
+    BlockName {
+        file: block.file,
+        number: if block.is_one_of_several {
+            Some(number)
+        } else {
+            None
+        },
+    }
+}
+
+/// Writes what is said of a block before it is shown.
+fn write_contents_note<D: Drain>(
+    name: BlockName<'_>,
+    contents: &Contents,
+    drain: &mut D,
+) -> Result<(), WriteFault>
+    ensures { Sends (D.state drain.old) (D.state drain.new)
+        (contents_note (name_value name.entry) (block_contents contents.now)) result }
+{
+    match contents {
+        Contents::Nothing(_) => Ok(()),
+        Contents::Taken(taken) => write_note(name, taken, drain),
+    }
+}
+
+/// What a block is called in the line before it; empty if it has no label.
+fn contents_name(contents: &Contents) -> ArrayVec<u8, 64>
+    ensures { result.items ≡ contents_name (block_contents contents.now) }
+{
+    match contents {
+        Contents::Nothing(_) => ArrayVec::new(),
+        Contents::Taken(taken) => block_label(taken),
+    }
+}
+
+/// Whether a block has octets that are shown.
+fn has_octets(block: &Block) -> bool
+    ensures { result ≡ has_octets (block_value block.now) }
+{
+    !is_undecoded(block.state) || !block.octets.is_empty()
+}
+
+/// Whether a text is not decoded, or not to its end.
+fn is_undecoded(state: BlockState) -> bool
+    ensures { result ≡ is_undecoded state }
+{
+    !matches!(state, BlockState::Whole | BlockState::Unended)
+}
+
+/// The status of a block by that of what is shown of it.
+fn contents_status(wanted: &Wanted, contents: &Contents, status: u8) -> u8
+    ensures { result ≡ contents_status wanted.now (block_contents contents.now) status }
+{
+    match contents {
+        Contents::Taken(taken) if is_undecoded(taken.block.state) && status == 0 => {
+            refused_status(wanted)
+        }
+        _ => status,
+    }
+}
+
+/// The status if a text is not decoded to its end, and nothing else is wrong.
+fn refused_status(wanted: &Wanted) -> u8
+    ensures { result ≡ refused_status wanted.now }
+{
+    match wanted {
+        Wanted::Raw => 2,
+        _ => 4,
     }
 }
 

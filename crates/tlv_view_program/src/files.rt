@@ -1,49 +1,60 @@
-//! All files, one after another.
-ghost use Rattle.std.specs.Prelude.{◌≡◌, length, max};
+//! All files: their blocks, one after another.
+ghost use Rattle.std.specs.Prelude.{◌≡◌, length, map, max};
 ghost use Rattle.tlv_run.specs.BorrowedText.{text_in};
-ghost use Rattle.tlv_view_program.specs.ShowsAll.{ShowsFiles, file_of_word, files_of_words};
+ghost use Rattle.tlv_view_program.specs.Private.BlockParts.{all_fit, blocks_place, input_block};
+ghost use Rattle.tlv_view_program.specs.ShowsAll.{ShowsBlocks, ShowsFiles, file_of_word, files_of_words};
 ghost use Rattle.tlv_view_program.specs.Streams.{streams_value};
 
 use crate::block::Task;
+use crate::input_blocks::{InputBlock, blocks_of_files};
 use crate::streams::Streams;
 use std::alloc::Global;
 use tlv_program::System;
+use tlv_run::write_message;
 use tlv_value::Names;
+use tlv_view::{InputFault, input_report};
 use tlv_view_words::Request;
 use tlv_walk::{Drain, Source};
 
-/// Shows the files of a request in order, or standard input if there are none. Returns the highest status. After a
-/// failed write to standard output no other file is shown.
+/// Reads the files of a request, or standard input if there are none, and shows their blocks in order. Returns the
+/// highest status. After a failed write to standard output no other block is shown.
 pub(crate) fn show_files<S: System, I: Source, O: Drain, M: Drain>(
     alloc: Global,
     request: &Request,
     names: &Names,
     streams: &mut Streams<S, I, O, M>,
 ) -> u8
-    ensures { ShowsFiles S.allows request.now names.now (length (files_of_words request.now.files)) 1
-        (files_of_words request.now.files)
+    ensures { ShowsFiles S.allows request.now names.now (files_of_words request.now.files)
         (streams_value I.state O.state M.state streams.old) (streams_value I.state O.state M.state streams.new)
         result }
 {
-    let files = request.files.as_slice();
-    if files.is_empty() {
-        let task = Task {
-            alloc,
-            request,
-            names,
-            count: 1,
-        };
-        return task.block(1, None, streams).status;
-    }
+    let Some(blocks) = blocks_of_files(alloc, request, streams) else {
+        return write_message(&input_report(InputFault::Memory), &mut streams.messages);
+    };
     let task = Task {
         alloc,
         request,
         names,
-        count: files.len(),
+        count: blocks.len(),
+        several_files: request.files.as_slice().len() > 1,
     };
+    show_blocks(&task, blocks.as_slice(), streams)
+}
+
+/// Shows blocks in order. Returns the highest status.
+fn show_blocks<S: System, I: Source, O: Drain, M: Drain>(
+    task: &Task<'_>,
+    blocks: &[InputBlock<'_>],
+    streams: &mut Streams<S, I, O, M>,
+) -> u8
+    requires { all_fit blocks.now }
+    ensures { ShowsBlocks task.now.request.now task.now.names.now (blocks_place task.now) 1 (map input_block blocks.now)
+        (streams_value I.state O.state M.state streams.old) (streams_value I.state O.state M.state streams.new)
+        result }
+{
     let mut status = 0;
-    for i in 0..files.len() {
-        let block = task.block(i + 1, file_of_word(files[i].as_str()), streams);
+    for i in 0..blocks.len() {
+        let block = task.block(i + 1, &blocks[i], streams);
         status = highest(status, block.status);
         if block.has_failed {
             return status;
@@ -60,7 +71,7 @@ fn highest(status: u8, other: u8) -> u8
 }
 
 /// The file of a word: `-` is standard input, which has no name.
-fn file_of_word(word: &str) -> Option<&str>
+pub(crate) fn file_of_word(word: &str) -> Option<&str>
     ensures { text_in result ≡ file_of_word word.now }
 {
     if word == "-" { None } else { Some(word) }

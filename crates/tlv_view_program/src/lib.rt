@@ -3,11 +3,15 @@
 #![tactic(auto)]
 
 mod block;
+mod explain;
 mod files;
+mod input_blocks;
 mod lines;
 mod names;
+mod notes;
 mod octets;
 mod show_call;
+mod silent;
 mod streams;
 mod wanted;
 

@@ -1,28 +1,46 @@
 //! The lines that are written beside views.
 ghost use Rattle.std.specs.Prelude.{◌≡◌, ◌++◌, decimal, flat_map};
+ghost use Rattle.tlv_forms.specs.Taken.{taken_value};
 ghost use Rattle.tlv_io.specs.Out.{Puts, Sends};
 ghost use Rattle.tlv_open.specs.BrokenLine.{broken_line};
 ghost use Rattle.tlv_run.specs.BorrowedText.{text_in};
-ghost use Rattle.tlv_view_program.specs.Lines.{block_line, block_start, file_line, line_prefix_of};
-ghost use Rattle.tlv_view_program.specs.Lines.{printable_name, printable_octet, shown_name};
+ghost use Rattle.tlv_view_program.specs.Lines.{block_line, block_start, block_title, file_words, number_words};
+ghost use Rattle.tlv_view_program.specs.Lines.{place_words, placed_line, printable_name, printable_octet, shown_name};
+ghost use Rattle.tlv_view_program.specs.Notes.{note_line};
+ghost use Rattle.tlv_view_program.specs.Private.BlockParts.{name_value};
+ghost use Rattle.tlv_view_program.specs.ShowsBlock.{block_messages};
 
+use crate::notes::{has_note, put_note};
 use arrayvec::ArrayVec;
 use itoa::Buffer;
+use tlv_forms::Taken;
 use tlv_open::{BrokenString, broken_line};
 use tlv_walk::{Drain, Out, WriteFault};
 
-/// Writes the line before a file: its number, how many files there are, and its name.
+/// What comes before messages that concern a block.
+#[derive(Clone, Copy)]
+pub(crate) struct BlockName<'a> {
+    /// The name of its file, which standard input has not.
+    pub file: Option<&'a str>,
+    /// Its number, if it is one of several in the file.
+    pub number: Option<usize>,
+}
+
+/// Writes the line before a block: its number, how many blocks there are, and what it is called.
 #[tactic(auto, using(tlv_io::proofs::Sends::sends))]
 pub(crate) fn write_block_line<D: Drain>(
     number: usize,
     count: usize,
+    several_files: bool,
     file: Option<&str>,
+    label: &[u8],
     drain: &mut D,
 ) -> Result<(), WriteFault>
-    ensures { Sends (D.state drain.old) (D.state drain.new) (block_line number count (text_in file.entry)) result }
+    ensures { Sends (D.state drain.old) (D.state drain.new)
+        (block_line number count (block_title several_files (text_in file.entry) label.now)) result }
 {
     let mut out = Out::new(drain);
-    put_block_line(number, count, file, &mut out)?;
+    put_block_line(number, count, several_files, file, label, &mut out)?;
     out.flush()?;
     Ok(())
 }
@@ -31,17 +49,39 @@ pub(crate) fn write_block_line<D: Drain>(
 fn put_block_line<D: Drain>(
     number: usize,
     count: usize,
+    several_files: bool,
     file: Option<&str>,
+    label: &[u8],
     out: &mut Out<'_, D>,
 ) -> Result<(), WriteFault>
-    ensures { Puts D.state out.old out.new (block_line number count (text_in file.entry)) result }
+    ensures { Puts D.state out.old out.new
+        (block_line number count (block_title several_files (text_in file.entry) label.now)) result }
 {
     out.put(block_start(number, count).as_slice())?;
-    put_shown_name(file, out)?;
+    put_title(several_files, file, label, out)?;
     out.put(b"\n")
 }
 
-/// What that line begins with.
+/// Puts what a block is called.
+fn put_title<D: Drain>(
+    several_files: bool,
+    file: Option<&str>,
+    label: &[u8],
+    out: &mut Out<'_, D>,
+) -> Result<(), WriteFault>
+    ensures { Puts D.state out.old out.new (block_title several_files (text_in file.entry) label.now) result }
+{
+    if label.is_empty() {
+        return put_shown_name(file, out);
+    }
+    if several_files {
+        put_shown_name(file, out)?;
+        out.put(b": ")?;
+    }
+    out.put(label)
+}
+
+/// What the line before a block begins with.
 fn block_start(number: usize, count: usize) -> ArrayVec<u8, 64>
     ensures { result.items ≡ block_start number count }
 {
@@ -86,79 +126,132 @@ fn printable_octet(octet: u8) -> [u8; 1]
     }
 }
 
-/// Writes what is said of a file: its message, if there is one, and a line for each broken string.
+/// Writes the note of a block, if it has one.
+#[tactic(auto, using(tlv_io::proofs::Sends::sends))]
+pub(crate) fn write_note<D: Drain>(
+    name: BlockName<'_>,
+    taken: &Taken,
+    drain: &mut D,
+) -> Result<(), WriteFault>
+    ensures { Sends (D.state drain.old) (D.state drain.new)
+        (note_line (name_value name.entry) (taken_value taken.now)) result }
+{
+    let mut out = Out::new(drain);
+    put_note_line(name, taken, &mut out)?;
+    out.flush()?;
+    Ok(())
+}
+
+/// Puts the line of the note of a block.
+fn put_note_line<D: Drain>(
+    name: BlockName<'_>,
+    taken: &Taken,
+    out: &mut Out<'_, D>,
+) -> Result<(), WriteFault>
+    ensures { Puts D.state out.old out.new (note_line (name_value name.entry) (taken_value taken.now)) result }
+{
+    if !has_note(taken) {
+        return Ok(());
+    }
+    put_place(name, out)?;
+    put_note(taken, out)?;
+    out.put(b"\n")
+}
+
+/// Writes what is said of a block after it: its message, if there is one, and a line for each broken string.
 #[tactic(auto, using(tlv_io::proofs::Sends::sends))]
 pub(crate) fn write_messages<D: Drain>(
-    file: Option<&str>,
+    name: BlockName<'_>,
     message: &[u8],
     broken: &[BrokenString],
     drain: &mut D,
 ) -> Result<(), WriteFault>
     ensures { Sends (D.state drain.old) (D.state drain.new)
-        (file_line (text_in file.entry) message.now
-        ++ flat_map (λ b. file_line (text_in file.entry) (broken_line b)) broken.now) result }
+        (block_messages (name_value name.entry) message.now broken.now) result }
 {
     let mut out = Out::new(drain);
-    put_messages(file, message, broken, &mut out)?;
+    put_messages(name, message, broken, &mut out)?;
     out.flush()?;
     Ok(())
 }
 
-/// Puts what is said of a file.
+/// Puts what is said of a block after it.
 #[tactic(auto, using(tlv_io::proofs::Puts::puts))]
 fn put_messages<D: Drain>(
-    file: Option<&str>,
+    name: BlockName<'_>,
     message: &[u8],
     broken: &[BrokenString],
     out: &mut Out<'_, D>,
 ) -> Result<(), WriteFault>
-    ensures { Puts D.state out.old out.new
-        (file_line (text_in file.entry) message.now
-        ++ flat_map (λ b. file_line (text_in file.entry) (broken_line b)) broken.now) result }
+    ensures { Puts D.state out.old out.new (block_messages (name_value name.entry) message.now broken.now) result }
 {
-    put_file_line(file, message, out)?;
-    put_broken_lines(file, broken, out)
+    put_placed_line(name, message, out)?;
+    put_broken_lines(name, broken, out)
 }
 
 /// Puts a line for each broken string.
 fn put_broken_lines<D: Drain>(
-    file: Option<&str>,
+    name: BlockName<'_>,
     broken: &[BrokenString],
     out: &mut Out<'_, D>,
 ) -> Result<(), WriteFault>
     ensures { Puts D.state out.old out.new
-        (flat_map (λ b. file_line (text_in file.entry) (broken_line b)) broken.now) result }
+        (flat_map (λ b. placed_line (name_value name.entry) (broken_line b)) broken.now) result }
 {
     for string in broken {
-        put_file_line(file, broken_line(string).as_slice(), out)?;
+        put_placed_line(name, broken_line(string).as_slice(), out)?;
     }
     Ok(())
 }
 
-/// Puts a line that concerns a file, with its name before it; nothing for no text.
-fn put_file_line<D: Drain>(
-    file: Option<&str>,
+/// Puts a line that concerns a block, with its name before it; nothing for no text.
+fn put_placed_line<D: Drain>(
+    name: BlockName<'_>,
     text: &[u8],
     out: &mut Out<'_, D>,
 ) -> Result<(), WriteFault>
-    ensures { Puts D.state out.old out.new (file_line (text_in file.entry) text.now) result }
+    ensures { Puts D.state out.old out.new (placed_line (name_value name.entry) text.now) result }
 {
     if text.is_empty() {
         return Ok(());
     }
-    put_line_prefix(file, out)?;
+    put_place(name, out)?;
     out.put(text)?;
     out.put(b"\n")
 }
 
-/// Puts what comes before the text of a line that concerns a file.
+/// Puts what comes before a message that concerns a block.
 #[tactic(auto, using(tlv_io::proofs::Puts::puts))]
-fn put_line_prefix<D: Drain>(file: Option<&str>, out: &mut Out<'_, D>) -> Result<(), WriteFault>
-    ensures { Puts D.state out.old out.new (line_prefix_of (text_in file.entry)) result }
+fn put_place<D: Drain>(name: BlockName<'_>, out: &mut Out<'_, D>) -> Result<(), WriteFault>
+    ensures { Puts D.state out.old out.new (place_words (name_value name.entry)) result }
+{
+    put_file_words(name.file, out)?;
+    put_number_words(name.number, out)
+}
+
+/// Puts the name of a file, if it has one.
+#[tactic(auto, using(tlv_io::proofs::Puts::puts))]
+fn put_file_words<D: Drain>(file: Option<&str>, out: &mut Out<'_, D>) -> Result<(), WriteFault>
+    ensures { Puts D.state out.old out.new (file_words (text_in file.entry)) result }
 {
     match file {
         Some(name) => {
             put_printable(name, out)?;
+            out.put(b": ")
+        }
+        None => Ok(()),
+    }
+}
+
+/// Puts the number of a block, if it has one.
+fn put_number_words<D: Drain>(number: Option<usize>, out: &mut Out<'_, D>) -> Result<(), WriteFault>
+    ensures { Puts D.state out.old out.new (number_words number) result }
+{
+    match number {
+        Some(number) => {
+            let mut digits = Buffer::new();
+            out.put(b"block ")?;
+            out.put(digits.format(number).as_bytes())?;
             out.put(b": ")
         }
         None => Ok(()),

@@ -33,6 +33,8 @@ pub(crate) fn table_for<S: System>(
         Wanted::Check { .. } => return Ok(no_table(false)),
         Wanted::Extract { .. } => return Ok(no_table(false)),
         Wanted::Offsets => return Ok(no_table(false)),
+        Wanted::Raw => return Ok(no_table(false)),
+        Wanted::Why { .. } => return Ok(no_table(false)),
     };
     let Some(mut file) = open_names(name, places, system) else {
         return table_without_file(name);

@@ -1,13 +1,16 @@
 //! What is shown of octets.
-ghost use Rattle.std.specs.Prelude.{◌≡◌, ◌≤◌, [], None, Some, length};
+ghost use Rattle.std.specs.Prelude.{◌≡◌, ◌≤◌, ◌↔◌, [], IsTrue, None, Some, length};
 ghost use Rattle.tlv_head.specs.InputLimit.{input_limit};
 ghost use Rattle.tlv_run.specs.Report.{report_value_of};
 ghost use Rattle.tlv_value.specs.Names.{NamesValue};
 ghost use Rattle.tlv_open.specs.Opens.{closed_framing};
 ghost use Rattle.tlv_view.specs.ReadWhole.{input_report};
 ghost use Rattle.tlv_walk.specs.Ending.{IsEnding};
-ghost use Rattle.tlv_view_program.specs.ShowsBlock.{ShowsOctets, offsets_report, view_of};
+ghost use Rattle.tlv_view_program.specs.ShowsBlock.{ShowsOctets, offsets_report, raw_report, view_of};
+ghost use Rattle.tlv_view_words.specs.declared.request.Wanted.TheVariants.{Offsets, Raw};
+ghost use Rattle.tlv_io.specs.Out.{Sends};
 
+use crate::explain::explain;
 use crate::wanted::{reports_broken, stays_closed};
 use std::alloc::Global;
 use tlv_open::{ending_of, opened};
@@ -15,7 +18,7 @@ use tlv_run::{Report, device_report, indef_report};
 use tlv_show::FiniteNames;
 use tlv_view::{InputFault, View, Viewed, input_report, view_octets, write_offsets};
 use tlv_view_words::{Request, Wanted};
-use tlv_walk::{DeviceFault, Drain, Ending, WriteFault};
+use tlv_walk::{DeviceFault, Drain, Ending, Out, WriteFault};
 
 /// Writes what is wanted of the octets. Returns what is reported of them, and which strings in them are reported as
 /// broken.
@@ -30,14 +33,41 @@ pub(crate) fn show_octets<N: FiniteNames, D: Drain>(
     ensures { ShowsOctets request.now (N.table names.now) octets.now (D.state drain.old) (D.state drain.new)
         (report_value_of result.report) result.broken.items }
 {
-    match view_of(&request.wanted) {
-        Some(view) => show_view(alloc, request, &view, names, octets, drain),
-        None => list_offsets(alloc, request, octets, drain),
+    match &request.wanted {
+        Wanted::Dump {
+            rules,
+            limit,
+            pure,
+            text,
+            ..
+        } => {
+            let view = View::Dump {
+                rules: *rules,
+                limit: *limit,
+                pure: *pure,
+                text: *text,
+            };
+            show_view(alloc, request, &view, names, octets, drain)
+        }
+        Wanted::Check { rules, .. } => {
+            let view = View::Check { rules: *rules };
+            show_view(alloc, request, &view, names, octets, drain)
+        }
+        Wanted::Extract { offset, contents } => {
+            let view = View::Extract {
+                offset: *offset,
+                contents: *contents,
+            };
+            show_view(alloc, request, &view, names, octets, drain)
+        }
+        Wanted::Offsets => list_offsets(alloc, request, octets, drain),
+        Wanted::Raw => write_raw(alloc, request, octets, drain),
+        Wanted::Why { closed } => explain(alloc, *closed, request.padding, names, octets, drain),
     }
 }
 
 /// Memory is refused.
-fn no_memory(alloc: Global) -> Viewed
+pub(crate) fn no_memory(alloc: Global) -> Viewed
     ensures report { report_value_of result.report ≡ input_report InputFault.Memory }
     ensures none { result.broken.items ≡ [] }
 {
@@ -47,29 +77,37 @@ fn no_memory(alloc: Global) -> Viewed
     }
 }
 
-/// The view that is wanted of octets; a list of offsets is none.
-fn view_of(wanted: &Wanted) -> Option<View>
-    ensures { result ≡ view_of wanted.now }
+/// Writes the octets themselves.
+fn write_raw<D: Drain>(alloc: Global, request: &Request, octets: &[u8], drain: &mut D) -> Viewed
+    requires { request.now.wanted ≡ Raw }
+    ensures { (table : NamesValue) → ShowsOctets request.now table octets.now
+        (D.state drain.old) (D.state drain.new) (report_value_of result.report) result.broken.items }
 {
-    match wanted {
-        Wanted::Dump {
-            rules,
-            limit,
-            pure,
-            text,
-            ..
-        } => Some(View::Dump {
-            rules: *rules,
-            limit: *limit,
-            pure: *pure,
-            text: *text,
-        }),
-        Wanted::Check { rules, .. } => Some(View::Check { rules: *rules }),
-        Wanted::Extract { offset, contents } => Some(View::Extract {
-            offset: *offset,
-            contents: *contents,
-        }),
-        Wanted::Offsets => None,
+    let written = write_octets(octets, drain);
+    Viewed {
+        report: raw_report(written),
+        broken: Vec::new(alloc),
+    }
+}
+
+/// Writes octets.
+#[tactic(auto, using(tlv_io::proofs::Sends::sends))]
+fn write_octets<D: Drain>(octets: &[u8], drain: &mut D) -> Result<(), WriteFault>
+    ensures { Sends (D.state drain.old) (D.state drain.new) octets.now result }
+{
+    let mut out = Out::new(drain);
+    out.put(octets)?;
+    out.flush()?;
+    Ok(())
+}
+
+/// What is reported of octets that are written as they are.
+fn raw_report(written: Result<(), WriteFault>) -> Report
+    ensures { report_value_of result ≡ raw_report written }
+{
+    match written {
+        Ok(()) => Report::without_message(0),
+        Err(_) => device_report(DeviceFault::WriteFailed),
     }
 }
 
@@ -106,7 +144,7 @@ fn show_view<N: FiniteNames, D: Drain>(
 /// Writes the offsets of the strings that are opened.
 fn list_offsets<D: Drain>(alloc: Global, request: &Request, octets: &[u8], drain: &mut D) -> Viewed
     requires short { length octets.now ≤ input_limit }
-    requires wanted { view_of request.now.wanted ≡ None }
+    requires wanted { request.now.wanted ≡ Offsets }
     ensures { (table : NamesValue) → ShowsOctets request.now table octets.now
         (D.state drain.old) (D.state drain.new) (report_value_of result.report) result.broken.items }
 {

@@ -17,11 +17,13 @@ use tlv_walk::{Drain, Source};
 use tlv_words::{Words, not_utf8_report, unprinted_report};
 
 /// Runs the program on the words of its command line, of which the first is the program's name. Names of object
-/// identifiers are in the file that the words name, or else in the first of these places that opens. Returns the status.
+/// identifiers are in the file that the words name, or else in the first of these places that opens. Returns the
+/// status.
 ///
-/// Reads the words, then the names, and then shows each file, or standard input if there is none, and says on standard
-/// error what there is to say of it. The first of words and names that is refused is said, and nothing is done after it.
-/// `typed` says whether standard input is a terminal: then it is said that it is read, if no file is named.
+/// Reads the words, then the names, then each file, or standard input if there is none, and shows their blocks in
+/// order. Says on standard error what there is to say of them. The first of words and names that is refused is said,
+/// and nothing is done after it. `typed` says whether standard input is a terminal: then it is said that it is read, if
+/// no file is named.
 pub fn run_show<S: System, I: Source, O: Drain, M: Drain>(
     alloc: Global,
     words: &Result<Words, NoWords>,

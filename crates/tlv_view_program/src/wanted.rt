@@ -11,20 +11,25 @@ pub(crate) fn stays_closed(wanted: &Wanted) -> bool
     match wanted {
         Wanted::Dump { closed, .. } => *closed,
         Wanted::Check { closed, .. } => *closed,
+        Wanted::Why { closed } => *closed,
         _ => false,
     }
 }
 
-/// Whether broken strings are reported: in a dump and a check, unless all strings stay closed.
+/// Whether broken strings are reported: in a dump, in a check, and with the reasons, unless all strings stay closed.
 pub(crate) fn reports_broken(wanted: &Wanted) -> bool
     ensures { result ≡ reports_broken wanted.now }
 {
     has_titles(wanted) && !stays_closed(wanted)
 }
 
-/// Whether each of several files has a line before it: in a dump and a check.
+/// Whether each of several blocks has a line before it: in a dump, in a check, and with the
+/// reasons.
 pub(crate) fn has_titles(wanted: &Wanted) -> bool
     ensures { result ≡ has_titles wanted.now }
 {
-    matches!(wanted, Wanted::Dump { .. } | Wanted::Check { .. })
+    matches!(
+        wanted,
+        Wanted::Dump { .. } | Wanted::Check { .. } | Wanted::Why { .. }
+    )
 }

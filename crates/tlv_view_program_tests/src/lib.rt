@@ -4,6 +4,10 @@
 #[cfg(test)]
 mod expect;
 #[cfg(test)]
+mod row;
+#[cfg(test)]
 mod rows;
 #[cfg(test)]
 mod system;
+#[cfg(test)]
+mod texts;

@@ -1,96 +1,7 @@
 //! What the program asks for, in which order, and what it writes and says.
-use crate::expect::expect_eq_of;
-use crate::system::MemSystem;
-use arrayvec::ArrayVec;
-use std::alloc::{AllocError, Global};
-use std::process::Abort;
+use crate::row::{NOTHING, ShowRow, expect_rows, expect_run, places_of};
 use std::test::Fail;
 use tlv_program::NoWords;
-use tlv_view_program::{Streams, run_show};
-use tlv_view_words::FileNames;
-use tlv_walk::{MemDrain, MemSource};
-use tlv_words::{UsageFault, Words};
-
-/// Standard input: an INTEGER.
-const INPUT: &[u8] = b"\x02\x01\x05";
-
-/// Words after the program's name, the places of names, and what is to come of them. `room` is how many octets standard
-/// output takes.
-#[derive(Clone, Copy)]
-struct ShowRow<'a> {
-    words: &'a [&'a str],
-    places: &'a [&'a str],
-    typed: bool,
-    can_print: bool,
-    room: usize,
-    asked: &'a [u8],
-    written: &'a [u8],
-    said: &'a [u8],
-    status: u8,
-}
-
-const NOTHING: ShowRow<'static> = ShowRow {
-    words: &[],
-    places: &["names"],
-    typed: false,
-    can_print: true,
-    room: 512,
-    asked: b"",
-    written: b"",
-    said: b"",
-    status: 0,
-};
-
-fn places_of(alloc: Global, list: &[&str]) -> Result<FileNames, AllocError> {
-    let mut places = FileNames::new(alloc);
-    for place in list {
-        places.push(alloc, place)?;
-    }
-    Ok(places)
-}
-
-fn words_of(alloc: Global, list: &[&str]) -> Result<Words, UsageFault> {
-    let mut words = Words::new(alloc);
-    words.push("tlvdump-show")?;
-    for word in list {
-        words.push(word)?;
-    }
-    Ok(words)
-}
-
-fn expect_run(
-    rt: &impl Abort,
-    alloc: Global,
-    words: &Result<Words, NoWords>,
-    places: &FileNames,
-    row: &ShowRow<'_>,
-) {
-    let mut output_room = [0; 512];
-    let mut message_room = [0; 512];
-    let mut streams = Streams {
-        system: MemSystem {
-            can_print: row.can_print,
-            asked: ArrayVec::new(),
-        },
-        input: MemSource::new(INPUT, &[], None),
-        output: MemDrain::new(&mut output_room[..row.room.min(512)], 4096),
-        messages: MemDrain::new(&mut message_room, 4096),
-    };
-    let status = run_show(alloc, words, places, row.typed, &mut streams);
-    expect_eq_of(rt, row.words, streams.system.asked.as_slice(), row.asked);
-    expect_eq_of(rt, row.words, streams.output.written(), row.written);
-    expect_eq_of(rt, row.words, streams.messages.written(), row.said);
-    expect_eq_of(rt, row.words, status, row.status);
-}
-
-fn expect_rows(rt: &impl Abort, alloc: Global, rows: &[ShowRow<'_>]) -> Result<(), Fail> {
-    for row in rows {
-        let words = words_of(alloc, row.words)?;
-        let places = places_of(alloc, row.places)?;
-        expect_run(rt, alloc, &Ok(words), &places, row);
-    }
-    Ok(())
-}
 
 /// Each file is read whole and given back; without one, and for `-`, standard input is read. Names come first.
 #[test]
@@ -187,8 +98,8 @@ fn several_files_are_shown(rt: HostRuntime) -> Result<(), Fail> {
 /// A broken string has a line, and the status is then 1 at least.
 #[test]
 fn broken_strings_are_named(rt: HostRuntime) -> Result<(), Fail> {
-    let line =
-        b"broken: string at 7 is the value of an extension and breaks at 10: F11 element runs past the enclosing length\n";
+    let line = b"broken: string at 7 is the value of an extension and breaks at 10: \
+        F11 element runs past the enclosing length\n";
     let rows = [
         ShowRow {
             words: &["--check", "broken"],
@@ -268,14 +179,14 @@ fn first_refusal_is_said(rt: HostRuntime) -> Result<(), Fail> {
     expect_rows(&rt, rt.alloc(), &rows)
 }
 
-/// After a failed write no other file is opened.
+/// All files are read before anything is written. After a failed write no other block is shown.
 #[test]
 fn failed_writes_end_the_run(rt: HostRuntime) -> Result<(), Fail> {
     let rows = [
         ShowRow {
             words: &["--pure", "null", "null"],
             room: 23,
-            asked: b"n;n;",
+            asked: b"n;n;n;",
             written: b"# block 1 of 2: null\nNU",
             said: b"null: E2 write failed\n",
             status: 3,
@@ -284,6 +195,7 @@ fn failed_writes_end_the_run(rt: HostRuntime) -> Result<(), Fail> {
         ShowRow {
             words: &["--check", "null", "null"],
             room: 3,
+            asked: b"n;n;",
             written: b"# b",
             said: b"null: E2 write failed\n",
             status: 3,

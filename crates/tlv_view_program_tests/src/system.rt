@@ -5,8 +5,10 @@ use arrayvec::ArrayVec;
 use tlv_program::System;
 use tlv_walk::MemSource;
 
-/// The files: a NULL, a string that holds one, a string that is broken, text, names, and names that are refused.
-static FILES: [(&str, &[u8]); 6] = [
+/// The files: a NULL, a string that holds one, a string that is broken, text, names, and names that are refused. Then
+/// texts: a NULL and an INTEGER in PEM, an INTEGER that is encrypted, one that is refused in line 2, one in
+/// hexadecimal, and a letter.
+static FILES: [(&str, &[u8]); 11] = [
     ("null", b"\x05\x00"),
     ("string", b"\x04\x02\x05\x00"),
     (
@@ -16,10 +18,21 @@ static FILES: [(&str, &[u8]); 6] = [
     ("text", b"\x80\x03abc"),
     ("names", b"2.5.29.15 keyUsage\n"),
     ("bad names", b"1.40 word\n"),
+    (
+        "pem",
+        b"-----BEGIN A-----\nBQA=\n-----END A-----\n-----BEGIN B C-----\nAgEF\n-----END B C-----\n",
+    ),
+    (
+        "encrypted",
+        b"-----BEGIN A-----\nProc-Type: 4,ENCRYPTED\n\nAgEF\n-----END A-----\n",
+    ),
+    ("wrong", b"-----BEGIN A-----\nAgEF!\n-----END A-----\n"),
+    ("hex", b"02:01:05\n"),
+    ("letter", b"Dear Sir,"),
 ];
 
-/// A system whose files are in memory, and what it was asked for: the first octet of the name of each file, `;` for a file
-/// that it is given back, and `!` for what `clap` has to say.
+/// A system whose files are in memory, and what it was asked for: the first octet of the name of each file, `;` for a
+/// file that it is given back, and `!` for what `clap` has to say.
 #[derive(Drop)]
 pub(crate) struct MemSystem {
     pub can_print: bool,

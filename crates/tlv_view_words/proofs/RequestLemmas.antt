@@ -1,5 +1,5 @@
 -- What `clap` says of the words of `tlvdump-show`.
-use Rattle.std.proofs.Common.{◌≡◌, ◌≢◌, ◌∙◌, true, List, [], IfOk, IfErr, Result, Ok, Err, refl, sym, ap}
+use Rattle.std.proofs.Common.{◌≡◌, ◌∙◌, true, List, [], IfOk, IfErr, Result, Ok, Err, refl, sym, ap}
 use Rattle.clap.specs.Faults.{fault_of, is_simple_and_free}
 use Rattle.clap.specs.Kinds.{HasKind}
 use Rattle.clap.specs.Words.{Row, Text, is_simple, kind_of, matches_of, takes}

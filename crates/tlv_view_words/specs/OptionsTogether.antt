@@ -8,7 +8,7 @@ use Rattle.tlv_view_words.specs.declared.refusal.Refusal.{Refusal}
 use Rattle.tlv_view_words.specs.declared.refusal.Refusal.TheVariants.{ContentsAlone, NotWith, SeveralFiles}
 use Rattle.tlv_view_words.specs.declared.refusal.ShowOption.{ShowOption}
 use Rattle.tlv_view_words.specs.declared.refusal.ShowOption.TheVariants.{Check, Closed, Contents, Limit, Names}
-use Rattle.tlv_view_words.specs.declared.refusal.ShowOption.TheVariants.{NoText, Offset, Offsets, Pure, Rules}
+use Rattle.tlv_view_words.specs.declared.refusal.ShowOption.TheVariants.{NoText, Offset, Offsets, Pure, Raw, Rules, Why}
 
 -- ---- what is given
 
@@ -18,6 +18,8 @@ is_option_given Check matches = has_flag (codes "check") matches
 is_option_given Offset matches = is_some (first_of (codes "offset") matches)
 is_option_given Contents matches = has_flag (codes "contents") matches
 is_option_given Offsets matches = has_flag (codes "offsets") matches
+is_option_given Raw matches = has_flag (codes "raw") matches
+is_option_given Why matches = has_flag (codes "why") matches
 is_option_given Rules matches = is_some (first_of (codes "rules") matches)
 is_option_given Limit matches = is_some (first_of (codes "limit") matches)
 is_option_given Pure matches = has_flag (codes "pure") matches
@@ -37,16 +39,19 @@ given_files matches = unwrap_or (all_of (codes "file") matches) []
 
 -- the options that may not be given with one that asks for something else than a dump
 abbrev pub apart_from : ShowOption → List ShowOption
-apart_from Check = Offset ∷ Offsets ∷ Limit ∷ Pure ∷ Names ∷ NoText ∷ []
-apart_from Offset = Offsets ∷ Rules ∷ Limit ∷ Pure ∷ Names ∷ Closed ∷ NoText ∷ []
-apart_from Offsets = Rules ∷ Limit ∷ Pure ∷ Names ∷ Closed ∷ NoText ∷ []
+apart_from Check = Offset ∷ Offsets ∷ Raw ∷ Why ∷ Limit ∷ Pure ∷ Names ∷ NoText ∷ []
+apart_from Offset = Offsets ∷ Raw ∷ Why ∷ Rules ∷ Limit ∷ Pure ∷ Names ∷ Closed ∷ NoText ∷ []
+apart_from Offsets = Raw ∷ Why ∷ Rules ∷ Limit ∷ Pure ∷ Names ∷ Closed ∷ NoText ∷ []
+apart_from Raw = Why ∷ Rules ∷ Limit ∷ Pure ∷ Names ∷ Closed ∷ NoText ∷ []
+apart_from Why = Rules ∷ Limit ∷ Pure ∷ Names ∷ NoText ∷ []
 apart_from _ = []
 
--- the first of `--check`, `--offset` and `--offsets` that is given, and an option that may not be given with it
+-- the first of `--check`, `--offset`, `--offsets`, `--raw` and `--why` that is given, and an option that may not be
+-- given with it
 abbrev pub refused_apart : List Row → Option Refusal
 refused_apart matches = option_and_then
     (λ asked. option_map (NotWith asked) (first_given (apart_from asked) matches))
-    (first_given (Check ∷ Offset ∷ Offsets ∷ []) matches)
+    (first_given (Check ∷ Offset ∷ Offsets ∷ Raw ∷ Why ∷ []) matches)
 
 -- `--contents` without `--offset`
 abbrev pub refused_contents : List Row → Option Refusal

@@ -6,16 +6,17 @@ use Rattle.tlv_show.specs.declared.rules.Rules.TheVariants.{Ber, Der}
 use Rattle.tlv_words.specs.CommandOf.{AreRefusedBy, with_value}
 use Rattle.tlv_words.specs.Matches.{has_flag}
 use Rattle.tlv_words.specs.Values.{limit_value, offset_value, rules_value}
+use Rattle.tlv_view_words.specs.FormValue.{form_value}
 use Rattle.tlv_view_words.specs.OptionsTogether.{given_files, is_option_given, refused_together}
 use Rattle.tlv_view_words.specs.ShowCommandLine.{show_app}
 use Rattle.tlv_view_words.specs.declared.refusal.Refusal.{Refusal}
-use Rattle.tlv_view_words.specs.declared.refusal.Refusal.TheVariants.{LimitValue, OffsetValue, RulesValue}
+use Rattle.tlv_view_words.specs.declared.refusal.Refusal.TheVariants.{FormValue, LimitValue, OffsetValue, RulesValue}
 use Rattle.tlv_view_words.specs.declared.refusal.RequestFault.{RequestFault}
 use Rattle.tlv_view_words.specs.declared.refusal.RequestFault.TheVariants.{Memory, Parser, Refused}
 use Rattle.tlv_view_words.specs.declared.refusal.ShowOption.TheVariants as given
 use Rattle.tlv_view_words.specs.declared.request.Request.{Request}
 use Rattle.tlv_view_words.specs.declared.request.Wanted.{Wanted}
-use Rattle.tlv_view_words.specs.declared.request.Wanted.TheVariants.{Check, Dump, Extract, Offsets}
+use Rattle.tlv_view_words.specs.declared.request.Wanted.TheVariants.{Check, Dump, Extract, Offsets, Raw, Why}
 
 -- ---- what is asked for by what `clap` matches: the texts of each option given, and the names of files
 
@@ -47,15 +48,20 @@ wanted_of matches =
     if is_option_given given.Check matches then wanted_check matches
     else (if is_option_given given.Offset matches then wanted_extract matches
     else (if is_option_given given.Offsets matches then Ok Offsets
-    else wanted_dump matches))
+    else (if is_option_given given.Raw matches then Ok Raw
+    else (if is_option_given given.Why matches then Ok (Why (has_flag (codes "closed") matches))
+    else wanted_dump matches))))
 
--- what is wanted, of which files
+-- what is wanted, of which files, in which form they are; a text of `--as` that is no value comes after the others
 abbrev pub request_for : List Row → Result Wanted Refusal → Result Request Refusal
-request_for matches (Ok wanted) = Ok (record {
-  wanted = wanted;
-  padding = has_flag (codes "padding") matches;
-  files = given_files matches;
-})
+request_for matches (Ok wanted) =
+    with_value FormValue (form_value (first_of (codes "as") matches)) (λ form.
+    Ok (record {
+      wanted = wanted;
+      form = form;
+      padding = has_flag (codes "padding") matches;
+      files = given_files matches;
+    }))
 request_for matches (Err refusal) = Err refusal
 
 -- the request, or why there is none: options that do not go together come first

@@ -18,12 +18,15 @@ asking_arguments =
     ∷ option (codes "offset")
     ∷ flag (codes "contents")
     ∷ flag (codes "offsets")
+    ∷ flag (codes "raw")
+    ∷ flag (codes "why")
     ∷ []
 
--- how it is shown, help and the version
+-- in which form a file is, how it is shown, help and the version
 abbrev pub further_arguments : List Rule
 further_arguments =
-    option (codes "rules")
+    option (codes "as")
+    ∷ option (codes "rules")
     ∷ option (codes "limit")
     ∷ flag (codes "pure")
     ∷ option (codes "names")

@@ -2,6 +2,7 @@
 #![tactic(auto)]
 
 mod file_names;
+mod form_value;
 mod matched;
 mod parser;
 mod refusal;
@@ -11,5 +12,5 @@ mod together;
 
 pub use file_names::FileNames;
 pub use refusal::{Refusal, RequestFault, ShowOption, request_report};
-pub use request::{Request, Wanted};
+pub use request::{InputForm, Request, Wanted};
 pub use request_of_call::request_of;

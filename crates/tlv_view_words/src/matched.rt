@@ -19,6 +19,8 @@ pub(crate) fn is_given(matches: &ArgMatches<'_>, option: ShowOption) -> bool
         ShowOption::Offset => first_of(matches, "offset").is_some(),
         ShowOption::Contents => has_flag(matches, "contents"),
         ShowOption::Offsets => has_flag(matches, "offsets"),
+        ShowOption::Raw => has_flag(matches, "raw"),
+        ShowOption::Why => has_flag(matches, "why"),
         ShowOption::Rules => first_of(matches, "rules").is_some(),
         ShowOption::Limit => first_of(matches, "limit").is_some(),
         ShowOption::Pure => has_flag(matches, "pure"),

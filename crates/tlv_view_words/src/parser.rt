@@ -42,7 +42,9 @@ fn asking_parser<'a>(alloc: Global) -> Result<Command<'a>, AllocError>
         .arg(flag(alloc, "check", help::CHECK))?
         .arg(option(alloc, "offset", "N", help::OFFSET))?
         .arg(flag(alloc, "contents", help::CONTENTS))?
-        .arg(flag(alloc, "offsets", help::OFFSETS))
+        .arg(flag(alloc, "offsets", help::OFFSETS))?
+        .arg(flag(alloc, "raw", help::RAW))?
+        .arg(flag(alloc, "why", help::WHY))
 }
 
 /// The whole command line.
@@ -50,6 +52,7 @@ pub(crate) fn show_parser<'a>(alloc: Global) -> Result<Command<'a>, AllocError>
     ensures { IfOk result (IsParserOf show_app) }
 {
     asking_parser(alloc)?
+        .arg(option(alloc, "as", "FORM", help::AS))?
         .arg(option(alloc, "rules", "RULES", help::RULES))?
         .arg(option(alloc, "limit", "N", help::LIMIT))?
         .arg(flag(alloc, "pure", help::PURE))?

@@ -17,6 +17,10 @@ pub enum ShowOption {
     Contents,
     /// `--offsets`
     Offsets,
+    /// `--raw`
+    Raw,
+    /// `--why`
+    Why,
     /// `--rules`
     Rules,
     /// `--limit`
@@ -40,6 +44,8 @@ pub enum Refusal {
     LimitValue,
     /// U2: the text of `--offset` is no value of it.
     OffsetValue,
+    /// U2: the text of `--as` is no value of it.
+    FormValue,
     /// U4: the second of these options may not be given with the first.
     NotWith(ShowOption, ShowOption),
     /// U4: `--contents` is given without `--offset`.
@@ -86,6 +92,9 @@ fn refusal_message(refusal: Refusal) -> ArrayVec<u8, 128>
         Refusal::RulesValue => line_of(b"U2 value out of range: --rules (ber, der or cer)"),
         Refusal::LimitValue => line_of(b"U2 value out of range: --limit (0 to 4294967295)"),
         Refusal::OffsetValue => line_of(b"U2 value out of range: --offset (0 to 1099511627776)"),
+        Refusal::FormValue => line_of(
+            b"U2 value out of range: --as (octets, pem, dump, hex, numbers, base64 or runs)",
+        ),
         Refusal::NotWith(asked, option) => {
             let mut line = line_of(b"U4 not with ");
             let _ = line.try_extend_from_slice(spelling(asked).as_bytes());
@@ -121,6 +130,8 @@ fn spelling(option: ShowOption) -> &'static str
         ShowOption::Offset => "--offset",
         ShowOption::Contents => "--contents",
         ShowOption::Offsets => "--offsets",
+        ShowOption::Raw => "--raw",
+        ShowOption::Why => "--why",
         ShowOption::Rules => "--rules",
         ShowOption::Limit => "--limit",
         ShowOption::Pure => "--pure",

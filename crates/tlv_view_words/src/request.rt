@@ -2,16 +2,30 @@
 use crate::file_names::FileNames;
 use tlv_run::Text;
 use tlv_show::Rules;
+use tlv_text::Form;
 
 /// What the words of a command line ask for.
 #[derive(Debug, Drop)]
 pub struct Request {
     /// What is wanted of each file.
     pub wanted: Wanted,
+    /// In which form each file is.
+    pub form: InputForm,
     /// Whether octets `00` may be before, between and after the encodings.
     pub padding: bool,
     /// The files to read, in their order: standard input if there is none. A name `-` is left as it is.
     pub files: FileNames,
+}
+
+/// In which form an input is.
+#[derive(Clone, Copy, Debug, PartialEq, Eq)]
+pub enum InputForm {
+    /// What its octets decide.
+    Any,
+    /// Octets as they stand.
+    Octets,
+    /// A text of this form.
+    Text(Form),
 }
 
 /// What is wanted of a file.
@@ -48,4 +62,11 @@ pub enum Wanted {
     },
     /// The offsets of the strings that hold encodings.
     Offsets,
+    /// The decoded octets.
+    Raw,
+    /// Why the input does not parse, in sentences.
+    Why {
+        /// Whether all strings stay closed.
+        closed: bool,
+    },
 }

@@ -5,6 +5,7 @@ ghost use Rattle.tlv_view_words.specs.Private.RequestOf.{IsParserFault, ReturnsA
 ghost use Rattle.tlv_view_words.specs.RequestOf.{AreAskedAs, IsRequestFaultOf, matched_request, wanted_check};
 ghost use Rattle.tlv_view_words.specs.RequestOf.{wanted_dump, wanted_extract, wanted_of};
 
+use crate::form_value::form_value;
 use crate::matched::{file_names, is_given};
 use crate::parser::show_parser;
 use crate::refusal::{Refusal, RequestFault, ShowOption};
@@ -22,7 +23,8 @@ use tlv_words::{Words, first_of, has_flag, limit_value, offset_value, owned_text
 ///
 /// `Parser` if `clap` does not take the words; if they ask for help or for the version it does not take them either,
 /// and the kind of the error says so. `Refused` if `clap` finds no fault, but options do not go together, or else an
-/// option's text is no value: it names the first such option, in the order rules, limit. `Memory` if memory is refused.
+/// option's text is no value: it names the first such option, in the order rules, limit, offset, as. `Memory` if memory
+/// is refused.
 pub fn request_of(alloc: Global, words: &Words) -> Result<Request, RequestFault>
     ensures ok { IfOk result (λ request. AreAskedAs words.now (Ok request)) }
     ensures err { IfErr result (IsRequestFaultOf words.now) }
@@ -55,11 +57,15 @@ fn matched_request(alloc: Global, matches: &ArgMatches<'_>) -> Result<Request, R
         return Err(RequestFault::Refused(refusal));
     }
     let wanted = wanted_of(alloc, matches)?;
+    let Some(form) = form_value(first_of(matches, "as")) else {
+        return Err(RequestFault::Refused(Refusal::FormValue));
+    };
     let Ok(files) = file_names(alloc, matches) else {
         return Err(RequestFault::Memory);
     };
     Ok(Request {
         wanted,
+        form,
         padding: has_flag(matches, "padding"),
         files,
     })
@@ -75,6 +81,12 @@ fn wanted_of(alloc: Global, matches: &ArgMatches<'_>) -> Result<Wanted, RequestF
         wanted_extract(matches)
     } else if is_given(matches, ShowOption::Offsets) {
         Ok(Wanted::Offsets)
+    } else if is_given(matches, ShowOption::Raw) {
+        Ok(Wanted::Raw)
+    } else if is_given(matches, ShowOption::Why) {
+        Ok(Wanted::Why {
+            closed: has_flag(matches, "closed"),
+        })
     } else {
         wanted_dump(alloc, matches)
     }

@@ -8,6 +8,63 @@ use crate::matched::{file_texts, is_given};
 use crate::refusal::{Refusal, ShowOption};
 use clap::ArgMatches;
 
+/// The options that may not be given with `--check`.
+const APART_FROM_CHECK: &[ShowOption] = &[
+    ShowOption::Offset,
+    ShowOption::Offsets,
+    ShowOption::Raw,
+    ShowOption::Why,
+    ShowOption::Limit,
+    ShowOption::Pure,
+    ShowOption::Names,
+    ShowOption::NoText,
+];
+
+/// The options that may not be given with `--offset`.
+const APART_FROM_OFFSET: &[ShowOption] = &[
+    ShowOption::Offsets,
+    ShowOption::Raw,
+    ShowOption::Why,
+    ShowOption::Rules,
+    ShowOption::Limit,
+    ShowOption::Pure,
+    ShowOption::Names,
+    ShowOption::Closed,
+    ShowOption::NoText,
+];
+
+/// The options that may not be given with `--offsets`.
+const APART_FROM_OFFSETS: &[ShowOption] = &[
+    ShowOption::Raw,
+    ShowOption::Why,
+    ShowOption::Rules,
+    ShowOption::Limit,
+    ShowOption::Pure,
+    ShowOption::Names,
+    ShowOption::Closed,
+    ShowOption::NoText,
+];
+
+/// The options that may not be given with `--raw`.
+const APART_FROM_RAW: &[ShowOption] = &[
+    ShowOption::Why,
+    ShowOption::Rules,
+    ShowOption::Limit,
+    ShowOption::Pure,
+    ShowOption::Names,
+    ShowOption::Closed,
+    ShowOption::NoText,
+];
+
+/// The options that may not be given with `--why`.
+const APART_FROM_WHY: &[ShowOption] = &[
+    ShowOption::Rules,
+    ShowOption::Limit,
+    ShowOption::Pure,
+    ShowOption::Names,
+    ShowOption::NoText,
+];
+
 /// Why the options do not go together, if they do not.
 pub(crate) fn refused_together(matches: &ArgMatches<'_>) -> Option<Refusal>
     ensures { result ≡ refused_together (matched_rows matches.now) }
@@ -21,13 +78,20 @@ pub(crate) fn refused_together(matches: &ArgMatches<'_>) -> Option<Refusal>
     refused_files(matches)
 }
 
-/// The first of `--check`, `--offset` and `--offsets` that is given, with an option that may not be given with it.
+/// The first of `--check`, `--offset`, `--offsets`, `--raw` and `--why` that is given, with an option that may not be
+/// given with it.
 fn refused_apart(matches: &ArgMatches<'_>) -> Option<Refusal>
     ensures { result ≡ refused_apart (matched_rows matches.now) }
 {
     let asked = first_given(
         matches,
-        &[ShowOption::Check, ShowOption::Offset, ShowOption::Offsets],
+        &[
+            ShowOption::Check,
+            ShowOption::Offset,
+            ShowOption::Offsets,
+            ShowOption::Raw,
+            ShowOption::Why,
+        ],
     )?;
     let option = first_given(matches, apart_from(asked))?;
     Some(Refusal::NotWith(asked, option))
@@ -72,31 +136,11 @@ fn apart_from(asked: ShowOption) -> &'static [ShowOption]
     ensures { result.now ≡ apart_from asked }
 {
     match asked {
-        ShowOption::Check => &[
-            ShowOption::Offset,
-            ShowOption::Offsets,
-            ShowOption::Limit,
-            ShowOption::Pure,
-            ShowOption::Names,
-            ShowOption::NoText,
-        ],
-        ShowOption::Offset => &[
-            ShowOption::Offsets,
-            ShowOption::Rules,
-            ShowOption::Limit,
-            ShowOption::Pure,
-            ShowOption::Names,
-            ShowOption::Closed,
-            ShowOption::NoText,
-        ],
-        ShowOption::Offsets => &[
-            ShowOption::Rules,
-            ShowOption::Limit,
-            ShowOption::Pure,
-            ShowOption::Names,
-            ShowOption::Closed,
-            ShowOption::NoText,
-        ],
+        ShowOption::Check => APART_FROM_CHECK,
+        ShowOption::Offset => APART_FROM_OFFSET,
+        ShowOption::Offsets => APART_FROM_OFFSETS,
+        ShowOption::Raw => APART_FROM_RAW,
+        ShowOption::Why => APART_FROM_WHY,
         _ => &[],
     }
 }

@@ -4,6 +4,8 @@
 #[cfg(test)]
 mod expect;
 #[cfg(test)]
+mod refused_rows;
+#[cfg(test)]
 mod reports;
 #[cfg(test)]
 mod rows;

@@ -31,6 +31,11 @@ fn values_are_reported_with_what_is_allowed(rt: HostRuntime) {
         Refusal::OffsetValue,
         "U2 value out of range: --offset (0 to 1099511627776)",
     );
+    expect_refusal(
+        &rt,
+        Refusal::FormValue,
+        "U2 value out of range: --as (octets, pem, dump, hex, numbers, base64 or runs)",
+    );
     expect_report(&rt, &RequestFault::Memory, 5, "U3 out of memory");
 }
 
@@ -39,6 +44,8 @@ fn options_apart_are_reported(rt: HostRuntime) {
     for (option, message) in [
         (ShowOption::Offset, "U4 not with --check: --offset"),
         (ShowOption::Offsets, "U4 not with --check: --offsets"),
+        (ShowOption::Raw, "U4 not with --check: --raw"),
+        (ShowOption::Why, "U4 not with --check: --why"),
         (ShowOption::Rules, "U4 not with --check: --rules"),
         (ShowOption::Limit, "U4 not with --check: --limit"),
         (ShowOption::Pure, "U4 not with --check: --pure"),
@@ -50,6 +57,16 @@ fn options_apart_are_reported(rt: HostRuntime) {
     ] {
         expect_refusal(&rt, Refusal::NotWith(ShowOption::Check, option), message);
     }
+    expect_refusal(
+        &rt,
+        Refusal::NotWith(ShowOption::Raw, ShowOption::Closed),
+        "U4 not with --raw: --closed",
+    );
+    expect_refusal(
+        &rt,
+        Refusal::NotWith(ShowOption::Why, ShowOption::NoText),
+        "U4 not with --why: --no-text",
+    );
     expect_refusal(
         &rt,
         Refusal::ContentsAlone,

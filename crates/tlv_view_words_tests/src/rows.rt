@@ -1,8 +1,9 @@
-//! Words after the program's name, and what they mean.
+//! Words after the program's name, and what they mean, but for words that are refused (U2, U4).
 use tlv_show::Rules;
-use tlv_view_words::{Refusal, ShowOption};
+use tlv_text::Form;
+use tlv_view_words::{InputForm, Refusal};
 
-/// What words mean, but for padding and the names of files.
+/// What words mean, but for the form of an input, padding and the names of files.
 #[derive(Clone, Copy, Debug, PartialEq, Eq)]
 pub(crate) enum Meaning {
     Dump {
@@ -21,6 +22,10 @@ pub(crate) enum Meaning {
         contents: bool,
     },
     Offsets,
+    Raw,
+    Why {
+        closed: bool,
+    },
     /// U2, U4.
     Refused(Refusal),
     /// `clap` does not take them.
@@ -135,8 +140,8 @@ pub(crate) static DUMPS: [WordsRow<'static>; 12] = [
     ),
 ];
 
-/// Findings alone, one element, and offsets.
-pub(crate) static OTHERS: [WordsRow<'static>; 11] = [
+/// Findings alone, one element, offsets, decoded octets, and why an input does not parse.
+pub(crate) static OTHERS: [WordsRow<'static>; 18] = [
     (
         &["--check"],
         Meaning::Check {
@@ -189,167 +194,67 @@ pub(crate) static OTHERS: [WordsRow<'static>; 11] = [
     (&["--offsets"], Meaning::Offsets),
     (&["--offsets", "a.der"], Meaning::Offsets),
     (&["--padding", "--offsets", "-"], Meaning::Offsets),
+    (&["--raw"], Meaning::Raw),
+    (&["--raw", "a", "b"], Meaning::Raw),
+    (&["-", "--padding", "--raw"], Meaning::Raw),
+    (&["--raw", "--as", "pem", "a.pem"], Meaning::Raw),
+    (&["--why"], Meaning::Why { closed: false }),
+    (
+        &["a", "--why", "b", "--padding"],
+        Meaning::Why { closed: false },
+    ),
+    (&["--closed", "--why"], Meaning::Why { closed: true }),
     (&["--", "--check"], PLAIN),
 ];
 
-/// Texts that are no values, of which the first is reported.
-pub(crate) static VALUES: [WordsRow<'static>; 10] = [
-    (&["--rules", "xer"], Meaning::Refused(Refusal::RulesValue)),
-    (&["--rules", "DER"], Meaning::Refused(Refusal::RulesValue)),
-    (
-        &["--check", "--rules="],
-        Meaning::Refused(Refusal::RulesValue),
-    ),
-    (
-        &["--limit", "4294967296"],
-        Meaning::Refused(Refusal::LimitValue),
-    ),
-    (&["--limit=-5"], Meaning::Refused(Refusal::LimitValue)),
-    (&["--limit="], Meaning::Refused(Refusal::LimitValue)),
-    (
-        &["--limit", "x", "--rules", "x"],
-        Meaning::Refused(Refusal::RulesValue),
-    ),
-    (
-        &["--offset", "1099511627777"],
-        Meaning::Refused(Refusal::OffsetValue),
-    ),
-    (&["--offset=+7"], Meaning::Refused(Refusal::OffsetValue)),
-    (
-        &["--offset", "x", "--contents"],
-        Meaning::Refused(Refusal::OffsetValue),
-    ),
-];
+/// Words, and in which form an input is.
+pub(crate) type FormRow<'a> = (&'a [&'a str], InputForm);
 
-/// Options that `--check` is not with, and others that ask for something else.
-pub(crate) static APART: [WordsRow<'static>; 9] = [
+/// Each value of `--as`, and it with each other option that says what is wanted.
+pub(crate) static FORMS: [FormRow<'static>; 19] = [
+    (&[], InputForm::Any),
+    (&["--raw", "a"], InputForm::Any),
+    (&["--as", "octets"], InputForm::Octets),
+    (&["--as", "ber"], InputForm::Octets),
+    (&["--as", "der"], InputForm::Octets),
+    (&["--as=cer"], InputForm::Octets),
+    (&["--as", "pem"], InputForm::Text(Form::Pem)),
+    (&["--as", "dump"], InputForm::Text(Form::Dump)),
+    (&["--as", "hex"], InputForm::Text(Form::Hex)),
+    (&["--as", "numbers"], InputForm::Text(Form::Numbers)),
+    (&["--as=base64"], InputForm::Text(Form::Base64)),
+    (&["a", "--as", "runs", "b"], InputForm::Text(Form::Runs)),
     (
-        &["--check", "--offset", "0"],
-        Meaning::Refused(Refusal::NotWith(ShowOption::Check, ShowOption::Offset)),
+        &["--rules", "cer", "--pure", "--as", "octets"],
+        InputForm::Octets,
     ),
+    (&["--as", "hex", "--check"], InputForm::Text(Form::Hex)),
     (
-        &["--offsets", "--check"],
-        Meaning::Refused(Refusal::NotWith(ShowOption::Check, ShowOption::Offsets)),
+        &["--offset", "0", "--contents", "--as", "dump"],
+        InputForm::Text(Form::Dump),
     ),
+    (&["--offsets", "--as", "pem"], InputForm::Text(Form::Pem)),
+    (&["--as", "ber", "--raw"], InputForm::Octets),
+    (&["--why", "--as", "runs"], InputForm::Text(Form::Runs)),
     (
-        &["--offsets", "--offset", "0"],
-        Meaning::Refused(Refusal::NotWith(ShowOption::Offset, ShowOption::Offsets)),
-    ),
-    (
-        &["--limit", "1", "--check"],
-        Meaning::Refused(Refusal::NotWith(ShowOption::Check, ShowOption::Limit)),
-    ),
-    (
-        &["--check", "--pure"],
-        Meaning::Refused(Refusal::NotWith(ShowOption::Check, ShowOption::Pure)),
-    ),
-    (
-        &["--check", "--names", "n"],
-        Meaning::Refused(Refusal::NotWith(ShowOption::Check, ShowOption::Names)),
-    ),
-    (
-        &["--check", "--no-text"],
-        Meaning::Refused(Refusal::NotWith(ShowOption::Check, ShowOption::NoText)),
-    ),
-    (
-        &["--no-text", "--names", "n", "--check", "--rules", "x"],
-        Meaning::Refused(Refusal::NotWith(ShowOption::Check, ShowOption::Names)),
-    ),
-    (
-        &["--offset", "x", "--offsets", "--check"],
-        Meaning::Refused(Refusal::NotWith(ShowOption::Check, ShowOption::Offset)),
-    ),
-];
-
-/// Options that `--offset` is not with, and `--offsets`.
-pub(crate) static APART_FROM_OFFSETS: [WordsRow<'static>; 12] = [
-    (
-        &["--offset", "0", "--rules", "der"],
-        Meaning::Refused(Refusal::NotWith(ShowOption::Offset, ShowOption::Rules)),
-    ),
-    (
-        &["--offset", "0", "--limit", "1"],
-        Meaning::Refused(Refusal::NotWith(ShowOption::Offset, ShowOption::Limit)),
-    ),
-    (
-        &["--offset", "0", "--pure"],
-        Meaning::Refused(Refusal::NotWith(ShowOption::Offset, ShowOption::Pure)),
-    ),
-    (
-        &["--offset", "0", "--names", "n"],
-        Meaning::Refused(Refusal::NotWith(ShowOption::Offset, ShowOption::Names)),
-    ),
-    (
-        &["--offset", "0", "--closed"],
-        Meaning::Refused(Refusal::NotWith(ShowOption::Offset, ShowOption::Closed)),
-    ),
-    (
-        &["--offset", "0", "--no-text"],
-        Meaning::Refused(Refusal::NotWith(ShowOption::Offset, ShowOption::NoText)),
-    ),
-    (
-        &["--offsets", "--rules", "der"],
-        Meaning::Refused(Refusal::NotWith(ShowOption::Offsets, ShowOption::Rules)),
-    ),
-    (
-        &["--offsets", "--limit", "1"],
-        Meaning::Refused(Refusal::NotWith(ShowOption::Offsets, ShowOption::Limit)),
-    ),
-    (
-        &["--offsets", "--pure"],
-        Meaning::Refused(Refusal::NotWith(ShowOption::Offsets, ShowOption::Pure)),
-    ),
-    (
-        &["--offsets", "--names", "n"],
-        Meaning::Refused(Refusal::NotWith(ShowOption::Offsets, ShowOption::Names)),
-    ),
-    (
-        &["--offsets", "--closed"],
-        Meaning::Refused(Refusal::NotWith(ShowOption::Offsets, ShowOption::Closed)),
-    ),
-    (
-        &["--offsets", "--no-text"],
-        Meaning::Refused(Refusal::NotWith(ShowOption::Offsets, ShowOption::NoText)),
-    ),
-];
-
-/// `--contents` without `--offset`, and several files with an option that takes one.
-pub(crate) static ALONE: [WordsRow<'static>; 7] = [
-    (&["--contents"], Meaning::Refused(Refusal::ContentsAlone)),
-    (
-        &["--contents", "--check"],
-        Meaning::Refused(Refusal::ContentsAlone),
-    ),
-    (
-        &["--offsets", "--contents", "a", "b"],
-        Meaning::Refused(Refusal::ContentsAlone),
-    ),
-    (
-        &["--contents", "--rules", "x"],
-        Meaning::Refused(Refusal::ContentsAlone),
-    ),
-    (
-        &["a", "--offset", "0", "b"],
-        Meaning::Refused(Refusal::SeveralFiles(ShowOption::Offset)),
-    ),
-    (
-        &["a", "b", "c", "--offset", "x"],
-        Meaning::Refused(Refusal::SeveralFiles(ShowOption::Offset)),
-    ),
-    (
-        &["--offsets", "-", "-"],
-        Meaning::Refused(Refusal::SeveralFiles(ShowOption::Offsets)),
+        &["--raw", "--as", "numbers", "a", "b"],
+        InputForm::Text(Form::Numbers),
     ),
 ];
 
 /// Words that `clap` does not take, and words for help and the version.
-pub(crate) static NOT_TAKEN: [WordsRow<'static>; 15] = [
+pub(crate) static NOT_TAKEN: [WordsRow<'static>; 20] = [
     (&["--limit", "-5"], Meaning::NotTaken),
     (&["--limit", "5", "--limit", "5"], Meaning::NotTaken),
     (&["--offset"], Meaning::NotTaken),
     (&["--lim", "5"], Meaning::NotTaken),
     (&["--pure=1"], Meaning::NotTaken),
     (&["--check", "--check"], Meaning::NotTaken),
+    (&["--raw", "--raw"], Meaning::NotTaken),
+    (&["--raw=1"], Meaning::NotTaken),
+    (&["--why", "--why"], Meaning::NotTaken),
+    (&["--as"], Meaning::NotTaken),
+    (&["--as", "pem", "--as", "pem"], Meaning::NotTaken),
     (&["--nonsense"], Meaning::NotTaken),
     (&["-h"], Meaning::NotTaken),
     (&["-V"], Meaning::NotTaken),

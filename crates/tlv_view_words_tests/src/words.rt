@@ -1,7 +1,8 @@
 //! What words mean: what they ask for, or why they ask for nothing.
-use super::rows::{
-    ALONE, APART, APART_FROM_OFFSETS, DUMPS, Meaning, NOT_TAKEN, OTHERS, VALUES, WordsRow,
+use super::refused_rows::{
+    ALONE, APART, APART_FROM_OFFSETS, APART_FROM_RAW, APART_FROM_WHY, VALUES,
 };
+use super::rows::{DUMPS, FORMS, Meaning, NOT_TAKEN, OTHERS, WordsRow};
 use crate::expect::expect_eq_of;
 use std::alloc::Global;
 use std::process::Abort;
@@ -48,6 +49,8 @@ fn meaning_of(wanted: &Wanted) -> Meaning {
             contents: *contents,
         },
         Wanted::Offsets => Meaning::Offsets,
+        Wanted::Raw => Meaning::Raw,
+        Wanted::Why { closed } => Meaning::Why { closed: *closed },
     }
 }
 
@@ -82,9 +85,26 @@ fn options_have_meanings(rt: HostRuntime) {
 /// Options that do not go together, words that are none, help and the version.
 #[test]
 fn refused_words_have_meanings(rt: HostRuntime) {
-    for rows in [APART.as_slice(), &APART_FROM_OFFSETS, &ALONE, &NOT_TAKEN] {
+    for rows in [
+        APART.as_slice(),
+        &APART_FROM_OFFSETS,
+        &APART_FROM_RAW,
+        &APART_FROM_WHY,
+        &ALONE,
+        &NOT_TAKEN,
+    ] {
         expect_meanings(&rt, rt.alloc(), rows);
     }
+}
+
+/// In which form an input is.
+#[test]
+fn words_name_forms(rt: HostRuntime) -> Result<(), Fail> {
+    for (list, form) in &FORMS {
+        let request = request(rt.alloc(), list)?;
+        expect_eq_of(&rt, *list, request.form, *form);
+    }
+    Ok(())
 }
 
 fn names_file(wanted: &Wanted) -> Option<&str> {
@@ -96,6 +116,8 @@ fn names_file(wanted: &Wanted) -> Option<&str> {
         Wanted::Check { .. } => None,
         Wanted::Extract { .. } => None,
         Wanted::Offsets => None,
+        Wanted::Raw => None,
+        Wanted::Why { .. } => None,
     }
 }
 
@@ -143,7 +165,12 @@ fn words_name_files(rt: HostRuntime) -> Result<(), Fail> {
         None,
         false,
         &["a", "--pure", "--", "-"],
-    )?;
+    )
+}
+
+#[test]
+fn words_for_other_than_a_dump_name_files(rt: HostRuntime) -> Result<(), Fail> {
+    let alloc = rt.alloc();
     expect_request(
         &rt,
         alloc,
@@ -160,5 +187,7 @@ fn words_name_files(rt: HostRuntime) -> Result<(), Fail> {
         true,
         &["a"],
     )?;
+    expect_request(&rt, alloc, &["--raw", "a", "b"], None, false, &["a", "b"])?;
+    expect_request(&rt, alloc, &["--why", "a", "b"], None, false, &["a", "b"])?;
     expect_request(&rt, alloc, &["--offsets", "-"], None, false, &["-"])
 }

@@ -13,13 +13,9 @@ use tlv_view_words::FileNames;
 use tlv_walk::{ReadFault, ReadSource, Source, WriteDrain};
 use tlv_words::Words;
 
-/// Where the file of names is, from the folder of the program: in an installation, where the program is in `bin` or in
-/// `lib/tlvdump`, and beside the sources.
-const PLACES: [&str; 3] = [
-    "../share/tlvdump/names.txt",
-    "../../share/tlvdump/names.txt",
-    "../../../data/names.txt",
-];
+/// Where the file of names is, from the folder of the program: in an installation, where the program is in `bin`, and
+/// beside the sources.
+const PLACES: [&str; 2] = ["../share/tlvdump/names.txt", "../../../data/names.txt"];
 
 fn main(rt: HostRuntime) -> ExitCode {
     let (words, places) = words_and_places(&rt);

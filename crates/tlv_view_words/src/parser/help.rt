@@ -2,9 +2,11 @@
 
 pub(super) const USAGE: &str = "\
 tlvdump-show [OPTIONS] [FILE]...
-       tlvdump-show --check [--rules RULES] [--closed] [--padding] [FILE]...
-       tlvdump-show --offset N [--contents] [--padding] [FILE]
-       tlvdump-show --offsets [--padding] [FILE]";
+       tlvdump-show --check [--as FORM] [--rules RULES] [--closed] [--padding] [FILE]...
+       tlvdump-show --offset N [--contents] [--as FORM] [--padding] [FILE]
+       tlvdump-show --offsets [--as FORM] [--padding] [FILE]
+       tlvdump-show --raw [--as FORM] [FILE]...
+       tlvdump-show --why [--as FORM] [--closed] [--padding] [FILE]...";
 
 pub(super) const ABOUT: &str = "\
 Show BER, CER and DER encodings, and those in strings, without their ASN.1 module";
@@ -15,21 +17,28 @@ line of its own, as \"tlvdump dump\" writes it. OCTET STRINGs and BIT STRINGs th
 encodings are opened, however deep in one another, and what they hold is shown below them.
 Where a value is shown as pairs of digits, a text of printable ASCII stands beside them.
 
+The encodings may be there as they are, or as a text: PEM, a hex dump with offsets,
+hexadecimal, decimal numbers, base64, or base64 inside another text. What a text was taken
+for is reported on standard error.
+
 With --check the findings alone are shown, with --offset the octets of one element are
-written, and with --offsets the offsets of the strings that are opened.";
+written, with --offsets the offsets of the strings that are opened, with --raw the decoded
+octets, and with --why the reasons why the input does not parse.";
 
 pub(super) const AFTER: &str = "\
 Examples:
   tlvdump-show cert.der
+  tlvdump-show chain.pem
   tlvdump-show --check *.der
   tlvdump-show --offset 703 cert.der | tlvdump dump
+  tlvdump-show --raw cert.pem | tlvdump check
   
 Exit status, the highest of several files:
   0  the input is one or more whole encodings, and nothing else
   1  findings, a string that breaks when it is opened, or no element at --offset (E4)
   2  an octet is refused, or the input ends too early (F01 to F12)
   3  a read or a write failed (E1, E2), more than 2^40 octets (E3), FILE does not open (E5)
-  4  the command line (U1, U2, U4) or the file of names (N1 to N5) is refused
+  4  the command line (U1, U2, U4), the file of names (N1 to N5) or a text (X1 to X4) is refused
   5  memory was refused (U3, N6, E8)
 Messages go to standard error. One that concerns a FILE has its name before it.";
 
@@ -51,6 +60,14 @@ end-of-contents octets";
 pub(super) const OFFSETS: &str = "\
 Write the offsets of the strings that are opened, with commas between them: --inside of
 tlvdump takes up to 16 of them";
+
+pub(super) const RAW: &str = "Write the decoded octets, and nothing else";
+
+pub(super) const WHY: &str = "Say whether the input parses; if not, why, in sentences";
+
+pub(super) const AS: &str = "\
+Take the input for octets, pem, dump, hex, numbers, base64 or runs (base64 inside another
+text) [default: what its octets decide]";
 
 pub(super) const RULES: &str = "\
 Show what violates the rules of BER, DER or CER: ber, der or cer; those of DER and CER

@@ -1,87 +1,53 @@
-use Rattle.std.proofs.Common.{◌≡◌, ◌+◌, ◌≤◌, ℕ, Bool, List, [], ◌∷◌, Option, None, ap, arith, get_or, length, map, subst, sym, ◌∙◌}
+use Rattle.std.proofs.Common.{◌≡◌, ℕ, Bool, List, [], ◌∷◌, ap, length, map, refl, rules, subst, sym, ◌∙◌}
+use Rattle.std.specs.Prelude.{nat_lt}
+use Rattle.std.proofs.lemmas.List.{length-map}
+use Rattle.tlv_run.specs.Report.{ReportValue}
 use Rattle.tlv_value.specs.Names.{NamesValue}
 use Rattle.tlv_view_words.specs.declared.request.Request.{Request}
-use Rattle.tlv_program.specs.System.{Allows}
-use Rattle.tlv_view_program.proofs.FileSteps.{file-goes_on, file-stops, files-begin, files-end, no-files, one-file}
-use Rattle.tlv_view_program.proofs.FileSteps.{same-count, some-files}
-use Rattle.tlv_view_program.specs.ShowsAll.{ShowsFiles, file_of_word, files_of_words}
-use Rattle.tlv_view_program.specs.ShowsBlock.{ShowsBlock}
+use Rattle.tlv_view_program.specs.Private.BlockParts.{input_block}
+use Rattle.tlv_view_program.specs.ShowsAll.{BlocksPlace, ShowsBlocks, file_of_word, files_of_words, had, not_had}
+use Rattle.tlv_view_program.specs.ShowsAll.{places_of}
 use Rattle.tlv_view_program.specs.Streams.{StreamsValue, streams_value}
+use Rattle.tlv_view_program.specs.declared.input_blocks.InputBlock.{InputBlock}
 use Rattle.tlv_view_program.proofs.files.show_files.Goals as goal
 
-module _ {S : Type 0} (allows : Allows S) (request : Request) (table : NamesValue) where
-  -- of words of which there are some
-  of-words : (words : List (List ℕ)) (old new : StreamsValue S) (status : ℕ)
-      → map file_of_word words ≡ files_of_words words
-      → ShowsFiles allows request table (length words) 1 (map file_of_word words) old new status
-      → ShowsFiles allows request table (length (files_of_words words)) 1 (files_of_words words) old new status
-  of-words words old new status same x =
-      subst (λ (l : List (Option (List ℕ))). ShowsFiles allows request table (length l) 1 l old new status) same
-      (subst (λ (n : ℕ). ShowsFiles allows request table n 1 (map file_of_word words) old new status)
-      (sym (same-count words)) x)
+-- there are several files if there are several words
+several-words : (words : List (List ℕ)) → nat_lt 1 (length words) ≡ nat_lt 1 (length (files_of_words words))
+several-words [] = refl
+several-words (x ∷ words) = ap (nat_lt 1) (sym (length-map (x ∷ words) file_of_word))
 
-  -- of no words
-  no-words : (words : List (List ℕ)) (old new : StreamsValue S) (status : ℕ) → words ≡ []
-      → ShowsFiles allows request table 1 1 (None ∷ []) old new status
-      → ShowsFiles allows request table (length (files_of_words words)) 1 (files_of_words words) old new status
-  no-words words old new status e x = rw e x
+place-of-all : (words : List (List ℕ)) (blocks : List InputBlock) (count : ℕ) (several : Bool) → count ≡ length blocks
+    → several ≡ nat_lt 1 (length words)
+    → record { count = count; several_files = several } ≡ places_of (files_of_words words) (map input_block blocks)
+place-of-all words blocks count several c s =
+    let counted : ℕ → BlocksPlace = λ n. record { count = n; several_files = several } in
+    let in_files : Bool → BlocksPlace =
+    λ b. record { count = length (map input_block blocks); several_files = b } in
+    ap counted (c ∙ sym (length-map blocks input_block)) ∙ ap in_files (s ∙ several-words words)
 
-  -- the same file, of as many
-  at-file : (number : ℕ) (count many : ℕ) (file other : Option (List ℕ)) (old new : StreamsValue S) (failed : Bool)
-      (status : ℕ) → count ≡ many → file ≡ other → ShowsBlock allows request table number count file old new failed status
-      → ShowsBlock allows request table number many other old new failed status
-  at-file number count many file other old new failed status c f x = rw (← c, ← f) x
+shown-in-place : {S : Type 0} (request : Request) (table : NamesValue) (words : List (List ℕ))
+    (blocks slice : List InputBlock) (count : ℕ) (several : Bool) (old new : StreamsValue S) (status : ℕ)
+    → slice ≡ blocks → count ≡ length blocks → several ≡ nat_lt 1 (length words)
+    → ShowsBlocks request table (record { count = count; several_files = several }) 1 (map input_block slice) old new
+    status
+    → ShowsBlocks request table (places_of (files_of_words words) (map input_block blocks)) 1 (map input_block blocks)
+    old new status
+shown-in-place request table words blocks slice count several old new status same c s x =
+    subst (λ (p : BlocksPlace). ShowsBlocks request table p 1 (map input_block blocks) old new status)
+    (place-of-all words blocks count several c s) (rw (← same) x)
 
-pub returns-then-is_empty : goal.returns-then-is_empty
-returns-then-is_empty g c =
-    let none = no-files c.args.request.now.files c.is_empty.result
-    (rw (← c.as_slice-files.ensures) c.is_empty.ensures) c.if-is_empty.true in
-    no-words g.S.System.allows c.args.request.now c.args.names.now c.args.request.now.files _ _ _ none
-    (one-file g.S.System.allows c.args.request.now c.args.names.now _ _ _ c.block.result.has_failed
-    c.block.result.status c.block.ensures)
-
-pub loop-i-init : goal.loop-i-init
-loop-i-init g c =
-    files-begin g.S.System.allows c.args.request.now c.args.names.now c.args.request.now.files
-    (length c.args.request.now.files)
-    (streams_value g.I.Source.state g.O.Drain.state g.M.Drain.state c.args.streams.now)
-
-pub returns-then-block : goal.returns-then-block
-returns-then-block g c =
-    let files = c.as_slice-files.ensures in
-    of-words g.S.System.allows c.args.request.now c.args.names.now c.args.request.now.files _ _ _
-    (some-files c.args.request.now.files c.is_empty.result (rw (← files) c.is_empty.ensures) c.if-is_empty.false)
-    (rw c.highest-status.ensures
-    (file-stops g.S.System.allows c.args.request.now c.args.names.now c.args.request.now.files
-    (length c.args.request.now.files)
-    (streams_value g.I.Source.state g.O.Drain.state g.M.Drain.state c.args.streams.now) c.loop-i.i
-    c.index-files-i.result _ _ c.loop-i.status c.block-block.result.status (rw (← files) c.loop-i-test.true)
-    c.loop-i.invariant
-    (at-file g.S.System.allows c.args.request.now c.args.names.now (c.loop-i.i + 1) _ _ _ _ _ _ _ _ (ap length files)
-    (c.file_of_word.ensures ∙ ap file_of_word (c.as_str.ensures ∙ c.index-files-i.is
-    ∙ ap (λ (l : List (List ℕ)). get_or l c.loop-i.i c.index-files-i.result) files))
-    (rw c.if-block.true at c.block-block.ensures))))
-
-pub loop-i-preserved : goal.loop-i-preserved
-loop-i-preserved g c =
-    let files = c.as_slice-files.ensures in
-    rw c.highest-status.ensures
-    (file-goes_on g.S.System.allows c.args.request.now c.args.names.now c.args.request.now.files
-    (length c.args.request.now.files)
-    (streams_value g.I.Source.state g.O.Drain.state g.M.Drain.state c.args.streams.now) c.loop-i.i
-    c.index-files-i.result _ _ c.loop-i.status c.block-block.result.status (rw (← files) c.loop-i-test.true)
-    c.loop-i.invariant
-    (at-file g.S.System.allows c.args.request.now c.args.names.now (c.loop-i.i + 1) _ _ _ _ _ _ _ _ (ap length files)
-    (c.file_of_word.ensures ∙ ap file_of_word (c.as_str.ensures ∙ c.index-files-i.is
-    ∙ ap (λ (l : List (List ℕ)). get_or l c.loop-i.i c.index-files-i.result) files))
-    (rw c.if-block.false at c.block-block.ensures)))
+pub returns-in_default : goal.returns-in_default
+returns-in_default g c =
+    let said = ap (λ (r : ReportValue). r.message) c.input_report.ensures in
+    let status = ap (λ (r : ReportValue). r.status) c.input_report.ensures in
+    rw (c.write_message.ensures.status ∙ status)
+    (not_had (streams_value g.I.Source.state g.O.Drain.state g.M.Drain.state c.blocks_of_files.new.streams)
+    (rw c.in_default.is at c.blocks_of_files.ensures.gets) (rw said at c.write_message.ensures.writes, refl))
 
 pub returns : goal.returns
 returns g c =
-    let files = c.as_slice-files.ensures in
-    of-words g.S.System.allows c.args.request.now c.args.names.now c.args.request.now.files _ _ _
-    (some-files c.args.request.now.files c.is_empty.result (rw (← files) c.is_empty.ensures) c.if-is_empty.false)
-    (files-end g.S.System.allows c.args.request.now c.args.names.now c.args.request.now.files
-    (length c.args.request.now.files)
-    (streams_value g.I.Source.state g.O.Drain.state g.M.Drain.state c.args.streams.now) c.loop-i.i _ c.loop-i.status
-    (rw (← files) (omega (arith, c.loop-i-test.false))) c.loop-i.invariant)
+    had (streams_value g.I.Source.state g.O.Drain.state g.M.Drain.state c.blocks_of_files.new.streams)
+    (map input_block c.in-Some.blocks.items) c.show_blocks.result c.in-Some.ensures.gets
+    (shown-in-place c.args.request.now c.args.names.now c.args.request.now.files c.in-Some.blocks.items _ _ _ _ _ _
+    c.as_slice-2.ensures.value (search rules) (ap (λ (l : List (List ℕ)). nat_lt 1 (length l)) c.as_slice.ensures)
+    c.show_blocks.ensures)

@@ -7,14 +7,14 @@ returns-in_err-put g c =
     first_fails g.D.Drain.state _ _ _ _ _ _ _
     (rw (c.as_slice.ensures.value, c.block_start.ensures) at c.in_err-put.ensures.puts) (search rules)
 
-pub returns-in_err-put_shown_name : goal.returns-in_err-put_shown_name
-returns-in_err-put_shown_name g c =
+pub returns-in_err-put_title : goal.returns-in_err-put_title
+returns-in_err-put_title g c =
     second_fails g.D.Drain.state _ _ _ _ _ _ _ _
     (rw (c.as_slice.ensures.value, c.block_start.ensures) at c.in_ok-put.ensures.puts)
-    c.in_err-put_shown_name.ensures (search rules)
+    c.in_err-put_title.ensures (search rules)
 
 pub returns : goal.returns
 returns g c =
     all_three g.D.Drain.state _ _ _ _ _ _ _ _
     (rw (c.as_slice.ensures.value, c.block_start.ensures) at c.in_ok-put.ensures.puts)
-    c.in_ok-put_shown_name.ensures c.put-2.ensures.puts
+    c.in_ok-put_title.ensures c.put-2.ensures.puts

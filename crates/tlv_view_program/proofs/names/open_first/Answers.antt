@@ -1,4 +1,4 @@
-use Rattle.std.proofs.Common.{◌≡◌, ◌+◌, ◌<◌, ℕ, List, [], ◌∷◌, Option, Some, None, arith, drop, get_or, length, subst, sym}
+use Rattle.std.proofs.Common.{◌+◌, ◌<◌, ℕ, List, Option, Some, None, arith, drop, get_or, length, subst, sym}
 use Rattle.std.proofs.lemmas.List.{drop_all, drop_more}
 use Rattle.tlv_io.specs.Device.{SourceState}
 use Rattle.tlv_program.specs.System.{Allows, IsUnread}
@@ -44,4 +44,7 @@ pub returns : goal.returns
 returns g c =
     let places = c.as_slice-place-items.ensures in
     c.loop-place.invariant _ _
-    (rw (drop_all c.loop-place.place-index c.args.places.now (rw (← places) (omega (arith, c.loop-place-test.false)))) none)
+    (rw
+    (drop_all c.loop-place.place-index c.args.places.now
+    (rw (← places) (omega (arith, c.loop-place-test.false))))
+    none)

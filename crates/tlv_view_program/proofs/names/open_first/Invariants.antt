@@ -1,4 +1,4 @@
-use Rattle.std.proofs.Common.{Option, drop, option_map}
+use Rattle.std.proofs.Common.{Option, drop}
 use Rattle.tlv_io.specs.Device.{SourceState}
 use Rattle.tlv_view_program.specs.ShowsAll.{OpensFirst}
 use Rattle.tlv_view_program.proofs.names.open_first.Given as goal

@@ -1,4 +1,4 @@
-use Rattle.std.proofs.Common.{◌≡◌, ℕ, Bool, false, List, Option, Some, None, Result, rules, refl}
+use Rattle.std.proofs.Common.{◌≡◌, ℕ, Bool, false, List, Option, Some, None, Result, refl}
 use Rattle.std.specs.Option.{is_none}
 use Rattle.tlv_io.specs.Device.{SourceState}
 use Rattle.tlv_value.specs.Names.{NamesValue}
@@ -19,7 +19,8 @@ module _ {S : Type 0} (allows : Allows S) (wanted : Wanted) (places : List (List
   without-file (Some name) noted result asked opens n r = rw (n, r) (unopened name asked opens.0)
 
   -- a file opens
-  with-file : (name : Option (List ℕ)) (between : S) (before after : SourceState) (result : Result NamesValue NamesFault)
+  with-file : (name : Option (List ℕ)) (between : S) (before after : SourceState)
+      (result : Result NamesValue NamesFault)
       → names_of_wanted wanted ≡ Some name → OpensNames allows name places old between (Some before)
       → ReadsFrom before after result → allows.closes between new after
       → GetsTable allows wanted places old new false result
@@ -41,6 +42,14 @@ pub returns-in-Offsets : goal.returns-in-Offsets
 returns-in-Offsets g c =
     rw (c.no_table-in-Offsets.ensures.names, c.no_table-in-Offsets.ensures.noted)
     (not_asked (rw c.in-Offsets.is refl) refl)
+
+pub returns-in-Raw : goal.returns-in-Raw
+returns-in-Raw g c =
+    rw (c.no_table-in-Raw.ensures.names, c.no_table-in-Raw.ensures.noted) (not_asked (rw c.in-Raw.is refl) refl)
+
+pub returns-in-Why : goal.returns-in-Why
+returns-in-Why g c =
+    rw (c.no_table-in-Why.ensures.names, c.no_table-in-Why.ensures.noted) (not_asked (rw c.in-Why.is refl) refl)
 
 pub returns-in_default : goal.returns-in_default
 returns-in_default g c =

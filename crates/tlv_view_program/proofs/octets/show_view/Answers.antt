@@ -3,7 +3,7 @@ use Rattle.std.specs.Prelude.{not}
 use Rattle.tlv_open.specs.declared.strings.BrokenString.{BrokenString}
 use Rattle.tlv_view.specs.Views.{AreBrokenUnless}
 use Rattle.tlv_view_words.specs.declared.request.Wanted.{Wanted}
-use Rattle.tlv_view_words.specs.declared.request.Wanted.TheVariants.{Dump, Check, Extract, Offsets}
+use Rattle.tlv_view_words.specs.declared.request.Wanted.TheVariants.{Dump, Check, Extract, Offsets, Raw, Why}
 use Rattle.tlv_view_program.specs.ShowsBlock.{no_memory, reports_broken, shown, stays_closed}
 use Rattle.tlv_view_program.proofs.octets.show_view.Goals as goal
 
@@ -17,6 +17,9 @@ reported (Check rules true) padding octets broken e x = absurd (cc (e))
 reported (Check rules false) padding octets broken e x = x
 reported (Extract offset contents) padding octets broken e x = absurd (cc (e))
 reported Offsets padding octets broken e x = absurd (cc (e))
+reported Raw padding octets broken e x = absurd (cc (e))
+reported (Why true) padding octets broken e x = absurd (cc (e))
+reported (Why false) padding octets broken e x = x
 
 -- where they are not, there are none
 unreported : (b padding : Bool) (octets : List ℕ) → b ≡ false → AreBrokenUnless (not b) padding octets []

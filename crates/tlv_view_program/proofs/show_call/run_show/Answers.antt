@@ -6,7 +6,7 @@ use Rattle.tlv_program.specs.System.{Allows}
 use Rattle.tlv_program.specs.declared.program.NoWords.{NoWords}
 use Rattle.tlv_program.specs.declared.program.NoWords.TheVariants.{NotUtf8, Memory}
 use Rattle.tlv_view_program.specs.ShowsAll.{RunsShow, no_memory, not_utf8, refused, runs}
-use Rattle.tlv_view_program.specs.Streams.{StreamsValue, streams_value}
+use Rattle.tlv_view_program.specs.Streams.{StreamsValue}
 use Rattle.tlv_view_program.proofs.show_call.run_show.Goals as goal
 
 module _ {S : Type 0} (allows : Allows S) (places : List (List ℕ)) (typed : Bool) (old new : StreamsValue S) where

@@ -1,4 +1,4 @@
-use Rattle.std.proofs.Common.{◌≡◌, ◌∙◌, rules, ap, ap₂, sym}
+use Rattle.std.proofs.Common.{◌∙◌, ap, ap₂, sym}
 use Rattle.clap.specs.Faults.{fault_of, is_simple_and_free}
 use Rattle.clap.specs.Words.{is_simple, matches_of, takes}
 use Rattle.tlv_view_words.proofs.RequestLemmas.{request_fault_of, result_of_matches, show_app-free, show_app-simple}

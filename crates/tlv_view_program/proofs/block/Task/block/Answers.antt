@@ -1,18 +1,40 @@
-use Rattle.std.proofs.Common.{ap, refl, ◌∙◌}
+use Rattle.std.proofs.Common.{◌≡◌, ℕ, List, ap, refl, ◌∙◌}
+use Rattle.std.specs.Prelude.{Result, ⊤}
+use Rattle.tlv_io.specs.Device.{DrainState}
+use Rattle.tlv_io.specs.Out.{Sends}
+use Rattle.tlv_io.specs.declared.drain.WriteFault.{WriteFault}
+use Rattle.tlv_open.specs.declared.strings.BrokenString.{BrokenString}
 use Rattle.tlv_run.specs.Report.{report_value_of}
-use Rattle.tlv_view_program.specs.ShowsBlock.{status_with}
-use Rattle.tlv_view_program.specs.Streams.{streams_value}
+use Rattle.tlv_view_program.specs.Lines.{MessagePlace}
+use Rattle.tlv_view_program.specs.Private.BlockParts.{block_contents, place_value}
+use Rattle.tlv_view_program.specs.ShowsBlock.{block_messages, contents_status, status_with}
 use Rattle.tlv_view_program.proofs.block.Task.block.Goals as goal
 
+-- the same messages
+same-messages : (old new : DrainState) (p q : MessagePlace) (message text : List ℕ) (broken strings : List BrokenString)
+    (r : Result ⊤ WriteFault) → p ≡ q → message ≡ text → broken ≡ strings
+    → Sends old new (block_messages p message broken) r → Sends old new (block_messages q text strings) r
+same-messages old new p q message text broken strings r e f h x = rw (← e, ← f, ← h) x
+
 pub returns : goal.returns
-returns g c = record {
-  between = streams_value g.I.Source.state g.O.Drain.state g.M.Drain.state c.titled-shown.new.streams;
-  report = report_value_of c.titled-shown.result.report;
-  broken = c.titled-shown.result.broken.items;
-  shows = c.titled-shown.ensures;
-  said = c.write_messages.result;
-  says = rw (c.as_slice.ensures.value, c.as_slice-2.ensures.value) at c.write_messages.ensures;
-  same = refl;
-  failed_is = c.has_failed_write.ensures;
-  status_is = c.status_with.ensures ∙ ap (status_with c.titled-shown.result.report.status) c.as_slice-3.ensures.value;
-}
+returns g c =
+    let placed = c.name_of-name.ensures (place_value c.args.number c.args.self.now) refl in record {
+      noted = c.write_contents_note.result;
+      messages = g.M.Drain.state c.write_contents_note.new.drain;
+      notes = rw placed at c.write_contents_note.ensures;
+      report = report_value_of c.titled-shown.result.report;
+      broken = c.titled-shown.result.broken.items;
+      output = g.O.Drain.state c.titled-shown.new.drain;
+      shows = c.titled-shown.ensures;
+      said = c.write_messages.result;
+      says =
+          same-messages _ _ _ _ _ _ _ _ _ placed c.as_slice.ensures.value c.as_slice-2.ensures.value
+          c.write_messages.ensures;
+      same = refl;
+      failed_is = c.has_failed_write.ensures;
+      status_is =
+          c.contents_status.ensures
+          ∙ ap (contents_status c.args.self.now.request.now.wanted (block_contents c.args.block.now.contents))
+          (c.status_with-status.ensures
+          ∙ ap (status_with c.titled-shown.result.report.status) c.as_slice-3.ensures.value);
+    }

@@ -1,0 +1,130 @@
+-- The blocks of all inputs, one after another.
+use Rattle.std.proofs.Common.{◌≡◌, ◌+◌, ◌<◌, ◌≤◌, ◌++◌, ℕ, Bool, true, false, List, [], ◌∷◌, Option, Some, None, ap}
+use Rattle.std.proofs.Common.{append-nil, append_assoc, arith, drop, get_or, length, map, refl, subst, sym, ◌∙◌}
+use Rattle.std.specs.Prelude.{Result, Ok, Err, OnOk, is_err, nat_lt, option_map, ◌==◌}
+use Rattle.std.proofs.lemmas.Bool.Decides.{nat_tests}
+use Rattle.std.proofs.lemmas.List.{drop_all, drop_more, length-map}
+use Rattle.tlv_forms.specs.Taken.{TakenValue, taken_value}
+use Rattle.tlv_forms.specs.declared.taken.Taken.{Taken}
+use Rattle.tlv_program.specs.System.{Allows}
+use Rattle.tlv_view_words.specs.declared.request.InputForm.{InputForm}
+use Rattle.tlv_view_program.specs.InputBlocks.{BlockContents, GetsAllBlocks, GetsBlocks, InputBlockValue, block_of_file}
+use Rattle.tlv_view_program.specs.InputBlocks.{blocks_taken, next, no_more, refused_here, refused_later}
+use Rattle.tlv_view_program.specs.ShowsAll.{file_of_word, files_of_words}
+use Rattle.tlv_view_program.specs.Streams.{StreamsValue}
+
+-- ---- the blocks of a file
+
+-- the block of what an input was taken for
+abbrev pub taken_block : Option (List ℕ) → Bool → Taken → InputBlockValue
+taken_block file several t = block_of_file file several (BlockContents.taken (taken_value t))
+
+each-block : (file : Option (List ℕ)) (several : Bool) (ts : List Taken)
+    → map (taken_block file several) ts
+    ≡ map (λ (t : TakenValue). block_of_file file several (BlockContents.taken t)) (map taken_value ts)
+each-block file several [] = refl
+each-block file several (t ∷ ts) =
+    ap (λ (l : List InputBlockValue). taken_block file several t ∷ l) (each-block file several ts)
+
+pub blocks-taken : (file : Option (List ℕ)) (several : Bool) (ts : List Taken) → several ≡ nat_lt 1 (length ts)
+    → map (taken_block file several) ts ≡ blocks_taken file (Ok (map taken_value ts))
+blocks-taken file several ts e =
+    each-block file several ts
+    ∙ ap
+    (λ (b : Bool). map (λ (t : TakenValue). block_of_file file b (BlockContents.taken t)) (map taken_value ts))
+    (e ∙ ap (nat_lt 1) (sym (length-map ts taken_value)))
+
+-- ---- the blocks of all files
+
+-- these blocks and then more, if they were had
+abbrev pub blocks_after : List InputBlockValue → Option (List InputBlockValue) → Option (List InputBlockValue)
+blocks_after blocks more = option_map (λ (l : List InputBlockValue). blocks ++ l) more
+
+after-none : (more : Option (List InputBlockValue)) → more ≡ blocks_after [] more
+after-none None = refl
+after-none (Some l) = refl
+
+after-both : (xs ys : List InputBlockValue) (more : Option (List InputBlockValue))
+    → blocks_after xs (blocks_after ys more) ≡ blocks_after (xs ++ ys) more
+after-both xs ys None = refl
+after-both xs ys (Some l) = ap (λ (x : List InputBlockValue). Some x) (sym (append_assoc xs ys l))
+
+-- words of which there are some name their files
+pub some-words : (words : List (List ℕ)) (b : Bool) → b ≡ (length words == 0) → b ≡ false
+    → map file_of_word words ≡ files_of_words words
+some-words [] b e f = let u : true ≡ false = sym e ∙ f in absurd (cc (u))
+some-words (x ∷ words) b e f = refl
+
+pub no-words : (words : List (List ℕ)) (b : Bool) → b ≡ (length words == 0) → b ≡ true → words ≡ []
+no-words [] b e f = refl
+no-words (x ∷ words) b e f =
+    let some : (length (x ∷ words) == 0) ≡ false = grind (arith, nat_tests) in
+    let u : false ≡ true = sym some ∙ (sym e ∙ f) in
+    absurd (cc (u))
+
+-- what holds if there is no error
+pub without-error : {T E : Type 0} (r : Result T E) (b : Bool) (P : Type 0) → b ≡ is_err r → b ≡ false → OnOk r P → P
+without-error (Ok x) b P e f p = p
+without-error (Err x) b P e f p = let u : true ≡ false = sym e ∙ f in absurd (cc (u))
+
+module _ {S : Type 0} (allows : Allows S) (form : InputForm) where
+  -- the blocks of a file, and then those of others, if there is memory
+  next-file : (file : Option (List ℕ)) (files : List (Option (List ℕ))) (old between new : StreamsValue S)
+      (added : List InputBlockValue) (more : Option (List InputBlockValue))
+      → GetsBlocks allows form file old between added → GetsAllBlocks allows form files between new more
+      → GetsAllBlocks allows form (file ∷ files) old new (blocks_after added more)
+  next-file file files old between new added None x others = refused_later between x others
+  next-file file files old between new added (Some l) x others = next between x others
+
+  module _ (files : List (Option (List ℕ))) (words : List (List ℕ)) (first : StreamsValue S) where
+    -- what comes of the files that are left comes of all of them, after the blocks so far
+    abbrev pub GetsRest : ℕ → StreamsValue S → List InputBlockValue → Type 0
+    GetsRest i now blocks = (new : StreamsValue S) (more : Option (List InputBlockValue))
+        → GetsAllBlocks allows form (map file_of_word (drop i words)) now new more
+        → GetsAllBlocks allows form files first new (blocks_after blocks more)
+
+    pub rest-begins : (blocks : List InputBlockValue) → map file_of_word words ≡ files → blocks ≡ []
+        → GetsRest 0 first blocks
+    rest-begins blocks same none new more x =
+        subst (λ (l : List (Option (List ℕ))). GetsAllBlocks allows form l first new (blocks_after blocks more)) same
+        (subst (λ (r : Option (List InputBlockValue)). GetsAllBlocks allows form (map file_of_word words) first new r)
+        (after-none more ∙ ap (λ (l : List InputBlockValue). blocks_after l more) (sym none)) x)
+
+    pub rest-refused : (i : ℕ) (d : List ℕ) (now new : StreamsValue S) (blocks added : List InputBlockValue)
+        → i < length words → GetsRest i now blocks
+        → GetsBlocks allows form (file_of_word (get_or words i d)) now new added
+        → GetsAllBlocks allows form files first new None
+    rest-refused i d now new blocks added some so x =
+        so new None
+        (subst (λ (l : List (List ℕ)). GetsAllBlocks allows form (map file_of_word l) now new None)
+        (sym (drop_more words i d some)) (refused_here x))
+
+    pub rest-goes_on : (i : ℕ) (d : List ℕ) (now between : StreamsValue S) (blocks added all : List InputBlockValue)
+        → i < length words → GetsRest i now blocks
+        → GetsBlocks allows form (file_of_word (get_or words i d)) now between added → all ≡ blocks ++ added
+        → GetsRest (i + 1) between all
+    rest-goes_on i d now between blocks added all some so x same new more others =
+        subst (λ (r : Option (List InputBlockValue)). GetsAllBlocks allows form files first new r)
+        (after-both blocks added more ∙ ap (λ (l : List InputBlockValue). blocks_after l more) (sym same))
+        (so new (blocks_after added more)
+        (subst (λ (l : List (List ℕ)). GetsAllBlocks allows form (map file_of_word l) now new (blocks_after added more))
+        (sym (drop_more words i d some)) (next-file _ _ now between new added more x others)))
+
+    pub rest-ends : (i : ℕ) (now : StreamsValue S) (blocks : List InputBlockValue) → length words ≤ i
+        → GetsRest i now blocks → GetsAllBlocks allows form files first now (Some blocks)
+    rest-ends i now blocks none so =
+        subst (λ (l : List InputBlockValue). GetsAllBlocks allows form files first now (Some l)) (append-nil blocks)
+        (so now (Some [])
+        (subst (λ (l : List (List ℕ)). GetsAllBlocks allows form (map file_of_word l) now now (Some []))
+        (sym (drop_all i words none)) no_more))
+
+  -- standard input alone
+  pub refused-alone : (words : List (List ℕ)) (first new : StreamsValue S) (added : List InputBlockValue) → words ≡ []
+      → GetsBlocks allows form None first new added → GetsAllBlocks allows form (files_of_words words) first new None
+  refused-alone words first new added none x = rw none (refused_here x)
+
+  pub rest-alone : (words : List (List ℕ)) (first between : StreamsValue S) (blocks added : List InputBlockValue)
+      → words ≡ [] → blocks ≡ added → GetsBlocks allows form None first between added
+      → GetsRest (files_of_words words) words first 0 between blocks
+  rest-alone words first between blocks added none same x = rw (none, same)
+      (λ new more others. next-file None [] first between new added more x others)
