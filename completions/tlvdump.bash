@@ -1,4 +1,4 @@
-# Completion of tlvdump, tlvdump-inside and tlvdump-show for bash.
+# Completion of tlvdump and tlvdump-show for bash.
 
 # The words of $1 that begin with the word that is completed, or the files.
 _tlvdump_words() {
@@ -15,7 +15,7 @@ _tlvdump_value() {
     case $before in
     --names) _tlvdump_files ;;
     --rules) _tlvdump_words "ber der cer" ;;
-    --as) _tlvdump_words "ber pem base64 hex dump" ;;
+    --as) _tlvdump_words "octets ber der cer pem dump hex numbers base64 runs" ;;
     --limit | --offset | --inside) ;;
     *) return 1 ;;
     esac
@@ -68,13 +68,10 @@ _tlvdump() {
     _tlvdump_complete "$options"
 }
 
-_tlvdump_script() {
+_tlvdump_show() {
     local word=${COMP_WORDS[COMP_CWORD]} before=${COMP_WORDS[COMP_CWORD - 1]}
     COMPREPLY=()
-    case ${COMP_WORDS[0]##*/} in
-    tlvdump-inside) _tlvdump_complete "--option --padding --help" ;;
-    *) _tlvdump_complete "$(_tlvdump_show_options)" ;;
-    esac
+    _tlvdump_complete "$(_tlvdump_show_options)"
 }
 
 # The options of tlvdump-show that go with what it is to do, which is said by a word before.
@@ -82,15 +79,14 @@ _tlvdump_show_options() {
     case " ${COMP_WORDS[*]:1:COMP_CWORD-1} " in
     *" --check "*) echo "--as --rules --closed --padding --help" ;;
     *" --offset"[\ =]*) echo "--as --contents --padding --help" ;;
-    *" --offsets "*) echo "--as --padding --help" ;;
-    *" --raw "*) echo "--as --help" ;;
-    *" --why "*) echo "--as --inside --padding --help" ;;
+    *" --offsets "* | *" --raw "*) echo "--as --padding --help" ;;
+    *" --why "*) echo "--as --closed --padding --help" ;;
     *)
         echo "--as --rules --limit --pure --names --closed --no-text --padding --check --offset --contents --offsets --raw" \
-            "--why --inside --help --version"
+            "--why --help --version"
         ;;
     esac
 }
 
 complete -F _tlvdump tlvdump
-complete -F _tlvdump_script tlvdump-inside tlvdump-show
+complete -F _tlvdump_show tlvdump-show

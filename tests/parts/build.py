@@ -1,4 +1,5 @@
-"""./tlvdump: that it builds the program if that is missing or old, what it prints meanwhile, and what ends a build.
+"""./tlvdump and ./tlvdump-show: that they build a program that is missing or old, what they print meanwhile, and what ends a
+build.
 
 In the place of the kit's rt is a script that takes little time: parts/fake_kit.py.
 """
@@ -281,20 +282,23 @@ def two_at_once(part):
 
 
 def the_other_program(part):
-    """./tlvdump-show builds its program so too, and the one that it reads with; then it says nothing of a build."""
+    """./tlvdump-show builds its own program so, and runs it, which finds the names of the clone."""
     top = top_of(make_clone(part, "show"))
-    part.write("show/crates.txt", b"tlvdump: tlv_low\ntlv_low: hex\ntlvdump_show: tlv_low tlvdump\n")
+    part.write("show/crates.txt", b"tlvdump_show: tlv_low clap\ntlv_low: hex\n")
     script, env = os.path.join(top, "tlvdump-show"), environment(part, "quick", RT_PROGRAM=part.suite.show_program)
-    wanted = part.run(["--version"], program=part.suite.show_program)
-    crates = [os.path.join(top, "crates", name) for name in ("tlvdump", "tlvdump_show")]
-    printed = "".join(f"{name}: {BEGINS} ({crate}/out/build.log)\n{name}: built, N s\n"
-                      for name, crate in zip(("tlvdump", "tlvdump-show"), crates))
-    status, out, err = run(part, script, ["--version"], env=env)
-    fine = (status, out, re.sub(r"\d+ s\b", "N s", err)) == (0, wanted.out, printed)
-    part.expect("./tlvdump-show builds both", fine, str(status), str(out), err)
-    got = run(part, script, ["--version"], env=env)
-    part.expect("./tlvdump-show again", got == (0, wanted.out, ""), *map(str, got))
-    os.remove(os.path.join(crates[1], "out", "tlvdump_show"))
+    crate = os.path.join(top, "crates", "tlvdump_show")
+    printed = f"tlvdump-show: {BEGINS} ({crate}/out/build.log)\ntlvdump-show: built, N s\n"
+    octets, wanted = b"\x06\x03\x55\x04\x03", b"       0      3: OBJECT IDENTIFIER 2.5.4.3 (commonName)\n"
+    status, out, err = run(part, script, [], octets, env=env)
+    fine = (status, out, re.sub(r"\d+ s\b", "N s", err)) == (0, wanted, printed)
+    part.expect("./tlvdump-show builds its program, and runs it", fine, str(status), str(out), err)
+    got = run(part, script, ["-"], octets, env=env)
+    part.expect("./tlvdump-show again", got == (0, wanted, ""), *map(str, got))
+    part.expect("./tlvdump-show builds no other program", not os.path.exists(program_of(os.path.join(top, "tlvdump"))))
+    os.symlink(script, part.path("show by a link"))
+    got = run(part, part.path("show by a link"), ["--offsets"], b"\x04\x02\x05\x00", env=env)
+    part.expect("./tlvdump-show by a link", got == (0, b"0\n", ""), *map(str, got))
+    os.remove(os.path.join(crate, "out", "tlvdump_show"))
     env["RT_HOW"] = "fails"
     status, out, err = run(part, script, ["--version"], env=env)
     fine = (status, out) == (70, b"") and err.endswith("\ntlvdump-show: not built\n")

@@ -14,25 +14,24 @@ def words_of(part):
     return options
 
 
-def show_options(program):
-    """The options of the program tlvdump-show, by its help."""
-    return set(re.findall(r"^ +(?:-\w, )?(--[a-z-]+)", program.run(["--help"]).out.decode(), re.M))
+def show_options(part):
+    """The options of tlvdump-show, by its own help."""
+    text = part.run(["--help"], program=part.suite.show_program).out.decode()
+    return set(re.findall(r"^ {6}(--[a-z-]+)", text, re.M))
 
 
-def script_options(part, name):
-    """The options of a script, by its help."""
-    got = subprocess.run([os.path.join(part.root, name), "--help"], capture_output=True, text=True)
-    options = set(re.findall(r"--[a-z]+(?:-[a-z]+)*", got.stdout)) | {"--help"}
-    return options | {"--version"} if name == "tlvdump-show" else options - {"--inside"}
+# What tlvdump-show takes the input for, by --as.
+FORMS = {"octets", "ber", "der", "cer", "pem", "dump", "hex", "numbers", "base64", "runs"}
 
 
 def bash(part, options):
     if not part.has("bash"):
         return
+    part.write("string", b"")
 
     def completed_by(name, *words):
-        function = "_tlvdump" if name == "tlvdump" else "_tlvdump_script"
-        script = f'source "$1"; shift; COMP_WORDS=("$@"); COMP_CWORD=$(($# - 1)); {function}; printf "%s\\n" "${{COMPREPLY[@]}}"'
+        function = name.replace("-", "_")
+        script = f'source "$1"; shift; COMP_WORDS=("$@"); COMP_CWORD=$(($# - 1)); _{function}; printf "%s\\n" "${{COMPREPLY[@]}}"'
         path = os.path.join(part.root, "completions", "tlvdump.bash")
         got = subprocess.run(["bash", "-c", script, "bash", path, name, *words], cwd=part.folder, capture_output=True, text=True)
         return set(got.stdout.split())
@@ -56,22 +55,21 @@ def bash(part, options):
     part.expect("bash: --rules=, one word", completions("dump", "--rules=") == {f"--rules={it}" for it in rules})
     part.expect("bash: --names=", completions("dump", "--names", "=", "str") == {"string"})
     part.expect("bash: --limit=", completions("dump", "--limit", "=") == set())
-    for name in ("tlvdump-inside", "tlvdump-show"):
-        printed = completed_by(name, "--")
-        part.expect(f"bash: options of {name}", printed == script_options(part, name), str(printed))
-        part.expect(f"bash: FILE of {name}", completed_by(name, "str") == {"string"})
+    printed = completed_by("tlvdump-show", "--")
+    part.expect("bash: options of tlvdump-show", printed == show_options(part), str(printed))
+    part.expect("bash: FILE of tlvdump-show", completed_by("tlvdump-show", "str") == {"string"})
     for words, wanted in (
         (["--check"], {"--as", "--rules", "--closed", "--padding", "--help"}),
         (["--offset", "5"], {"--as", "--contents", "--padding", "--help"}),
         (["--offset=5"], {"--as", "--contents", "--padding", "--help"}),
         (["a.der", "--offsets"], {"--as", "--padding", "--help"}),
-        (["--raw"], {"--as", "--help"}),
-        (["--why"], {"--as", "--inside", "--padding", "--help"}),
+        (["--raw"], {"--as", "--padding", "--help"}),
+        (["--why"], {"--as", "--closed", "--padding", "--help"}),
     ):
         printed = completed_by("tlvdump-show", *words, "--")
         part.expect(f"bash: tlvdump-show {words}", printed == wanted, str(printed))
     part.expect("bash: --offset", completed_by("tlvdump-show", "--offset", "") == set())
-    part.expect("bash: --as", completed_by("tlvdump-show", "--as", "") == {"ber", "pem", "base64", "hex", "dump"})
+    part.expect("bash: --as", completed_by("tlvdump-show", "--as", "") == FORMS)
 
 
 def zsh(part, options):
@@ -91,8 +89,8 @@ def zsh(part, options):
     for name, wanted in options.items():
         printed = completions("tlvdump", name, "--")
         part.expect(f"zsh: options of {name}", set(re.findall(r"--[a-z]+", printed)) == wanted and "1:file:_files" in printed, printed)
-    for name in ("tlvdump-inside", "tlvdump-show"):
-        printed = completions(name, "--")
-        options = set(re.findall(r"^(?:\(- \*\))?(--[a-z-]+)", printed, re.M))
-        fine = options == script_options(part, name) and re.search(r"^[1*]:file:_files$", printed, re.M)
-        part.expect(f"zsh: options of {name}", fine, printed)
+    printed = completions("tlvdump-show", "--")
+    options = set(re.findall(r"^(?:\(- \*\))?(--[a-z-]+)", printed, re.M))
+    part.expect("zsh: options of tlvdump-show", options == show_options(part) and "\n*:file:_files\n" in printed, printed)
+    forms = re.search(r"^--as=.*:form:\((.*)\)$", printed, re.M)
+    part.expect("zsh: --as", forms and set(forms[1].split()) == FORMS, printed)

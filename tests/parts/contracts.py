@@ -3,7 +3,7 @@ import os
 import re
 
 CRATES = ("tlv_head", "tlv_io", "tlv_walk", "tlv_value", "tlv_show", "tlv_cut", "tlv_run", "tlv_words", "tlv_open", "tlv_program",
-          "tlv_view", "tlv_view_words", "tlv_view_program", "tlv_text")
+          "tlv_view", "tlv_view_words", "tlv_view_program", "tlv_text", "tlv_forms", "tlv_why", "tlv_mend")
 IMPL = re.compile(r"^(?:impl(?:<[^>]*>)? (\w+)(?:<[^{]*>)?|pub trait (\w+)) \{$", re.M)
 
 

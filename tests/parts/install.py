@@ -10,21 +10,20 @@ import time
 
 from parts.completions import bash, words_of, zsh
 
-SHOW = "lib/tlvdump/tlvdump-show"
+PROGRAM, SHOW = "bin/tlvdump", "bin/tlvdump-show"
 PLACES = {
-    "bin/tlvdump": None,
-    "bin/tlvdump-inside": "tlvdump-inside",
-    "bin/tlvdump-show": "tlvdump-show",
+    PROGRAM: None,
     SHOW: None,
     "share/man/man1/tlvdump.1": "man/tlvdump.1",
-    "share/man/man1/tlvdump-inside.1": "man/tlvdump-inside.1",
     "share/man/man1/tlvdump-show.1": "man/tlvdump-show.1",
     "share/tlvdump/names.txt": "data/names.txt",
     "share/bash-completion/completions/tlvdump": "completions/tlvdump.bash",
-    "share/bash-completion/completions/tlvdump-inside": "completions/tlvdump.bash",
     "share/bash-completion/completions/tlvdump-show": "completions/tlvdump.bash",
     "share/zsh/site-functions/_tlvdump": "completions/_tlvdump",
 }
+# What an earlier version put, which --remove takes away too.
+OLD = ("lib/tlvdump/tlvdump-show", "bin/tlvdump-inside", "share/man/man1/tlvdump-inside.1",
+       "share/bash-completion/completions/tlvdump-inside")
 
 
 def install(part, *words, program=None, **how):
@@ -59,7 +58,7 @@ def places(part, prefix):
         path = os.path.join(part.folder, prefix, place)
         program = part.suite.show_program if place == SHOW else part.program
         wanted = os.path.join(part.root, source) if source else program
-        mode = 0o755 if place.startswith("bin/") or place == SHOW else 0o644
+        mode = 0o755 if place.startswith("bin/") else 0o644
         fine = content(path) == content(wanted) and stat.S_IMODE(os.stat(path).st_mode) == mode
         part.expect(f"{prefix}/{place}", fine)
 
@@ -77,14 +76,11 @@ def check_install(part):
     got = subprocess.run(["tlvdump", "dump", "--pure", "--names", "there/share/tlvdump/names.txt", octets],
                          cwd=part.folder, env=env, capture_output=True)
     part.expect("the installed program", got.returncode == 0 and b"2.5.4.3 (commonName)" in got.stdout)
-    part.write("string", b"\x04\x02\x05\x00")
-    got = subprocess.run(["tlvdump-inside", "string"], cwd=part.folder, env=env, capture_output=True)
-    part.expect("the installed script", (got.returncode, got.stdout, got.stderr) == (0, b"0\n", b""))
     got = subprocess.run(["tlvdump-show", octets], cwd=part.folder, env=env, capture_output=True)
     fine = (got.returncode, got.stderr) == (0, b"") and b"2.5.4.3 (commonName)" in got.stdout
     part.expect("tlvdump-show, installed", fine, str(got))
     got = subprocess.run(["tlvdump-show"], input=content(octets).hex().encode(), cwd=part.folder, env=env, capture_output=True)
-    fine = got.returncode == 0 and b"2.5.4.3 (commonName)" in got.stdout and got.stderr.count(b"\n") == 1
+    fine = (got.returncode, got.stderr) == (0, b"taken for hexadecimal\n") and b"2.5.4.3 (commonName)" in got.stdout
     part.expect("tlvdump-show, installed, of a text", fine, str(got))
     part.write("there/share/tlvdump/mine.txt", b"2.5.4.3 cn\n")
     got = install(part, "--remove", "there")
@@ -101,6 +97,20 @@ def check_install(part):
     part.expect("PREFIX stays", os.path.isdir(part.path("a place")))
 
 
+def check_old(part):
+    """What an earlier version put goes with the rest, and is not touched when this one is put."""
+    for place in OLD:
+        os.makedirs(os.path.dirname(part.path(f"earlier/{place}")), exist_ok=True)
+        part.write(f"earlier/{place}", b"old")
+    part.expect("install over an earlier version", install(part, "earlier")[0] == 0)
+    found = files_below(part.path("earlier"))
+    part.expect("files of both versions", found == sorted([*PLACES, *OLD]), *found)
+    got = install(part, "--remove", "earlier")
+    printed = "".join(f"removed earlier/{place}\n" for place in (*PLACES, *OLD))
+    part.expect("remove, with what an earlier version put", got == (0, printed, ""), *map(str, got))
+    part.expect("nothing of it stays", all_below(part.path("earlier")) == [], *all_below(part.path("earlier")))
+
+
 def check_folders(part):
     """Folders of others stay, and links to folders; those of a system stay, also if they are empty."""
     for folder in ("shared/bin", "shared/share/zsh/mine", "elsewhere/man1", "shared/lib/tlvdump/mine"):
@@ -114,7 +124,8 @@ def check_folders(part):
     stays = ["bin", "bin/other", "lib", "lib/tlvdump", "lib/tlvdump/mine", "share", "share/man", "share/zsh", "share/zsh/mine"]
     part.expect("what others have stays", all_below(part.path("shared")) == stays, *all_below(part.path("shared")))
     # Standing in for /usr/local: a folder of that name in a system of its own, which root alone can make.
-    script = 'mount -t tmpfs none /usr/local && "$0" && "$0" --remove && cd /usr/local && find . | LC_ALL=C sort'
+    script = 'mount -t tmpfs none /usr/local && mkdir -p /usr/local/lib/tlvdump && true >/usr/local/lib/tlvdump/tlvdump-show && '
+    script += '"$0" && "$0" --remove && cd /usr/local && find . | LC_ALL=C sort'
     if os.geteuid() or subprocess.run(["unshare", "-m", "true"], capture_output=True).returncode:
         part.note("no root, or no unshare: /usr/local is not tried")
         return
@@ -181,8 +192,9 @@ def check_failures(part):
     part.expect("the folder stays", all_below(part.path("in-the-way")) == ["bin", "bin/tlvdump"])
     os.makedirs(part.path("no-folder/share"))
     part.write("no-folder/share/man", b"")
+    count = sum(not place.startswith("share/man/") for place in PLACES)
     status, out, err = install(part, "no-folder")
-    part.expect("a file in place of a folder", status == 1 and out.count("\n") == len(PLACES) - 3 and err, str(status), out, err)
+    part.expect("a file in place of a folder", status == 1 and out.count("\n") == count and err, str(status), out, err)
     # What goes wrong while the program is written: the one that is there stays.
     part.expect("install before that", install(part, "full")[0] == 0)
     for what, how in (
@@ -254,7 +266,7 @@ def clone(part, name, built):
     for place in ("src", "specs", "proofs", "out"):
         for crate in ("tlvdump", "tlvdump_show"):
             os.makedirs(os.path.join(root, "crates", crate, place))
-    for place in ("install", "tlvdump", "tlvdump-inside", "tlvdump-show", "crates.txt"):
+    for place in ("install", "tlvdump", "tlvdump-show", "crates.txt"):
         shutil.copy(os.path.join(part.root, place), root)
     for place in ("man", "data", "completions", "packaging"):
         shutil.copytree(os.path.join(part.root, place), os.path.join(root, place))
@@ -301,6 +313,7 @@ def check_refusals(part):
 
 def test(part):
     check_install(part)
+    check_old(part)
     check_umask(part)
     check_folders(part)
     check_links(part)

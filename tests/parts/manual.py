@@ -5,19 +5,19 @@ import re
 import shutil
 import subprocess
 
-from parts.inside import command, element, expected_list
-from parts.completions import script_options, words_of
+from parts.completions import show_options, words_of
 from parts.install import SHOW, install
+from parts.show_made import command, element
+from second_opinion.opened import Strings
 
 NULL = b"\x05\x00"
-SCRIPTS = ("tlvdump-inside", "tlvdump-show")
 # What the manual has for other programs: inputs that tests/make-data makes, and the offset of an element in each.
 DATA = {"certificate.der": 4, "signed.ber": 20, "keys.p12": 4, "revoked.der": 4, "snmp.ber": 13, "ldap.ber": 7, "tap.ber": 58}
 # The codes of docs/USE.md and docs/FINDINGS.md, as the program writes them.
 MESSAGES = [f"F{number:02}" for number in range(1, 13)] + [f"E{number}" for number in (1, 2, 3, 4, 5, 7, 8)]
 MESSAGES += [f"B{number:02}" for number in range(1, 20)] + [f"S{number:02}" for number in range(1, 5)]
 MESSAGES += ["D01", "D02"] + [f"C{number:02}" for number in range(1, 7)]
-MESSAGES += [f"N{number}" for number in range(1, 7)] + [f"U{number}" for number in (1, 2, 3, 4)]
+MESSAGES += [f"N{number}" for number in range(1, 7)] + [f"{letter}{number}" for letter in "UX" for number in (1, 2, 3, 4)]
 
 
 def check_rendering(part, page):
@@ -37,18 +37,17 @@ def complete(part, text):
     options = words_of(part)
     for name in options:
         part.expect(f"the command {name}", f".Cm {name}" in text and f".Ss {name}\n" in text)
-    scripts = {name: script_options(part, name) - {"--help", "--version"} for name in SCRIPTS}
-    known = set().union(*options.values(), *scripts.values()) | {"--version"}
+    of_show = show_options(part) - {"--help", "--version"}
+    known = set().union(*options.values(), of_show) | {"--version"}
     shown = {f"-{option}" for option in re.findall(r"Fl (-[a-z-]+)", text)}
     part.expect("the options", shown == known, *sorted(shown ^ known))
     for name, wanted in options.items():
         section = text.split(f".Ss {name}\n")[1].split("\n.Ss ")[0]
         listed = {f"-{option}" for option in re.findall(r"^\.It Fl (-[a-z]+)", section, re.M)}
         part.expect(f"the options of {name}", listed == wanted - {"--help"}, str(listed))
-    for name, wanted in scripts.items():
-        section = re.split(r"\n\.S[sh] ", text.split(f".Ss {name}\n")[1])[0]
-        listed = {f"-{option}" for option in re.findall(r"^\.It Fl (-[a-z-]+)", section, re.M)}
-        part.expect(f"the options of {name}", listed == wanted, str(listed))
+    section = re.split(r"\n\.S[sh] ", text.split(".Ss tlvdump-show\n")[1])[0]
+    listed = {f"-{option}" for option in re.findall(r"^\.It Fl (-[a-z-]+)", section, re.M)}
+    part.expect("the options of tlvdump-show", listed == of_show, str(listed))
     codes = re.findall(r"^\.It ([A-Z]\d+)$", text.split(".Sh DIAGNOSTICS\n")[1], re.M)
     part.expect("the codes", sorted(codes) == sorted(MESSAGES), *codes)
     section = text.split(".Sh WHEN AN INPUT DOES NOT PARSE\n")[1].split("\n.Sh ")[0]
@@ -111,15 +110,12 @@ def shown_of(part, octets, *words):
     return part.run(list(words), octets, program=part.path(f"there/{SHOW}")).out
 
 
+# What --why says first of the file in which a length is damaged.
 WHY = """\
 It does not parse: fault at 10: F11 element runs past the enclosing length.
 The octet at offset 10 completes the header of the INTEGER at offset 9. The header at offset 9, 02 02, says that its contents are 2 octets.
 It would end at offset 13, but the SEQUENCE at offset 7 ends at offset 12. Missing there: 1 octet. \
 The header at offset 7, 30 03, says that its contents are 3 octets.
-One of the two lengths is wrong, or octets between them are missing or were put in.
-Try: fetch the input anew, in binary; or go on where the SEQUENCE at offset 7 ends, with tail -c +13 FILE.
-Whole encodings end at offset 7. Left over: 13 octets.
-Try: head -c 7 FILE, for the whole encodings.
 """
 
 
@@ -143,10 +139,10 @@ class Server:
 
 
 def wanted_of(part, record):
-    """What each recipe comes to, in their order: its status, its output, and what a file then holds."""
+    """What each recipe comes to, in their order: its status, its output, of --why how that begins, and what a file then holds."""
     cert, p12 = read(part, "cert.der"), read(part, "file.p12")
     data = p12[30 : 30 + int.from_bytes(p12[28:30], "big")]
-    inside, _ = expected_list(cert)
+    inside = ",".join(map(str, Strings(cert).opened))
     names = part.path("there/share/tlvdump/names.txt")
     shown = shown_of(part, cert)
     part.expect("strings that are opened", shown.count(b" wraps {") == inside.count(",") + 1)
@@ -161,6 +157,7 @@ def wanted_of(part, record):
         (2, checked, None),
         (2, WHY.encode(), None),
         (0, shown, None),
+        (0, b"", ("octets.der", cert)),
         (0, dump_of(part, cert) * 2, None),
         (0, dump_of(part, cert, "--names", names, "--limit", "2"), None),
         (0, dump_of(part, cert, "--inside", inside), None),
@@ -195,14 +192,15 @@ def recipes(part, text):
                 got = subprocess.run(["sh", "-c", block], **how)
         else:
             got = subprocess.run(["sh", "-c", block], **how)
-        fine = (got.returncode, got.stdout) == (status, out)
+        written = got.stdout[: len(out)] if "--why" in block else got.stdout
+        fine = (got.returncode, written) == (status, out)
         part.expect(block.strip(), fine, f"status {got.returncode}", str(got.stdout[:300]), str(got.stderr[:300]))
         if held:
             part.expect(f"{held[0]} of {block.strip()}", read(part, held[0]) == held[1])
     before = part.run(["dump", "damaged.ber"])
     part.expect("the damage that the manual has", before.status == 2 and before.err.startswith(b"fault at 10: F11"))
     name = b"OBJECT IDENTIFIER 2.5.4.3 (commonName)"
-    part.expect("the names that the manual has", name in wanted[6][1])
+    part.expect("the names that the manual has", name in wanted[7][1])
 
 
 def in_shell(part, script):

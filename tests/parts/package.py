@@ -10,7 +10,7 @@ import stat
 import subprocess
 import time
 
-from parts.install import SHOW, all_below, clone, content, files_below, install
+from parts.install import PROGRAM, SHOW, all_below, clone, content, files_below, install
 from parts.show_program import Program
 
 TOOLS = ("dpkg-deb", "dpkg", "gzip", "strip", "readelf")
@@ -57,7 +57,7 @@ def holds(part, made):
     found = [path for path in files_below(part.path("tree")) if not path.startswith("DEBIAN/")]
     part.expect("the files of the package", found == wanted, *sorted({*found} ^ {*wanted}))
     for path in put:
-        if path in ("bin/tlvdump", SHOW):
+        if path in (PROGRAM, SHOW):
             continue
         octets, other = content(part.path(f"there/{path}")), content(part.path(f"tree/{place_of(path)}"))
         if path.startswith("share/man/"):
@@ -69,8 +69,7 @@ def holds(part, made):
     part.expect("the manual of the package names its files", named)
     for path in found:
         mode = stat.S_IMODE(os.stat(part.path(f"tree/{path}")).st_mode)
-        is_run = path.startswith("usr/bin/") or path == f"usr/{SHOW}"
-        part.expect(f"the mode of {path}", mode == (0o755 if is_run else 0o644), oct(mode))
+        part.expect(f"the mode of {path}", mode == (0o755 if path.startswith("usr/bin/") else 0o644), oct(mode))
     owners = {line.split()[1] for line in said_by("dpkg-deb", "-c", made).splitlines()}
     part.expect("owners", owners == {"root/root"}, *owners)
     sums = [f"{hashlib.md5(content(part.path(f'tree/{path}'))).hexdigest()}  {path}\n" for path in found]
@@ -81,7 +80,7 @@ def control(part, made, version):
     fields = dict(line.split(": ", 1) for line in said_by("dpkg-deb", "-f", made).splitlines() if not line.startswith(" "))
     wanted = {"Package": "tlvdump", "Version": version, "Architecture": "amd64"}
     part.expect("fields of the package", {key: fields[key] for key in wanted} == wanted, str(fields))
-    depends(part, fields["Depends"], part.path("tree/usr/bin/tlvdump"), part.path(f"tree/usr/{SHOW}"))
+    depends(part, fields["Depends"], *(part.path(f"tree/usr/{place}") for place in (PROGRAM, SHOW)))
     # As dpkg-gencontrol has it: kilobytes of each file, rounded up, and one for each folder.
     tree = [part.path(f"tree/{path}") for path in all_below(part.path("tree")) if path.split("/")[0] == "usr"]
     size = sum(1 if os.path.isdir(path) else math.ceil(os.path.getsize(path) / 1024) for path in tree)
@@ -183,7 +182,7 @@ def check_signals(part):
 
 def works(part):
     """The programs of the package, from which strip took the symbols, do what those of the tests do."""
-    path = part.path("tree/usr/bin/tlvdump")
+    path = part.path(f"tree/usr/{PROGRAM}")
     for words, octets in ((["--help"], b""), (["dump"], b"\x30\x05\x02\x01\x05\x05\x00"), (["check"], b"\x30\x80\x00\x00"), (["dump"], b"\x30\x03\x02")):
         part.same(f"the package: {' '.join(words)}", part.run(words, octets, program=path), part.run(words, octets))
     show = Program(part)

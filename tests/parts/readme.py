@@ -8,7 +8,7 @@ import re
 import shutil
 import subprocess
 
-from parts.completions import script_options, words_of
+from parts.completions import show_options, words_of
 from parts.install import clone
 
 # What is not run: the gate, of which this is a part; and what puts files into the system, which has tests of its own.
@@ -57,11 +57,10 @@ def not_run(part, blocks):
 
 
 def synopsis(part, blocks, text):
-    """The commands and options are those of the programs' help, and of the script tlvdump-show."""
+    """The commands and options are those of the programs' help."""
     lines = [line.split() for name, block in blocks if not name for line in block if line.startswith("tlvdump")]
     wanted = {name: options - {"--help"} for name, options in words_of(part).items()}
-    if any(words[0] == "tlvdump-show" for words in lines):
-        wanted["tlvdump-show"] = script_options(part, "tlvdump-show") - {"--help", "--version"}
+    wanted["tlvdump-show"] = show_options(part) - {"--help", "--version"}
     stated = {}
     for words in lines:
         name = words[1] if words[0] == "tlvdump" else words[0]

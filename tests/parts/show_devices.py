@@ -14,7 +14,7 @@ GIVEN = NULL * 5000
 STRINGS = b"\x04\x02\x05\x00" * 2000
 READ, WRITE = "E1 read failed", "E2 write failed"
 ERRORS = (errno.EAGAIN, errno.EINTR, errno.EIO, errno.ENOSPC)
-JOBS = (["--names", "none"], ["--check"], ["--offsets"], ["--offset", "4"])
+JOBS = (["--names", "none"], ["--check"], ["--offsets"], ["--offset", "4"], ["--raw"], ["--why"])
 
 
 class ShowCalls(Calls):
@@ -66,15 +66,17 @@ def reads(part, calls):
 def writes(part, calls):
     """Each write that fails, or takes nothing: E2, the lines before it are right, and there is no write after it."""
     for words, given in ((["--names", "none"], GIVEN), (["--names", "none"], STRINGS), (["--offsets"], STRINGS),
-                         (["--offset", "0"], b"\x04\x82\x27\x10" + GIVEN), (["--check"], b"\x02\x02\x00\x05" * 500)):
+                         (["--offset", "0"], b"\x04\x82\x27\x10" + GIVEN), (["--check"], b"\x02\x02\x00\x05" * 500),
+                         (["--raw"], GIVEN), (["--names", "none"], STRINGS.hex().encode()), (["--why"], STRINGS)):
         whole, own = calls.run(words, given)
         count, taken = len(of(own, "write", 1)), 0
+        note = whole.err if whole.err.startswith(b"taken for ") else b""
         part.expect(f"{words}: writes", count > 0, *whole.lines())
         for number in range(1, count + 1):
             for error in (*ERRORS, 0):
                 got, made = calls.run(words, given, fail=("write", 1, number, error))
                 what = f"{' '.join(words)}: write {number} fails with {errno.errorcode.get(error, 'nothing')}"
-                part.same(what, got, Done(3, whole.out[:taken], message(WRITE)))
+                part.same(what, got, Done(3, whole.out[:taken], note + message(WRITE)))
                 part.expect(f"{what}: no write after it", len(of(made, "write", 1)) == number)
             taken += of(own, "write", 1)[number - 1][3]
 

@@ -34,7 +34,8 @@ NO_NAMES = "no names file was found: object identifiers have no names"
 REFUSED = [
     "--nonsense", "-x", "-h", "--rules", "--limit", "--names", "--offset", "--rules ber --rules ber", "--pure --pure",
     "--closed --closed", "--no-text --no-text", "--padding --padding", "--closed=1", "--check --check", "--offsets --offsets",
-    "--offset 0 --offset 0", "--limits 1", "--inside 0", "--limit -1",
+    "--offset 0 --offset 0", "--limits 1", "--inside 0", "--limit -1", "--as", "--as ber --as ber", "--raw --raw", "--raw=1",
+    "--why --why", "--why=1",
 ]
 # Options that are not for each other.
 ALONE = [
@@ -49,14 +50,24 @@ ALONE = [
     ("--offset 0 --pure", "not with --offset: --pure"), ("--offset 0 --no-text", "not with --offset: --no-text"),
     ("--offset 0 --limit 1", "not with --offset: --limit"), ("--offset 0 --names n", "not with --offset: --names"),
     ("--offset 0 a b", "one FILE with --offset"),
+    ("--check --raw", "not with --check: --raw"), ("--raw --offset 0", "not with --offset: --raw"),
+    ("--raw --offsets", "not with --offsets: --raw"), ("--raw --contents", "only with --offset: --contents"),
+    ("--check --why", "not with --check: --why"), ("--why --offset 0", "not with --offset: --why"),
+    ("--why --offsets", "not with --offsets: --why"), ("--why --raw", "not with --raw: --why"),
+    ("--why --contents", "only with --offset: --contents"), ("--raw --closed", "not with --raw: --closed"),
 ]
+ALONE += [(f"{job} {words}", f"not with {job}: {words.split()[0]}") for job in ("--raw", "--why")
+          for words in ("--rules ber", "--limit 1", "--pure", "--names n", "--no-text")]
 RULES, LIMIT, OFFSET = "--rules (ber, der or cer)", "--limit (0 to 4294967295)", "--offset (0 to 1099511627776)"
+FORM = "--as (octets, pem, dump, hex, numbers, base64 or runs)"
 NO_NUMBERS = ("", "x", "+5", "-5", " 5", "5.0", "0x10", "00000000000005")
 VALUES = [(RULES, [f"--rules={text}"]) for text in ("", "xer", "DER", "der ", "b")]
 VALUES += [(RULES, ["--check", "--rules", "xer"]), (RULES, ["--limit", "x", "--rules", "xer"])]
 VALUES += [(LIMIT, [f"--limit={text}"]) for text in (*NO_NUMBERS, "4294967296")]
 VALUES += [(OFFSET, [f"--offset={text}"]) for text in (*NO_NUMBERS, "1099511627777")]
 VALUES += [(LIMIT, ["--limit", "x", "--names", "missing", "missing"]), (RULES, ["--rules", "x", "missing"])]
+VALUES += [(FORM, [*job, f"--as={text}"]) for text in ("", "xml", "DER", "ber ", "octet") for job in ([], ["--raw"], ["--why"])]
+VALUES += [(LIMIT, ["--as", "x", "--limit", "x"]), (OFFSET, ["--as", "x", "--offset", "x"]), (FORM, ["--as", "x", "missing"])]
 
 
 def words(part, program):

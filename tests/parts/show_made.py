@@ -1,13 +1,18 @@
-"""tlvdump-show on what people have: a large CRL, certificates, damaged ones too, PKCS#12 and CMS."""
+"""tlvdump-show on what people have: a large CRL, certificates, damaged ones too, those of Debian, PKCS#12 and CMS."""
+import base64
+import glob
 import itertools
+import os
 import re
 import subprocess
 
+from parts.harness import Done
 from parts.show_program import Program
 from second_opinion.findings import shortest
 from second_opinion.opened import Strings
 from second_opinion.reading import Reading
 
+ANCHORS = "/usr/share/ca-certificates/mozilla"
 ENTRIES = 20_000
 EXTENSIONS = """
 basicConstraints = critical, CA:TRUE, pathlen:3
@@ -138,12 +143,19 @@ def damaged_certificates(part, program, octets):
 
 
 def stores(part, program):
-    """PKCS#12 and CMS by openssl, and PKCS#12 with one segment in an indefinite string, as NSS writes it."""
+    """PKCS#12, CMS and a CRL by openssl, and PKCS#12 with one segment in an indefinite string, as NSS writes it."""
     command(part, "openssl pkcs12 -export -in cert -inkey key -passout pass:x -certpbe NONE -out file.p12")
     command(part, "openssl cms -sign -binary -nodetach -in cert.der -signer cert -inkey key -outform DER -out file.cms")
     command(part, "openssl cms -sign -binary -nodetach -stream -in cert.der -signer cert -inkey key -outform DER -out stream.cms")
+    part.write("index", b"R\t300101000000Z\t200101000000Z,keyCompromise\t02\tunknown\t/CN=two\n")
+    part.write("number", b"01\n")
+    part.write("ca", b"[ca]\ndefault_ca=d\n[d]\ndatabase=index\ncrlnumber=number\ndefault_md=sha256\n"
+               b"default_crl_days=9\ncrl_extensions=e\n[e]\nauthorityKeyIdentifier=keyid\n")
+    command(part, "openssl ca -gencrl -config ca -cert cert -keyfile key -out list")
+    command(part, "openssl crl -in list -outform DER -out file.crl")
     within = values_of(octets_of(part, "cert.der"))
-    for name, least in (("file.p12", len(within) + 2), ("file.cms", 2 * len(within) + 1), ("stream.cms", 2 * len(within) + 1)):
+    for name, least in (("file.p12", len(within) + 2), ("file.cms", 2 * len(within) + 1), ("stream.cms", 2 * len(within) + 1),
+                        ("file.crl", 3)):
         octets = octets_of(part, name)
         opened = Strings(octets).opened
         part.expect(f"{name}: strings", len(opened) >= least, f"{len(opened)} of {least}")
@@ -157,16 +169,37 @@ def stores(part, program):
     program.agrees("one segment in an indefinite string", store)
 
 
+def by_both(part, program, what, octets):
+    """Counts one test: that tlvdump, given the list of strings that are opened, writes what tlvdump-show does."""
+    listed = program.run(["--offsets"], octets).out.decode().strip()
+    words = ["--inside", listed] if listed else []
+    names = part.path("prefix/share/tlvdump/names.txt")
+    part.same(f"{what} by both programs", program.run(["--no-text"], octets), part.run(["dump", "--names", names, *words], octets))
+
+
+def anchors(part, program):
+    """Some of the certificates of Debian's ca-certificates, as octets and as they lie there, in PEM."""
+    files = sorted(glob.glob(os.path.join(ANCHORS, "*.crt")))
+    part.expect("ca-certificates", files, f"there are no certificates in {ANCHORS}")
+    for path in files[::20]:
+        with open(path, encoding="ascii") as file:
+            octets = base64.b64decode("".join(line for line in file if not line.startswith("-")))
+        name = os.path.basename(path)
+        program.agrees(name, octets)
+        by_both(part, program, name, octets)
+        wanted = program.wanted("dump", octets)
+        note = f"{path}: taken for PEM, CERTIFICATE\n".encode()
+        part.same(f"{name}, a FILE", program.run([path]), Done(wanted.status, wanted.out, note + wanted.err))
+
+
 def test(part):
+    program = Program(part)
+    anchors(part, program)
     if not part.has("openssl"):
         return
-    program = Program(part)
     large_crl(part, program)
     octets = certificate(part)
     program.agrees("a certificate", octets)
-    names = part.path("prefix/share/tlvdump/names.txt")
-    listed = program.run(["--offsets"], octets).out.decode().strip()
-    part.same("a certificate by both programs", program.run(["--no-text"], octets),
-              part.run(["dump", "--names", names, "--inside", listed], octets))
+    by_both(part, program, "a certificate", octets)
     damaged_certificates(part, program, octets)
     stores(part, program)

@@ -1,8 +1,9 @@
 """Each request of tlvdump-show for memory refused in turn: it reports U3, N6 or E8, and writes nothing wrong.
 
 tests/parts/refuse.c does that for this program too (parts/memory_requests.py). The words come first, then the names
-file is read, then each FILE is opened, read whole, and shown. Then the memory that it takes in all.
+file is read, then each FILE is opened and read whole, and then all are shown. Then the memory that it takes in all.
 """
+import base64
 import os
 import re
 import resource
@@ -16,14 +17,32 @@ from second_opinion.findings import shortest
 
 # A string that holds a string, a broken one, and an object identifier with a name.
 OCTETS = bytes.fromhex("0404040205 00 300b0603551d0f0404030305a0 0603550403".replace(" ", ""))
+PEM = b"".join(b"-----BEGIN %c-----\n%s-----END %c-----\n" % (label, base64.encodebytes(OCTETS), label) for label in b"AB")
 # Lines of words, whether the run on OCTETS reads FILE, and whether it reads a names file.
 TAKEN = ["", "--check --rules der", "--offsets", "--offset 4", "--closed a.der", "--names names a.der", "--pure --padding a.der"]
 TAKEN += ["many.der", "--offsets many.der", "--check many.der a.der", "a.der many.der", "--names names - a.der"]
+TAKEN += ["chain.pem", "--raw chain.pem a.der", "--check base64 a.der", "--as hex digits", "--offset 4 --as dump dump"]
+TAKEN += ["--raw --as runs runs"]
+FILES = {
+    "a.der": OCTETS,
+    "many.der": b"\x04\x02\x05\x00" * 3000,
+    "chain.pem": PEM,
+    "base64": base64.b64encode(PEM),
+    "digits": OCTETS.hex(":").encode(),
+    "dump": b"".join(b"%04x: %s\n" % (at, OCTETS[at : at + 16].hex(" ").encode()) for at in range(0, len(OCTETS), 16)),
+    "runs": b"name:: " + base64.b64encode(OCTETS * 3) + b"\nother:: " + base64.b64encode(OCTETS * 2) + b"\n",
+    "names": b"2.5.4.3 commonName\n",
+}
 PRINTED = ["--help", "--version", "--limit", "--check --pure"]
 # Words for which it looks for others that are alike: if one request alone is refused there, it may say so otherwise.
 ALIKE = ["--nonsense", "--lim 1"]
 WORDS, NAMES, INPUT = "U3 out of memory", "N6 out of memory", "E8 out of memory"
 MB = 1_000_000
+
+
+def blocks_of(out):
+    """Returns what is written of each block, without the line before it."""
+    return re.split(rb"^# block .*\n", out, flags=re.M)
 
 
 class Line:
@@ -34,8 +53,10 @@ class Line:
         self.words, self.log = text.split(), part.path("log")
         self.own, log = self.run(0, 0)
         self.opened, self.requests = log.opened, log.requests or 0
-        files = [word for word in self.words if word == "-" or word.endswith(".der")] or ["-"]
-        self.messages = ["" if word == "-" else f"{word}: " for word in files]
+        files = [word for word in self.words if word == "-" or word in FILES and word != "names"] or ["-"]
+        self.reads_standard_input = "-" in files
+        places = "|".join("" if word == "-" else re.escape(f"{word}: ") for word in files)
+        self.refusal = re.compile(f"(?:{places})(?:block [12]: )?{INPUT}")
 
     def run(self, first, last):
         """Runs it with these requests refused, and returns what it did, and what was reported."""
@@ -49,21 +70,28 @@ class Line:
     def is_fine(self, got, number):
         """Returns whether a run with this request refused did what it may.
 
-        Before a file is opened the whole run ends. Then it ends for one FILE, and the others are shown.
+        Before a file is opened, and while all are read, the whole run ends. Else it ends for one FILE or block, and the
+        others are shown.
         """
         before = [name for name, count in self.opened if count < number]
         ends = [] if before else [WORDS]
-        if not before or before[-1].endswith(("names", "names.txt")):
+        has_names = bool(before) and before[-1].endswith(("names", "names.txt"))
+        if not before or has_names:
             ends.append(NAMES)
+        if before and not has_names or self.reads_standard_input:
+            ends.append(INPUT)
         return got in [Done(5, b"", f"{end}\n".encode()) for end in ends] or self.is_part(got)
 
     def is_part(self, got):
-        """Returns whether it wrote part of each block, and reported E8 or what it reports otherwise."""
-        refused = [f"{name}{INPUT}" for name in self.messages]
+        """Returns whether it wrote part of each block, and reported E8 or what it reports otherwise.
+
+        A FILE for which memory is refused is one block, also if it has several.
+        """
         said, own = got.err.decode().splitlines(), self.own.err.decode().splitlines()
-        written, blocks = got.out.split(b"# block "), self.own.out.split(b"# block ")
-        is_prefix = len(written) == len(blocks) and all(map(bytes.startswith, blocks, written))
-        return got.status == 5 and is_prefix and set(said) <= {*refused, *own} and not set(said).isdisjoint(refused)
+        refused = [line for line in said if self.refusal.fullmatch(line)]
+        blocks = iter(blocks_of(self.own.out))
+        is_prefix = all(any(block.startswith(written) for block in blocks) for written in blocks_of(got.out))
+        return got.status == 5 and is_prefix and bool(refused) and set(said) <= {*refused, *own}
 
     def refuse_each(self, may_pass=False):
         """Refuses each request in turn, alone, and with all after it."""
@@ -83,9 +111,8 @@ def requests(part, program):
     refusing = part.made_of("refuse.c")
     if not refusing:
         return
-    part.write("a.der", OCTETS)
-    part.write("many.der", b"\x04\x02\x05\x00" * 3000)
-    part.write("names", b"2.5.4.3 commonName\n")
+    for name, octets in FILES.items():
+        part.write(name, octets)
     # A names file of one line, since each line takes some requests.
     part.write("prefix/share/tlvdump/names.txt", b"2.5.4.3 commonName\n")
     total = 0

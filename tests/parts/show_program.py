@@ -13,7 +13,7 @@ class Program:
     def __init__(self, part):
         self.part = part
         names = os.path.join(part.root, "data", "names.txt")
-        self.path = put(part.suite.show_program, part.path("prefix/lib/tlvdump/tlvdump-show"))
+        self.path = put(part.suite.show_program, part.path("prefix/bin/tlvdump-show"))
         with open(put(names, part.path("prefix/share/tlvdump/names.txt")), "rb") as file:
             self.names = read_names(file.read())
 

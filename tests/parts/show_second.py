@@ -1,4 +1,4 @@
-"""A second implementation of docs/FORMAT.md (tests/second_opinion) agrees with tlvdump-show on octets.
+"""A second implementation of docs/FORMAT.md and docs/TEXTS.md (tests/second_opinion) agrees with tlvdump-show.
 
 By hand, with any seeds: tests/second --show.
 """

@@ -12,7 +12,7 @@ from second_opinion.names import read_names
 from second_opinion.reading import BIT_STRING, Reading
 
 FLAGS = {"--pure": "pure", "--closed": "closed", "--no-text": "no_text", "--contents": "contents", "--padding": "padding"}
-VALUES = {"--rules": "rules", "--limit": "limit", "--offset": "offset"}
+VALUES = {"--rules": "rules", "--limit": "limit", "--offset": "offset", "--as": "as_form"}
 
 
 def show_of(row):

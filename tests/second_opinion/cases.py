@@ -1,6 +1,6 @@
 """Draws a case from a seed: an input, a names file, and the commands that are run on them."""
 import random
-from dataclasses import dataclass
+from dataclasses import dataclass, field
 
 from second_opinion import contents, drawing, paths
 from second_opinion.commands import Options
@@ -21,7 +21,10 @@ class Run:
 
 @dataclass
 class Case:
-    """An input and the runs on it, with the names of the file that the input is in and of the names file."""
+    """An input and the runs on it, with the names of the file that the input is in and of the names file.
+
+    `more` has further inputs, by the names of their files.
+    """
 
     seed: int
     octets: bytes
@@ -29,6 +32,7 @@ class Case:
     file: str
     names_file: str
     runs: list
+    more: dict = field(default_factory=dict)
 
 
 def case_of(seed):

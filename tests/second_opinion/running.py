@@ -29,12 +29,13 @@ class Runner:
             file.write(octets)
 
     def write_files(self, case):
-        """Writes the input and the names file of a case, and removes those of the case before."""
+        """Writes the inputs and the names file of a case, and removes those of the case before."""
         for name in self.written:
             os.remove(self.path(name))
-        self.written = [case.file, case.names_file]
-        self.write(case.file, case.octets)
-        self.write(case.names_file, case.names)
+        files = {case.file: case.octets, case.names_file: case.names, **case.more}
+        self.written = list(files)
+        for name, octets in files.items():
+            self.write(name, octets)
 
     def run(self, words, octets):
         """Returns the program's status, output and message; `octets` is None if FILE is named."""
@@ -78,7 +79,7 @@ class ShowRunner(Runner):
     def __init__(self, program, folder, names):
         """Puts the program and the names file below the prefix."""
         super().__init__(program, folder)
-        self.program = put(program, self.path("prefix/lib/tlvdump/tlvdump-show"))
+        self.program = put(program, self.path("prefix/bin/tlvdump-show"))
         with open(put(names, self.path("prefix/share/tlvdump/names.txt")), "rb") as file:
             self.names = read_names(file.read())
 
@@ -108,6 +109,8 @@ def difference(name, case, it, wanted, got):
     """Returns the text of a difference: the seed, the words, the input, and the first line that differs."""
     words = shlex.join(word if len(word) < 200 else f"{word[:40]}..({len(word)})" for word in it.words)
     lines = [f"seed {case.seed}: {name} {words}", f"input {case.octets.hex()}"]
+    lines += [f"as a text {case.octets!r}"] * (b"\n" in case.octets)
+    lines += [f"{name}: {octets!r}" for name, octets in case.more.items() if name in it.words]
     if it.options.names:
         lines.append(f"names {case.names[:5000]!r}")
     if wanted[0] != got[0]:

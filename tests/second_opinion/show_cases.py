@@ -1,7 +1,7 @@
 """Draws a case for tlvdump-show from a seed: an input, a names file, and the runs on them."""
 import random
 
-from second_opinion import paths, show_drawing
+from second_opinion import paths, show_drawing, text_drawing, texts
 from second_opinion.cases import LIMITS, Case, Run, names_file
 from second_opinion.opened import Strings
 from second_opinion.reading import Reading
@@ -9,22 +9,42 @@ from second_opinion.showing import File, Show
 
 LARGEST = 1 << 40
 # The texts of options that choose what is done. That of a dump is none, and --offset has a value.
-JOBS = {"check": [["--check"]], "offsets": [["--offsets"]]}
+JOBS = {"check": [["--check"]], "offsets": [["--offsets"]], "raw": [["--raw"]]}
+# The jobs that may have several FILEs.
+OF_SEVERAL = ("dump", "check", "raw")
+MOST_OCTETS = 700
+TEXTS, FORMS = 1 / 3, 0.1
 
 
 def case_of(seed):
-    """Returns the case of a seed; it is the same at each call."""
+    """Returns the case of a seed; it is the same at each call. About a third of the inputs are texts."""
     rng = random.Random(f"tlvdump-show {seed}")
-    octets, padding = show_drawing.input_octets(rng)
+    is_text = rng.random() < TEXTS
+    octets, padding = (text(rng), rng.random() < 0.1) if is_text else show_drawing.input_octets(rng)
     names = [paths.file_name(rng, "input"), paths.file_name(rng, "names")]
-    jobs = ["dump", "check", "offsets", "offset", rng.choice(["dump", "dump", "check"])]
-    runs = [run_of(rng, job, octets, padding, names) for job in jobs]
-    return Case(seed, octets, names_file(rng), *names, runs)
+    case = Case(seed, octets, names_file(rng), *names, [])
+    if is_text:
+        case.more = {"second.txt": text(rng), "third": rng.choice([text, encodings])(rng)}
+    jobs = ["dump", "check", "offsets", "offset", "raw", rng.choice(["dump", "dump", "check"])]
+    case.runs = [run_of(rng, job, case, padding) for job in jobs]
+    return case
 
 
-def run_of(rng, job, octets, padding, names):
+def encodings(rng):
+    """Returns encodings, not too many for a text."""
+    return show_drawing.input_octets(rng)[0][:MOST_OCTETS]
+
+
+def text(rng):
+    """Returns a text of a drawn form."""
+    return text_drawing.text(rng, lambda: encodings(rng))
+
+
+def run_of(rng, job, case, padding):
     """Returns a run of this job with drawn options."""
     show = Show(job, padding=padding if rng.random() < 0.95 else not padding)
+    if rng.random() < (TEXTS if case.more else FORMS):
+        show.as_form = text_drawing.form(rng)
     if job in ("dump", "check"):
         show.closed = rng.random() < 0.15
         if rng.random() < 0.5:
@@ -34,11 +54,12 @@ def run_of(rng, job, octets, padding, names):
         if rng.random() < 0.2:
             show.limit = rng.choice(LIMITS)
     if job == "offset":
-        show.offset, show.contents = offset(rng, octets, show.padding), rng.random() < 0.4
+        shown = rng.choice(texts.blocks_of(case.octets, show.as_form if show.as_form in text_drawing.FORMS else None))
+        show.offset, show.contents = offset(rng, shown.octets, show.padding), rng.random() < 0.4
     if rng.random() < 0.02:
         out_of_range(rng, show)
     by_pipe = rng.random() < 0.2
-    return Run(show, words(rng, show, by_pipe, octets, names), by_pipe)
+    return Run(show, words(rng, show, by_pipe, case), by_pipe)
 
 
 def offset(rng, octets, padding):
@@ -57,20 +78,20 @@ def out_of_range(rng, show):
         show.offset = rng.choice(["1099511627777", "", "1 ", "a", "0" * 14])
 
 
-def words(rng, show, by_pipe, octets, names):
+def words(rng, show, by_pipe, case):
     """Returns the words: the job and the options in any order, and the FILEs. It notes in `show` what they are."""
     given = list(JOBS.get(show.job, []))
-    for name in ("rules", "limit", "offset"):
-        value = getattr(show, name)
+    for name in ("rules", "limit", "offset", "as"):
+        value = getattr(show, "as_form" if name == "as" else name)
         if value is not None:
             given.append([f"--{name}={value}"] if rng.random() < 0.5 else [f"--{name}", value])
     for name in ("pure", "closed", "no_text", "contents", "padding"):
         if getattr(show, name):
             given.append([f"--{name.replace('_', '-')}"])
     if show.names:
-        path, show.names_open = paths.path_to(rng, names[1])
+        path, show.names_open = paths.path_to(rng, case.names_file)
         given.append([f"--names={path}"] if rng.random() < 0.5 else ["--names", path])
-    given += files(rng, show, by_pipe, octets, names[0])
+    given += files(rng, show, by_pipe, case)
     rng.shuffle(given)
     drawn = [word for group in given for word in group]
     if len(show.files) > 1:
@@ -78,15 +99,16 @@ def words(rng, show, by_pipe, octets, names):
     return drawn
 
 
-def files(rng, show, by_pipe, octets, name):
+def files(rng, show, by_pipe, case):
     """Draws the FILEs, and returns their words, each in a group of its own."""
     if by_pipe and rng.random() < 0.7:
-        show.files = [File("-", octets, True)]
+        show.files = [File("-", case.octets, True)]
         return [["-"]] if rng.random() < 0.3 else []
-    several = show.job in ("dump", "check") and rng.random() < 0.2
-    show.files = [File("-", octets, True)] if by_pipe else []
+    several = show.job in OF_SEVERAL and rng.random() < (0.4 if case.more else 0.2)
+    show.files = [File("-", case.octets, True)] if by_pipe else []
     while len(show.files) < (rng.choice([2, 2, 3]) if several else 1):
+        name = rng.choice([case.file, case.file, *case.more])
         path, opens = paths.path_to(rng, name)
         if path not in [file.word for file in show.files]:
-            show.files.append(File(path, octets if opens else None))
+            show.files.append(File(path, case.more.get(name, case.octets) if opens else None))
     return [[file.word] for file in show.files]

@@ -1,6 +1,7 @@
-"""What tlvdump-show does with octets: docs/FORMAT.md from "Which strings are opened" on."""
+"""What tlvdump-show does: docs/FORMAT.md from "Which strings are opened" on, and docs/TEXTS.md."""
 from dataclasses import dataclass, field
 
+from second_opinion import texts
 from second_opinion.commands import FAULTS, LARGEST_LIMIT, LARGEST_OFFSET, Options, Refused, Values
 from second_opinion.commands import answer, fault_text, in_range
 from second_opinion.findings import LETTERS
@@ -25,7 +26,7 @@ class File:
 
 @dataclass
 class Show:
-    """The options of a run: `job` is dump, check, offset or offsets. A value is the text in the words."""
+    """The options of a run: `job` is dump, check, offset, offsets or raw. A value is the text in the words."""
 
     job: str
     rules: str | None = None
@@ -37,6 +38,7 @@ class Show:
     offset: str | None = None
     contents: bool = False
     padding: bool = False
+    as_form: str | None = None
     names_open: bool = True
     files: list = field(default_factory=list)
 
@@ -54,6 +56,7 @@ ALLOWED = {
     "rules": ("ber, der or cer", lambda text: text in LETTERS),
     "limit": (f"0 to {LARGEST_LIMIT}", lambda text: in_range(text, LARGEST_LIMIT)),
     "offset": (f"0 to {LARGEST_OFFSET}", lambda text: in_range(text, LARGEST_OFFSET)),
+    "as": ("octets, pem, dump, hex, numbers, base64 or runs", lambda text: text in texts.OCTETS + texts.TEXTS),
 }
 
 
@@ -61,7 +64,7 @@ def run(show, names):
     """Returns the result of a run. `names` is a function that reads the names file."""
     try:
         for name, (allowed, is_fine) in ALLOWED.items():
-            text = getattr(show, name)
+            text = show.as_form if name == "as" else getattr(show, name)
             if text is not None and not is_fine(text):
                 raise Refused(f"U2 value out of range: --{name} ({allowed})")
         if show.names and not show.names_open:
@@ -69,25 +72,48 @@ def run(show, names):
         known = names() if show.job == "dump" else {}
     except Refused as refused:
         return Result(4, b"", f"{refused}\n".encode())
-    whole = Result(0, b"", b"")
-    for number, file in enumerate(show.files, 1):
-        if len(show.files) > 1 and show.job in ("dump", "check"):
-            whole.out += f"# block {number} of {len(show.files)}: {file.shown()}\n".encode()
-        status, out, lines = of_file(show, file, known)
-        front = "" if file.is_standard_input else f"{file.shown()}: "
-        whole.status, whole.out = max(whole.status, status), whole.out + out
-        whole.err += "".join(f"{front}{line}\n" for line in lines).encode()
+    whole, number = Result(0, b"", b""), 0
+    # The blocks of each FILE; one that does not open has one, of which nothing is known.
+    blocks = [[None] if it.octets is None else texts.blocks_of(it.octets, show.as_form) for it in show.files]
+    count = sum(map(len, blocks))
+    for file, of_file in zip(show.files, blocks):
+        for block in of_file:
+            number += 1
+            if count > 1 and show.job in ("dump", "check"):
+                whole.out += f"# block {number} of {count}: {title(show, file, block)}\n".encode()
+            status, out, lines = of_block(show, block, known)
+            front = "" if file.is_standard_input else f"{file.shown()}: "
+            front += f"block {number}: " if len(of_file) > 1 else ""
+            whole.status, whole.out = max(whole.status, status), whole.out + out
+            whole.err += "".join(f"{front}{line}\n" for line in lines).encode()
     return whole
 
 
-def of_file(show, file, known):
-    """Returns the status, the output, and the lines that are reported."""
-    if file.octets is None:
+def title(show, file, block):
+    """Returns what a block is called in the line before it."""
+    name = block.name() if block else None
+    if not name:
+        return file.shown()
+    return name if len(show.files) == 1 else f"{file.shown()}: {name}"
+
+
+def of_block(show, block, known):
+    """Returns the status, the output, and the lines that are reported: the note first."""
+    if block is None:
         return 3, b"", ["E5 cannot open the file"]
-    strings = Strings(file.octets, show.padding)
+    note, is_raw = block.note(), show.job == "raw"
+    status, out, lines = of_octets(show, block.octets, known) if block.is_shown() else (0, b"", [])
+    return block.status(status, is_raw), out, [note] * bool(note) + lines
+
+
+def of_octets(show, octets, known):
+    """Returns the status, the output, and the lines that are reported, for the octets of a block."""
+    if show.job == "raw":
+        return 0, octets, []
+    strings = Strings(octets, show.padding)
     if show.job == "offsets":
-        return offsets(file.octets, show.padding, strings.opened)
-    got = answer(options_of(show), values_of(show, strings.opened), known, file.octets)
+        return offsets(octets, show.padding, strings.opened)
+    got = answer(options_of(show), values_of(show, strings.opened), known, octets)
     if show.closed or show.job == "offset":
         strings.broken.clear()
     broken = [line_of(*it) for it in strings.faults()]

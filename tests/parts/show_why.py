@@ -1,0 +1,245 @@
+"""tlvdump-show --why: whether octets parse, and if not, why, in sentences.
+
+Its rows have octets, and the sentences that are to be said of them.
+"""
+import re
+
+from parts.show_program import Program
+from second_opinion.findings import shortest
+
+NULL = b"\x05\x00"
+# A string that is the value of an extension, and breaks.
+BREAKS = bytes.fromhex("300b0603551d0f0404030305a0")
+
+
+def element(tag, octets):
+    """Returns an element with a definite length."""
+    return bytes([tag]) + shortest(len(octets)) + octets
+
+
+def string(octets):
+    """Returns an OCTET STRING that holds these octets."""
+    return element(4, octets)
+
+
+def header(offset, octets, contents):
+    return f"The header at offset {offset}, {octets}, says that its contents are {contents}."
+
+
+CUT = "Try: fetch the input anew, since the copy was cut; or, where it is whole, look for a length that is too great."
+WRONG = "One of the two lengths is wrong, or octets between them are missing or were put in."
+INDEFINITE = "an indefinite number of octets"
+ANEW = "Try: fetch the input anew, in binary; or go on at the next record, with tail -c +M FILE, where M is its offset and 1."
+START = "No encoding begins so. Try: file FILE, which knows files of other kinds."
+WHOLE = "Try: head -c {0} FILE, for the whole encodings."
+# For each fault: the octets, the words, and the sentences after "It does not parse".
+FAULTS = [
+    ("F01", "", [], ["The input is empty.", "Try: look whether the program that should write it failed."]),
+    ("F01", "00 00", ["--padding"],
+     ["The input has octets 00 alone: 2.", "Try: look whether the program that should write it failed."]),
+    ("F02", "30 05 02 01", [],
+     ["The input ends inside the INTEGER at offset 2. " + header(2, "02 01", "1 octet"), "Missing there: 1 octet.",
+      "The outermost element that is not whole, the SEQUENCE at offset 0, would end at offset 7. Missing in all: 3 octets.", CUT]),
+    ("F02", "30 82 01", [], ["The input ends inside the header at offset 0: 30 82 01.", CUT]),
+    ("F02", "04 20 aa", [],
+     ["The input ends inside the OCTET STRING at offset 0. " + header(0, "04 20", "32 octets"), "Missing there: 31 octets.", CUT]),
+    ("F02", "30 80 02 01 05", [],
+     ["The input ends inside the SEQUENCE at offset 0. " + header(0, "30 80", INDEFINITE),
+      "Elements with an indefinite length that are not ended: 1; each needs two octets 00.", CUT]),
+    ("F02", "30 80 00", [],
+     ["The input ends between the two octets 00 that end the SEQUENCE at offset 0.",
+      "Elements with an indefinite length that are not ended: 1; each needs two octets 00.", CUT]),
+    ("F02", "05 00 30 80 00 00 02 02 01", [],
+     ["Whole encodings end at offset 6. Left over: 3 octets.", WHOLE.format(6),
+      "The input ends inside the INTEGER at offset 6. " + header(6, "02 02", "2 octets"), "Missing there: 1 octet.", CUT]),
+    ("F02", "05 00 02 02 01 05 30 09 02 01 05 04 02 aa", [],
+     ["The input ends inside the OCTET STRING at offset 11. " + header(11, "04 02", "2 octets"), "Missing there: 1 octet.",
+      "The outermost element that is not whole, the SEQUENCE at offset 6, would end at offset 17. Missing in all: 3 octets.", CUT,
+      "Whole encodings end at offset 6. Left over: 8 octets.", WHOLE.format(6)]),
+    ("F02", "30 04 30 80 05 00", [],
+     ["The input ends inside the SEQUENCE at offset 2. " + header(2, "30 80", INDEFINITE),
+      "The SEQUENCE at offset 0 ends with the input, at offset 6: its length leaves no room for what is missing.",
+      "Elements with an indefinite length that are not ended: 1; each needs two octets 00.",
+      "Try: look for a length that is too small, or fetch the input anew, in binary."]),
+    ("F02", "05 00 ff ff ff", [],
+     ["Whole encodings end at offset 2. The octets after them are ff alone, as filler is: 3.", WHOLE.format(2)]),
+    ("F02", "05 00 0a", [],
+     ["Whole encodings end at offset 2. The octets after them are line ends or spaces: 1.", WHOLE.format(2)]),
+    ("F03", "05 00 00 00 00", [],
+     ["Whole encodings end at offset 2. Octets 00 follow: 3. Left over: 3 octets.",
+      "Try: --padding, which allows octets 00 between the encodings.", "Try: head -c 2 FILE, for what stands in front of them."]),
+    ("F03", "00 05 00", [],
+     ["The input begins with octets 00: 1. No element begins with such an octet.",
+      "Try: --padding, which allows octets 00 between the encodings."]),
+    ("F03", "30 04 05 00 00 00", [],
+     ["Inside the SEQUENCE at offset 0, which ends at offset 6, an element should begin at offset 4."
+      " There is an octet 00, with which none begins. " + header(0, "30 04", "4 octets"),
+      "Left over: 2 octets. Its length, or one in front of that offset, is wrong.", ANEW]),
+    ("F04", "30 80 00 05", [],
+     ["At offset 2 the octets 00 00 should end the SEQUENCE at offset 0, but the second is 05. "
+      + header(0, "30 80", INDEFINITE), ANEW]),
+    ("F05", "30 05 a1 80 02 01 05 00", [],
+     ["The [1] at offset 2 is not ended where the SEQUENCE at offset 0 ends, at offset 7. Missing there: 2 octets, 00 00. "
+      + header(2, "a1 80", INDEFINITE) + " " + header(0, "30 05", "5 octets"), ANEW]),
+    ("F06", "3f" + " ff" * 9 + " 01", [],
+     ["The header at offset 0 has more than nine octets of tag number: 3f" + " ff" * 9 + ".", START]),
+    ("F07", "04 ff", [], ["The header at offset 0 has the first length octet ff, which X.690 reserves: 04 ff.", START]),
+    ("F08", "30 02 04 80", [],
+     ["The header at offset 2 is that of a primitive, which cannot have the indefinite length: 04 80.",
+      "Try: look at the element that ends at offset 2, or begins there: its length may be wrong; or fetch the input anew, in binary."]),
+    ("F09", "04 86 01", [], ["The header at offset 0 announces a length of 2^40 or more: 04 86 01.", START]),
+    ("F10", "30 80 " * 129, [], ["At offset 256 element 129 would be open. The program holds 128.",
+      "Try: tail -c +M FILE, where M is 1 and the offset of an element some levels deep."]),
+    ("F11", "30 03 02 02 01", [],
+     ["The octet at offset 3 completes the header of the INTEGER at offset 2. " + header(2, "02 02", "2 octets"),
+      "It would end at offset 6, but the SEQUENCE at offset 0 ends at offset 5. Missing there: 1 octet. "
+      + header(0, "30 03", "3 octets"), WRONG, ANEW]),
+    ("F11", "30 03 02 02 01 05 00", [],
+     ["The octet at offset 3 completes the header of the INTEGER at offset 2. " + header(2, "02 02", "2 octets"),
+      "It would end at offset 6, but the SEQUENCE at offset 0 ends at offset 5. Missing there: 1 octet. "
+      + header(0, "30 03", "3 octets"), WRONG, ANEW, "If the header at offset 2 said 1 octet and not 2, all would parse."]),
+    ("F11", "30 02 30 82 01 01", [],
+     ["The header at offset 2 runs past the end of the SEQUENCE at offset 0, which ends at offset 4. "
+      + header(0, "30 02", "2 octets"),
+      "Left over: 2 octets, 30 82.", WRONG, ANEW]),
+]
+
+
+def sound(octets):
+    """Returns the sentence that begins what is said of octets that parse."""
+    return f"It parses: {len(octets)} octets, which are whole encodings."
+
+
+def findings(ber, der):
+    """Returns the sentence about the findings in octets that parse."""
+    return f"By the rules of BER: findings: {ber}. By those of DER: findings: {der}."
+
+
+def broken(place):
+    """Returns the line on standard error about the string in BREAKS that breaks, for BREAKS at an offset."""
+    return (f"string at {7 + place} is the value of an extension and breaks at {10 + place}:"
+            " F11 element runs past the enclosing length\n")
+
+
+# Octets with a string that breaks, and what is said of it.
+STRINGS = [(octets, broken(place)) for octets, place in (
+    (BREAKS, 0), (element(0x30, string(BREAKS) + NULL), 4), (NULL * 9 + BREAKS + NULL, 18))]
+
+BODY = element(0x30, b"\x02\x01\x05" * 9 + b"\x04\x02\xe9\x0a")
+# What to try: another start, a copy as a text, a file of another kind. Each with words that are said, and the status.
+HINTS = [
+    ("a wrong start", b"\0\0\0" + BODY, "From offset 3 on it parses", 2),
+    ("the command for it", b"\0\0\0" + BODY, "Try: tail -c +4 FILE | tlvdump-show", 2),
+    ("a header that parses in part", b"\x02\x93" + BODY, "From offset 2 on it parses", 2),
+    ("a text in UTF-8", element(0x30, b"\x04\x81\xe9" + b"a" * 0xE9).decode("latin-1").encode(),
+     "iconv -f UTF-8 -t ISO-8859-1", 2),
+    ("a text with CR", element(0x30, string(b"\x0a")).replace(b"\x0a", b"\r\n"), "octets 0d were put in front of 0a", 2),
+    ("a text with marks", element(0x30, b"\x02\x01\x05\xef\xbf\xbd")[:-1] + b"\xbd\xff", "ef bf bd", 2),
+    ("gzip", b"\x1f\x8b\x08\x00\x00\x00", "a file of gzip", 2),
+    ("ZIP", b"PK\x03\x04\x14\x00", "a ZIP file", 2),
+    ("PDF", b"%PDF-1.7", "a PDF file", 2),
+    ("XML", b"<?xml version", "the character <", 2),
+    ("OpenSSH", b"openssh-key-v1\0", "a key of OpenSSH", 2),
+]
+# Octets of which another start may not be said: those after whole encodings.
+NO_START = [BODY + b"garbage\n", BODY + b"\x41\x82\x13\x04\x30"]
+PEM = b"-----BEGIN A-----\nMAMCAQU=\n-----END A-----\n-----BEGIN B-----\nMAMCAQ==\n-----END B-----\n"
+
+
+class Why:
+    """Runs of --why."""
+
+    def __init__(self, part):
+        self.part, self.program = part, Program(part)
+
+    def run(self, words, given=b""):
+        """Returns what it did. Counts a test: that all it writes is printable."""
+        got = self.program.run(["--why", *words], given)
+        odd = {*got.out, *got.err} - {10, *range(32, 127)}
+        self.part.expect(f"--why {words} of {given[:30].hex()}: what it writes is printable", not odd, str(odd))
+        return got
+
+    def said(self, octets, *words):
+        """Returns the status and the lines that it writes of these octets, which are taken as they are."""
+        got = self.run(["--as", "octets", *words], octets)
+        return got.status, got.out.decode(errors="replace").splitlines()
+
+
+def faults(why):
+    """A sentence for each fault, with the header at fault, and what is missing or left over."""
+    part = why.part
+    # F12 is about strings that are named, and here none is.
+    part.expect("each fault", {code for code, *_ in FAULTS} == {f"F{number:02}" for number in range(1, 12)})
+    for code, digits, words, wanted in FAULTS:
+        octets = bytes.fromhex(digits)
+        status, lines = why.said(octets, *words)
+        message = part.run(["dump", *words], octets).err.decode()
+        fine = status == 2 and f": {code} " in message and lines[:1] == [f"It does not parse: {message.strip()}."]
+        fine = fine and lines[1 : len(wanted) + 1] == wanted
+        part.expect(f"why {digits} {words}", fine, *lines)
+    for octets, ber, der, wanted in ((NULL, 0, 0, 0), (b"\x02\x02\x00\x05" + NULL, 1, 1, 1), (b"\x04\x81\x01a", 0, 1, 0)):
+        got = why.said(octets)
+        part.expect(f"why {octets.hex()}", got == (wanted, [sound(octets), findings(ber, der)]), str(got))
+
+
+def strings(why):
+    """A string that breaks is reported, with the offsets of the input, at the top and in another string; not with --closed."""
+    for octets, said in STRINGS:
+        for words, status, err in (([], 1, said), (["--closed"], 0, "")):
+            got = why.run(["--as", "octets", *words], octets)
+            lines = got.out.decode(errors="replace").splitlines()
+            fine = (got.status, got.err.decode()) == (status, err) and lines == [sound(octets), findings(0, 0)]
+            why.part.expect(f"why a string breaks, {octets.hex()} {words}", fine, *got.lines())
+
+
+def hints(why):
+    """What to try, and that it helps."""
+    for what, octets, wanted, ends in HINTS:
+        status, lines = why.said(octets)
+        why.part.expect(f"hint: {what}", status == ends and wanted in "\n".join(lines), str(status), *lines)
+    for octets in NO_START:
+        _, lines = why.said(octets)
+        text = "\n".join(lines)
+        fine = f"end at offset {len(BODY)}." in text and "From offset" not in text
+        why.part.expect(f"no other start after whole encodings, {octets.hex()}", fine, *lines)
+    got = why.program.run([], (b"\0\0\0" + BODY)[3:])
+    why.part.expect("after the wrong start", got.status == 0, *got.lines())
+
+
+def cuts(why):
+    """Each prefix of an encoding: what is missing in all is reported, and so much is missing."""
+    octets = element(0x30, b"\x02\x01\x05" + element(0x31, string(b"\x05" * 130) + NULL))
+    wrong = []
+    for size in [*range(4, 20), *range(len(octets) - 6, len(octets))]:
+        status, lines = why.said(octets[:size])
+        stated = re.findall(r"Missing in all: (\d+) octets?\.", "\n".join(lines))
+        if status != 2 or stated != [str(len(octets) - size)]:
+            wrong += [f"{size}: {status}", *lines]
+    why.part.expect("prefixes of an encoding", not wrong, *wrong)
+
+
+def texts(why):
+    """Of a text each block of octets; of several FILEs the highest status."""
+    part, octets = why.part, element(0x30, b"\x02\x01\x05")
+    got = why.run([], octets.hex().encode())
+    fine = (got.status, got.err) == (0, b"taken for hexadecimal\n") and got.out.startswith(sound(octets).encode())
+    part.expect("why, of hexadecimal", fine, *got.lines())
+    got = why.run([], PEM)
+    lines = got.out.decode(errors="replace").splitlines()
+    fine = got.status == 2 and all(f"taken for PEM, {label}\n".encode() in got.err for label in "AB")
+    fine = fine and any(line.startswith(sound(octets)) for line in lines) and "Missing there: 1 octet." in lines
+    part.expect("why, of PEM", fine, *got.lines())
+    part.write("whole", octets)
+    part.write("cut", octets[:-1])
+    for words, status in ((["whole"], 0), (["cut"], 2), (["whole", "cut"], 2), (["cut", "missing"], 3)):
+        got = why.run(words)
+        part.expect(f"why, of {words}", got.status == status, *got.lines())
+
+
+def test(part):
+    why = Why(part)
+    faults(why)
+    strings(why)
+    hints(why)
+    cuts(why)
+    texts(why)

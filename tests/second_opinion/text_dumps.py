@@ -1,0 +1,183 @@
+"""Hex dumps: "Hex dump" of docs/TEXTS.md."""
+import re
+from dataclasses import dataclass
+
+MOST_OCTETS = 1 << 30
+USUAL_WIDTH, MOST_WIDTH = 16, 256
+PAIR = rb"[0-9a-fA-F]{2}"
+OFFSET = rb"[ \t]*(?:0[xX])?(%s{4,16})"
+DIGITS = {16: rb"[0-9a-fA-F]", 8: rb"[0-7]"}
+# Between the offset and the first pair.
+FRONT = rb"([: \t][ \t]*:?)-?[ \t]*(?=%s)" % PAIR
+REPEAT, EMPTY = re.compile(rb"[ \t]*\*[ \t]*"), re.compile(rb"[ \t]*")
+# What may not come at once after the pairs of a row, and what not after those of a full row: after a blank a pair that a
+# blank or the end of the line follows.
+DIGIT = re.compile(DIGITS[16])
+MORE = re.compile(rb"[ \t]%s(?=[ \t]|\Z)" % PAIR)
+# An offset as od writes it.
+OF_OD = re.compile(rb"[ \t]*(?:0[xX])?[0-7]{7}[ \t]")
+
+
+class TooLong(Exception):
+    """A block has more than 2^30 octets (X4)."""
+
+
+@dataclass
+class Decoded:
+    """The octets that a text gives, and the place at which it is refused, or None."""
+
+    octets: bytes
+    place: int | None = None
+
+
+@dataclass
+class Line:
+    """A line that is a row, a repeat or the end: where it begins, its offset, and for a row where its first pair is."""
+
+    kind: str
+    place: int
+    text: bytes
+    offset: int | None = None
+    start: int | None = None
+    has_colon: bool = False
+
+
+def decoded(text):
+    """Returns what a hex dump gives: with octal offsets, if they are as od writes them and fit, else with hexadecimal ones."""
+    dump = Dump(text, 16)
+    if OF_OD.match(dump.first):
+        octal = Dump(text, 8)
+        dump = octal if octal.place is None else dump
+    return Decoded(dump.octets(), dump.place)
+
+
+def lines_of(text):
+    """Returns each line with the place at which it begins; a carriage return before a line feed is dropped."""
+    found, place = [], 0
+    lines = text.split(b"\n")
+    for number, line in enumerate(lines, 1):
+        is_ended = number < len(lines)
+        found.append((place, line.removesuffix(b"\r") if is_ended else line))
+        place += len(line) + 1
+    return found
+
+
+class Dump:
+    """A dump whose offsets have this base. `place` is where it is refused; `pieces` are octets, each with a size.
+
+    `first` is the first row.
+
+    A piece is as often repeated as its size says, since a repeat may stand for many octets. `width` is the number
+    of octets in a row, None for a single row, which has any number.
+    """
+
+    def __init__(self, text, base):
+        """Reads the text."""
+        self.row = re.compile(OFFSET % DIGITS[base] + FRONT)
+        self.end = re.compile(OFFSET % DIGITS[base] + rb"[ \t]*")
+        self.base, self.text_size = base, len(text)
+        self.pieces, self.place, self.first = [], None, b""
+        items, misfit = self.items_of(lines_of(text))
+        if items:
+            self.first = items[0].text
+            self.read(items, misfit)
+        else:
+            self.place = len(text) if misfit is None else misfit
+
+    def octets(self):
+        """Returns the octets of all pieces; more than 2^30 are too many."""
+        if sum(size for _, size in self.pieces) > MOST_OCTETS:
+            raise TooLong
+        return b"".join((octets * (size // len(octets) + 1))[:size] for octets, size in self.pieces)
+
+    def line_of(self, place, text):
+        """Returns what a line is; None if it is none of the kinds."""
+        row = self.row.match(text)
+        if row:
+            return Line("row", place, text, int(row[1], self.base), row.end(), row[2].startswith(b":"))
+        end = self.end.fullmatch(text)
+        if end:
+            return Line("end", place, text, int(end[1], self.base))
+        return Line("repeat", place, text) if REPEAT.fullmatch(text) else None
+
+    def items_of(self, lines):
+        """Returns the lines from the first row on, without empty ones, and the place of one that cannot stand there."""
+        items = []
+        for place, text in lines:
+            line = self.line_of(place, text)
+            if not items:
+                if line and line.kind == "repeat":
+                    return items, place
+                items += [line] if line and line.kind == "row" else []
+            elif not EMPTY.fullmatch(text):
+                if line is None or items[-1].kind == "end":
+                    return items, place
+                items.append(line)
+        return items, None
+
+    def read(self, items, misfit):
+        """Reads the lines, up to the first that does not fit."""
+        self.is_single = len(items) == 1
+        self.width = None if self.is_single else width_of(items)
+        self.next_offset, self.before, self.is_repeated = items[0].offset, None, False
+        fits = {"row": self.fits_row, "repeat": self.fits_repeat, "end": self.fits_end}
+        for item in items:
+            if not fits[item.kind](item):
+                self.place = item.place
+                return
+        self.place = items[-1].place if self.is_repeated and misfit is None else misfit
+
+    def is_short(self):
+        """Returns whether the row before has too few octets: no row fits after it, and no repeat."""
+        return self.before is not None and len(self.before) != self.width
+
+    def fits_offset(self, offset):
+        """Returns whether an offset fits; after a repeat it fills up to it, with one row or more."""
+        more = offset - self.next_offset
+        if not self.is_repeated:
+            return more == 0
+        if more <= 0 or more % self.width:
+            return False
+        self.pieces.append((self.before, more))
+        self.next_offset, self.is_repeated = offset, False
+        return True
+
+    def fits_repeat(self, _):
+        """Notes a repeat; returns whether it fits, which is after a row that is full."""
+        fits = not self.is_short() and not self.is_repeated
+        self.is_repeated = self.is_repeated or fits
+        return fits
+
+    def fits_row(self, row):
+        """Takes the octets of a row; returns whether it fits."""
+        if self.is_short() or self.is_single and row.offset != 0 and not row.has_colon:
+            return False
+        octets, at = self.pairs(row)
+        if DIGIT.match(row.text, at) or len(octets) == self.width and MORE.match(row.text, at):
+            return False
+        if not self.fits_offset(row.offset):
+            return False
+        self.pieces.append((octets, len(octets)))
+        self.next_offset, self.before = row.offset + len(octets), octets
+        return True
+
+    def pairs(self, row):
+        """Returns the octets of a row, as many as it may have, and the place after them."""
+        blanks = 0 if row.has_colon else 1, 1 if self.is_single else 2
+        gap = re.compile(rb"(?:-|[ \t]{%d,%d})(%s)" % (*blanks, PAIR))
+        octets, at = bytes.fromhex(row.text[row.start : row.start + 2].decode()), row.start + 2
+        while len(octets) != self.width and (pair := gap.match(row.text, at)):
+            octets, at = octets + bytes.fromhex(pair[1].decode()), pair.end()
+        return octets, at
+
+    def fits_end(self, end):
+        """Returns whether the last offset fits: that of the last row and its octets, or what a repeat goes up to."""
+        return self.fits_offset(end.offset)
+
+
+def width_of(items):
+    """Returns the number of octets in a row: the difference of the first two offsets, or 16."""
+    if len(items) < 2 or items[1].kind == "repeat":
+        return USUAL_WIDTH
+    more = items[1].offset - items[0].offset
+    return more if 1 <= more <= MOST_WIDTH else USUAL_WIDTH

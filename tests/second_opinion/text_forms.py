@@ -1,0 +1,178 @@
+"""The forms of docs/TEXTS.md but for hex dumps: what octets a text of each gives, and where it is refused."""
+import base64
+import re
+from dataclasses import dataclass
+
+from second_opinion.text_dumps import Decoded
+
+LEFT_OUT = rb"(?:[ \t\n\r\"'>]|\\[nr]|\\(?=/))"
+LETTERS_AND_DIGITS = rb"A-Za-z0-9"
+SIGNS = {4: rb"+/", 5: rb"\-_"}
+BEGIN = re.compile(rb"-----BEGIN ([\x20-\x2c\x2e-\x7e]{1,64})-----")
+DASHES = b"-----"
+LINE_END = re.compile(rb"\n|\\n")
+BLANK_LINE = re.compile(rb"(?:[ \t\r\"'>]|\\r)*")
+# Symbols with at most a line end between two of them, after which they reach to the end of their line; and padding.
+RUN = re.compile(rb"[A-Za-z0-9+/]+(?:\r?\n[ \t]*[A-Za-z0-9+/]+(?=[\n\r=<\"']|\Z))*={0,2}")
+FEWEST_SYMBOLS = 40
+ZERO_X = rb"(?<![A-Za-z0-9_])0[xX]([0-9a-fA-F]{1,2})(?![A-Za-z0-9_])"
+TOKEN = re.compile(ZERO_X + rb"|\\x([0-9a-fA-F]{2})(?=[\\\"' \t\n\r]|\Z)")
+BEFORE_BACKSLASH = b" \t\n\r\"'"
+# What looks like a token at its start.
+LIKE_TOKEN = re.compile(rb"(?<![A-Za-z0-9_])0[xX][0-9a-fA-F]|\\x[0-9a-fA-F]")
+PAIRS = re.compile(rb"(?:[ \t\n\r:,\-\"']|[0-9a-fA-F]{2})*")
+NUMBER = rb"-?[0-9]{1,3}"
+SPACE = rb"[ \t\n\r]*"
+NUMBERS = SPACE + NUMBER + rb"(?:%s,%s%s)+%s(?:,%s)?" % (SPACE, SPACE, NUMBER, SPACE, SPACE)
+LIST = re.compile(rb"\[(%s)\]|\{(%s)\}" % (NUMBERS, NUMBERS))
+
+
+def of_base64(text, section=None):
+    """Returns what a text in base64 gives; without a section of RFC 4648, it is 5 if the text has - or _."""
+    section = section or (5 if re.search(rb"[-_]", text) else 4)
+    symbol = rb"[%s%s]" % (LETTERS_AND_DIGITS, SIGNS[section])
+    head = re.match(rb"(?:%s*%s)*" % (LEFT_OUT, symbol), text)[0]
+    symbols = re.sub(LEFT_OUT, b"", head).translate(bytes.maketrans(b"-_", b"+/"))
+    after = text[len(head) :]
+    is_ended = re.fullmatch(rb"%s*(?:=%s*){0,2}" % (LEFT_OUT, LEFT_OUT), after)
+    shape = len(symbols) % 4, after.count(b"=")
+    if is_ended and shape in ((0, 0), (2, 0), (2, 2), (3, 0), (3, 1)):
+        octets = base64.b64decode(symbols + b"=" * (-len(symbols) % 4))
+        if base64.b64encode(octets).rstrip(b"=") == symbols:
+            return Decoded(octets)
+    whole = symbols[: len(symbols) // 4 * 4]
+    left_out = re.match(rb"%s*" % LEFT_OUT, after)[0]
+    return Decoded(base64.b64decode(whole), len(head) + len(left_out))
+
+
+@dataclass
+class PemBlock:
+    """A block of PEM: its label, what its base64 gives (None if it is encrypted), and whether it has an end marker."""
+
+    label: str
+    decoded: Decoded | None
+    is_ended: bool
+
+
+def of_pem(text):
+    """Returns the blocks of PEM."""
+    blocks, at = [], 0
+    while begin := BEGIN.search(text, at):
+        end = text.find(DASHES, begin.end())
+        at = len(text) if end < 0 else end
+        decoded = of_body(text, begin.end(), at)
+        blocks.append(PemBlock(begin[1].decode(), decoded, end >= 0))
+    return blocks
+
+
+def of_body(text, start, end):
+    """Returns what the body between two places gives; None if its headers say that it is encrypted."""
+    body = text[start:end]
+    if b":" in body:
+        first = LINE_END.search(body)
+        headers = first.end() if first else len(body)
+        skip = end_of_headers(body, headers)
+        if b"ENCRYPTED" in body[headers:skip]:
+            return None
+        start += skip
+    decoded = of_base64(text[start:end], 4)
+    if decoded.place is not None:
+        decoded.place += start
+    return decoded
+
+
+def end_of_headers(body, at):
+    """Returns the place after the first blank line from this one on; the end of the body if there is none."""
+    while line_end := LINE_END.search(body, at):
+        is_blank = BLANK_LINE.fullmatch(body, at, line_end.start())
+        at = line_end.end()
+        if is_blank:
+            return at
+    return len(body)
+
+
+def tokens_of(text):
+    """Returns the tokens of hexadecimal, as matches."""
+    tokens, at = [], 0
+    while token := TOKEN.search(text, at):
+        at, start = token.end(), token.start()
+        if token[1] or may_begin(text, start, tokens):
+            tokens.append(token)
+        else:
+            at = start + 1
+    return tokens
+
+
+def may_begin(text, place, tokens):
+    """Returns whether a token with a backslash may begin here, after these tokens."""
+    return place == 0 or text[place - 1] in BEFORE_BACKSLASH or any(it.end() == place for it in tokens[-1:])
+
+
+def of_hexadecimal(text):
+    """Returns what a text in hexadecimal gives: that of its tokens if there are two or more, else that of pairs."""
+    tokens = tokens_of(text)
+    if len(tokens) > 1:
+        return of_tokens(text, tokens)
+    head = PAIRS.match(text)[0]
+    octets = bytes.fromhex(re.sub(rb"[^0-9a-fA-F]", b"", head).decode())
+    return Decoded(octets, None if len(head) == len(text) else len(head))
+
+
+def of_tokens(text, tokens):
+    """Returns the octets of the tokens, up to the first place at which the text is refused."""
+    places = [place for place in (between(text, tokens), like_token(text, tokens)) if place is not None]
+    place = min(places) if places else None
+    kept = [token for token in tokens if place is None or token.start() < place]
+    return Decoded(bytes(int(token[1] or token[2], 16) for token in kept), place)
+
+
+def between(text, tokens):
+    """Returns the place of the first letter, digit or _ between two tokens, or None."""
+    for one, following in zip(tokens, tokens[1:]):
+        other = re.search(rb"[A-Za-z0-9_]", text[one.end() : following.start()])
+        if other:
+            return one.end() + other.start()
+    return None
+
+
+def like_token(text, tokens):
+    """Returns the place of the first that begins as a token and is none, or None."""
+    starts = {token.start() for token in tokens}
+    ends = {token.end() for token in tokens}
+    for like in LIKE_TOKEN.finditer(text):
+        place = like.start()
+        is_free = text[place] != 0x5C or place == 0 or text[place - 1] in BEFORE_BACKSLASH or place in ends
+        if place not in starts and is_free:
+            return place
+    return None
+
+
+def of_numbers(text):
+    """Returns the octets of the one list of decimal numbers, or None."""
+    found, at = [], 0
+    while (it := LIST.search(text, at)) and len(found) < 2:
+        numbers = [int(number) for number in re.findall(NUMBER, it[0])]
+        if all(-128 <= number <= 255 for number in numbers):
+            found.append(bytes(number & 0xFF for number in numbers))
+        at = it.start() + 1
+    return found[0] if len(found) == 1 else None
+
+
+@dataclass
+class Run:
+    """A run of base64: where it begins, and what it gives."""
+
+    start: int
+    decoded: Decoded
+
+
+def of_runs(text):
+    """Returns the runs of base64."""
+    runs = []
+    for found in RUN.finditer(text):
+        if len(re.findall(rb"[A-Za-z0-9+/]", found[0])) >= FEWEST_SYMBOLS:
+            decoded = of_base64(found[0])
+            if decoded.place is not None:
+                decoded.place += found.start()
+            runs.append(Run(found.start(), decoded))
+    return runs

@@ -1,0 +1,219 @@
+"""A second implementation of docs/TEXTS.md: the blocks of an input, and what each is taken for."""
+import re
+from dataclasses import dataclass, field
+
+from second_opinion import text_dumps, text_forms
+from second_opinion.reading import Reading
+from second_opinion.text_dumps import TooLong
+
+OCTETS = ("octets", "ber", "der", "cer")
+TEXTS = ("pem", "dump", "hex", "numbers", "base64", "runs")
+WORDS = {"dump": "a hex dump", "hex": "hexadecimal", "numbers": "decimal numbers", "base64": "base64"}
+EXPECTED = {"pem": "base64", "base64": "base64", "runs": "base64", "dump": "a row of a hex dump"}
+EXPECTED |= {"hex": "a pair of hexadecimal digits"}
+NO_PEM = "X2 there is no block of PEM"
+NO_LIST = "X2 there is no list of decimal numbers, or more than one"
+NO_BASE64 = "X2 there is no base64"
+ENCRYPTED, NO_END = "X3 it is encrypted", "its end marker is missing"
+TOO_LONG = f"X4 text of more than {text_dumps.MOST_OCTETS} octets"
+KNOWN = "known are PEM, hex dumps, hexadecimal, decimal numbers and base64"
+MARK = b"\xef\xbb\xbf"
+WHITE_SPACE = b" \t\n\r"
+CONTROLS = re.compile(rb"[\x00-\x08\x0e-\x19\x1c-\x1f\x7f]")
+MOST_LAYERS, MOST_SHOWN, MOST_LOOKED_AT = 3, 32, 4096
+BEGINNINGS = (b"\x30", b"\x31")
+# The first octets of a dump that is refused, if its offsets are read as pairs.
+OFFSET = b"\0\0"
+
+
+@dataclass
+class Block:
+    """Octets of an input, and what is said of them.
+
+    form: what the text was taken for, None if for nothing. label: that of PEM. line: that of a run. layers: the
+    base64 that the text is in, from the inside: the line of a run, or None. wrong: X1 to X4, if something is refused.
+    """
+
+    form: str | None
+    octets: bytes = b""
+    label: str | None = None
+    line: int | None = None
+    layers: list = field(default_factory=list)
+    wrong: str | None = None
+    is_ended: bool = True
+
+    def name(self):
+        """Returns the name in the line before the block; None if it is that of the FILE."""
+        return self.label or (f"base64 of line {self.line}" if self.line else None)
+
+    def note(self):
+        """Returns the line that says what the text was taken for; None of octets."""
+        if self.form in (None, "octets"):
+            return self.wrong
+        words = f"PEM, {self.label}" if self.form == "pem" else WORDS.get(self.form) or self.name()
+        layers = "".join(f", in base64 of line {line}" if line else ", in base64" for line in self.layers)
+        wrong = f"; {self.wrong}" if self.wrong else "" if self.is_ended else f"; {NO_END}"
+        return f"taken for {words}{layers}{wrong}"
+
+    def status(self, status, is_raw):
+        """Returns the status of the block, where that of the octets that are shown is `status`."""
+        if self.wrong == TOO_LONG:
+            return 4
+        return status or (2 if is_raw else 4) if self.wrong else status
+
+    def is_shown(self):
+        """Returns whether there is something to show: nothing is if the text is refused before its first octet."""
+        return bool(self.octets) or not self.wrong
+
+
+def blocks_of(octets, as_form=None):
+    """Returns the blocks of an input, which is taken for a form, or for what its octets are."""
+    if as_form in OCTETS:
+        return [Block("octets", octets)]
+    try:
+        return of_form(as_form, text_of(octets)) if as_form else of_any(octets)
+    except TooLong:
+        return [Block(None, wrong=TOO_LONG)]
+
+
+def text_of(octets):
+    """Returns the text of an input: without a mark of UTF-8, and ASCII in UTF-16 with a mark as ASCII."""
+    if octets.startswith(MARK):
+        return octets[len(MARK) :]
+    for mark, low in ((b"\xff\xfe", 0), (b"\xfe\xff", 1)):
+        units = octets[2:]
+        low_octets, high_octets = units[low::2], units[1 - low :: 2]
+        if octets.startswith(mark) and len(units) % 2 == 0 and low_octets.isascii() and not any(high_octets):
+            return low_octets
+    return octets
+
+
+def of_any(octets):
+    """Returns the blocks of an input without --as: the first that it is of the five."""
+    text = text_of(octets)
+    blocks = None if has_control(text) else of_known_form(text, 0)
+    if blocks:
+        return blocks
+    # What has a mark is no encoding, though it may parse: in UTF-16 each character is an element without contents.
+    if has_control(text) or octets is text and is_whole(octets) or not is_utf8(text) or not text.strip(WHITE_SPACE):
+        return [Block("octets", octets)]
+    first = "".join(chr(it) if 0x20 <= it <= 0x7E else "?" for it in text[:MOST_SHOWN])
+    return [Block(None, wrong=f'X1 text of no form that is known: "{first}"; {KNOWN}')]
+
+
+def has_control(text):
+    """Returns whether one of the first characters is none of a text."""
+    return bool(CONTROLS.search(text[:MOST_LOOKED_AT]))
+
+
+def is_whole(octets):
+    """Returns whether these are one or more whole encodings and nothing else; padding is allowed."""
+    return Reading(octets, padding=True).fault is None
+
+
+def is_utf8(text):
+    """Returns whether a text is UTF-8."""
+    try:
+        text.decode("utf-8")
+    except UnicodeDecodeError:
+        return False
+    return True
+
+
+def of_known_form(text, layers):
+    """Returns the blocks of the first form that holds; None if none does. The text is in so much base64."""
+    if text_forms.of_pem(text):
+        return of_form("pem", text)
+    blocks = sound("dump", text_dumps.decoded(text)) or sound("hex", text_forms.of_hexadecimal(text), OFFSET)
+    if not blocks and text_forms.of_numbers(text) is not None:
+        return of_form("numbers", text)
+    return blocks or of_counting_base64(text, layers) or of_counting_runs(text, layers)
+
+
+def sound(form, decoded, not_in_front=None):
+    """Returns the block of a text that is not refused and gives octets, which may not begin with some; or None."""
+    if decoded.place is not None or not decoded.octets or not_in_front and decoded.octets.startswith(not_in_front):
+        return None
+    return [Block(form, decoded.octets)]
+
+
+def of_form(form, text):
+    """Returns the blocks of a text of this form, whatever else holds."""
+    if form == "pem":
+        return [of_pem(text, it) for it in text_forms.of_pem(text)] or [Block(None, wrong=NO_PEM)]
+    if form == "numbers":
+        octets = text_forms.of_numbers(text)
+        return [Block(None, wrong=NO_LIST) if octets is None else Block(form, octets)]
+    if form == "runs":
+        return [of_run(text, it) for it in text_forms.of_runs(text)] or [Block(None, wrong=NO_BASE64)]
+    decoded = {"dump": text_dumps.decoded, "hex": text_forms.of_hexadecimal, "base64": text_forms.of_base64}[form]
+    return [of_decoded(form, text, decoded(text))]
+
+
+def of_decoded(form, text, decoded, **more):
+    """Returns the block of what a text gives, and says where it is refused."""
+    wrong = None
+    if decoded.place is not None:
+        line = line_of(text, decoded.place)
+        wrong = f"X2 refused in line {line}, where {EXPECTED[form]} is expected"
+    return Block(form, decoded.octets, wrong=wrong, **more)
+
+
+def line_of(text, place):
+    """Returns the number of the line of a place."""
+    return text.count(b"\n", 0, place) + 1
+
+
+def of_pem(text, pem):
+    """Returns the block of a block of PEM."""
+    if pem.decoded is None:
+        return Block("pem", label=pem.label, wrong=ENCRYPTED)
+    return of_decoded("pem", text, pem.decoded, label=pem.label, is_ended=pem.is_ended)
+
+
+def of_run(text, run):
+    """Returns the block of a run."""
+    return of_decoded("runs", text, run.decoded, line=line_of(text, run.start))
+
+
+def counts(octets):
+    """Returns whether octets count by themselves: encodings, or the beginning of a SEQUENCE or a SET."""
+    return octets.startswith(BEGINNINGS) or is_whole(octets)
+
+
+def in_turn(decoded, layers):
+    """Returns the blocks of the text that base64 gives, if it is one of a form; the base64 is in so much itself."""
+    if decoded.place is not None or layers == MOST_LAYERS:
+        return None
+    text = text_of(decoded.octets)
+    return None if has_control(text) else of_known_form(text, layers + 1)
+
+
+def in_layer(blocks, line):
+    """Notes that the text of these blocks is in base64, that of a run in this line, or of a whole text."""
+    for block in blocks:
+        block.layers.append(line)
+    return blocks
+
+
+def of_counting_base64(text, layers):
+    """Returns the blocks of a text in base64 that is not refused, and whose octets count; or None."""
+    decoded = text_forms.of_base64(text)
+    if decoded.place is not None:
+        return None
+    inner = in_turn(decoded, layers)
+    if inner:
+        return in_layer(inner, None)
+    return [Block("base64", decoded.octets)] if counts(decoded.octets) else None
+
+
+def of_counting_runs(text, layers):
+    """Returns the blocks of the runs that count, or None."""
+    blocks = []
+    for run in text_forms.of_runs(text):
+        inner = in_turn(run.decoded, layers)
+        if inner:
+            blocks += in_layer(inner, line_of(text, run.start))
+        elif counts(run.decoded.octets):
+            blocks.append(of_run(text, run))
+    return blocks or None
