@@ -4,7 +4,7 @@ import shlex
 import shutil
 import subprocess
 
-from second_opinion import cases, commands, show_cases, showing
+from second_opinion import cases, commands, show_cases, showing, why_cases
 from second_opinion.names import read_names
 
 SECONDS = 120
@@ -91,6 +91,14 @@ class ShowRunner(Runner):
         """Returns the status, output and messages that a run is to have."""
         wanted = showing.run(it.options, lambda: read_names(case.names) if it.options.names else self.names)
         return wanted.status, wanted.out, wanted.err
+
+
+class WhyRunner(ShowRunner):
+    """Runs tlvdump-show --why in the same way."""
+
+    def case_of(self, seed):
+        """Returns the case of a seed."""
+        return why_cases.case_of(seed)
 
 
 def put(source, target):

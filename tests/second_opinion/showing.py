@@ -1,7 +1,7 @@
-"""What tlvdump-show does: docs/FORMAT.md from "Which strings are opened" on, and docs/TEXTS.md."""
+"""What tlvdump-show does: docs/FORMAT.md from "Which strings are opened" on, docs/TEXTS.md and docs/WHY.md."""
 from dataclasses import dataclass, field
 
-from second_opinion import texts
+from second_opinion import texts, why
 from second_opinion.commands import FAULTS, LARGEST_LIMIT, LARGEST_OFFSET, Options, Refused, Values
 from second_opinion.commands import answer, fault_text, in_range
 from second_opinion.findings import LETTERS
@@ -26,7 +26,7 @@ class File:
 
 @dataclass
 class Show:
-    """The options of a run: `job` is dump, check, offset, offsets or raw. A value is the text in the words."""
+    """The options of a run: `job` is dump, check, offset, offsets, raw or why. A value is the text in the words."""
 
     job: str
     rules: str | None = None
@@ -79,7 +79,7 @@ def run(show, names):
     for file, of_file in zip(show.files, blocks):
         for block in of_file:
             number += 1
-            if count > 1 and show.job in ("dump", "check"):
+            if count > 1 and show.job in ("dump", "check", "why"):
                 whole.out += f"# block {number} of {count}: {title(show, file, block)}\n".encode()
             status, out, lines = of_block(show, block, known)
             front = "" if file.is_standard_input else f"{file.shown()}: "
@@ -113,11 +113,34 @@ def of_octets(show, octets, known):
     strings = Strings(octets, show.padding)
     if show.job == "offsets":
         return offsets(octets, show.padding, strings.opened)
+    if show.job == "why":
+        return reasons(show, octets, strings)
     got = answer(options_of(show), values_of(show, strings.opened), known, octets)
     if show.closed or show.job == "offset":
         strings.broken.clear()
     broken = [line_of(*it) for it in strings.faults()]
     return max(got.status, 1 if broken else 0), got.out, [got.message] * bool(got.message) + broken
+
+
+def reasons(show, octets, strings):
+    """Returns the result of --why for a block."""
+    lines = why.lines_of(octets, show.padding)
+    if lines is not None:
+        return 2, written(lines), []
+    inside = [] if show.closed else strings.opened
+    ber, der = (found_by(rules, octets, show.padding, inside) for rules in ("ber", "der"))
+    broken = [] if show.closed else [line_of(*it) for it in strings.faults()]
+    return 1 if ber or broken else 0, written(why.sound_lines(octets, ber, der)), broken
+
+
+def written(lines):
+    """Returns the octets of lines."""
+    return "".join(f"{line}\n" for line in lines).encode()
+
+
+def found_by(rules, octets, padding, inside):
+    """Returns how many findings a check reports by these rules, with these strings opened."""
+    return len(answer(Options("check", padding=padding), Values(rules, 0, 0, inside), {}, octets).out.splitlines())
 
 
 def line_of(broken, fault):

@@ -1,85 +1,116 @@
-"""What might mend an input that does not parse: one other length, line ends and UTF-8 undone, a later start."""
-from dataclasses import dataclass
+"""What might mend an input: docs/WHY.md from "Another length" on."""
+from second_opinion.reading import Element, Reading
 
-from second_opinion.reading import Reading
+MOST_SEARCHED, MOST_OFF, LAST_START = 1 << 20, 5, 64
+KINDS = (
+    (b"PK\x03\x04", "It begins as a ZIP file does: unpack it first."),
+    (b"\x1f\x8b", "It begins as a file of gzip does. Try: gzip -dc FILE | tlvdump-show"),
+    (b"BZh", "It begins as a file of bzip2 does. Try: bzip2 -dc FILE | tlvdump-show"),
+    (b"%PDF", "It begins as a PDF file does."),
+    (b"<", "It begins with the character <, as XML and HTML do."),
+    (b"openssh-key", "It is a key of OpenSSH, which is no encoding by X.690."),
+)
+LATIN_1 = ("It was taken for a text in Latin-1 and written in UTF-8. "
+           "Try: fetch it anew, in binary, or: iconv -f UTF-8 -t ISO-8859-1 FILE | tlvdump-show")
+LINE_ENDS = "It was taken for a text: octets 0d were put in front of 0a. Try: fetch it anew, in binary."
+START = ("From offset {} on it parses: what stands in front may be a header of the file or of the record, or damaged. "
+         "Try: tail -c +{} FILE | tlvdump-show")
 
-MOST_SEARCHED, MOST_BEFORE, MOST_OFF, LAST_START = 1 << 20, 25, 5, 64
+
+def remedies(octets, padding, candidates):
+    """Returns the lines of what might mend an input that does not parse, with headers as candidates for another length."""
+    return [*other_length(octets, padding, candidates), *text_change(octets, padding), *other_kind(octets),
+            *other_start(octets, padding)]
 
 
-@dataclass
-class OtherLength:
-    """The offset of a header, the length that it says, and the one with which all would parse."""
-
-    offset: int
-    length: int
-    other: int
-
-
-def is_sound(octets, padding):
+def parses(octets, padding):
     """Returns whether these octets parse."""
     return Reading(octets, padding=padding).fault is None
 
 
-def other_length(octets, headers, padding):
-    """Returns the first of these headers that would, with another length, make all parse; or None.
-
-    A header is its offset, the offset of its length octets, that of its contents, and its length.
-    """
-    if len(octets) > MOST_SEARCHED:
+def header_at(octets, offset):
+    """Returns the element whose whole header begins at an offset, with its offsets in the input; or None."""
+    items = Reading(octets[offset:]).items
+    if not items or not isinstance(items[0], Element):
         return None
-    for offset, first, start, length in headers:
-        for other in lengths_near(length):
-            new = spelled(octets[first:start], other)
-            if new and is_sound(octets[:first] + new + octets[start:], padding):
-                return OtherLength(offset, length, other)
-    return None
+    element = items[0]
+    element.offset, element.start = element.offset + offset, element.start + offset
+    return element
+
+
+def other_length(octets, padding, candidates):
+    """Returns the line of the first candidate that would, with another length, make all parse."""
+    if len(octets) > MOST_SEARCHED:
+        return []
+    for it in candidates:
+        first = it.offset + len(it.identifier)
+        for length in lengths_near(it.length):
+            said = spelled(it.length_octets, length)
+            if said and parses(octets[:first] + said + octets[it.start :], padding):
+                word = "octet" if length == 1 else "octets"
+                said = f"said {length} {word} and not {it.length}"
+                return [f"If the header at offset {it.offset} {said}, all would parse."]
+    return []
 
 
 def lengths_near(length):
-    """Gives the lengths that are 1 to 5 more or less, nearest first."""
-    for off in range(1, MOST_OFF + 1):
-        yield length + off
-        if length >= off:
-            yield length - off
+    """Gives the lengths that are 1 to 5 more or less, in the order in which they are tried; none of the indefinite form."""
+    if length is not None:
+        for off in range(1, MOST_OFF + 1):
+            yield length + off
+            if length >= off:
+                yield length - off
 
 
-def spelled(length_octets, other):
-    """Returns the length octets with another length, as many as there are; None if they have no room for it."""
+def spelled(length_octets, length):
+    """Returns as many length octets in the same form, with another length; None if they have no room for it."""
     if length_octets[0] < 0x80:
-        return bytes([other]) if other < 0x80 else None
+        return bytes([length]) if length < 0x80 else None
     count = len(length_octets) - 1
-    return length_octets[:1] + other.to_bytes(count, "big") if other < 1 << 8 * count else None
+    return length_octets[:1] + length.to_bytes(count, "big") if length < 1 << 8 * count else None
 
 
-def without_carriage_returns(octets):
-    """Returns the octets without each 0d that stands in front of a 0a."""
-    return octets.replace(b"\r\n", b"\n")
-
-
-def without_utf8(octets):
-    """Returns the characters below 256 that UTF-8 stands for as octets, or None if it does not stand for these alone."""
+def text_change(octets, padding):
+    """Returns the line of what was done to the input as to a text."""
     try:
-        return octets.decode().encode("latin-1")
+        characters = octets.decode("utf-8").encode("latin-1")
     except UnicodeError:
-        return None
+        characters = octets
+    if characters != octets and parses(characters, padding):
+        return [LATIN_1]
+    if b"\r\n" in octets and parses(octets.replace(b"\r\n", b"\n"), padding):
+        return [LINE_ENDS]
+    return []
 
 
-def next_start(octets, padding):
-    """Returns the first offset up to 64 at which a constructed element begins, and from which on all parses; or None."""
-    if seems_right(octets, padding):
-        return None
-    for start in range(1, min(LAST_START + 1, len(octets))):
-        if octets[start] & 0x20 and is_sound(octets[start:], padding):
-            return start
-    return None
+def other_kind(octets):
+    """Returns the line of another kind of file."""
+    return [line for front, line in KINDS if octets.startswith(front)][:1]
 
 
-def seems_right(octets, padding):
-    """Returns whether the first element ends with the input, or is constructed and begins with whole encodings."""
-    reading = Reading(octets, padding=padding)
-    first = next(iter(reading.elements()), None)
+def other_start(octets, padding):
+    """Returns the line of the first later offset from which on the input parses."""
+    if seems_right(octets):
+        return []
+    for offset in range(1, min(LAST_START + 1, len(octets))):
+        element = header_at(octets, offset)
+        if element and element.constructed and parses(octets[offset:], padding):
+            return [START.format(offset, offset + 1)]
+    return []
+
+
+def seems_right(octets):
+    """Returns whether the first element ends with the input, or is constructed and begins with whole elements."""
+    first = header_at(octets, 0)
     if first is None:
         return False
-    if first.length is not None and first.start + first.length == len(octets):
+    end = None if first.length is None else first.start + first.length
+    if end == len(octets):
         return True
-    return first.constructed and any(it.end is not None for it in first.children)
+    return first.constructed and begins_with_elements(octets[first.start : end])
+
+
+def begins_with_elements(octets):
+    """Returns whether these octets begin with a whole element."""
+    items = Reading(octets).items
+    return bool(items) and items[0].end is not None

@@ -1,0 +1,85 @@
+"""What tlvdump-show --why writes of the octets of a block: docs/WHY.md up to "The fault"."""
+from second_opinion import why_lines, why_search
+from second_opinion.commands import fault_text
+from second_opinion.reading import Element, Reading
+
+MOST_BEFORE = 25
+BLANK = b" \t\n\r\x1a"
+
+
+class Stand:
+    """Where the reading of an input ends, and what stands there.
+
+    place: the offset. open: the open elements, outermost first. inner: the innermost of them, or None. before: the
+    element before, or None. top: the top end. there: the element whose whole header begins at the place, or None.
+    """
+
+    def __init__(self, octets, padding):
+        """Reads the octets."""
+        self.octets, self.reading = octets, Reading(octets, padding=padding)
+        self.fault = self.reading.fault
+        self.open, elements = [], elements_of(self.reading.items)
+        whole = [it for it in elements if it.end is not None]
+        self.top = whole[-1].end if whole else 0
+        self.before = whole[-1] if whole else None
+        while elements and elements[-1].end is None and elements[-1].constructed:
+            self.open.append(elements[-1])
+            elements = elements_of(elements[-1].children)
+            whole = [it for it in elements if it.end is not None]
+            self.before = whole[-1] if whole else None
+        self.inner = self.open[-1] if self.open else None
+        self.primitive = elements[-1] if elements and elements[-1].end is None else None
+        self.place = self.primitive.offset if self.primitive else self.reading.kept
+        self.there = why_search.header_at(octets, self.place)
+
+    def is_half_of_a_pair(self):
+        """Returns whether one of two octets 00 has come at the place, and the other has not."""
+        is_indefinite = self.inner is not None and self.inner.length is None
+        return is_indefinite and not self.primitive and self.fault.offset > self.place and self.octets[self.place] == 0
+
+    def bounds(self):
+        """Returns the open elements with a definite length."""
+        return [it for it in self.open if it.length is not None]
+
+    def candidates(self):
+        """Returns the headers that may say a wrong length, in the order in which they are tried."""
+        read = [it for it in self.reading.elements() if it is not self.primitive]
+        recent = read[: -MOST_BEFORE - 1 : -1]
+        return [it for it in [self.there, *recent, *self.open] if it is not None]
+
+
+def elements_of(items):
+    """Returns the elements among items, without padding."""
+    return [it for it in items if isinstance(it, Element)]
+
+
+def lines_of(octets, padding):
+    """Returns the lines about octets that do not parse; None if they parse."""
+    stand = Stand(octets, padding)
+    if stand.fault is None:
+        return None
+    first = f"It does not parse: {fault_text(stand.fault)}."
+    return [first, *reasons(stand), *why_search.remedies(octets, padding, stand.candidates())]
+
+
+def sound_lines(octets, ber, der):
+    """Returns the lines about octets that parse, with so many findings by BER and by DER."""
+    return [f"It parses: {why_lines.so_many(len(octets))}, which are whole encodings.",
+            f"By the rules of BER: findings: {ber}. By those of DER: findings: {der}."]
+
+
+def reasons(stand):
+    """Returns the lines of the fault, and of what is left over."""
+    rest, top = stand.octets[stand.top :], stand.top
+    whole = f"Whole encodings end at offset {top}. "
+    try_line = f"Try: head -c {top} FILE, for the whole encodings."
+    if top and rest and not rest.strip(BLANK):
+        return [f"{whole}The octets after them are line ends or spaces: {len(rest)}.", try_line]
+    if top and len(rest) > 1 and rest[0] and rest == rest[:1] * len(rest):
+        return [f"{whole}The octets after them are {rest[:1].hex()} alone, as filler is: {len(rest)}.", try_line]
+    lines = why_lines.of_fault(stand)
+    says_rest = stand.fault.code == "F01" or stand.fault.code == "F03" and not stand.open
+    if not top or says_rest:
+        return lines
+    left = [f"{whole}Left over: {why_lines.so_many(len(rest))}.", try_line]
+    return left + lines if len(rest) <= top else lines + left
