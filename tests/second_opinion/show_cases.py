@@ -9,9 +9,9 @@ from second_opinion.showing import File, Show
 
 LARGEST = 1 << 40
 # The texts of options that choose what is done. That of a dump is none, and --offset has a value.
-JOBS = {"check": [["--check"]], "offsets": [["--offsets"]], "raw": [["--raw"]]}
+JOBS = {"check": [["--check"]], "offsets": [["--offsets"]], "raw": [["--raw"]], "why": [["--why"]]}
 # The jobs that may have several FILEs.
-OF_SEVERAL = ("dump", "check", "raw")
+OF_SEVERAL = ("dump", "check", "raw", "why")
 MOST_OCTETS = 700
 TEXTS, FORMS = 1 / 3, 0.1
 
@@ -25,7 +25,7 @@ def case_of(seed):
     case = Case(seed, octets, names_file(rng), *names, [])
     if is_text:
         case.more = {"second.txt": text(rng), "third": rng.choice([text, encodings])(rng)}
-    jobs = ["dump", "check", "offsets", "offset", "raw", rng.choice(["dump", "dump", "check"])]
+    jobs = ["dump", "check", "offsets", "offset", "raw", rng.choice(["dump", "dump", "check", "why", "why"])]
     case.runs = [run_of(rng, job, case, padding) for job in jobs]
     return case
 
@@ -45,9 +45,9 @@ def run_of(rng, job, case, padding):
     show = Show(job, padding=padding if rng.random() < 0.95 else not padding)
     if rng.random() < (TEXTS if case.more else FORMS):
         show.as_form = text_drawing.form(rng)
-    if job in ("dump", "check"):
+    if job in ("dump", "check", "why"):
         show.closed = rng.random() < 0.15
-        if rng.random() < 0.5:
+        if job != "why" and rng.random() < 0.5:
             show.rules = rng.choice(["ber", "der", "cer"])
     if job == "dump":
         show.pure, show.no_text, show.names = rng.random() < 0.15, rng.random() < 0.2, rng.random() < 0.3

@@ -161,6 +161,8 @@ CHANGES = (other_length, other_length, other_length, cut, put_in, left_out, chan
 def few(rng):
     """Returns few octets that may be headers."""
     size = rng.choice([0, 1, 2, 3, 4, 5, 6, 7, 8, 10, 14])
+    if rng.random() < 0.1:
+        return b"\0" * size
     if rng.random() < 0.3:
         return rng.randbytes(size)
     return bytes(rng.choice(FIRST_OCTETS) for _ in range(size))
