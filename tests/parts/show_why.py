@@ -2,10 +2,13 @@
 
 Its rows have octets, and the sentences that are to be said of them.
 """
+import random
 import re
 
+from parts import real_encodings
 from parts.show_program import Program
 from second_opinion.findings import shortest
+from second_opinion.reading import Reading
 
 NULL = b"\x05\x00"
 # A string that is the value of an extension, and breaks.
@@ -143,6 +146,10 @@ HINTS = [
 ]
 # Octets of which another start may not be said: those after whole encodings.
 NO_START = [BODY + b"garbage\n", BODY + b"\x41\x82\x13\x04\x30"]
+# A header that is named: "the header at offset 2", "the INTEGER at offset 2", "the [1] at offset 2".
+NAMED = re.compile(r"(?:eader|[A-Z][A-Za-z0-9-]*|\]) at offset (\d+)")
+# So many headers of each encoding are changed, and of the certificates of the machine each so many-th is taken.
+CHANGES, STEP = 12, 8
 PEM = b"-----BEGIN A-----\nMAMCAQU=\n-----END A-----\n-----BEGIN B-----\nMAMCAQ==\n-----END B-----\n"
 
 
@@ -218,6 +225,36 @@ def cuts(why):
     why.part.expect("prefixes of an encoding", not wrong, *wrong)
 
 
+def wrong_lengths(rng, octets):
+    """Gives the offset of a drawn header, and the octets with its last length octet changed by 1 to 5."""
+    headers = [it for it in Reading(octets).elements() if it.length is not None]
+    for it in rng.choices(headers, k=CHANGES):
+        last = it.length_octets[-1] + rng.choice([-5, -4, -3, -2, -1, 1, 2, 3, 4, 5])
+        if 0 <= last <= (255 if len(it.length_octets) > 1 else 127):
+            yield it.offset, octets[: it.start - 1] + bytes([last]) + octets[it.start :]
+
+
+def real_headers(why):
+    """Real encodings with one length changed by 1 to 5: that header is named in more than nine of ten.
+
+    Those that parse all the same do not count.
+    """
+    part, rng, named, mended, unnamed = why.part, random.Random(1), 0, 0, []
+    for name, octets in real_encodings.encodings(part, STEP):
+        for offset, wrong in wrong_lengths(rng, octets):
+            status, lines = why.said(wrong)
+            if status == 2:
+                text = "\n".join(lines)
+                mended += f"If the header at offset {offset} said" in text
+                is_named = str(offset) in NAMED.findall(text)
+                named, unnamed = named + is_named, unnamed + [f"{name}, {offset}"] * (not is_named)
+    count = named + len(unnamed)
+    share = f"{count} real encodings with a wrong length: {named} headers named, {mended} as the one that would mend all"
+    part.expect("real encodings with a wrong length", count >= 200, share)
+    part.expect("the header is named in more than nine of ten", named > 0.9 * count, share, *unnamed)
+    part.note(share)
+
+
 def texts(why):
     """Of a text each block of octets; of several FILEs the highest status."""
     part, octets = why.part, element(0x30, b"\x02\x01\x05")
@@ -243,3 +280,5 @@ def test(part):
     hints(why)
     cuts(why)
     texts(why)
+    if part.has("openssl"):
+        real_headers(why)

@@ -10,10 +10,10 @@ FILES = sorted(glob.glob(os.path.join(TESTS, "data", "*")))
 FILES.append(os.path.join(os.path.dirname(TESTS), "data", "certificate.der"))
 # How many octets an encoding may have to which something is done: each of many tries reads all of it.
 MOST_OCTETS = 1200
-FRONTS = (b"PK\x03\x04", b"PK\x03", b"\x1f\x8b", b"\x1f\x8b\x08\0", b"BZh", b"BZh91AY", b"%PDF-1.7", b"<", b"<?xml ", b"openssh-key",
-          b"openssh-key-v1\0", b"\0", b"\0\0\0", b"\xef\xbb\xbf", b"\x02\x93", b"\x7a", b"\x3a\x05")
+FRONTS = (b"PK\x03\x04", b"PK\x03", b"\x1f\x8b", b"\x1f\x8b\x08\0", b"BZh", b"BZh91AY", b"%PDF-1.7", b"<", b"<?xml ")
+FRONTS += (b"openssh-key", b"openssh-key-v1\0", b"\0", b"\0\0\0", b"\xef\xbb\xbf", b"\x02\x93", b"\x7a", b"\x3a\x05")
 BLANKS = (b"\n", b"\r\n", b" ", b"\t", b"\x1a", b"\n\n", b"\r", b" \n ", b"\n\x1a")
-FIRST_OCTETS = (0x30, 0x30, 0x31, 0x24, 0x02, 0x04, 0x05, 0x80, 0x80, 0xA0, 0xBF, 0x9F, 0x81, 0x82, 0x85, 0x86, 0xFF, 0, 0, 0, 1, 2, 3, 10)
+FIRST_OCTETS = bytes.fromhex("30303124020405 8080a0bf9f81828586ff 0000000102030a")
 INDEFINITE = 0.25
 
 
@@ -82,7 +82,7 @@ def cut(rng, octets):
 def put_in(rng, octets):
     """Puts octets in."""
     place = rng.randrange(len(octets) + 1)
-    new = rng.choice([rng.randbytes(rng.choice([1, 1, 2, 5])), b"\0" * rng.randrange(1, 4), b"\r", b"\xff" * 3, bytes([0x80])])
+    new = rng.choice([rng.randbytes(rng.choice([1, 1, 2, 5])), b"\0" * rng.randrange(1, 4), b"\r", b"\xff" * 3, b"\x80"])
     return octets[:place] + new + octets[place:]
 
 
@@ -148,7 +148,8 @@ def odd_header(rng, octets):
     """Puts a header that is refused in the place of one, or after all."""
     header = rng.choice([
         b"\x3f" + b"\xff" * rng.choice([8, 9, 20]) + b"\x01", b"\x04\xff", b"\x04\x80", b"\x30\xff\x01", b"\x9f\x21\x80",
-        b"\x04\x86\x01" + b"\0" * 6, b"\x30\xa0" + b"\0" * 20 + b"\x01" + b"\0" * 12, b"\x04\x85\xff" + b"\0" * 4, b"\x1f\x80\x80"])
+        b"\x04\x86\x01" + b"\0" * 6, b"\x30\xa0" + b"\0" * 20 + b"\x01" + b"\0" * 12, b"\x04\x85\xff" + b"\0" * 4,
+        b"\x1f\x80\x80"])
     if rng.random() < 0.4:
         return octets + header
     it = rng.choice(Reading(octets).elements())
