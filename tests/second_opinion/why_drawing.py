@@ -156,7 +156,31 @@ def odd_header(rng, octets):
     return octets[: it.offset] + header + octets[it.offset if rng.random() < 0.5 else it.start :]
 
 
+def other_octet(rng, octets):
+    """Changes the first length octet of a header by 1 to 5, so that the form of the length may change too."""
+    it = rng.choice(Reading(octets).elements())
+    place = it.offset + len(it.identifier)
+    new = max(0, octets[place] + rng.choice([-5, -3, -2, -1, -1, 1, 2, 5]))
+    return octets[:place] + bytes([min(new, 255)]) + octets[place + 1 :]
+
+
+def far(rng, _):
+    """Returns an element too many of whose octets are in a string: its end is refused, about 25 headers after that one."""
+    holder = b"\x30\x80" + b"\x30\x80\0\0" * rng.choice([21, 22, 23, 24, 24, 25, 25, 26, 27])
+    string = show_drawing.whole(4, b"a" * rng.randrange(3) + holder[:2])
+    return b"\x30\x80" + string + holder[2:] + b"\0\0" * 2
+
+
+def unended(rng, octets):
+    """Returns an element of indefinite length in definite ones, without one or both of the octets that end it."""
+    octets = b"\x30\x80" + (octets if len(octets) < 300 else show_drawing.small(rng)) + rng.choice([b"", b"", b"\0"])
+    for _ in range(rng.choice([1, 2, 2, 3])):
+        octets = show_drawing.whole(0x30, octets) + show_drawing.small(rng) * rng.randrange(2)
+    return octets
+
+
 CHANGES = (other_length, other_length, other_length, cut, put_in, left_out, changed, as_text, front, after, padded, odd_header)
+CHANGES += (other_octet, unended, far)
 
 
 def few(rng):
