@@ -172,11 +172,14 @@ def far(rng, _):
 
 
 def unended(rng, octets):
-    """Returns an element of indefinite length in definite ones, without one or both of the octets that end it."""
+    """Returns an element of indefinite length in definite ones, without one or both of the octets that end it, and cut there."""
     octets = b"\x30\x80" + (octets if len(octets) < 300 else show_drawing.small(rng)) + rng.choice([b"", b"", b"\0"])
+    more = b""
     for _ in range(rng.choice([1, 2, 2, 3])):
-        octets = show_drawing.whole(0x30, octets) + show_drawing.small(rng) * rng.randrange(2)
-    return octets
+        octets = show_drawing.whole(0x30, octets + more)
+        more = show_drawing.small(rng) if rng.random() < 0.5 else b""
+    octets = show_drawing.whole(0x30, octets + more)
+    return octets[: len(octets) - len(more)]
 
 
 CHANGES = (other_length, other_length, other_length, cut, put_in, left_out, changed, as_text, front, after, padded, odd_header)
