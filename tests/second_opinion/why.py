@@ -11,7 +11,8 @@ class Stand:
     """Where the reading of an input ends, and what stands there.
 
     place: the offset. open: the open elements, outermost first. inner: the innermost of them, or None. before: the
-    element before, or None. top: the top end. there: the element whose whole header begins at the place, or None.
+    element before, or None. top: the top end. primitive: the one that lacks contents, or None. there: the element whose
+    whole header begins at the place, or None.
     """
 
     def __init__(self, octets, padding):
@@ -19,15 +20,12 @@ class Stand:
         self.octets, self.reading = octets, Reading(octets, padding=padding)
         self.fault = self.reading.fault
         self.open, elements = [], elements_of(self.reading.items)
-        whole = [it for it in elements if it.end is not None]
-        self.top = whole[-1].end if whole else 0
-        self.before = whole[-1] if whole else None
+        at_top = last_whole(elements)
+        self.top = at_top.end if at_top else 0
         while elements and elements[-1].end is None and elements[-1].constructed:
             self.open.append(elements[-1])
             elements = elements_of(elements[-1].children)
-            whole = [it for it in elements if it.end is not None]
-            self.before = whole[-1] if whole else None
-        self.inner = self.open[-1] if self.open else None
+        self.inner, self.before = self.open[-1] if self.open else None, last_whole(elements)
         self.primitive = elements[-1] if elements and elements[-1].end is None else None
         self.place = self.primitive.offset if self.primitive else self.reading.kept
         self.there = why_search.header_at(octets, self.place)
@@ -51,6 +49,11 @@ class Stand:
 def elements_of(items):
     """Returns the elements among items, without padding."""
     return [it for it in items if isinstance(it, Element)]
+
+
+def last_whole(elements):
+    """Returns the last of these elements that is whole; or None."""
+    return next((it for it in reversed(elements) if it.end is not None), None)
 
 
 def lines_of(octets, padding):

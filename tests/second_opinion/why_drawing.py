@@ -106,9 +106,9 @@ def as_text(rng, octets):
     """Does what a copy as a text does."""
     if rng.random() < 0.5:
         place = rng.randrange(len(octets))
-        octets = octets if b"\n" in octets or rng.random() < 0.3 else inside_string(rng, b"\x0a")
+        octets += b"" if b"\n" in octets or rng.random() < 0.3 else inside_string(rng, b"\x0a")
         return octets.replace(b"\n", b"\r\n") if place % 3 else octets.replace(b"\n", b"\r\n", 1)
-    octets = octets if rng.random() < 0.5 else inside_string(rng, rng.randbytes(rng.choice([1, 3, 20, 200])))
+    octets += b"" if rng.random() < 0.5 else inside_string(rng, rng.randbytes(rng.choice([1, 3, 20, 200])))
     return octets.decode("latin-1").encode("utf-8", "replace")
 
 
@@ -204,6 +204,8 @@ def input_octets(rng):
     if choice < 0.25:
         return rng.choice([drawing.deep, drawing.cramped, drawing.header])(rng), rng.random() < 0.1
     octets = sound(rng)
+    if choice < 0.28:
+        return as_text(rng, padded(rng, octets)), True
     for _ in range(rng.choice([1, 1, 1, 2])):
         if octets and not Reading(octets).fault:
             octets = rng.choice(CHANGES)(rng, octets)
