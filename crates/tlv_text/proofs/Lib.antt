@@ -19,6 +19,8 @@ pub mod PemLemmas
 pub mod RunLemmas
 pub mod RunRows
 pub mod Slices
+pub mod SymbolLemmas
+pub mod TableLemmas
 pub mod TextLemmas
 pub mod TokenLemmas
 pub mod TokenPlaceLemmas

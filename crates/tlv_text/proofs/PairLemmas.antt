@@ -1,6 +1,6 @@
 -- Pairs of digits, one after another.
-use Rattle.std.proofs.Common.{◌≡◌, ℕ, ◌+◌, ◌%◌, ◌≤◌, true, false, List, [], ◌∷◌, ◌++◌, length, slice_index, refl, ap, sym}
-use Rattle.std.proofs.Common.{◌∙◌, append_assoc, arith, Option, Some, None, Ok}
+use Rattle.std.proofs.Common.{◌≡◌, ℕ, ◌+◌, ◌%◌, true, List, [], ◌∷◌, ◌++◌, length, refl, ap}
+use Rattle.std.proofs.Common.{◌∙◌, arith, Option, Some, None, Ok}
 use Rattle.std.specs.Prelude.{is_some, unwrap_or}
 use Rattle.std.specs.List.{AllPass}
 use Rattle.std.proofs.lemmas.List.{length-append}
@@ -8,9 +8,7 @@ use Rattle.std.proofs.lemmas.List.Elements.{All-append, All-cons, All-head, All-
 use Rattle.hex.specs.Hex.{decode_pairs, decode_of, hex_digit_value, is_hex_digit, pair_value}
 use Rattle.hex.proofs.Pairs.{decode_pairs-ok_pair}
 use Rattle.hex.proofs.HexLemmas.{decode_of-even, decode_of-same}
-use Rattle.tlv_text.proofs.Slices.{after-two, slice_from}
-use Rattle.tlv_text.specs.Pairs.{is_between_pairs, pair_octet, pairs_read}
-use Rattle.tlv_text.specs.TextRead.{TextRead, octets_then}
+use Rattle.tlv_text.specs.Pairs.{pair_octet}
 use Rattle.tlv_text.specs.Private.PairSteps.{AreWholePairs, pair_octets}
 
 -- octets of pairs, and of a pair after them
@@ -50,35 +48,6 @@ pub decoded-are : (digits octets : List ℕ) → AreWholePairs digits → decode
 decoded-are digits octets p e =
     decode_of-same digits octets (pair_octets digits) e
     (decode_of-even digits p.even ∙ pairs-decoded 0 digits p.even p.digits)
-
--- ---- a pair with which a text begins
-
-begins-pair : (x y : ℕ) (more : List ℕ) → is_between_pairs x ≡ false → is_hex_digit x ≡ true → is_hex_digit y ≡ true
-    → pairs_read (x ∷ y ∷ more) ≡ octets_then (pair_octet x y ∷ []) (pairs_read more)
-begins-pair x y more b dx dy = rw (b, dx, dy) refl
-
-octets-more : (a b : List ℕ) (r : TextRead) → octets_then a (octets_then b r) ≡ octets_then (a ++ b) r
-octets-more a b r =
-    ap (λ (octets : List ℕ). record { octets = octets; rest = r.rest }) (sym (append_assoc a b r.octets))
-
--- a pair is read after others
-pub pairs-more : (all text digits : List ℕ) → 2 ≤ length text
-    → is_between_pairs (slice_index text 0) ≡ false
-    → is_hex_digit (slice_index text 0) ≡ true → is_hex_digit (slice_index text 1) ≡ true
-    → AreWholePairs digits
-    → pairs_read all ≡ octets_then (pair_octets digits) (pairs_read text)
-    → pairs_read all
-    ≡ octets_then (pair_octets (digits ++ slice_index text 0 ∷ slice_index text 1 ∷ []))
-    (pairs_read (slice_from 2 text))
-pairs-more all [] digits two b dx dy p e = absurd (omega arith)
-pairs-more all (x ∷ []) digits two b dx dy p e = absurd (omega arith)
-pairs-more all (x ∷ y ∷ more) digits two b dx dy p e =
-    e
-    ∙ ap (octets_then (pair_octets digits)) (begins-pair x y more b dx dy)
-    ∙ octets-more (pair_octets digits) (pair_octet x y ∷ []) (pairs_read more)
-    ∙ ap (λ (octets : List ℕ). octets_then octets (pairs_read more)) (sym (pair_octets-more digits x y p.even))
-    ∙ ap (λ (rest : List ℕ). octets_then (pair_octets (digits ++ x ∷ y ∷ [])) (pairs_read rest))
-    (sym (after-two x y more))
 
 pub pairs-and_one : (digits : List ℕ) (x y : ℕ) → AreWholePairs digits → is_hex_digit x ≡ true → is_hex_digit y ≡ true
     → AreWholePairs (digits ++ x ∷ y ∷ [])

@@ -79,7 +79,7 @@ none-so_far alphabet text = record {
   less = omega arith;
 }
 
-symbols-more : (a b : List ℕ) (r : SymbolsRead) → symbols_then a (symbols_then b r) ≡ symbols_then (a ++ b) r
+pub symbols-more : (a b : List ℕ) (r : SymbolsRead) → symbols_then a (symbols_then b r) ≡ symbols_then (a ++ b) r
 symbols-more a b r =
     ap (λ (symbols : List ℕ). record { symbols = symbols; rest = r.rest }) (sym (append_assoc a b r.symbols))
 

@@ -1,12 +1,13 @@
 //! Octets in base64.
 ghost use Rattle.base64.specs.GeneralPurpose.{IsBytes};
-ghost use Rattle.std.specs.Prelude.{◌≡◌, ◌<◌, ◌≤◌, ◌%◌, [], IfErr, IfOk, OnOk, length, true, false};
+ghost use Rattle.std.specs.Prelude.{◌≡◌, ◌<◌, ◌≤◌, ◌+◌, ◌%◌, [], IfErr, IfOk, OnOk, length, slice_index, true, false};
 ghost use Rattle.tlv_text.specs.Base64.{ReadsBase64, base64_of, fits_after, is_escaped_line_end};
 ghost use Rattle.tlv_text.specs.Base64.{is_escaped_slash, is_left_out, is_symbol, no_symbols, padding_of, symbols_read};
 ghost use Rattle.tlv_text.specs.Private.SymbolSteps.{AreAdded, AreSymbols, IsAtEnd, IsFailure, IsOfNone};
 ghost use Rattle.tlv_text.specs.Private.SymbolSteps.{PaddingFits, symbols_then};
 
 use crate::Decoded;
+use crate::symbols::symbols_before;
 use arrayvec::ArrayVec;
 use base64::DecodeAllocError;
 use base64::engine::general_purpose::{STANDARD_NO_PAD, URL_SAFE_NO_PAD};
@@ -58,12 +59,12 @@ fn take_symbols(alphabet: Alphabet, rest: &mut &[u8], symbols: &mut ArrayVec<u8,
     ensures less { length rest.new.now ≤ length rest.old.now }
     ensures used { 0 < length symbols.new.items → length rest.new.now < length rest.old.now }
 {
-    while symbols.len() < SYMBOLS {
+    loop {
+        take_run(alphabet, rest, symbols);
+        if symbols.len() == SYMBOLS {
+            return;
+        }
         match *rest {
-            [x, more @ ..] if is_symbol(alphabet, *x) => {
-                symbols.push(*x);
-                *rest = more;
-            }
             [x, more @ ..] if is_left_out(*x) => *rest = more,
             [x, y, more @ ..] if is_escaped_line_end(*x, *y) => *rest = more,
             [x, y, ..] if is_escaped_slash(*x, *y) => *rest = &rest[1..],
@@ -72,19 +73,24 @@ fn take_symbols(alphabet: Alphabet, rest: &mut &[u8], symbols: &mut ArrayVec<u8,
     }
 }
 
-/// Whether this is a symbol of the alphabet.
-#[inline(always)]
-fn is_symbol(alphabet: Alphabet, character: u8) -> bool
-    ensures { result ≡ is_symbol alphabet character }
+/// Takes the symbols with which a text begins, as many of them as there is room for.
+fn take_run(alphabet: Alphabet, rest: &mut &[u8], symbols: &mut ArrayVec<u8, SYMBOLS>)
+    requires symbols { AreSymbols alphabet symbols.old.items }
+    requires few { length symbols.old.items ≤ 4096 }
+    ensures symbols { AreSymbols alphabet symbols.new.items }
+    ensures read { symbols_then symbols.old.items (symbols_read alphabet rest.old.now)
+        ≡ symbols_then symbols.new.items (symbols_read alphabet rest.new.now) }
+    ensures few { length symbols.new.items ≤ 4096 }
+    ensures last { length symbols.new.items < 4096 → 0 < length rest.new.now
+        → is_symbol alphabet (slice_index rest.new.now 0) ≡ false }
+    ensures moved { length rest.new.now + length symbols.new.items
+        ≡ length rest.old.now + length symbols.old.items }
+    ensures less { length rest.new.now ≤ length rest.old.now }
 {
-    match alphabet {
-        Alphabet::Standard => {
-            matches!(character, b'A'..=b'Z' | b'a'..=b'z' | b'0'..=b'9' | b'+' | b'/')
-        }
-        Alphabet::UrlSafe => {
-            matches!(character, b'A'..=b'Z' | b'a'..=b'z' | b'0'..=b'9' | b'-' | b'_')
-        }
-    }
+    let room = rest.len().min(SYMBOLS - symbols.len());
+    let count = symbols_before(alphabet, &rest[..room]);
+    let _ = symbols.try_extend_from_slice(&rest[..count]);
+    *rest = &rest[count..];
 }
 
 /// Whether this is left out.

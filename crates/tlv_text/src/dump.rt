@@ -15,7 +15,7 @@ mod pairs;
 mod rows;
 
 use crate::{Decoded, TextFault};
-use ahead::{has_pair, is_octal_first, size_in};
+use ahead::{from_first_row, has_pair, is_octal_first, size_in};
 use arrayvec::ArrayVec;
 use lines::{DumpLine, Radix, RowLine, begins_colon, line_of, split_line};
 use output::{Output, add_octets, no_octets};
@@ -74,13 +74,14 @@ fn refused_in(text: &[u8], left: Option<usize>) -> Option<usize>
 fn read_dump(alloc: Global, text: &[u8]) -> Result<Reading, AllocError>
     ensures { IfOk result (Reads (dump_read text.now)) }
 {
-    if is_octal_first(text) {
+    let rest = from_first_row(text);
+    if is_octal_first(rest) {
         let octal = read_lines(alloc, Radix::Octal, text)?;
         if octal.left.is_none() {
             return Ok(octal);
         }
     }
-    read_lines(alloc, Radix::Hexadecimal, text)
+    read_lines(alloc, Radix::Hexadecimal, rest)
 }
 
 /// Reads a dump with offsets of this radix.

@@ -7,12 +7,14 @@ mod block;
 mod blocks;
 mod body;
 mod decoded;
+mod digits;
 mod dump;
 mod marks;
 mod numbers;
 mod pairs;
 mod pem;
 mod runs;
+mod symbols;
 mod text_fault;
 mod tokens;
 

@@ -6,6 +6,7 @@ ghost use Rattle.tlv_text.specs.Numbers.{items_read, list_at, number_at, numbers
 ghost use Rattle.tlv_text.specs.Private.NumberSteps.{IsWithinText};
 ghost use Rattle.tlv_text.specs.declared.numbers.Place.TheVariants.{AtStart};
 
+use memchr::memchr2;
 use std::alloc::{AllocError, Global};
 
 /// One to three digits of a text.
@@ -73,13 +74,14 @@ fn first_list(alloc: Global, text: &mut &[u8]) -> Result<Option<Vec<u8>>, AllocE
     ensures octets { IfOk result (λ r. option_map (λ octets. octets.items) r ≡ first_list text.old.now) }
     ensures rest { IfOk result (λ r. text.new.now ≡ after_opening text.old.now) }
 {
-    while let [_, more @ ..] = *text {
-        let list = list_at(alloc, text)?;
-        *text = more;
+    while let Some(place) = memchr2(b'[', b'{', text) {
+        let list = list_at(alloc, &text[place..])?;
+        *text = &text[place + 1..];
         if list.is_some() {
             return Ok(list);
         }
     }
+    *text = &text[text.len()..];
     Ok(None)
 }
 

@@ -5,6 +5,8 @@ ghost use Rattle.tlv_text.specs.Runs.{HasNoRun, IsFirstRun, break_size, ends_sym
 ghost use Rattle.tlv_text.specs.Runs.{reaches_line_end, stretch_of, up_to_symbol};
 ghost use Rattle.tlv_text.specs.declared.base64_text.Alphabet.TheVariants.{Standard};
 
+use crate::{Alphabet, symbols};
+
 /// The fewest symbols of a run.
 const FEWEST: usize = 40;
 
@@ -140,7 +142,7 @@ fn is_blank(character: u8) -> bool
 fn is_symbol(character: u8) -> bool
     ensures { result ≡ is_symbol Standard character }
 {
-    matches!(character, b'A'..=b'Z' | b'a'..=b'z' | b'0'..=b'9' | b'+' | b'/')
+    symbols::is_symbol(Alphabet::Standard, character)
 }
 
 /// How much padding begins a text: one or two of `=`, or none.

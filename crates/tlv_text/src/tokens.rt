@@ -10,6 +10,7 @@ ghost use Rattle.tlv_text.specs.Tokens.{begins_like_token, begins_word, ends_esc
 ghost use Rattle.tlv_text.specs.Tokens.{number_token, pieces, token_at, token_count, tokens_in, tokens_read};
 
 use crate::Decoded;
+use crate::digits::{digit_value, is_digit};
 use memchr::memchr2;
 use std::alloc::{AllocError, Global};
 
@@ -204,25 +205,4 @@ fn is_white_or_quote(character: u8) -> bool
     ensures { result ≡ (is_white character || is_quote character) }
 {
     matches!(character, b' ' | b'\t' | b'\n' | b'\r' | b'"' | b'\'')
-}
-
-/// Whether this is a hexadecimal digit.
-#[inline(always)]
-fn is_digit(character: u8) -> bool
-    ensures { result ≡ is_hex_digit character }
-{
-    matches!(character, b'0'..=b'9' | b'a'..=b'f' | b'A'..=b'F')
-}
-
-/// The value of a hexadecimal digit.
-fn digit_value(digit: u8) -> u8
-    requires { is_hex_digit digit ≡ true }
-    ensures value { result ≡ hex_value digit }
-    ensures few { result < 16 }
-{
-    match digit {
-        b'0'..=b'9' => digit - b'0',
-        b'A'..=b'F' => digit - b'A' + 10,
-        _ => digit - b'a' + 10,
-    }
 }

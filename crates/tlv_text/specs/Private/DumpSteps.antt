@@ -1,17 +1,23 @@
 -- What the code of dumps stands for.
-use Rattle.std.specs.Prelude.{◌≡◌, ◌<◌, ◌≤◌, ℕ, Bool, true, false, List, ◌++◌, length, Option, Some, None}
+use Rattle.std.specs.Prelude.{◌≡◌, ◌<◌, ◌≤◌, ℕ, Bool, true, false, ◌&&◌, nat_le, List, ◌++◌, length, Option, Some, None}
 use Rattle.tlv_text.specs.Dump.{DumpRead, DumpPlace, Step, dump_limit}
-use Rattle.tlv_text.specs.DumpLines.{LineKind, OffsetRead, RowRead}
+use Rattle.tlv_text.specs.DumpLines.{LineKind, OffsetRead, RowRead, ends_offset, offset_read}
 use Rattle.tlv_text.specs.Private.PairSteps.{pair_octets}
 use Rattle.tlv_text.specs.declared.dump.Reading.{Reading}
 use Rattle.tlv_text.specs.declared.dump.lines.DumpLine.{DumpLine}
 use Rattle.tlv_text.specs.declared.dump.lines.Offset.{Offset}
+use Rattle.tlv_text.specs.declared.dump.lines.Radix.{Radix}
 use Rattle.tlv_text.specs.declared.dump.lines.RowLine.{RowLine}
 use Rattle.tlv_text.specs.declared.dump.output.Output.{Output}
 use Rattle.tlv_text.specs.declared.dump.rows.LastRow.{LastRow}
 
 abbrev pub offset_seen : Offset → OffsetRead
 offset_seen offset = record { count = offset.count; number = offset.number; rest = offset.rest.now }
+
+-- 4 to 16 digits, and what may follow them
+abbrev pub begins_offset : Radix → List ℕ → Bool
+begins_offset radix text =
+    nat_le 4 (offset_read radix 0 0 text).count && ends_offset (offset_read radix 0 0 text).rest
 
 abbrev pub row_seen : RowLine → RowRead
 row_seen row = record { digits = row.digits; offset = row.offset; rest = row.rest.now }

@@ -1,11 +1,29 @@
 //! What the lines of a hex dump say of it before they are read.
 ghost use Rattle.std.specs.Prelude.{◌≡◌, ◌<◌, ◌≤◌, MatchOption};
-ghost use Rattle.tlv_text.specs.Dump.{has_pair, is_octal_first, size_by, size_in};
+ghost use Rattle.tlv_text.specs.Dump.{dump_in, has_pair, is_octal_first, size_by, size_in};
 ghost use Rattle.tlv_text.specs.DumpLines.{dump_lines};
 ghost use Rattle.tlv_text.specs.Private.DumpSteps.{row_seen};
+ghost use Rattle.tlv_text.specs.declared.dump.lines.Radix.TheVariants.{Hexadecimal};
 
 use super::lines::{DumpLine, Radix, RowLine, has_od_offset, line_of, split_line};
 use super::pairs::{before_pairs, begins_pair};
+
+/// A text from its first line on that is a row with a pair, or a repeat, with hexadecimal offsets.
+pub(super) fn from_first_row(text: &[u8]) -> &[u8]
+    ensures read { dump_in Hexadecimal result.now ≡ dump_in Hexadecimal text.now }
+    ensures octal { is_octal_first (dump_lines result.now) ≡ is_octal_first (dump_lines text.now) }
+{
+    let mut rest = text;
+    while !rest.is_empty() {
+        let (line, after) = split_line(rest);
+        match line_of(Radix::Hexadecimal, line) {
+            DumpLine::Row(row) if has_pair(row) => break,
+            DumpLine::Repeat => break,
+            _ => rest = after,
+        }
+    }
+    rest
+}
 
 /// Whether the offset of the first row has seven octal digits and no colon after it, as od writes it.
 pub(super) fn is_octal_first(text: &[u8]) -> bool

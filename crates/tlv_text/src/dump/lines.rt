@@ -6,8 +6,9 @@ ghost use Rattle.tlv_text.specs.DumpLines.{after_blanks, after_prefix, base, end
 ghost use Rattle.tlv_text.specs.DumpLines.{kind_from, line_kind, dump_lines, offset_read, row_at, new_text_line};
 ghost use Rattle.tlv_text.specs.DumpLines.{begins_colon, has_od_offset, without_return};
 ghost use Rattle.tlv_text.specs.Pairs.{hex_value};
-ghost use Rattle.tlv_text.specs.Private.DumpSteps.{dump_kind_of, offset_seen, row_seen};
+ghost use Rattle.tlv_text.specs.Private.DumpSteps.{begins_offset, dump_kind_of, offset_seen, row_seen};
 
+use crate::digits::{digit_value, is_digit};
 use memchr::memchr;
 
 /// The radix of offsets.
@@ -111,16 +112,32 @@ fn kind_from(radix: Radix, text: &[u8]) -> DumpLine<'_>
 fn row_at(radix: Radix, text: &[u8]) -> Option<RowLine<'_>>
     ensures { option_map row_seen result ≡ row_at radix text.now }
 {
-    let offset = read_offset(radix, after_prefix(text));
-    if offset.count >= 4 && ends_offset(offset.rest) {
-        Some(RowLine {
-            digits: offset.count,
-            offset: offset.number,
-            rest: offset.rest,
-        })
-    } else {
-        None
+    let digits = after_prefix(text);
+    if !begins_offset(radix, digits) {
+        return None;
     }
+    let offset = read_offset(radix, digits);
+    Some(RowLine {
+        digits: offset.count,
+        offset: offset.number,
+        rest: offset.rest,
+    })
+}
+
+/// Whether a text begins with an offset: 4 to 16 digits, and what may follow them.
+fn begins_offset(radix: Radix, text: &[u8]) -> bool
+    ensures { result ≡ begins_offset radix text.now }
+{
+    let mut rest = text;
+    let mut count = 0usize;
+    while let [x, more @ ..] = rest {
+        if count >= 16 || !is_digit_of(radix, *x) {
+            break;
+        }
+        count += 1;
+        rest = more;
+    }
+    count >= 4 && ends_offset(rest)
 }
 
 /// The digits with which a text begins, at most 16.
@@ -134,7 +151,7 @@ fn read_offset(radix: Radix, text: &[u8]) -> Offset<'_>
         if count >= 16 || !is_digit_of(radix, *x) {
             break;
         }
-        number = number * base(radix) + digit_value(*x);
+        number = number * base(radix) + u64::from(digit_value(*x));
         count += 1;
         rest = more;
     }
@@ -164,24 +181,9 @@ fn is_digit_of(radix: Radix, character: u8) -> bool
     ensures hexadecimal { result ≡ true → is_hex_digit character ≡ true }
 {
     match radix {
-        Radix::Hexadecimal => matches!(character, b'0'..=b'9' | b'a'..=b'f' | b'A'..=b'F'),
+        Radix::Hexadecimal => is_digit(character),
         Radix::Octal => matches!(character, b'0'..=b'7'),
     }
-}
-
-/// The value of a hexadecimal digit.
-#[inline(always)]
-fn digit_value(digit: u8) -> u64
-    requires { is_hex_digit digit ≡ true }
-    ensures value { result ≡ hex_value digit }
-    ensures few { result < 16 }
-{
-    let value = match digit {
-        b'0'..=b'9' => digit - b'0',
-        b'A'..=b'F' => digit - b'A' + 10,
-        _ => digit - b'a' + 10,
-    };
-    u64::from(value)
 }
 
 /// A text after `0x` or `0X`, if it begins with it.

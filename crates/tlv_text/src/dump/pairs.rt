@@ -7,6 +7,7 @@ ghost use Rattle.tlv_text.specs.Private.PairSteps.{AreWholePairs, pair_octets};
 ghost use Rattle.tlv_text.specs.TextRead.{nothing_read, octets_then};
 
 use super::lines::{after_blanks, begins_colon, is_blank};
+use crate::digits::is_digit;
 use arrayvec::ArrayVec;
 
 /// The most digits of a row.
@@ -174,12 +175,4 @@ pub(super) fn begins_digit(text: &[u8]) -> bool
         [x, ..] => is_digit(*x),
         [] => false,
     }
-}
-
-/// Whether this is a hexadecimal digit.
-#[inline(always)]
-fn is_digit(character: u8) -> bool
-    ensures { result ≡ is_hex_digit character }
-{
-    matches!(character, b'0'..=b'9' | b'a'..=b'f' | b'A'..=b'F')
 }
