@@ -1,5 +1,6 @@
 pub mod PartLemmas
 pub mod ShownLemmas
 pub mod TrackLemmas
-pub mod WhyLemmas
+mod RowLines
+mod NamedRows
 mod WhyRows

@@ -1,18 +1,11 @@
 -- Inputs, and what is said of them.
-use Rattle.std.proofs.Common.{◌≡◌, ℕ, false, List, [], ◌∷◌, ◌++◌, if◌then◌else◌, length, refl, take}
-use Rattle.std.specs.Prelude.{Option, None, Some, codes}
+use Rattle.std.proofs.Common.{◌≡◌, [], ◌∷◌, ◌++◌, refl}
+use Rattle.std.specs.Prelude.{None, Some, codes}
 use Rattle.std.specs.Fmt.{digits}
 use Rattle.hex.specs.Hex.{encode_with}
-use Rattle.tlv_head.specs.declared.fault.FaultCode.TheVariants.{Empty, Short}
 use Rattle.tlv_head.specs.declared.header.Class.TheVariants.{Universal}
 use Rattle.tlv_head.specs.declared.header.Size.TheVariants.{Definite}
-use Rattle.tlv_open.specs.Opens.{closed_framing}
-use Rattle.tlv_walk.specs.Ending.{fault_at}
-use Rattle.tlv_walk.specs.Forest.{Forest, has_element, spelling}
-use Rattle.tlv_walk.proofs.GrammarLemmas.Readings.{Going, Halted, PushRun, push_all}
 use Rattle.tlv_why.specs.declared.element.Element.{Element}
-use Rattle.tlv_why.specs.declared.facts.Facts.{Facts}
-use Rattle.tlv_why.specs.Facts.{end_of_reading, last_whole, offsets_before, open_holders, unfinished_in, whole_end}
 use Rattle.tlv_why.specs.Words.{octets_in_words, octets_between, first_pairs, named_element, size_in_words}
 use Rattle.tlv_why.specs.Words.{header_opening, header_closing, header_octets, header_sentence}
 use Rattle.tlv_why.specs.CutLines.{empty_line, empty_try_line, empty_lines, cut_header_line, cut_primitive_lines}
@@ -29,29 +22,8 @@ use Rattle.tlv_why.specs.HeaderFaultLines.{one_wrong_line, past_line, wrong_line
 use Rattle.tlv_why.specs.Leftovers.{whole_line, whole_try_line, whole_lines_of, left_over_lines, blanks_line}
 use Rattle.tlv_why.specs.Leftovers.{filler_line, blanks_lines, filler_lines, following_lines}
 use Rattle.tlv_why.specs.Why.{no_parse_line_of, code_lines, front_lines, reason_lines_in, reason_lines, later_lines}
-use Rattle.tlv_why.specs.Why.{fault_lines}
-
--- what is said of the open end of a reading, and of what comes before it
-abbrev facts_by : Forest → Option Element → Facts
-facts_by f found = record {
-  holders = record { items = open_holders f };
-  before = last_whole None f;
-  top = whole_end 0 f;
-  nearest = record { items = take 25 (offsets_before [] f) };
-  next = (end_of_reading false f).place.offset;
-  unfinished = unfinished_in (end_of_reading false f).forest;
-  there = found;
-}
-
--- the lines about octets, after their reading; the last argument is the element whose header is at its open end
-abbrev why_after : List ℕ → Option Element → PushRun → List ℕ
-why_after octets found (Going f) =
-    fault_lines (fault_at (if has_element f then Short else Empty) (length octets)) octets (facts_by f found)
-why_after octets found (Halted f code) = fault_lines (fault_at code (length (spelling f))) octets (facts_by f found)
-
--- the lines about octets that do not parse
-abbrev why_of : List ℕ → Option Element → List ℕ
-why_of octets found = why_after octets found (push_all (closed_framing false) octets)
+use Rattle.tlv_why.specs.Why.{fault_lines, why_by}
+use Rattle.tlv_why.proofs.RowLines.{why_of}
 
 abbrev integer_there : Element
 integer_there = record { offset = 2; class = Universal; number = 2; size = Definite 2; contents = 4; end = Some 6 }
@@ -64,7 +36,7 @@ row-no_octets : why_of ([]) None
 unfolding digits encode_with octets_in_words octets_between first_pairs named_element size_in_words header_opening
     header_closing header_octets header_sentence whole_line whole_try_line whole_lines_of left_over_lines
     blanks_line filler_line blanks_lines filler_lines following_lines no_parse_line_of code_lines front_lines
-    reason_lines_in reason_lines later_lines fault_lines empty_line empty_try_line empty_lines
+    reason_lines_in reason_lines later_lines fault_lines why_by empty_line empty_try_line empty_lines
 row-no_octets = refl
 
 -- a primitive lacks an octet
@@ -73,14 +45,15 @@ row-cut_primitive : why_of (0x30 ∷ 0x05 ∷ 0x02 ∷ 0x01 ∷ []) None
     ++ codes "The input ends inside the INTEGER at offset 2. The header at offset 2, 02 01, says that its "
     ++ codes "contents are 1 octet.\n"
     ++ codes "Missing there: 1 octet.\n"
-    ++ codes "The outermost element that is not whole, the SEQUENCE at offset 0, would end at offset 7. "
-    ++ codes "Missing in all: 3 octets.\n"
+    ++ codes "The outermost element of definite length that is not whole, the SEQUENCE at offset 0, "
+    ++ codes "would end at offset 7. "
+    ++ codes "Missing up to there: 3 octets.\n"
     ++ codes "Try: fetch the input anew, since the copy was cut; or, where it is whole, look for a length "
     ++ codes "that is too great.\n"
 unfolding digits encode_with octets_in_words octets_between first_pairs named_element size_in_words header_opening
     header_closing header_octets header_sentence whole_line whole_try_line whole_lines_of left_over_lines
     blanks_line filler_line blanks_lines filler_lines following_lines no_parse_line_of code_lines front_lines
-    reason_lines_in reason_lines later_lines fault_lines empty_line empty_try_line empty_lines cut_header_line
+    reason_lines_in reason_lines later_lines fault_lines why_by empty_line empty_try_line empty_lines cut_header_line
     cut_primitive_lines cut_end_line cut_holder_line cut_lines_at filled_line lacking_line needed_line unended_line
     cut_try_line needed_lines missing_lines cut_lines
 row-cut_primitive = refl
@@ -94,7 +67,7 @@ row-cut_header : why_of (0x30 ∷ 0x82 ∷ 0x01 ∷ []) None
 unfolding digits encode_with octets_in_words octets_between first_pairs named_element size_in_words header_opening
     header_closing header_octets header_sentence whole_line whole_try_line whole_lines_of left_over_lines
     blanks_line filler_line blanks_lines filler_lines following_lines no_parse_line_of code_lines front_lines
-    reason_lines_in reason_lines later_lines fault_lines empty_line empty_try_line empty_lines cut_header_line
+    reason_lines_in reason_lines later_lines fault_lines why_by empty_line empty_try_line empty_lines cut_header_line
     cut_primitive_lines cut_end_line cut_holder_line cut_lines_at filled_line lacking_line needed_line unended_line
     cut_try_line needed_lines missing_lines cut_lines
 row-cut_header = refl
@@ -109,7 +82,7 @@ row-cut_end : why_of (0x30 ∷ 0x80 ∷ 0x00 ∷ []) None
 unfolding digits encode_with octets_in_words octets_between first_pairs named_element size_in_words header_opening
     header_closing header_octets header_sentence whole_line whole_try_line whole_lines_of left_over_lines
     blanks_line filler_line blanks_lines filler_lines following_lines no_parse_line_of code_lines front_lines
-    reason_lines_in reason_lines later_lines fault_lines empty_line empty_try_line empty_lines cut_header_line
+    reason_lines_in reason_lines later_lines fault_lines why_by empty_line empty_try_line empty_lines cut_header_line
     cut_primitive_lines cut_end_line cut_holder_line cut_lines_at filled_line lacking_line needed_line unended_line
     cut_try_line needed_lines missing_lines cut_lines
 row-cut_end = refl
@@ -126,7 +99,7 @@ row-cut_filled : why_of (0x30 ∷ 0x04 ∷ 0x30 ∷ 0x80 ∷ 0x05 ∷ 0x00 ∷ [
 unfolding digits encode_with octets_in_words octets_between first_pairs named_element size_in_words header_opening
     header_closing header_octets header_sentence whole_line whole_try_line whole_lines_of left_over_lines
     blanks_line filler_line blanks_lines filler_lines following_lines no_parse_line_of code_lines front_lines
-    reason_lines_in reason_lines later_lines fault_lines empty_line empty_try_line empty_lines cut_header_line
+    reason_lines_in reason_lines later_lines fault_lines why_by empty_line empty_try_line empty_lines cut_header_line
     cut_primitive_lines cut_end_line cut_holder_line cut_lines_at filled_line lacking_line needed_line unended_line
     cut_try_line needed_lines missing_lines cut_lines
 row-cut_filled = refl
@@ -144,7 +117,7 @@ row-mostly_whole : why_of (0x05 ∷ 0x00 ∷ 0x30 ∷ 0x80 ∷ 0x00 ∷ 0x00 ∷
 unfolding digits encode_with octets_in_words octets_between first_pairs named_element size_in_words header_opening
     header_closing header_octets header_sentence whole_line whole_try_line whole_lines_of left_over_lines
     blanks_line filler_line blanks_lines filler_lines following_lines no_parse_line_of code_lines front_lines
-    reason_lines_in reason_lines later_lines fault_lines empty_line empty_try_line empty_lines cut_header_line
+    reason_lines_in reason_lines later_lines fault_lines why_by empty_line empty_try_line empty_lines cut_header_line
     cut_primitive_lines cut_end_line cut_holder_line cut_lines_at filled_line lacking_line needed_line unended_line
     cut_try_line needed_lines missing_lines cut_lines
 row-mostly_whole = refl
@@ -157,7 +130,7 @@ row-filler : why_of (0x05 ∷ 0x00 ∷ 0xff ∷ 0xff ∷ 0xff ∷ []) None
 unfolding digits encode_with octets_in_words octets_between first_pairs named_element size_in_words header_opening
     header_closing header_octets header_sentence whole_line whole_try_line whole_lines_of left_over_lines
     blanks_line filler_line blanks_lines filler_lines following_lines no_parse_line_of code_lines front_lines
-    reason_lines_in reason_lines later_lines fault_lines empty_line empty_try_line empty_lines cut_header_line
+    reason_lines_in reason_lines later_lines fault_lines why_by empty_line empty_try_line empty_lines cut_header_line
     cut_primitive_lines cut_end_line cut_holder_line cut_lines_at filled_line lacking_line needed_line unended_line
     cut_try_line needed_lines missing_lines cut_lines
 row-filler = refl
@@ -171,7 +144,7 @@ row-zeros : why_of (0x05 ∷ 0x00 ∷ 0x00 ∷ 0x00 ∷ 0x00 ∷ []) None
 unfolding digits encode_with octets_in_words octets_between first_pairs named_element size_in_words header_opening
     header_closing header_octets header_sentence whole_line whole_try_line whole_lines_of left_over_lines
     blanks_line filler_line blanks_lines filler_lines following_lines no_parse_line_of code_lines front_lines
-    reason_lines_in reason_lines later_lines fault_lines first_zeros_line later_zeros_line zeros_line
+    reason_lines_in reason_lines later_lines fault_lines why_by first_zeros_line later_zeros_line zeros_line
     padding_try_line front_try_line zeros_try_lines zeros_lines stray_line stray_lines_in stray_lines bad_end_line
     bad_end_lines lacking_zeros missing_end_line missing_end_lines_in missing_end_lines anew_line suspect_line_of
     suspect_line anew_lines look_line look_lines
@@ -191,7 +164,7 @@ row-stray : why_of (0x30 ∷ 0x04 ∷ 0x05 ∷ 0x00 ∷ 0x00 ∷ 0x00 ∷ []) No
 unfolding digits encode_with octets_in_words octets_between first_pairs named_element size_in_words header_opening
     header_closing header_octets header_sentence whole_line whole_try_line whole_lines_of left_over_lines
     blanks_line filler_line blanks_lines filler_lines following_lines no_parse_line_of code_lines front_lines
-    reason_lines_in reason_lines later_lines fault_lines first_zeros_line later_zeros_line zeros_line
+    reason_lines_in reason_lines later_lines fault_lines why_by first_zeros_line later_zeros_line zeros_line
     padding_try_line front_try_line zeros_try_lines zeros_lines stray_line stray_lines_in stray_lines bad_end_line
     bad_end_lines lacking_zeros missing_end_line missing_end_lines_in missing_end_lines anew_line suspect_line_of
     suspect_line anew_lines look_line look_lines
@@ -207,7 +180,7 @@ row-bad_end : why_of (0x30 ∷ 0x80 ∷ 0x00 ∷ 0x05 ∷ []) None
 unfolding digits encode_with octets_in_words octets_between first_pairs named_element size_in_words header_opening
     header_closing header_octets header_sentence whole_line whole_try_line whole_lines_of left_over_lines
     blanks_line filler_line blanks_lines filler_lines following_lines no_parse_line_of code_lines front_lines
-    reason_lines_in reason_lines later_lines fault_lines first_zeros_line later_zeros_line zeros_line
+    reason_lines_in reason_lines later_lines fault_lines why_by first_zeros_line later_zeros_line zeros_line
     padding_try_line front_try_line zeros_try_lines zeros_lines stray_line stray_lines_in stray_lines bad_end_line
     bad_end_lines lacking_zeros missing_end_line missing_end_lines_in missing_end_lines anew_line suspect_line_of
     suspect_line anew_lines look_line look_lines
@@ -224,7 +197,7 @@ row-missing_end : why_of (0x30 ∷ 0x05 ∷ 0xa1 ∷ 0x80 ∷ 0x02 ∷ 0x01 ∷ 
 unfolding digits encode_with octets_in_words octets_between first_pairs named_element size_in_words header_opening
     header_closing header_octets header_sentence whole_line whole_try_line whole_lines_of left_over_lines
     blanks_line filler_line blanks_lines filler_lines following_lines no_parse_line_of code_lines front_lines
-    reason_lines_in reason_lines later_lines fault_lines first_zeros_line later_zeros_line zeros_line
+    reason_lines_in reason_lines later_lines fault_lines why_by first_zeros_line later_zeros_line zeros_line
     padding_try_line front_try_line zeros_try_lines zeros_lines stray_line stray_lines_in stray_lines bad_end_line
     bad_end_lines lacking_zeros missing_end_line missing_end_lines_in missing_end_lines anew_line suspect_line_of
     suspect_line anew_lines look_line look_lines
@@ -238,7 +211,7 @@ row-reserved : why_of (0x04 ∷ 0xff ∷ []) None
 unfolding digits encode_with octets_in_words octets_between first_pairs named_element size_in_words header_opening
     header_closing header_octets header_sentence whole_line whole_try_line whole_lines_of left_over_lines
     blanks_line filler_line blanks_lines filler_lines following_lines no_parse_line_of code_lines front_lines
-    reason_lines_in reason_lines later_lines fault_lines header_fault_words header_fault_line header_fault_lines
+    reason_lines_in reason_lines later_lines fault_lines why_by header_fault_words header_fault_line header_fault_lines
     deep_line deep_try_line deep_lines header_past_line element_past_line one_wrong_line past_line wrong_lines
     past_lines_in past_lines anew_line suspect_line_of suspect_line anew_lines look_line look_lines
 row-reserved = refl
@@ -252,7 +225,7 @@ row-indefinite_primitive : why_of (0x30 ∷ 0x02 ∷ 0x04 ∷ 0x80 ∷ []) None
 unfolding digits encode_with octets_in_words octets_between first_pairs named_element size_in_words header_opening
     header_closing header_octets header_sentence whole_line whole_try_line whole_lines_of left_over_lines
     blanks_line filler_line blanks_lines filler_lines following_lines no_parse_line_of code_lines front_lines
-    reason_lines_in reason_lines later_lines fault_lines header_fault_words header_fault_line header_fault_lines
+    reason_lines_in reason_lines later_lines fault_lines why_by header_fault_words header_fault_line header_fault_lines
     deep_line deep_try_line deep_lines header_past_line element_past_line one_wrong_line past_line wrong_lines
     past_lines_in past_lines anew_line suspect_line_of suspect_line anew_lines look_line look_lines
 row-indefinite_primitive = refl
@@ -270,7 +243,7 @@ row-past : why_of (0x30 ∷ 0x03 ∷ 0x02 ∷ 0x02 ∷ 0x01 ∷ []) (Some intege
 unfolding digits encode_with octets_in_words octets_between first_pairs named_element size_in_words header_opening
     header_closing header_octets header_sentence whole_line whole_try_line whole_lines_of left_over_lines
     blanks_line filler_line blanks_lines filler_lines following_lines no_parse_line_of code_lines front_lines
-    reason_lines_in reason_lines later_lines fault_lines header_fault_words header_fault_line header_fault_lines
+    reason_lines_in reason_lines later_lines fault_lines why_by header_fault_words header_fault_line header_fault_lines
     deep_line deep_try_line deep_lines header_past_line element_past_line one_wrong_line past_line wrong_lines
     past_lines_in past_lines anew_line suspect_line_of suspect_line anew_lines look_line look_lines
 row-past = refl
@@ -287,7 +260,7 @@ row-header_past : why_of (0x30 ∷ 0x02 ∷ 0x30 ∷ 0x82 ∷ 0x01 ∷ 0x01 ∷ 
 unfolding digits encode_with octets_in_words octets_between first_pairs named_element size_in_words header_opening
     header_closing header_octets header_sentence whole_line whole_try_line whole_lines_of left_over_lines
     blanks_line filler_line blanks_lines filler_lines following_lines no_parse_line_of code_lines front_lines
-    reason_lines_in reason_lines later_lines fault_lines header_fault_words header_fault_line header_fault_lines
+    reason_lines_in reason_lines later_lines fault_lines why_by header_fault_words header_fault_line header_fault_lines
     deep_line deep_try_line deep_lines header_past_line element_past_line one_wrong_line past_line wrong_lines
     past_lines_in past_lines anew_line suspect_line_of suspect_line anew_lines look_line look_lines
 row-header_past = refl

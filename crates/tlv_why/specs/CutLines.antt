@@ -61,8 +61,9 @@ filled_line e end =
 -- an element would end at this offset, so many octets after the input
 unfoldable pub lacking_line : Element → ℕ → ℕ → List ℕ
 lacking_line e end missing =
-    codes "The outermost element that is not whole, the " ++ named_element e ++ codes ", would end at offset "
-    ++ decimal end ++ codes ". Missing in all: " ++ octets_in_words missing ++ codes ".\n"
+    codes "The outermost element of definite length that is not whole, the " ++ named_element e
+    ++ codes ", would end at offset " ++ decimal end ++ codes ". Missing up to there: " ++ octets_in_words missing
+    ++ codes ".\n"
 
 -- where the outermost element with a definite length ends, if there is one, in an input of so many octets
 unfoldable pub needed_line : ℕ → Option Element → List ℕ

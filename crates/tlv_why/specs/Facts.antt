@@ -1,10 +1,13 @@
 -- What is open where the reading of an input ends, and what comes before that.
-use Rattle.std.specs.Prelude.{◌≡◌, ℕ, ◌+◌, Bool, false, List, [], ◌∷◌, MatchOption, Option, Some, None, drop, take}
+use Rattle.std.specs.Prelude.{◌≡◌, ℕ, ◌+◌, false, List, [], ◌∷◌, MatchOption, Option, Some, None, drop, take}
+use Rattle.tlv_head.specs.declared.fault.Fault.{Fault}
 use Rattle.tlv_head.specs.Header.{HeaderValue}
 use Rattle.tlv_head.specs.Refusal.{BeginsWith, BeginsWithNoHeader}
-use Rattle.tlv_open.specs.Opens.{closed_framing}
-use Rattle.tlv_walk.specs.Ending.{OpenEnd, open_end}
-use Rattle.tlv_walk.specs.Forest.{Forest, Holder, OpenEndOctets, OpenHeader, OpenHolder}
+use Rattle.tlv_walk.specs.declared.ending.Ending.{Ending}
+use Rattle.tlv_walk.specs.declared.ending.Ending.TheVariants as ending
+use Rattle.tlv_walk.specs.declared.framing.Framing.{Framing}
+use Rattle.tlv_walk.specs.Ending.{IsEnding, OpenEnd, open_end}
+use Rattle.tlv_walk.specs.Forest.{Forest, Holder, OpenBitString, OpenEndOctets, OpenHeader, OpenHolder}
 use Rattle.tlv_walk.specs.Forest.{OpenPrimitive, PaddingOctet, Primitive, extent, primitive_extent}
 use Rattle.tlv_walk.specs.Place.{top_place}
 use Rattle.tlv_walk.specs.Reading.{IsReading}
@@ -14,7 +17,8 @@ use Rattle.tlv_why.specs.declared.facts.Unfinished.{Unfinished}
 use Rattle.tlv_why.specs.declared.facts.Unfinished.TheVariants as unfinished
 use Rattle.tlv_why.specs.Elements.{element_of}
 
--- 8.1.4: the elements that hold others and have not ended, outermost first. No string is named, so none is a wrapper
+-- 8.1.4: the elements that hold others and have not ended, outermost first: those that are constructed, and the strings
+-- that are named and hold encodings. A BIT STRING of these counts once its first contents octet is there
 abbrev pub open_holders : Forest → List Element
 open_holders (PaddingOctet rest) = open_holders rest
 open_holders (Primitive h contents rest) = open_holders rest
@@ -50,6 +54,8 @@ offsets_before before end = before
 abbrev pub unfinished_in : Forest → Unfinished
 unfinished_in (OpenPrimitive h contents) = unfinished.Primitive (element_of h)
 unfinished_in (OpenHeader octets) = unfinished.Header
+-- 8.6.2.2: of a BIT STRING that is named and holds encodings, the header alone is there
+unfinished_in (OpenBitString h) = unfinished.Header
 unfinished_in OpenEndOctets = unfinished.EndOctets
 unfinished_in end = unfinished.Nothing
 
@@ -58,22 +64,28 @@ abbrev pub IsElementThere : List ℕ → ℕ → Option Element → Type 0
 IsElementThere octets offset found = MatchOption found (BeginsWithNoHeader (drop offset octets))
     (λ e. (h : HeaderValue) × BeginsWith (drop offset octets) offset false h × (e ≡ element_of h))
 
--- the open end of a reading in which no string is named
-abbrev pub end_of_reading : Bool → Forest → OpenEnd
-end_of_reading padding reading = open_end (top_place (closed_framing padding)) reading
+-- the open end of a reading
+abbrev pub end_of_reading : Framing → Forest → OpenEnd
+end_of_reading framing reading = open_end (top_place framing) reading
+
+-- the ending that has this fault, or none
+abbrev pub ending_by : Option Fault → Ending
+ending_by None = ending.Done
+ending_by (Some fault) = ending.Fault fault
 
 -- what is said of the open end of this reading, and of what comes before it
-pub record AreFactsOf (padding : Bool) (octets : List ℕ) (reading : Forest) (facts : Facts) : Type 0 where
+pub record AreFactsOf (framing : Framing) (octets : List ℕ) (reading : Forest) (facts : Facts) : Type 0 where
   pub holders : facts.holders.items ≡ open_holders reading
   pub before : facts.before ≡ last_whole None reading
   pub top : facts.top ≡ whole_end 0 reading
   pub nearest : facts.nearest.items ≡ take 25 (offsets_before [] reading)
-  pub next : facts.next ≡ (end_of_reading padding reading).place.offset
-  pub unfinished : facts.unfinished ≡ unfinished_in (end_of_reading padding reading).forest
+  pub next : facts.next ≡ (end_of_reading framing reading).place.offset
+  pub unfinished : facts.unfinished ≡ unfinished_in (end_of_reading framing reading).forest
   pub there : IsElementThere octets facts.next facts.there
 
--- what is said of these octets, by their reading in which no string is named
-pub record AreFacts (padding : Bool) (octets : List ℕ) (facts : Facts) : Type 0 where
+-- what is said of these octets: whether they parse, and what their reading comes to
+pub record AreFacts (framing : Framing) (octets : List ℕ) (facts : Facts) : Type 0 where
+  pub ending : IsEnding framing octets (ending_by facts.fault)
   pub reading : Forest
-  pub is_reading : IsReading (closed_framing padding) octets reading
-  pub are_facts : AreFactsOf padding octets reading facts
+  pub is_reading : IsReading framing octets reading
+  pub are_facts : AreFactsOf framing octets reading facts

@@ -1,8 +1,11 @@
 -- What is written is printable ASCII, in lines.
 use Rattle.std.specs.Prelude.{◌≡◌, ℕ, Bool, true, ◌&&◌, ◌||◌, eqb, nat_le, List}
 use Rattle.std.specs.List.{list_all}
+use Rattle.tlv_walk.specs.declared.framing.Framing.{Framing}
 use Rattle.tlv_walk.specs.Reading.{AreOctets}
-use Rattle.tlv_why.specs.Why.{IsWhy}
+use Rattle.tlv_why.specs.declared.facts.Facts.{Facts}
+use Rattle.tlv_why.specs.Facts.{AreFacts}
+use Rattle.tlv_why.specs.Why.{reasons_of, why_lines}
 
 -- a line feed, or a printable character of ASCII
 abbrev pub is_shown_octet : ℕ → Bool
@@ -12,7 +15,7 @@ is_shown_octet x = eqb x 10 || (nat_le 0x20 x && nat_le x 0x7e)
 abbrev pub AreShown : List ℕ → Type 0
 AreShown text = list_all is_shown_octet text ≡ true
 
--- what is said of octets is printable ASCII, in lines
+-- what is said of octets is printable ASCII, in lines: all of it, and all without the first line
 abbrev pub LinesAreShown : Type 0
-LinesAreShown = (padding : Bool) (octets : List ℕ) (parses : Bool) (text : List ℕ) → AreOctets octets
-    → IsWhy padding octets parses text → AreShown text
+LinesAreShown = (framing : Framing) (octets : List ℕ) (facts : Facts) → AreOctets octets → AreFacts framing octets facts
+    → AreShown (why_lines octets facts) × AreShown (reasons_of octets facts)

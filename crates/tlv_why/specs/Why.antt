@@ -1,6 +1,6 @@
 -- Why octets do not parse, in sentences. Each is a line that ends with a line feed.
-use Rattle.std.specs.Prelude.{◌≡◌, ℕ, ◌-◌, Bool, true, false, ◌&&◌, not, nat_le, if◌then◌else◌, List, [], ◌++◌, codes}
-use Rattle.std.specs.Prelude.{IfOk, Result, decimal, length}
+use Rattle.std.specs.Prelude.{ℕ, ◌-◌, Bool, true, false, ◌&&◌, not, nat_le, if◌then◌else◌, List, [], ◌++◌, codes}
+use Rattle.std.specs.Prelude.{Option, Some, None, decimal, length}
 use Rattle.std.specs.Option.{is_some}
 use Rattle.tlv_head.specs.Fault.{fault_code, fault_text}
 use Rattle.tlv_head.specs.declared.fault.Fault.{Fault}
@@ -8,16 +8,9 @@ use Rattle.tlv_head.specs.declared.fault.FaultCode.{FaultCode}
 use Rattle.tlv_head.specs.declared.fault.FaultCode.TheVariants.{BadEnd, BadInside, Empty, IndefinitePrimitive}
 use Rattle.tlv_head.specs.declared.fault.FaultCode.TheVariants.{LengthTooLarge, MissingEnd, Overrun, ReservedLength}
 use Rattle.tlv_head.specs.declared.fault.FaultCode.TheVariants.{Short, StrayEnd, TagTooLong, TooDeep}
-use Rattle.tlv_io.specs.Device.{DrainState}
-use Rattle.tlv_io.specs.Out.{Sends}
-use Rattle.tlv_io.specs.declared.drain.WriteFault.{WriteFault}
-use Rattle.tlv_walk.specs.declared.ending.Ending.TheVariants as ending
-use Rattle.tlv_walk.specs.Ending.{IsEnding}
-use Rattle.tlv_open.specs.Opens.{closed_framing}
 use Rattle.tlv_why.specs.declared.facts.Facts.{Facts}
 use Rattle.tlv_why.specs.CutLines.{cut_lines, empty_lines}
 use Rattle.tlv_why.specs.EndLines.{bad_end_lines, missing_end_lines, stray_lines}
-use Rattle.tlv_why.specs.Facts.{AreFacts}
 use Rattle.tlv_why.specs.HeaderFaultLines.{deep_lines, header_fault_lines, past_lines}
 use Rattle.tlv_why.specs.Leftovers.{following_lines, is_followed_by_filler, left_over_lines}
 use Rattle.tlv_why.specs.OpenHolders.{innermost_holder}
@@ -35,7 +28,8 @@ no_parse_line_of offset code text =
 abbrev pub no_parse_line : Fault → List ℕ
 no_parse_line fault = no_parse_line_of fault.offset (fault_code fault.code) (fault_text fault.code)
 
--- the lines about a fault with this code, at this offset. F12 is none where no string is read as encodings
+-- the lines about a fault with this code, at this offset; of F12 (a string that is named and holds no encodings)
+-- nothing more is said than the first line does
 unfoldable pub code_lines : FaultCode → ℕ → List ℕ → Facts → List ℕ
 code_lines Empty offset octets facts = empty_lines (length octets)
 code_lines Short offset octets facts = cut_lines octets facts
@@ -90,18 +84,20 @@ later_lines fault octets facts =
 unfoldable pub fault_lines : Fault → List ℕ → Facts → List ℕ
 fault_lines fault octets facts = no_parse_line fault ++ later_lines fault octets facts
 
--- the lines about octets, of which no string is read as encodings: that they parse, or why they do not
-pub data IsWhy (padding : Bool) (octets : List ℕ) : Bool → List ℕ → Type 0 where
-  parses : IsEnding (closed_framing padding) octets ending.Done
-      → IsWhy padding octets true (parses_line (length octets))
-  refused : (fault : Fault) (facts : Facts) → IsEnding (closed_framing padding) octets (ending.Fault fault)
-      → AreFacts padding octets facts → IsWhy padding octets false (fault_lines fault octets facts)
+-- all lines, by why the octets do not parse, if they do not
+unfoldable pub why_by : Option Fault → List ℕ → Facts → List ℕ
+why_by None octets facts = parses_line (length octets)
+why_by (Some fault) octets facts = fault_lines fault octets facts
 
--- these lines are sent to a drain; what is returned is whether the octets parse
-pub record WritesWhy (padding : Bool) (octets : List ℕ) (old new : DrainState) (result : Result Bool WriteFault)
-    : Type 0 where
-  pub parses : Bool
-  pub text : List ℕ
-  pub is_why : IsWhy padding octets parses text
-  pub sends : Sends old new text result
-  pub says : IfOk result (λ said. said ≡ parses)
+-- all lines about octets of which this is said: that they parse, or why they do not
+abbrev pub why_lines : List ℕ → Facts → List ℕ
+why_lines octets facts = why_by facts.fault octets facts
+
+-- the same without the first line
+unfoldable pub reasons_by : Option Fault → List ℕ → Facts → List ℕ
+reasons_by None octets facts = []
+reasons_by (Some fault) octets facts = later_lines fault octets facts
+
+-- all but the first line about octets of which this is said: nothing if they parse
+abbrev pub reasons_of : List ℕ → Facts → List ℕ
+reasons_of octets facts = reasons_by facts.fault octets facts

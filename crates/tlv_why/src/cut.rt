@@ -207,7 +207,6 @@ fn put_filled_line<D: Drain>(
     )
 }
 
-#[tactic(auto, unfolding(crate::specs::CutLines::lacking_line))]
 fn put_lacking_line<D: Drain>(
     element: Element,
     end: u64,
@@ -218,11 +217,11 @@ fn put_lacking_line<D: Drain>(
 {
     put_parts(
         &[
-            Part::Text(b"The outermost element that is not whole, the "),
+            Part::Text(b"The outermost element of definite length that is not whole, the "),
             Part::Name(element),
             Part::Text(b", would end at offset "),
             Part::Number(end),
-            Part::Text(b". Missing in all: "),
+            Part::Text(b". Missing up to there: "),
             Part::Octets(missing),
             Part::Text(b".\n"),
         ],

@@ -2,6 +2,7 @@
 
 use crate::Element;
 use arrayvec::ArrayVec;
+use tlv_head::Fault;
 
 /// What stands where the reading of an input ends.
 #[derive(Clone, Copy, Debug, PartialEq, Eq)]
@@ -10,16 +11,20 @@ pub enum Unfinished {
     Nothing,
     /// A primitive that lacks contents octets.
     Primitive(Element),
-    /// A header that lacks octets.
+    /// A header that lacks octets, or the whole header of a BIT STRING that is named and holds encodings, of which
+    /// nothing more is there.
     Header,
     /// The first of two end-of-contents octets.
     EndOctets,
 }
 
-/// What is said of octets, of which no string is read as encodings: what is open where their reading ends, and what
-/// comes before that. Offsets are in octets from the start of the input.
+/// What is said of octets by their reading: why they do not parse, what is open where their reading ends, and what
+/// comes before that. A string that is named and holds encodings is an element that holds others. Offsets are in
+/// octets from the start of the input.
 #[derive(Debug, Drop)]
 pub struct Facts {
+    /// Why the octets do not parse, if they do not.
+    pub fault: Option<Fault>,
     /// The elements that hold others and have not ended, outermost first.
     pub holders: ArrayVec<Element, 128>,
     /// The last whole element before the open end, among those that are directly in the innermost open element.

@@ -1,32 +1,28 @@
-//! Walks over octets, of which no string is read as encodings, and says what is open where their reading ends.
+//! Walks over octets, and says why they do not parse and what is open where their reading ends.
 ghost use Rattle.std.specs.Prelude.{◌≡◌, ◌≤◌, drop, length, slice_index};
 ghost use Rattle.tlv_head.specs.InputLimit.{input_limit};
 ghost use Rattle.tlv_walk.specs.WalkerState.{IsWithinInputLimit};
-ghost use Rattle.tlv_why.specs.Facts.{AreFacts, IsElementThere};
-ghost use Rattle.tlv_why.specs.Private.Tracking.{open_end_offset, count_read, unfinished_at, unfinished_octet};
-ghost use Rattle.tlv_why.specs.Private.Tracking.{HasTracked, IsNewWalker, MakesFacts, new_tracker};
+ghost use Rattle.tlv_why.specs.Facts.{AreFacts, IsElementThere, ending_by};
+ghost use Rattle.tlv_why.specs.Private.Tracking.{HasTracked, IsNewWalker, MakesFacts, begun_element, count_read};
+ghost use Rattle.tlv_why.specs.Private.Tracking.{new_tracker, open_end_offset, unfinished_at, unfinished_entered};
+ghost use Rattle.tlv_why.specs.Private.Tracking.{unfinished_octet};
 
 use crate::element::element_with;
 use crate::tracker::Tracker;
 use crate::{Element, Facts, Unfinished};
-use tlv_head::read_header;
-use tlv_walk::{Ending, Framing, Inside, Step, Walker};
+use tlv_head::{Fault, read_header};
+use tlv_walk::{Ending, Framing, Step, Walker};
 
-/// What is said of octets, of which no string is read as encodings: what is open where their reading ends, and what
-/// comes before that. With `padding`, octets `00` are allowed at the top.
-pub fn facts_of(octets: &[u8], padding: bool) -> Facts
+/// What is said of octets by their reading: why they do not parse, what is open where it ends, and what comes before
+/// that. The strings that the framing names are read as encodings.
+pub fn facts_of(octets: &[u8], framing: &Framing<'_>) -> Facts
     requires { length octets.now ≤ input_limit }
-    ensures { AreFacts padding octets.now result }
+    ensures { AreFacts framing.now octets.now result }
 {
-    let framing = Framing {
-        inside: Inside::none(),
-        padding,
-    };
-    let mut walker = Walker::new(&framing);
+    let mut walker = Walker::new(framing);
     let mut tracker = Tracker::new();
     track_over(octets, &mut walker, &mut tracker);
-    let count = count_read(walker.finish(), octets.len());
-    facts_at_end(tracker, octets, count)
+    facts_at_end(tracker, octets, walker.finish())
 }
 
 /// Walks over the octets, up to one that is refused, and takes note of the events.
@@ -45,23 +41,15 @@ fn track_over(octets: &[u8], walker: &mut Walker<'_>, tracker: &mut Tracker)
     }
 }
 
-/// How many octets are read of so many that have this ending: all, or those before the one that is refused.
-fn count_read(ending: Ending, size: usize) -> u64
-    ensures { result ≡ count_read ending size }
+/// What is said of octets that have this ending, by what is kept of the events.
+fn facts_at_end(tracker: Tracker, octets: &[u8], ending: Ending) -> Facts
+    ensures { MakesFacts tracker octets.now ending result }
 {
-    match ending {
-        Ending::Done => size as u64,
-        Ending::Fault(fault) => fault.offset,
-    }
-}
-
-/// What is said of octets of which so many are read, by what is kept of the events.
-fn facts_at_end(tracker: Tracker, octets: &[u8], count: u64) -> Facts
-    ensures { MakesFacts tracker octets.now count result }
-{
+    let fault = fault_of(ending);
     let next = open_end_offset(&tracker);
-    let unfinished = unfinished_at(&tracker, octets, count);
+    let unfinished = unfinished_at(&tracker, octets, count_read(fault, octets.len()));
     Facts {
+        fault,
         holders: tracker.holders,
         before: tracker.before,
         top: tracker.top,
@@ -72,13 +60,43 @@ fn facts_at_end(tracker: Tracker, octets: &[u8], count: u64) -> Facts
     }
 }
 
+/// The fault of an ending, if it has one.
+fn fault_of(ending: Ending) -> Option<Fault>
+    ensures { ending_by result ≡ ending }
+{
+    match ending {
+        Ending::Done => None,
+        Ending::Fault(fault) => Some(fault),
+    }
+}
+
+/// How many octets are read of so many: all, or those before the one that is refused.
+fn count_read(fault: Option<Fault>, size: usize) -> u64
+    ensures { result ≡ count_read fault size }
+{
+    match fault {
+        None => size as u64,
+        Some(fault) => fault.offset,
+    }
+}
+
 /// Where the open end begins.
 fn open_end_offset(tracker: &Tracker) -> u64
     ensures { result ≡ open_end_offset tracker.now }
 {
-    match tracker.current {
+    match begun_element(tracker) {
         Some(element) => element.offset,
         None => tracker.offset,
+    }
+}
+
+/// The element that has begun and is not noted, if there is one.
+fn begun_element(tracker: &Tracker) -> Option<Element>
+    ensures { result ≡ begun_element tracker.now }
+{
+    match tracker.current {
+        Some(element) => Some(element),
+        None => tracker.entered,
     }
 }
 
@@ -88,11 +106,26 @@ fn unfinished_at(tracker: &Tracker, octets: &[u8], count: u64) -> Unfinished
 {
     match tracker.current {
         Some(element) => Unfinished::Primitive(element),
-        None => unfinished_octet(octets, tracker.offset, count),
+        None => unfinished_entered(tracker.entered, octets, tracker.offset, count),
     }
 }
 
 /// What stands at this offset, where no primitive has begun, of octets of which so many are read.
+fn unfinished_entered(
+    entered: Option<Element>,
+    octets: &[u8],
+    offset: u64,
+    count: u64,
+) -> Unfinished
+    ensures { result ≡ unfinished_entered entered octets.now offset count }
+{
+    match entered {
+        Some(_) => Unfinished::Header,
+        None => unfinished_octet(octets, offset, count),
+    }
+}
+
+/// What stands at this offset, where no element has begun, of octets of which so many are read.
 fn unfinished_octet(octets: &[u8], offset: u64, count: u64) -> Unfinished
     ensures { result ≡ unfinished_octet octets.now offset count }
 {

@@ -2,7 +2,8 @@
 
 ghost use Rattle.tlv_why.specs.Laws.{LinesAreShown};
 
-/// Whatever octets are given to [`write_why`](crate::write_why), all that it writes is printable ASCII and line feeds.
+/// Whatever octets have these facts, all that [`write_why`](crate::write_why) and
+/// [`write_reasons`](crate::write_reasons) write of them is printable ASCII and line feeds.
 pub fn lines_are_shown()
     ensures { LinesAreShown }
 {}

@@ -1,12 +1,14 @@
 //! Keeps of the events of a walk what is open, and what came last.
 ghost use Rattle.std.specs.Prelude.{◌≡◌, ◌≤◌, ◌<◌, ◌+◌, ◌++◌, ◌∷◌, [], length, take};
 ghost use Rattle.tlv_walk.specs.Events.{event_octets, event_value_of};
-ghost use Rattle.tlv_why.specs.Private.Tracking.{element_ended, holder_noted, holder_ended, innermost, new_tracker};
-ghost use Rattle.tlv_why.specs.Private.Tracking.{primitive_ended, track, with_nearest};
+ghost use Rattle.tlv_why.specs.Private.Tracking.{bit_string_opened, element_ended, holder_noted, holder_ended};
+ghost use Rattle.tlv_why.specs.Private.Tracking.{innermost, new_tracker, primitive_ended, track, with_nearest};
+ghost use Rattle.tlv_why.specs.Private.Tracking.{wrapper_entered};
 
 use crate::Element;
 use crate::element::element_of;
 use arrayvec::ArrayVec;
+use tlv_head::universal;
 use tlv_walk::Event;
 
 /// What is kept of the events of a walk.
@@ -16,6 +18,8 @@ pub(crate) struct Tracker {
     pub holders: ArrayVec<Element, 128>,
     /// The primitive that has begun and has not ended.
     pub current: Option<Element>,
+    /// The BIT STRING that is named and holds encodings, and of which the header alone has come.
+    pub entered: Option<Element>,
     /// The last whole element in the innermost open one.
     pub before: Option<Element>,
     /// The offset after the last whole element of the outermost ones.
@@ -34,6 +38,7 @@ impl Tracker {
         Tracker {
             holders: ArrayVec::new(),
             current: None,
+            entered: None,
             before: None,
             top: 0,
             nearest: ArrayVec::new(),
@@ -48,11 +53,13 @@ impl Tracker {
     {
         self.offset = offset;
         match event {
-            Event::Open(header) | Event::Enter(header) => self.begin_holder(element_of(header)),
+            Event::Open(header) => self.begin_holder(element_of(header)),
+            Event::Enter(header) => self.enter(element_of(header)),
+            Event::Unused => self.open_bit_string(),
             Event::Begin(header) => self.current = Some(element_of(header)),
             Event::End => self.end_primitive(),
             Event::Close(_) | Event::Leave => self.end_holder(),
-            Event::Bytes(_) | Event::Unused | Event::Pad(_) => {}
+            Event::Bytes(_) | Event::Pad(_) => {}
         }
     }
 
@@ -66,6 +73,27 @@ impl Tracker {
         self.add_nearest(element.offset);
         self.holders.push(element);
         self.before = None;
+    }
+
+    /// A string begins that is named and holds encodings. A BIT STRING lacks its first contents octet then.
+    fn enter(&mut self, element: Element)
+        ensures { self.new ≡ wrapper_entered element self.old }
+    {
+        if element.number == universal::BIT_STRING {
+            self.entered = Some(element);
+        } else {
+            self.begin_holder(element);
+        }
+    }
+
+    /// The first contents octet has come of the BIT STRING that holds encodings.
+    fn open_bit_string(&mut self)
+        ensures { self.new ≡ bit_string_opened self.old.entered self.old }
+    {
+        if let Some(element) = self.entered {
+            self.entered = None;
+            self.begin_holder(element);
+        }
     }
 
     /// The primitive ends that has begun.

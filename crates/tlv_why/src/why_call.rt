@@ -1,11 +1,11 @@
 //! Writes why octets do not parse, in sentences.
-ghost use Rattle.std.specs.Prelude.{◌≡◌, ◌≤◌, length};
-ghost use Rattle.tlv_head.specs.InputLimit.{input_limit};
+ghost use Rattle.std.specs.Prelude.{◌≡◌};
 ghost use Rattle.tlv_io.specs.Out.{Puts, Sends};
-ghost use Rattle.tlv_why.specs.Why.{WritesWhy, code_lines, no_parse_line, no_parse_line_of, fault_lines, front_lines};
+ghost use Rattle.tlv_why.specs.Why.{code_lines, no_parse_line, no_parse_line_of, fault_lines, front_lines};
 ghost use Rattle.tlv_why.specs.Why.{is_mostly_whole, later_lines, parses_line, reason_lines, reason_lines_in};
-ghost use Rattle.tlv_why.specs.Why.{says_rest};
+ghost use Rattle.tlv_why.specs.Why.{reasons_of, says_rest, why_lines};
 
+use crate::Facts;
 use crate::cut::put_cut_lines;
 use crate::empty::put_empty_lines;
 use crate::ends::{put_bad_end_lines, put_missing_end_lines, put_stray_lines};
@@ -13,49 +13,74 @@ use crate::header_faults::{put_deep_lines, put_header_fault_lines, put_past_line
 use crate::holders::innermost_holder;
 use crate::leftovers::{is_followed_by_filler, put_following_lines, put_left_over_lines};
 use crate::part::{Part, put_parts};
-use crate::{Facts, facts_of};
 use tlv_head::{Fault, FaultCode};
 use tlv_io::{Drain, Out, WriteFault};
-use tlv_open::ending_of;
-use tlv_walk::Ending;
 
-/// Writes whether the octets parse, of which no string is read as encodings, and if not, why: the fault, the headers
-/// that may be at fault, how many octets are missing or left over, and what to try. With `padding`, octets `00` are
-/// allowed at the top. All is printable ASCII, in lines that end with a line feed.
-///
-/// Returns whether they parse.
+/// Writes all lines about octets of which this is said ([`facts_of`](crate::facts_of)): that they parse, or why they do
+/// not: the fault, the headers that may be at fault, how many octets are missing or left over, and what to try. All is
+/// printable ASCII, in lines that end with a line feed.
 ///
 /// # Errors
 ///
 /// `WriteFault` if a write failed. What was written is then a prefix of the lines.
-pub fn write_why<D: Drain>(octets: &[u8], padding: bool, drain: &mut D) -> Result<bool, WriteFault>
-    requires { length octets.now ≤ input_limit }
-    ensures { WritesWhy padding octets.now (D.state drain.old) (D.state drain.new) result }
-{
-    match ending_of(octets, padding) {
-        Ending::Done => {
-            write_parses_line(octets.len() as u64, drain)?;
-            Ok(true)
-        }
-        Ending::Fault(fault) => {
-            let facts = facts_of(octets, padding);
-            write_fault_lines(fault, octets, &facts, drain)?;
-            Ok(false)
-        }
-    }
-}
-
-/// Writes that so many octets parse.
 #[tactic(auto, using(tlv_io::proofs::Sends::sends))]
-fn write_parses_line<D: Drain>(size: u64, drain: &mut D) -> Result<(), WriteFault>
-    ensures { Sends (D.state drain.old) (D.state drain.new) (parses_line size) result }
+pub fn write_why<D: Drain>(octets: &[u8], facts: &Facts, drain: &mut D) -> Result<(), WriteFault>
+    ensures { Sends (D.state drain.old) (D.state drain.new) (why_lines octets.now facts.now) result }
 {
     let mut out = Out::new(drain);
-    put_parses_line(size, &mut out)?;
+    put_why_lines(octets, facts, &mut out)?;
     out.flush()?;
     Ok(())
 }
 
+/// Writes the same without the first line: nothing if the octets parse.
+///
+/// # Errors
+///
+/// `WriteFault` if a write failed. What was written is then a prefix of the lines.
+#[tactic(auto, using(tlv_io::proofs::Sends::sends))]
+pub fn write_reasons<D: Drain>(
+    octets: &[u8],
+    facts: &Facts,
+    drain: &mut D,
+) -> Result<(), WriteFault>
+    ensures { Sends (D.state drain.old) (D.state drain.new) (reasons_of octets.now facts.now) result }
+{
+    let mut out = Out::new(drain);
+    put_reasons(octets, facts, &mut out)?;
+    out.flush()?;
+    Ok(())
+}
+
+#[tactic(auto, unfolding(crate::specs::Why::why_by))]
+fn put_why_lines<D: Drain>(
+    octets: &[u8],
+    facts: &Facts,
+    out: &mut Out<'_, D>,
+) -> Result<(), WriteFault>
+    ensures { Puts D.state out.old out.new (why_lines octets.now facts.now) result }
+{
+    match facts.fault {
+        None => put_parses_line(octets.len() as u64, out),
+        Some(fault) => put_fault_lines(fault, octets, facts, out),
+    }
+}
+
+#[tactic(auto, unfolding(crate::specs::Why::reasons_by))]
+fn put_reasons<D: Drain>(
+    octets: &[u8],
+    facts: &Facts,
+    out: &mut Out<'_, D>,
+) -> Result<(), WriteFault>
+    ensures { Puts D.state out.old out.new (reasons_of octets.now facts.now) result }
+{
+    match facts.fault {
+        None => Ok(()),
+        Some(fault) => put_later_lines(fault, octets, facts, out),
+    }
+}
+
+/// Puts that so many octets parse.
 #[tactic(auto, unfolding(crate::specs::Why::parses_line))]
 fn put_parses_line<D: Drain>(size: u64, out: &mut Out<'_, D>) -> Result<(), WriteFault>
     ensures { Puts D.state out.old out.new (parses_line size) result }
@@ -71,22 +96,7 @@ fn put_parses_line<D: Drain>(size: u64, out: &mut Out<'_, D>) -> Result<(), Writ
     )
 }
 
-/// Writes why octets do not parse.
-#[tactic(auto, using(tlv_io::proofs::Sends::sends))]
-fn write_fault_lines<D: Drain>(
-    fault: Fault,
-    octets: &[u8],
-    facts: &Facts,
-    drain: &mut D,
-) -> Result<(), WriteFault>
-    ensures { Sends (D.state drain.old) (D.state drain.new) (fault_lines fault octets.now facts.now) result }
-{
-    let mut out = Out::new(drain);
-    put_fault_lines(fault, octets, facts, &mut out)?;
-    out.flush()?;
-    Ok(())
-}
-
+/// Puts why octets do not parse.
 #[tactic(auto, using(tlv_io::proofs::Puts::puts), unfolding(crate::specs::Why::fault_lines))]
 fn put_fault_lines<D: Drain>(
     fault: Fault,
@@ -249,7 +259,7 @@ fn put_code_lines<D: Drain>(
         }
         FaultCode::TooDeep => put_deep_lines(facts.next, out),
         FaultCode::Overrun => put_past_lines(octets, offset, facts, out),
-        // Where no string is read as encodings there is no such fault.
+        // The first line says all: the string holds no encodings.
         FaultCode::BadInside => Ok(()),
     }
 }

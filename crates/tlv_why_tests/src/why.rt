@@ -1,8 +1,8 @@
 //! Why octets do not parse.
 use crate::expect::expect_of;
-use tlv_head::{Class, Size};
-use tlv_walk::{MemDrain, WriteFault};
-use tlv_why::{Element, Unfinished, facts_of, laws, write_why};
+use tlv_head::{Class, Fault, FaultCode, Size};
+use tlv_walk::{Framing, Inside, MemDrain, WriteFault};
+use tlv_why::{Element, Unfinished, facts_of, laws, write_reasons, write_why};
 
 /// Octets, whether they parse, and what is written of them.
 type Row<'a> = (&'a [u8], bool, &'a [u8]);
@@ -43,12 +43,9 @@ fn reasons_are_written(rt: HostRuntime) {
         let (octets, parses, text) = *row;
         let mut room = [0; 1024];
         let mut drain = MemDrain::new(&mut room, 7);
-        expect_of(
-            &rt,
-            octets,
-            write_why(octets, false, &mut drain),
-            Ok(parses),
-        );
+        let facts = facts_of(octets, &Framing::plain());
+        expect_of(&rt, octets, facts.fault.is_none(), parses);
+        expect_of(&rt, octets, write_why(octets, &facts, &mut drain), Ok(()));
         expect_of(&rt, octets, drain.written(), text);
     }
 }
@@ -57,10 +54,11 @@ fn reasons_are_written(rt: HostRuntime) {
 fn a_failed_write_is_returned(rt: HostRuntime) {
     let mut room = [0; 5];
     let mut drain = MemDrain::new(&mut room, 7);
+    let facts = facts_of(b"\x05\x00", &Framing::plain());
     expect_of(
         &rt,
         "5 octets",
-        write_why(b"\x05\x00", false, &mut drain),
+        write_why(b"\x05\x00", &facts, &mut drain),
         Err(WriteFault),
     );
     expect_of(&rt, "5 octets", drain.written(), b"It pa");
@@ -82,7 +80,7 @@ fn element(offset: u64, number: u64, size: u64) -> Element {
 #[test]
 fn facts_are_those_of_the_reading(rt: HostRuntime) {
     let octets = b"\x05\x00\x30\x06\x02\x01\x07\x04\x05\xaa";
-    let facts = facts_of(octets, false);
+    let facts = facts_of(octets, &Framing::plain());
     expect_of(
         &rt,
         "holders",
@@ -95,6 +93,69 @@ fn facts_are_those_of_the_reading(rt: HostRuntime) {
     expect_of(&rt, "next", facts.next, 7);
     expect_of(&rt, "unfinished", facts.unfinished, Unfinished::Header);
     expect_of(&rt, "there", facts.there, Some(element(7, 4, 5)));
+}
+
+/// The SEQUENCE in the OCTET STRING at 2 says three octets in place of two.
+const BROKEN_STRING: &[u8] = b"\x30\x06\x04\x04\x30\x03\x05\x00";
+
+static BROKEN_STRING_TEXT: &[u8] = b"\
+    The octet at offset 5 completes the header of the SEQUENCE at offset 4. The header at offset 4, 30 03, says that \
+    its contents are 3 octets.\n\
+    It would end at offset 9, but the OCTET STRING at offset 2 ends at offset 8. Missing there: 1 octet. The header \
+    at offset 2, 04 04, says that its contents are 4 octets.\n\
+    One of the two lengths is wrong, or octets between them are missing or were put in.\n\
+    Try: fetch the input anew, in binary; or go on at the next record, with tail -c +M FILE, where M is its offset \
+    and 1.\n";
+
+#[test]
+fn a_named_string_is_read(rt: HostRuntime) {
+    let Some(inside) = Inside::new(&[2]) else {
+        panic!(rt; "the offset may be named");
+    };
+    let framing = Framing {
+        inside,
+        padding: false,
+    };
+    let facts = facts_of(BROKEN_STRING, &framing);
+    expect_of(
+        &rt,
+        "holders",
+        facts.holders.as_slice(),
+        &[element(0, 16, 6), element(2, 4, 4)],
+    );
+    expect_of(
+        &rt,
+        "fault",
+        facts.fault,
+        Some(Fault {
+            code: FaultCode::Overrun,
+            offset: 5,
+        }),
+    );
+    let mut room = [0; 1024];
+    let mut drain = MemDrain::new(&mut room, 7);
+    expect_of(
+        &rt,
+        "reasons",
+        write_reasons(BROKEN_STRING, &facts, &mut drain),
+        Ok(()),
+    );
+    expect_of(&rt, "reasons", drain.written(), BROKEN_STRING_TEXT);
+}
+
+/// As long as no string is named, these octets parse.
+#[test]
+fn octets_that_parse_have_no_reasons(rt: HostRuntime) {
+    let facts = facts_of(BROKEN_STRING, &Framing::plain());
+    let mut room = [0; 8];
+    let mut drain = MemDrain::new(&mut room, 7);
+    expect_of(
+        &rt,
+        "nothing",
+        write_reasons(BROKEN_STRING, &facts, &mut drain),
+        Ok(()),
+    );
+    expect_of(&rt, "nothing", drain.written(), b"");
 }
 
 #[test]

@@ -1,5 +1,6 @@
 -- What is said of octets is printable ASCII.
 use Rattle.std.proofs.Common.{inl, inr, ℕ, ◌-◌, Bool, ◌&&◌, eqb, not, List, drop, length, refl}
+use Rattle.std.specs.Prelude.{None, Option, Some}
 use Rattle.std.proofs.lemmas.Bool.{cases_Bool}
 use Rattle.std.proofs.lemmas.List.Folds.{list_all-append}
 use Rattle.tlv_walk.specs.Reading.{AreOctets}
@@ -18,7 +19,7 @@ use Rattle.tlv_why.specs.Leftovers.{following_lines, is_followed_by_filler, left
 use Rattle.tlv_why.specs.Leftovers.{whole_try_line}
 use Rattle.tlv_why.specs.OpenHolders.{innermost_holder}
 use Rattle.tlv_why.specs.Why.{code_lines, no_parse_line_of, fault_lines, front_lines, is_mostly_whole}
-use Rattle.tlv_why.specs.Why.{later_lines, parses, parses_line, reason_lines, reason_lines_in, refused, says_rest}
+use Rattle.tlv_why.specs.Why.{later_lines, parses_line, reason_lines, reason_lines_in, reasons_by, says_rest, why_by}
 use Rattle.tlv_why.proofs.ShownLemmas.ShownCuts.{cut_lines-shown, empty_lines-shown}
 use Rattle.tlv_why.proofs.ShownLemmas.ShownEnds.{bad_end_lines-shown, missing_end_lines-shown, stray_lines-shown}
 use Rattle.tlv_why.proofs.ShownLemmas.ShownHeaders.{deep_lines-shown, header_fault_lines-shown, past_lines-shown}
@@ -183,6 +184,18 @@ fault_lines-shown f octets facts o =
       later_lines-shown f octets facts o,
     )
 
+why_by-shown : (found : Option Fault) (octets : List ℕ) (facts : Facts) → AreOctets octets
+    → AreShown (why_by found octets facts)
+unfolding why_by
+why_by-shown None octets facts o = parses_line-shown (length octets)
+why_by-shown (Some f) octets facts o = fault_lines-shown f octets facts o
+
+reasons_by-shown : (found : Option Fault) (octets : List ℕ) (facts : Facts) → AreOctets octets
+    → AreShown (reasons_by found octets facts)
+unfolding reasons_by
+reasons_by-shown None octets facts o = refl
+reasons_by-shown (Some f) octets facts o = later_lines-shown f octets facts o
+
 pub lines_shown : LinesAreShown
-lines_shown padding octets _ _ o (parses done) = parses_line-shown (length octets)
-lines_shown padding octets _ _ o (refused f facts ends are) = fault_lines-shown f octets facts o
+lines_shown framing octets facts o are =
+    (why_by-shown facts.fault octets facts o, reasons_by-shown facts.fault octets facts o)

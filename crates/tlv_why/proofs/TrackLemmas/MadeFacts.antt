@@ -1,13 +1,14 @@
 -- What is said of octets, by what is kept of the events of a walk over them.
-use Rattle.std.proofs.Common.{◌≡◌, ◌≢◌, ℕ, ◌+◌, Bool, true, List, [], ◌∷◌, ◌++◌, length, refl, sym, ap, ◌∙◌}
+use Rattle.std.proofs.Common.{◌≡◌, ◌≢◌, ℕ, ◌+◌, true, List, [], ◌∷◌, ◌++◌, length, refl, sym, ap, ◌∙◌}
 use Rattle.std.proofs.Common.{subst, arith, append-nil, append_assoc, eq-eqb, ne_eqb, length-append}
-use Rattle.std.specs.Prelude.{None, slice_index}
+use Rattle.std.specs.Prelude.{None, Option, Some, slice_index}
 use Rattle.std.proofs.lemmas.Bool.{true≢false}
 use Rattle.std.proofs.lemmas.List.{get_or_at}
+use Rattle.tlv_head.specs.declared.fault.Fault.{Fault}
 use Rattle.tlv_walk.specs.declared.ending.Ending.{Ending}
 use Rattle.tlv_walk.specs.declared.ending.Ending.TheVariants as ending
 use Rattle.tlv_walk.specs.declared.framing.Framing.{Framing}
-use Rattle.tlv_walk.specs.Ending.{IsEnding, open_end}
+use Rattle.tlv_walk.specs.Ending.{IsEnding, done, empty, open_end, refused, short}
 use Rattle.tlv_walk.specs.Events.{AreEqualJoined, EventValue, events}
 use Rattle.tlv_walk.specs.Forest.{Forest, Holder, NoMore, OpenBitString, OpenEndOctets, OpenHeader, OpenHolder}
 use Rattle.tlv_walk.specs.Forest.{OpenPrimitive, PaddingOctet, Primitive, spelling}
@@ -15,17 +16,15 @@ use Rattle.tlv_walk.specs.HasRead.{StandsAtEnd, refused_one, took_all}
 use Rattle.tlv_walk.specs.Place.{ObeysGrammar, Place, top_place}
 use Rattle.tlv_walk.specs.Reading.{IsReading}
 use Rattle.tlv_walk.specs.WalkerState.{WalkerState}
-use Rattle.tlv_open.specs.Opens.{closed_framing}
-use Rattle.tlv_open.proofs.FinderLemmas.Walks.{count_of, ending-count}
+use Rattle.tlv_walk.proofs.GrammarLemmas.Readings.{reading-unique}
 use Rattle.tlv_why.specs.declared.facts.Facts.{Facts}
 use Rattle.tlv_why.specs.declared.tracker.Tracker.{Tracker}
-use Rattle.tlv_why.specs.Facts.{AreFacts, unfinished_in}
+use Rattle.tlv_why.specs.Facts.{AreFacts, ending_by, unfinished_in}
 use Rattle.tlv_why.specs.Private.Tracking.{HasTracked, MakesFacts, count_read, new_tracker, open_end_offset, track_all}
 use Rattle.tlv_why.specs.Private.Tracking.{unfinished_at, unfinished_octet}
 use Rattle.tlv_why.proofs.TrackLemmas.OpenPlace.{HasOpenEnd, has_open_end, header_prefix-first, is_end}
-use Rattle.tlv_why.proofs.TrackLemmas.TrackSteps.{constructed-lead, holder-constructed}
 use Rattle.tlv_why.proofs.TrackLemmas.TrackedEvents.{tracked-joined}
-use Rattle.tlv_why.proofs.TrackLemmas.TrackedForests.{IsTracked, begun_primitive, forest-tracked}
+use Rattle.tlv_why.proofs.TrackLemmas.TrackedForests.{IsTracked, begun_primitive, entered_bit_string, forest-tracked}
 
 -- ---- the reading of the octets that a walk is over
 
@@ -79,85 +78,105 @@ record EndSaid (q : Place) (g : Forest) (octets : List ℕ) (count : ℕ) (t : T
   next : open_end_offset t ≡ q.offset
   unfinished : unfinished_at t octets count ≡ unfinished_in g
 
--- where no primitive has begun
+-- where no element has begun
 said-between : (q : Place) (g : Forest) (octets : List ℕ) (count : ℕ) (t : Tracker) → t.current ≡ None
-    → t.offset ≡ q.offset → unfinished_octet octets t.offset count ≡ unfinished_in g → EndSaid q g octets count t
-said-between q g octets count t none there u = record {
-  next = rw none there;
-  unfinished = rw none u;
+    → t.entered ≡ None → t.offset ≡ q.offset → unfinished_octet octets t.offset count ≡ unfinished_in g
+    → EndSaid q g octets count t
+said-between q g octets count t none out there u = record {
+  next = rw (none, out) there;
+  unfinished = rw (none, out) u;
 }
 
 end-said : (q : Place) (g : Forest) (octets before rest : List ℕ) (count : ℕ) (t : Tracker)
-    → ObeysGrammar q g → q.inside ≡ [] → is_end g ≡ true → t.current ≡ begun_primitive g
-    → (t.current ≡ None → t.offset ≡ q.offset) → octets ≡ before ++ (spelling g ++ rest)
+    → ObeysGrammar q g → is_end g ≡ true → t.current ≡ begun_primitive g → t.entered ≡ entered_bit_string g
+    → (t.current ≡ None → t.entered ≡ None → t.offset ≡ q.offset) → octets ≡ before ++ (spelling g ++ rest)
     → q.offset ≡ length before → count ≡ length before + length (spelling g) → EndSaid q g octets count t
-end-said q NoMore octets before rest count t o inside end current offset spelled there all =
-    said-between q NoMore octets count t current (offset current)
-    (unfinished-nothing octets t.offset count (omega (arith, offset current, there, all)))
-end-said q (OpenPrimitive h c) octets before rest count t o inside end current offset spelled there all = record {
+end-said q NoMore octets before rest count t o end current entered offset spelled there all =
+    said-between q NoMore octets count t current entered (offset current entered)
+    (unfinished-nothing octets t.offset count (omega (arith, offset current entered, there, all)))
+end-said q (OpenPrimitive h c) octets before rest count t o end current entered offset spelled there all = record {
   next = rw current o.0.header.offset;
   unfinished = rw current refl;
 }
-end-said q (OpenBitString h) octets before rest count t o inside end current offset spelled there all =
-    let none : [] ≡ 0 ∷ [] = sym (constructed-lead h (holder-constructed q h inside o.0.header)) ∙ o.1 in
-    absurd (cc (none))
-end-said q (OpenHeader []) octets before rest count t o inside end current offset spelled there all =
+end-said q (OpenBitString h) octets before rest count t o end current entered offset spelled there all = record {
+  next = rw (current, entered) o.0.header.offset;
+  unfinished = rw (current, entered) refl;
+}
+end-said q (OpenHeader []) octets before rest count t o end current entered offset spelled there all =
     absurd (o.0 refl)
-end-said q (OpenHeader (x ∷ xs)) octets before rest count t o inside end current offset spelled there all =
-    let here : t.offset ≡ length before = offset current ∙ there in
+end-said q (OpenHeader (x ∷ xs)) octets before rest count t o end current entered offset spelled there all =
+    let here : t.offset ≡ length before = offset current entered ∙ there in
     let first : slice_index octets t.offset ≡ x =
     octet-there octets before (xs ++ rest) x t.offset spelled here in
-    said-between q (OpenHeader (x ∷ xs)) octets count t current (offset current)
+    said-between q (OpenHeader (x ∷ xs)) octets count t current entered (offset current entered)
     (unfinished-header octets (x ∷ xs) t.offset count (λ e. omega (arith, e, here, all))
     (λ e. header_prefix-first x xs o.1 (sym first ∙ e)))
-end-said q OpenEndOctets octets before rest count t o inside end current offset spelled there all =
-    let here : t.offset ≡ length before = offset current ∙ there in
-    said-between q OpenEndOctets octets count t current (offset current)
+end-said q OpenEndOctets octets before rest count t o end current entered offset spelled there all =
+    let here : t.offset ≡ length before = offset current entered ∙ there in
+    said-between q OpenEndOctets octets count t current entered (offset current entered)
     (unfinished-zero octets t.offset count (λ e. omega (arith, e, here, all))
     (octet-there octets before rest 0 t.offset spelled here))
-end-said q (PaddingOctet f) octets before rest count t o inside end current offset spelled there all =
+end-said q (PaddingOctet f) octets before rest count t o end current entered offset spelled there all =
     absurd (true≢false (sym end))
-end-said q (Primitive h c f) octets before rest count t o inside end current offset spelled there all =
+end-said q (Primitive h c f) octets before rest count t o end current entered offset spelled there all =
     absurd (true≢false (sym end))
-end-said q (Holder h children f) octets before rest count t o inside end current offset spelled there all =
+end-said q (Holder h children f) octets before rest count t o end current entered offset spelled there all =
     absurd (true≢false (sym end))
-end-said q (OpenHolder h children) octets before rest count t o inside end current offset spelled there all =
+end-said q (OpenHolder h children) octets before rest count t o end current entered offset spelled there all =
     absurd (true≢false (sym end))
 
 -- ---- all of it
 
-count_read-same : (e : Ending) (octets : List ℕ) → count_read e (length octets) ≡ count_of octets e
-count_read-same ending.Done octets = refl
-count_read-same (ending.Fault f) octets = refl
+-- how many octets are read of octets that have this ending
+abbrev count_of : List ℕ → Ending → ℕ
+count_of octets ending.Done = length octets
+count_of octets (ending.Fault f) = f.offset
 
-pub facts-made : (padding : Bool) (framing : Framing) (octets : List ℕ) (w : WalkerState) (t : Tracker) (e : Ending)
-    (facts : Facts) → framing ≡ closed_framing padding → HasTracked framing octets w t → IsEnding framing octets e
-    → MakesFacts t octets (count_read e (length octets)) facts → AreFacts padding octets facts
-facts-made padding framing octets w t e facts closed k ends m =
+count_read-same : (found : Option Fault) (octets : List ℕ)
+    → count_read found (length octets) ≡ count_of octets (ending_by found)
+count_read-same None octets = refl
+count_read-same (Some f) octets = refl
+
+ending-count : (framing : Framing) (octets : List ℕ) (e : Ending) (f : Forest) → IsEnding framing octets e
+    → IsReading framing octets f → count_of octets e ≡ length (spelling f)
+ending-count framing octets _ f (empty g reads none) r =
+    sym (ap length (ap spelling (reading-unique framing octets f g r reads.0) ∙ reads.1))
+ending-count framing octets _ f (short g reads open_) r =
+    sym (ap length (ap spelling (reading-unique framing octets f g r reads.0) ∙ reads.1))
+ending-count framing octets _ f (done g reads some whole) r =
+    sym (ap length (ap spelling (reading-unique framing octets f g r reads.0) ∙ reads.1))
+ending-count framing octets _ f (refused g x rest code reading spelled why) r =
+    sym (ap length (ap spelling (reading-unique framing octets f g r reading)))
+
+pub facts-made : (framing : Framing) (octets : List ℕ) (w : WalkerState) (t : Tracker) (e : Ending) (facts : Facts)
+    → HasTracked framing octets w t → IsEnding framing octets e → MakesFacts t octets e facts
+    → AreFacts framing octets facts
+facts-made framing octets w t e facts k ends m =
     let walked : HasReading w.framing octets k.yielded = reading-at_end w octets k.yielded k.at_end in
     let f : Forest = walked.reading in
-    let framed : IsReading framing octets f =
+    let r : IsReading framing octets f =
     subst (λ (g : Framing). IsReading g octets f) k.framing_is walked.is_reading in
-    let r : IsReading (closed_framing padding) octets f =
-    subst (λ (g : Framing). IsReading g octets f) closed framed in
-    let p : Place = top_place (closed_framing padding) in
+    let ending : IsEnding framing octets (ending_by facts.fault) = subst (IsEnding framing octets) (sym m.fault) ends in
+    let p : Place = top_place framing in
     let same : t ≡ track_all new_tracker (events f) =
     k.tracked ∙ tracked-joined new_tracker k.yielded (events f) walked.all_events in
     let i : IsTracked p f [] None 0 [] t =
     subst (λ (u : Tracker). IsTracked p f [] None 0 [] u) (sym same)
-    (forest-tracked p f [] None 0 [] r.obeys_grammar refl refl) in
+    (forest-tracked p f [] None 0 [] r.obeys_grammar refl) in
     let q : HasOpenEnd p f = has_open_end p f r.obeys_grammar in
     let g : Forest = (open_end p f).forest in
     let rest : List ℕ = r.is_prefix.0 in
     let spelled : octets ≡ q.octets ++ (spelling g ++ rest) =
     sym r.is_prefix.1 ∙ ap (λ (o : List ℕ). o ++ rest) q.spelled ∙ append_assoc q.octets (spelling g) rest in
-    let count : count_read e (length octets) ≡ length q.octets + length (spelling g) =
-    count_read-same e octets ∙ ending-count framing octets e f ends framed ∙ ap length q.spelled
-    ∙ length-append q.octets (spelling g) in
-    let said : EndSaid (open_end p f).place g octets (count_read e (length octets)) t =
-    end-said (open_end p f).place g octets q.octets rest (count_read e (length octets)) t q.grammar q.inside q.end
-    i.current i.offset spelled (omega (arith, q.offset)) count in
+    let read : ℕ = count_read facts.fault (length octets) in
+    let count : read ≡ length q.octets + length (spelling g) =
+    count_read-same facts.fault octets ∙ ending-count framing octets (ending_by facts.fault) f ending r
+    ∙ ap length q.spelled ∙ length-append q.octets (spelling g) in
+    let said : EndSaid (open_end p f).place g octets read t =
+    end-said (open_end p f).place g octets q.octets rest read t q.grammar q.end i.current i.entered i.offset spelled
+    (omega (arith, q.offset)) count in
     record {
+      ending = ending;
       reading = f;
       is_reading = r;
       are_facts = record {

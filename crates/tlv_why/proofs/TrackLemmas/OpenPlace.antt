@@ -27,7 +27,6 @@ pub record HasOpenEnd (p : Place) (f : Forest) : Type 0 where
   pub spelled : spelling f ≡ octets ++ spelling (open_end p f).forest
   pub offset : (open_end p f).place.offset ≡ p.offset + length octets
   pub grammar : ObeysGrammar (open_end p f).place (open_end p f).forest
-  pub inside : (open_end p f).place.inside ≡ p.inside
   pub end : is_end (open_end p f).forest ≡ true
 
 pub has_open_end : (p : Place) (f : Forest) → ObeysGrammar p f → HasOpenEnd p f
@@ -36,7 +35,6 @@ has_open_end p NoMore o = record {
   spelled = refl;
   offset = omega arith;
   grammar = o;
-  inside = refl;
   end = refl;
 }
 has_open_end p (PaddingOctet rest) o =
@@ -46,7 +44,6 @@ has_open_end p (PaddingOctet rest) o =
       spelled = ap (λ (l : List ℕ). 0 ∷ l) q.spelled;
       offset = omega (arith, q.offset);
       grammar = q.grammar;
-      inside = q.inside;
       end = q.end;
     }
 has_open_end p (Primitive h c rest) o =
@@ -66,7 +63,6 @@ has_open_end p (Primitive h c rest) o =
             length-append c q.octets,
           );
       grammar = q.grammar;
-      inside = q.inside;
       end = q.end;
     }
 has_open_end p (Holder h children rest) o =
@@ -87,7 +83,6 @@ has_open_end p (Holder h children rest) o =
             length-append (end_octets h.size) q.octets,
           );
       grammar = q.grammar;
-      inside = q.inside;
       end = q.end;
     }
 has_open_end p (OpenPrimitive h c) o = record {
@@ -95,7 +90,6 @@ has_open_end p (OpenPrimitive h c) o = record {
   spelled = refl;
   offset = omega arith;
   grammar = o;
-  inside = refl;
   end = refl;
 }
 has_open_end p (OpenHolder h children) o =
@@ -107,7 +101,6 @@ has_open_end p (OpenHolder h children) o =
           ∙ sym (append_assoc (opening h) q.octets (spelling (open_end (place_of_children p h) children).forest));
       offset = omega (arith, q.offset, length-append (opening h) q.octets);
       grammar = q.grammar;
-      inside = q.inside;
       end = q.end;
     }
 has_open_end p (OpenBitString h) o = record {
@@ -115,7 +108,6 @@ has_open_end p (OpenBitString h) o = record {
   spelled = refl;
   offset = omega arith;
   grammar = o;
-  inside = refl;
   end = refl;
 }
 has_open_end p (OpenHeader octets) o = record {
@@ -123,7 +115,6 @@ has_open_end p (OpenHeader octets) o = record {
   spelled = refl;
   offset = omega arith;
   grammar = o;
-  inside = refl;
   end = refl;
 }
 has_open_end p OpenEndOctets o = record {
@@ -131,7 +122,6 @@ has_open_end p OpenEndOctets o = record {
   spelled = refl;
   offset = omega arith;
   grammar = o;
-  inside = refl;
   end = refl;
 }
 

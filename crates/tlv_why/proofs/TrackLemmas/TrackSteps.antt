@@ -1,28 +1,26 @@
 -- What is kept after the events of one element more.
-use Rattle.std.proofs.Common.{◌≡◌, ℕ, zero, suc, ◌+◌, ◌-◌, ◌<◌, ◌≤◌, Bool, true, false, ◌||◌, eqb, if◌then◌else◌, List}
-use Rattle.std.proofs.Common.{[]}
-use Rattle.std.proofs.Common.{◌∷◌, ◌++◌, length, map, take, refl, ap, ap₂, ◌∙◌, arith, length-append}
+use Rattle.std.proofs.Common.{◌≡◌, ℕ, zero, suc, ◌+◌, ◌-◌, ◌<◌, ◌≤◌, Bool, true, false, eqb, if◌then◌else◌, List}
+use Rattle.std.proofs.Common.{[], ◌∷◌, ◌++◌, length, map, take, refl, sym, ap, ap₂, ◌∙◌, arith, length-append}
 use Rattle.std.specs.Prelude.{Option, Some, None, nat_lt, slice_get}
 use Rattle.tlv_head.specs.declared.header.Size.{Size}
 use Rattle.tlv_head.specs.declared.header.Size.TheVariants.{Definite, Indefinite}
-use Rattle.tlv_head.specs.Header.{HeaderValue, is_wrapper, octets_of}
+use Rattle.tlv_head.specs.Header.{AllowsSize, HeaderValue, IsHeader, octets_of}
 use Rattle.tlv_head.specs.UniversalTypes as universal
 use Rattle.tlv_walk.specs.Events.{Begin, Bytes, Close, End, Enter, EventValue, Leave, Open, Pad, Unused, closing_event}
 use Rattle.tlv_walk.specs.Events.{end_octets_offset, end_offset, event_octets, opening_events}
 use Rattle.tlv_walk.specs.Forest.{Forest, end_octets, lead, lead_by, opening, primitive_extent, spelling}
-use Rattle.tlv_walk.specs.Inside.{is_among}
-use Rattle.tlv_walk.specs.Place.{IsHeaderAt, Place}
-use Rattle.tlv_walk.proofs.GrammarLemmas.Spellings.{length-opening}
 use Rattle.tlv_why.specs.declared.element.Element.{Element}
 use Rattle.tlv_why.specs.declared.tracker.Tracker.{Tracker}
 use Rattle.tlv_why.specs.Elements.{element_of}
-use Rattle.tlv_why.specs.Private.Tracking.{element_ended, holder_ended, track_all, with_nearest}
+use Rattle.tlv_why.specs.Private.Tracking.{element_ended, holder_ended, holder_noted, innermost, track, track_all}
+use Rattle.tlv_why.specs.Private.Tracking.{with_nearest}
 
--- what is kept between elements: no primitive has begun
+-- what is kept between elements: none has begun
 abbrev pub tracker_with : List Element → Option Element → ℕ → List ℕ → ℕ → Tracker
 tracker_with holders before top nearest offset = record {
   holders = record { items = holders };
   current = None;
+  entered = None;
   before = before;
   top = top;
   nearest = record { items = take 25 nearest };
@@ -84,6 +82,7 @@ primitive-step holders before top nearest offset h c es =
     (record {
       holders = record { items = holders };
       current = None;
+      entered = None;
       before = Some (element_of h);
       top = top_with holders top n;
       nearest = record { items = near };
@@ -94,45 +93,13 @@ primitive-step holders before top nearest offset h c es =
 
 -- ---- an element that holds others
 
--- where no offset is named, it is constructed
-pub holder-constructed : (p : Place) (h : HeaderValue) → p.inside ≡ [] → IsHeaderAt p true h → h.constructed ≡ true
-holder-constructed p h none i = by h.constructed h.named i.form (i.named ∙ ap (is_among p.offset) none)
-  where
-    by : (c n : Bool) → (c || is_wrapper n h.class c h.number h.size) ≡ true → n ≡ false → c ≡ true
-    by true n f e = refl
-    by false false f e = f
-    by false true f e = absurd (cc (e))
-
-pub constructed-opens : (h : HeaderValue) → h.constructed ≡ true → opening_events h ≡ Open h ∷ []
-constructed-opens h c =
-    ap
-    (λ (k : Bool). (if k then Open h else Enter h) ∷ map (λ z. Unused) (lead_by k (eqb h.number universal.bit_string)))
-    c
-
-pub constructed-lead : (h : HeaderValue) → h.constructed ≡ true → lead h ≡ []
-constructed-lead h c = ap (λ (k : Bool). lead_by k (eqb h.number universal.bit_string)) c
-
-pub constructed-opening : (h : HeaderValue) → h.constructed ≡ true → length (opening h) ≡ length (octets_of h)
-constructed-opening h c =
-    omega (arith, length-opening h, ap length (constructed-lead h c))
-
-pub constructed-closes : (h : HeaderValue) (children : Forest) → h.constructed ≡ true
-    → closing_event h children ≡ Close (end_octets_offset h children)
-constructed-closes h children c = ap (λ (k : Bool). if k then Close (end_octets_offset h children) else Leave) c
-
-close-octets : (size : Size) (offset : ℕ) → event_octets (Close (end_offset size offset)) ≡ end_octets size
-close-octets (Definite n) offset = refl
-close-octets Indefinite offset = refl
-
-pub holder-opens : (holders : List Element) (before : Option Element) (top : ℕ) (nearest : List ℕ) (offset : ℕ)
-    (h : HeaderValue) (es : List EventValue) → length holders < 128
-    → track_all (tracker_with holders before top nearest offset) (Open h ∷ es)
-    ≡ track_all
-    (tracker_with (holders ++ element_of h ∷ []) None top (h.offset ∷ nearest) (offset + length (octets_of h))) es
-holder-opens holders before top nearest offset h es room =
-    let here : Tracker = record (tracker_with holders before top nearest offset) {
-      offset = offset + length (octets_of h);
-    } in
+-- it is noted
+noted : (holders : List Element) (before : Option Element) (top : ℕ) (nearest : List ℕ) (m n : ℕ) (h : HeaderValue)
+    (es : List EventValue) → length holders < 128 → m ≡ n
+    → track_all (holder_noted (element_of h) (tracker_with holders before top nearest m)) es
+    ≡ track_all (tracker_with (holders ++ element_of h ∷ []) None top (h.offset ∷ nearest) n) es
+noted holders before top nearest m n h es room same =
+    let here : Tracker = tracker_with holders before top nearest m in
     ap
     (λ (b : Bool).
     track_all
@@ -144,37 +111,134 @@ holder-opens holders before top nearest offset h es room =
     else here)
     es)
     (is-room (length holders) room)
-    ∙ ap
-    (λ (near : List ℕ).
+    ∙ ap₂
+    (λ (near : List ℕ) (offset : ℕ).
     track_all
     (record {
       holders = record { items = holders ++ element_of h ∷ [] };
       current = None;
+      entered = None;
       before = None;
       top = top;
       nearest = record { items = near };
-      offset = offset + length (octets_of h);
+      offset = offset;
     })
     es)
-    (take-nearest h.offset nearest)
+    (take-nearest h.offset nearest) same
   where
     is-room : (n : ℕ) → n < 128 → nat_lt n 128 ≡ true
     is-room n less = grind arith
 
+-- it begins: it is constructed or not, and a BIT STRING or not
+opens-by : (holders : List Element) (before : Option Element) (top : ℕ) (nearest : List ℕ) (offset : ℕ)
+    (h : HeaderValue) (es : List EventValue) (c k : Bool) → length holders < 128
+    → eqb h.number universal.bit_string ≡ k
+    → track_all (tracker_with holders before top nearest offset)
+    (((if c then Open h else Enter h) ∷ map (λ z. Unused) (lead_by c k)) ++ es)
+    ≡ track_all
+    (tracker_with (holders ++ element_of h ∷ []) None top (h.offset ∷ nearest)
+    (offset + length (octets_of h ++ lead_by c k)))
+    es
+opens-by holders before top nearest offset h es true k room e =
+    noted holders before top nearest (offset + length (octets_of h)) (offset + length (octets_of h ++ [])) h es room
+    (omega (arith, length-append (octets_of h) []))
+opens-by holders before top nearest offset h es false true room e =
+    let here : Tracker = tracker_with holders before top nearest (offset + length (octets_of h)) in
+    ap
+    (λ (b : Bool).
+    track_all
+    (track
+    (if b then record here { entered = Some (element_of h) } else holder_noted (element_of h) here)
+    Unused)
+    es)
+    e
+    ∙ noted holders before top nearest (offset + length (octets_of h) + 1)
+    (offset + length (octets_of h ++ 0 ∷ [])) h es room
+    (omega (arith, length-append (octets_of h) (0 ∷ [])))
+opens-by holders before top nearest offset h es false false room e =
+    let here : Tracker = tracker_with holders before top nearest (offset + length (octets_of h)) in
+    ap
+    (λ (b : Bool).
+    track_all
+    (if b then record here { entered = Some (element_of h) } else holder_noted (element_of h) here)
+    es)
+    e
+    ∙ noted holders before top nearest (offset + length (octets_of h)) (offset + length (octets_of h ++ [])) h es room
+    (omega (arith, length-append (octets_of h) []))
+
+pub holder-opens : (holders : List Element) (before : Option Element) (top : ℕ) (nearest : List ℕ) (offset : ℕ)
+    (h : HeaderValue) (es : List EventValue) → length holders < 128
+    → track_all (tracker_with holders before top nearest offset) (opening_events h ++ es)
+    ≡ track_all
+    (tracker_with (holders ++ element_of h ∷ []) None top (h.offset ∷ nearest) (offset + length (opening h))) es
+holder-opens holders before top nearest offset h es room =
+    opens-by holders before top nearest offset h es h.constructed (eqb h.number universal.bit_string) room refl
+
+-- 8.6.2.2: of a BIT STRING that is named and holds encodings, the header alone is there
+pub bit_string-entered : (holders : List Element) (before : Option Element) (top : ℕ) (nearest : List ℕ) (offset : ℕ)
+    (h : HeaderValue) → lead h ≡ 0 ∷ []
+    → track_all (tracker_with holders before top nearest offset) (Enter h ∷ [])
+    ≡ record (tracker_with holders before top nearest (offset + length (octets_of h))) {
+      entered = Some (element_of h);
+    }
+bit_string-entered holders before top nearest offset h e =
+    let here : Tracker = tracker_with holders before top nearest (offset + length (octets_of h)) in
+    ap
+    (λ (b : Bool). if b then record here { entered = Some (element_of h) } else holder_noted (element_of h) here)
+    (by h.constructed (eqb h.number universal.bit_string) e)
+  where
+    by : (c k : Bool) → lead_by c k ≡ 0 ∷ [] → k ≡ true
+    by true k e = absurd (cc (e))
+    by false true e = refl
+    by false false e = absurd (cc (e))
+
+close-octets : (size : Size) (offset : ℕ) → event_octets (Close (end_offset size offset)) ≡ end_octets size
+close-octets (Definite n) offset = refl
+close-octets Indefinite offset = refl
+
+-- 8.1.3.2 a): the length of a string that holds encodings is definite
+no-end_octets : (size : Size) → AllowsSize false size → end_octets size ≡ []
+no-end_octets (Definite n) a = refl
+no-end_octets Indefinite a = absurd (cc (a))
+
+closing-octets : (h : HeaderValue) (children : Forest) → IsHeader h
+    → event_octets (closing_event h children) ≡ end_octets h.size
+closing-octets h children v = by h.constructed v.allowed
+  where
+    by : (c : Bool) → AllowsSize c h.size
+        → event_octets (if c then Close (end_octets_offset h children) else Leave) ≡ end_octets h.size
+    by true a = close-octets h.size (h.offset + length (opening h) + length (spelling children))
+    by false a = sym (no-end_octets h.size a)
+
+-- it ends
+closes : (t : Tracker) (h : HeaderValue) (children : Forest)
+    → track t (closing_event h children)
+    ≡ holder_ended (innermost t) (record t { offset = t.offset + length (event_octets (closing_event h children)) })
+closes t h children = by h.constructed
+  where
+    by : (c : Bool)
+        → track t (if c then Close (end_octets_offset h children) else Leave)
+        ≡ holder_ended (innermost t) (record t {
+          offset =
+              t.offset + length (event_octets (if c then Close (end_octets_offset h children) else Leave));
+        })
+    by true = refl
+    by false = refl
+
 pub holder-closes : (holders : List Element) (e : Element) (before : Option Element) (top : ℕ) (nearest : List ℕ)
-    (offset : ℕ) (h : HeaderValue) (children : Forest) (es : List EventValue) → h.constructed ≡ true
+    (offset : ℕ) (h : HeaderValue) (children : Forest) (es : List EventValue) → IsHeader h
     → track_all (tracker_with (holders ++ e ∷ []) before top nearest offset) (closing_event h children ∷ es)
     ≡ track_all
     (tracker_with holders (Some e) (top_with holders top (offset + length (end_octets h.size))) nearest
     (offset + length (end_octets h.size)))
     es
-holder-closes holders e before top nearest offset h children es c =
-    ap (λ (k : EventValue). track_all (tracker_with (holders ++ e ∷ []) before top nearest offset) (k ∷ es))
-    (constructed-closes h children c)
+holder-closes holders e before top nearest offset h children es v =
+    ap (λ (t : Tracker). track_all t es)
+    (closes (tracker_with (holders ++ e ∷ []) before top nearest offset) h children)
     ∙ ap
     (λ (o : List ℕ).
     track_all (holder_ended (slice_get (holders ++ e ∷ []) (length (holders ++ e ∷ []) - 1)) (at o)) es)
-    (close-octets h.size (h.offset + length (opening h) + length (spelling children)))
+    (closing-octets h children v)
     ∙ ap (λ (found : Option Element). track_all (holder_ended found (at (end_octets h.size))) es) (last-get holders e)
     ∙ ap
     (λ (left : List Element).

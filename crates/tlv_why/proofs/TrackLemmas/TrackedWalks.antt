@@ -1,10 +1,11 @@
 -- What is kept of the events of a walk over octets.
-use Rattle.std.proofs.Common.{◌≡◌, ◌⊎◌, inl, inr, ℕ, ◌+◌, List, [], ◌∷◌, ◌++◌, length, flat_map, refl}
+use Rattle.std.proofs.Common.{◌≡◌, ◌⊎◌, inl, inr, ℕ, ◌+◌, eqb, List, [], ◌∷◌, ◌++◌, length, flat_map, refl}
 use Rattle.std.proofs.Common.{sym, ap, ◌∙◌, subst, arith, append_assoc, length-append}
 use Rattle.std.specs.Prelude.{Option, Some, None, nat_lt}
 use Rattle.std.proofs.lemmas.Bool.{cases_Bool}
 use Rattle.std.proofs.lemmas.Grind.{flat_map-append}
 use Rattle.tlv_head.specs.declared.fault.Fault.{Fault}
+use Rattle.tlv_head.specs.UniversalTypes as universal
 use Rattle.tlv_walk.specs.declared.event.Event.{Event}
 use Rattle.tlv_walk.specs.declared.event.Step.{Step}
 use Rattle.tlv_walk.specs.declared.event.Step.TheVariants as step
@@ -21,8 +22,8 @@ use Rattle.tlv_walk.proofs.WalkerLemmas.HasRead.{never_refused}
 use Rattle.tlv_why.specs.declared.element.Element.{Element}
 use Rattle.tlv_why.specs.declared.tracker.Tracker.{Tracker}
 use Rattle.tlv_why.specs.Elements.{element_of}
-use Rattle.tlv_why.specs.Private.Tracking.{HasTracked, IsNewWalker, holder_ended, holder_noted, innermost, new_tracker}
-use Rattle.tlv_why.specs.Private.Tracking.{primitive_ended, track, track_all, tracked_event}
+use Rattle.tlv_why.specs.Private.Tracking.{HasTracked, IsNewWalker, bit_string_opened, holder_ended, holder_noted}
+use Rattle.tlv_why.specs.Private.Tracking.{innermost, new_tracker, primitive_ended, track, track_all, tracked_event}
 use Rattle.tlv_why.proofs.TrackLemmas.TrackedEvents.{track_all-append}
 
 -- a walker that has walked over some of the octets, and what is kept of the events
@@ -46,7 +47,10 @@ noted-offset e t = elim (cases_Bool (nat_lt (length t.holders.items) 128)) [
 
 tracked-offset : (e : EventValue) (t : Tracker) → (tracked_event e t).offset ≡ t.offset
 tracked-offset (Open h) t = noted-offset (element_of h) t
-tracked-offset (Enter h) t = noted-offset (element_of h) t
+tracked-offset (Enter h) t = elim (cases_Bool (eqb h.number universal.bit_string)) [
+  | inl bits ↦ rw bits refl
+  | inr other ↦ rw other (noted-offset (element_of h) t)
+]
 tracked-offset (Begin h) t = refl
 tracked-offset End t = by t.current
   where
@@ -65,7 +69,11 @@ tracked-offset Leave t = by (innermost t)
     by (Some e) = refl
 tracked-offset (Bytes octets) t = refl
 tracked-offset (Pad octets) t = refl
-tracked-offset Unused t = refl
+tracked-offset Unused t = by t.entered
+  where
+    by : (o : Option Element) → (bit_string_opened o t).offset ≡ t.offset
+    by None = refl
+    by (Some e) = noted-offset e (record t { entered = None })
 
 -- the octets of an event are those that the walker takes
 pub event-size : (framing : Framing) (octets : List ℕ) (old new : WalkerState) (rest left : List ℕ) (e : Event)

@@ -2,13 +2,14 @@
 use Rattle.std.specs.Prelude.{◌≡◌, ℕ, ◌+◌, ◌-◌, eqb, if◌then◌else◌, nat_lt, List, [], ◌∷◌, ◌++◌, length, take}
 use Rattle.std.specs.Prelude.{Option, Some, None, slice_get, slice_index}
 use Rattle.std.specs.Option.{option_map_or}
+use Rattle.tlv_head.specs.declared.fault.Fault.{Fault}
+use Rattle.tlv_head.specs.UniversalTypes as universal
 use Rattle.tlv_walk.specs.Events.{Begin, Bytes, Close, End, Enter, EventValue, Leave, Open, Pad, Unused, event_octets}
 use Rattle.tlv_walk.specs.HasRead.{StandsAtEnd}
 use Rattle.tlv_walk.specs.Phase.{Between}
 use Rattle.tlv_walk.specs.Stands.{IsIdle, Stands}
 use Rattle.tlv_walk.specs.WalkerState.{WalkerState}
 use Rattle.tlv_walk.specs.declared.ending.Ending.{Ending}
-use Rattle.tlv_walk.specs.declared.ending.Ending.TheVariants as ending
 use Rattle.tlv_walk.specs.declared.framing.Framing.{Framing}
 use Rattle.tlv_why.specs.declared.element.Element.{Element}
 use Rattle.tlv_why.specs.declared.facts.Facts.{Facts}
@@ -16,13 +17,14 @@ use Rattle.tlv_why.specs.declared.facts.Unfinished.{Unfinished}
 use Rattle.tlv_why.specs.declared.facts.Unfinished.TheVariants as unfinished
 use Rattle.tlv_why.specs.declared.tracker.Tracker.{Tracker}
 use Rattle.tlv_why.specs.Elements.{element_of}
-use Rattle.tlv_why.specs.Facts.{IsElementThere}
+use Rattle.tlv_why.specs.Facts.{IsElementThere, ending_by}
 
 -- before the first event
 abbrev pub new_tracker : Tracker
 new_tracker = record {
   holders = record { items = [] };
   current = None;
+  entered = None;
   before = None;
   top = 0;
   nearest = record { items = [] };
@@ -39,6 +41,15 @@ holder_noted e t =
     if nat_lt (length t.holders.items) 128
     then record (with_nearest e.offset t) { holders = record { items = t.holders.items ++ e ∷ [] }; before = None }
     else t
+
+-- a string begins that is named and holds encodings: a BIT STRING is not noted before its first contents octet
+abbrev pub wrapper_entered : Element → Tracker → Tracker
+wrapper_entered e t = if eqb e.number universal.bit_string then record t { entered = Some e } else holder_noted e t
+
+-- the first contents octet of such a BIT STRING, if one was entered
+abbrev pub bit_string_opened : Option Element → Tracker → Tracker
+bit_string_opened None t = t
+bit_string_opened (Some e) t = holder_noted e (record t { entered = None })
 
 -- an element is whole
 abbrev pub element_ended : Element → Tracker → Tracker
@@ -64,14 +75,14 @@ innermost t = slice_get t.holders.items (length t.holders.items - 1)
 -- after an event, by what it is; its octets are counted
 abbrev pub tracked_event : EventValue → Tracker → Tracker
 tracked_event (Open h) t = holder_noted (element_of h) t
-tracked_event (Enter h) t = holder_noted (element_of h) t
+tracked_event (Enter h) t = wrapper_entered (element_of h) t
 tracked_event (Begin h) t = record t { current = Some (element_of h) }
 tracked_event End t = primitive_ended t.current t
 tracked_event (Close offset) t = holder_ended (innermost t) t
 tracked_event Leave t = holder_ended (innermost t) t
 tracked_event (Bytes octets) t = t
 tracked_event (Pad octets) t = t
-tracked_event Unused t = t
+tracked_event Unused t = bit_string_opened t.entered t
 
 -- after an event
 abbrev pub track : Tracker → EventValue → Tracker
@@ -97,33 +108,42 @@ pub record HasTracked (framing : Framing) (octets : List ℕ) (w : WalkerState) 
   pub idle : IsIdle w
   pub tracked : t ≡ track_all new_tracker yielded
 
--- how many octets are read of so many that have this ending
-abbrev pub count_read : Ending → ℕ → ℕ
-count_read ending.Done size = size
-count_read (ending.Fault f) size = f.offset
+-- how many octets are read of so many: all, or those before the one that is refused
+abbrev pub count_read : Option Fault → ℕ → ℕ
+count_read None size = size
+count_read (Some fault) size = fault.offset
 
--- where the open end begins: with the primitive that has begun, or after the last event
+-- the element that has begun and is not noted: a primitive, or else a BIT STRING that was entered
+abbrev pub begun_element : Tracker → Option Element
+begun_element t = option_map_or Some t.current t.entered
+
+-- where the open end begins: with the element that has begun, or after the last event
 abbrev pub open_end_offset : Tracker → ℕ
-open_end_offset t = option_map_or (λ e. e.offset) t.current t.offset
+open_end_offset t = option_map_or (λ e. e.offset) (begun_element t) t.offset
 
--- what stands where no primitive has begun: nothing if the octets are read up to there, else what the octet there
--- begins
+-- what stands where no element has begun: nothing if the octets are read up to there, else what the octet there begins
 abbrev pub unfinished_octet : List ℕ → ℕ → ℕ → Unfinished
 unfinished_octet octets offset count =
     if eqb offset count then unfinished.Nothing
     else (if eqb (slice_index octets offset) 0 then unfinished.EndOctets else unfinished.Header)
 
+-- what stands where no primitive has begun
+abbrev pub unfinished_entered : Option Element → List ℕ → ℕ → ℕ → Unfinished
+unfinished_entered None octets offset count = unfinished_octet octets offset count
+unfinished_entered (Some e) octets offset count = unfinished.Header
+
 -- what stands at the open end of octets of which so many are read
 abbrev pub unfinished_at : Tracker → List ℕ → ℕ → Unfinished
 unfinished_at t octets count =
-    option_map_or unfinished.Primitive t.current (unfinished_octet octets t.offset count)
+    option_map_or unfinished.Primitive t.current (unfinished_entered t.entered octets t.offset count)
 
--- what is said of octets of which so many are read, by what is kept of the events
-pub record MakesFacts (t : Tracker) (octets : List ℕ) (count : ℕ) (facts : Facts) : Type 0 where
+-- what is said of octets that have this ending, by what is kept of the events
+pub record MakesFacts (t : Tracker) (octets : List ℕ) (e : Ending) (facts : Facts) : Type 0 where
+  pub fault : ending_by facts.fault ≡ e
   pub holders : facts.holders.items ≡ t.holders.items
   pub before : facts.before ≡ t.before
   pub top : facts.top ≡ t.top
   pub nearest : facts.nearest.items ≡ t.nearest.items
   pub next : facts.next ≡ open_end_offset t
-  pub unfinished : facts.unfinished ≡ unfinished_at t octets count
+  pub unfinished : facts.unfinished ≡ unfinished_at t octets (count_read facts.fault (length octets))
   pub there : IsElementThere octets facts.next facts.there
