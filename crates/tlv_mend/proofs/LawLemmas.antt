@@ -1,5 +1,5 @@
 -- One wrong length, and headers that say other lengths.
-use Rattle.std.proofs.Common.{◌≡◌, ℕ, ◌+◌, ◌*◌, ◌-◌, ◌/◌, ◌%◌, ◌^◌, ◌<◌, ◌≤◌, Bool, false, List, [], ◌∷◌}
+use Rattle.std.proofs.Common.{◌≡◌, ℕ, ◌+◌, ◌*◌, ◌-◌, ◌/◌, ◌%◌, ◌^◌, ◌<◌, ◌≤◌, false, List, [], ◌∷◌}
 use Rattle.std.proofs.Common.{All, length, ap, refl, sym, subst, arith, inl, inr, length-append, suc}
 use Rattle.std.proofs.Common.{zero, eqb, ne_eqb, lit<}
 use Rattle.std.specs.Prelude.{Option, Some, None}
@@ -11,6 +11,7 @@ use Rattle.tlv_head.proofs.NumberLemmas.Digits.{value_of-snoc}
 use Rattle.tlv_head.specs.declared.header.Size.{Size}
 use Rattle.tlv_head.specs.declared.header.Size.TheVariants.{Definite}
 use Rattle.tlv_head.specs.Header.{HeaderValue, IsHeader, IsLength, IsLongForm, announced_length, octets_of, value_of}
+use Rattle.tlv_walk.specs.declared.framing.Framing.{Framing}
 use Rattle.tlv_mend.proofs.LengthLemmas.{begun-one}
 use Rattle.tlv_mend.specs.declared.lengths.WrongLength.{WrongLength}
 use Rattle.tlv_mend.specs.FirstOf.{IsFirstOf}
@@ -27,27 +28,27 @@ first-one (first.here p) (first.later n g) = absurd (n p)
 first-one (first.later n f) (first.here q) = absurd (n q)
 first-one (first.later n f) (first.later m g) = first-one f g
 
-first-at : (padding : Bool) (octets : List ℕ) (h g : HeaderValue) (a : Option ℕ) → h ≡ g
-    → IsFirstOf (WouldBeSound padding octets h) (other_lengths h) a
-    → IsFirstOf (WouldBeSound padding octets g) (other_lengths g) a
-first-at padding octets h g a e f =
-    subst (λ (x : HeaderValue). IsFirstOf (WouldBeSound padding octets x) (other_lengths x) a) e f
+first-at : (framing : Framing) (octets : List ℕ) (h g : HeaderValue) (a : Option ℕ) → h ≡ g
+    → IsFirstOf (WouldBeSound framing octets h) (other_lengths h) a
+    → IsFirstOf (WouldBeSound framing octets g) (other_lengths g) a
+first-at framing octets h g a e f =
+    subst (λ (x : HeaderValue). IsFirstOf (WouldBeSound framing octets x) (other_lengths x) a) e f
 
-pub wrong-one : (padding : Bool) (octets : List ℕ) {candidates : List ℕ} {a b : Option WrongLength}
-    → IsFirstWrongLength padding octets candidates a → IsFirstWrongLength padding octets candidates b → a ≡ b
-wrong-one padding octets wrong.no_more wrong.no_more = refl
-wrong-one padding octets (wrong.here {offset = o} {would = m} h x f) (wrong.here {would = n} g y k) =
+pub wrong-one : (framing : Framing) (octets : List ℕ) {candidates : List ℕ} {a b : Option WrongLength}
+    → IsFirstWrongLength framing octets candidates a → IsFirstWrongLength framing octets candidates b → a ≡ b
+wrong-one framing octets wrong.no_more wrong.no_more = refl
+wrong-one framing octets (wrong.here {offset = o} {would = m} h x f) (wrong.here {would = n} g y k) =
     let same : h ≡ g = begun-one h g x y in
-    let e : Some m ≡ Some n = first-one (first-at padding octets h g (Some m) same f) k in
+    let e : Some m ≡ Some n = first-one (first-at framing octets h g (Some m) same f) k in
     let would : m ≡ n = cc in
     let said : announced_length h.size ≡ announced_length g.size =
     ap (λ (z : HeaderValue). announced_length z.size) same in
     λ i. Some (record { offset = o; said = said i; would = would i })
-wrong-one padding octets (wrong.here {would = m} h x f) (wrong.later none k) =
+wrong-one framing octets (wrong.here {would = m} h x f) (wrong.later none k) =
     let e : Some m ≡ None = first-one f (none h x) in absurd (cc)
-wrong-one padding octets (wrong.later none k) (wrong.here {would = m} h x f) =
+wrong-one framing octets (wrong.later none k) (wrong.here {would = m} h x f) =
     let e : Some m ≡ None = first-one f (none h x) in absurd (cc)
-wrong-one padding octets (wrong.later m f) (wrong.later n g) = wrong-one padding octets f g
+wrong-one framing octets (wrong.later m f) (wrong.later n g) = wrong-one framing octets f g
 
 base-length : (k n : ℕ) → length (base_256 k n) ≡ k
 base-length zero n = refl

@@ -1,5 +1,5 @@
 -- Length octets that are changed in place are those of another header.
-use Rattle.std.proofs.Common.{◌≡◌, ℕ, ◌+◌, ◌-◌, ◌^◌, ◌<◌, ◌≤◌, Bool, false, List, [], ◌∷◌, ◌++◌, length, drop, take}
+use Rattle.std.proofs.Common.{◌≡◌, ℕ, ◌+◌, ◌-◌, ◌^◌, ◌<◌, ◌≤◌, false, List, [], ◌∷◌, ◌++◌, length, drop, take}
 use Rattle.std.proofs.Common.{◌∙◌, inl, inr, sym, subst, append_assoc, arith, length-append, length-drop, ap, refl}
 use Rattle.std.proofs.Common.{get_or, take-append-drop}
 use Rattle.std.specs.Prelude.{Option, Some, None, slice_range, nat_lt}
@@ -20,7 +20,7 @@ use Rattle.tlv_head.specs.Header.{HeaderValue, announced_length, definite_length
 use Rattle.tlv_head.specs.HeaderFields.{new_header}
 use Rattle.tlv_head.specs.ReadHeader.{BeginsWithFields}
 use Rattle.tlv_head.specs.Refusal.{BeginsWith}
-use Rattle.tlv_open.specs.Opens.{closed_framing}
+use Rattle.tlv_walk.specs.declared.framing.Framing.{Framing}
 use Rattle.tlv_walk.specs.Reading.{IsSoundList}
 use Rattle.tlv_mend.proofs.FirstLemmas.{first-along, from-next}
 use Rattle.tlv_mend.specs.declared.lengths.WrongLength.{WrongLength}
@@ -99,14 +99,14 @@ others-are w v size said lengths e s l =
     ∙ ap (λ (xs : List ℕ). sayable v xs) (sym l)
 
 -- the first length that does if its octets are changed in place is the first that does if the header says it
-first-with : (padding : Bool) (octets : List ℕ) (offset start count : ℕ) (fields : HeaderFields) (said : ℕ)
+first-with : (framing : Framing) (octets : List ℕ) (offset start count : ℕ) (fields : HeaderFields) (said : ℕ)
     (lengths : List ℕ) (r : Option ℕ) → offset ≤ length octets
     → BeginsWithFields (drop offset octets) offset false fields count → start ≡ offset + fields.id_len
     → fields.size ≡ Definite said → lengths ≡ lengths_within said 5
-    → IsFirstOf (SoundWithOctets padding start (offset + count) octets) (sayable ((offset + count) - start) lengths) r
-    → IsFirstOf (WouldBeSound padding octets (new_header fields (take count (drop offset octets))))
+    → IsFirstOf (SoundWithOctets framing start (offset + count) octets) (sayable ((offset + count) - start) lengths) r
+    → IsFirstOf (WouldBeSound framing octets (new_header fields (take count (drop offset octets))))
     (other_lengths (new_header fields (take count (drop offset octets)))) r
-first-with padding octets offset start count fields said lengths r within b s size l f =
+first-with framing octets offset start count fields said lengths r within b s size l f =
     let raw : List ℕ = take count (drop offset octets) in
     let h : HeaderValue = new_header fields raw in
     let whole : length raw ≡ count = length-take-le count (drop offset octets) b.within in
@@ -121,41 +121,41 @@ first-with padding octets offset start count fields said lengths r within b s si
     b.begins.octets_are) in
     let others : other_lengths h ≡ sayable ((offset + count) - start) lengths =
     others-are (length h.lengths) ((offset + count) - start) fields.size said lengths room size l in
-    subst (λ (xs : List ℕ). IsFirstOf (WouldBeSound padding octets h) xs r) (sym others)
-    (first-along (λ n. subst (λ (xs : List ℕ). IsSoundList (closed_framing padding) xs) (same n))
-    (λ n. subst (λ (xs : List ℕ). IsSoundList (closed_framing padding) xs) (sym (same n))) f)
+    subst (λ (xs : List ℕ). IsFirstOf (WouldBeSound framing octets h) xs r) (sym others)
+    (first-along (λ n. subst (λ (xs : List ℕ). IsSoundList framing xs) (same n))
+    (λ n. subst (λ (xs : List ℕ). IsSoundList framing xs) (sym (same n))) f)
 
 -- a length is found there
-pub found-at : (padding : Bool) (octets : List ℕ) (offset start count : ℕ) (fields : HeaderFields) (said would : ℕ)
+pub found-at : (framing : Framing) (octets : List ℕ) (offset start count : ℕ) (fields : HeaderFields) (said would : ℕ)
     (lengths more : List ℕ) → offset ≤ length octets
     → BeginsWithFields (drop offset octets) offset false fields count → start ≡ offset + fields.id_len
     → fields.size ≡ Definite said → lengths ≡ lengths_within said 5
-    → IsFirstOf (SoundWithOctets padding start (offset + count) octets) (sayable ((offset + count) - start) lengths)
+    → IsFirstOf (SoundWithOctets framing start (offset + count) octets) (sayable ((offset + count) - start) lengths)
     (Some would)
-    → IsFirstWrongLength padding octets (offset ∷ more)
+    → IsFirstWrongLength framing octets (offset ∷ more)
     (Some (record { offset = offset; said = said; would = would }))
-found-at padding octets offset start count fields said would lengths more within b s size l f =
+found-at framing octets offset start count fields said would lengths more within b s size l f =
     let h : HeaderValue = new_header fields (take count (drop offset octets)) in
     let e : announced_length h.size ≡ said = ap announced_length size in
-    subst (λ (n : ℕ). IsFirstWrongLength padding octets (offset ∷ more)
+    subst (λ (n : ℕ). IsFirstWrongLength framing octets (offset ∷ more)
     (Some (record { offset = offset; said = n; would = would }))) e
     (here h b.begins
-    (first-with padding octets offset start count fields said lengths (Some would) within b s size l f))
+    (first-with framing octets offset start count fields said lengths (Some would) within b s size l f))
 
 -- none is found there
-pub none-at : (padding : Bool) (octets : List ℕ) (offset start count : ℕ) (fields : HeaderFields) (said : ℕ)
+pub none-at : (framing : Framing) (octets : List ℕ) (offset start count : ℕ) (fields : HeaderFields) (said : ℕ)
     (lengths : List ℕ) → offset ≤ length octets
     → BeginsWithFields (drop offset octets) offset false fields count → start ≡ offset + fields.id_len
     → fields.size ≡ Definite said → lengths ≡ lengths_within said 5
-    → IsFirstOf (SoundWithOctets padding start (offset + count) octets) (sayable ((offset + count) - start) lengths)
+    → IsFirstOf (SoundWithOctets framing start (offset + count) octets) (sayable ((offset + count) - start) lengths)
     None
     → (h : HeaderValue) → BeginsWith (drop offset octets) offset false h
-    → IsFirstOf (WouldBeSound padding octets h) (other_lengths h) None
-none-at padding octets offset start count fields said lengths within b s size l f h p =
+    → IsFirstOf (WouldBeSound framing octets h) (other_lengths h) None
+none-at framing octets offset start count fields said lengths within b s size l f h p =
     let g : HeaderValue = new_header fields (take count (drop offset octets)) in
-    subst (λ (x : HeaderValue). IsFirstOf (WouldBeSound padding octets x) (other_lengths x) None)
+    subst (λ (x : HeaderValue). IsFirstOf (WouldBeSound framing octets x) (other_lengths x) None)
     (begun-one g h b.begins p)
-    (first-with padding octets offset start count fields said lengths None within b s size l f)
+    (first-with framing octets offset start count fields said lengths None within b s size l f)
 
 no-others : (P : ℕ → Type 0) (w : ℕ) (size : Size) → ((n : ℕ) → size ≡ Definite n → ⊥)
     → IsFirstOf P (filter (λ n. nat_lt n (length_bound w))
@@ -164,26 +164,26 @@ no-others P w (Definite n) k = absurd (k n refl)
 no-others P w Indefinite k = no_more
 
 -- of a header in the indefinite form there are no other lengths
-pub indefinite-none : (padding : Bool) (octets : List ℕ) (offset count : ℕ) (fields : HeaderFields)
+pub indefinite-none : (framing : Framing) (octets : List ℕ) (offset count : ℕ) (fields : HeaderFields)
     → BeginsWithFields (drop offset octets) offset false fields count
     → ((n : ℕ) → fields.size ≡ Definite n → ⊥) → (h : HeaderValue) → BeginsWith (drop offset octets) offset false h
-    → IsFirstOf (WouldBeSound padding octets h) (other_lengths h) None
-indefinite-none padding octets offset count fields b k h p =
+    → IsFirstOf (WouldBeSound framing octets h) (other_lengths h) None
+indefinite-none framing octets offset count fields b k h p =
     let g : HeaderValue = new_header fields (take count (drop offset octets)) in
     let e : g ≡ h = begun-one g h b.begins p in
-    no-others (WouldBeSound padding octets h) (length h.lengths) h.size
+    no-others (WouldBeSound framing octets h) (length h.lengths) h.size
     (λ n s. k n (ap (λ (x : HeaderValue). x.size) e ∙ s))
 
 -- offsets that are searched one after another
-pub candidate-later : (padding : Bool) (octets xs : List ℕ) (i : ℕ) {found : Option WrongLength} → i < length xs
+pub candidate-later : (framing : Framing) (octets xs : List ℕ) (i : ℕ) {found : Option WrongLength} → i < length xs
     → ((h : HeaderValue) → BeginsWith (drop (get_or xs i 0) octets) (get_or xs i 0) false h
-    → IsFirstOf (WouldBeSound padding octets h) (other_lengths h) None)
-    → IsFirstWrongLength padding octets (drop (i + 1) xs) found → IsFirstWrongLength padding octets (drop i xs) found
-candidate-later padding octets xs i h none f = rw (from-next xs i h) (wrong.later none f)
+    → IsFirstOf (WouldBeSound framing octets h) (other_lengths h) None)
+    → IsFirstWrongLength framing octets (drop (i + 1) xs) found → IsFirstWrongLength framing octets (drop i xs) found
+candidate-later framing octets xs i h none f = rw (from-next xs i h) (wrong.later none f)
 
-pub candidates-end : (padding : Bool) (octets xs : List ℕ) (i : ℕ) → length xs ≤ i
-    → IsFirstWrongLength padding octets (drop i xs) None
-candidates-end padding octets xs i h = rw (drop_all i xs h) wrong.no_more
+pub candidates-end : (framing : Framing) (octets xs : List ℕ) (i : ℕ) → length xs ≤ i
+    → IsFirstWrongLength framing octets (drop i xs) None
+candidates-end framing octets xs i h = rw (drop_all i xs h) wrong.no_more
 
 -- a slice from an offset on is all that comes after it
 pub begins-there : (octets : List ℕ) (offset count : ℕ) (fields : HeaderFields)

@@ -2,6 +2,8 @@ pub mod FirstLemmas
 pub mod LengthLemmas
 pub mod LengthRows
 pub mod MovedElements
+pub mod ShownLemmas
+pub mod SoundLemmas
 pub mod StartLemmas
 pub mod TextLemmas
 pub mod TextRows

@@ -1,14 +1,18 @@
--- Laws of other lengths that a header might say.
+-- Laws of other lengths that a header might say, and of the lines that are written.
 use Rattle.std.specs.Prelude.{◌≡◌, ℕ, ◌^◌, ◌<◌, Bool, List, Option, length}
 use Rattle.tlv_head.specs.declared.header.Size.TheVariants.{Definite}
 use Rattle.tlv_head.specs.Header.{HeaderValue, IsHeader, octets_of}
+use Rattle.tlv_walk.specs.declared.framing.Framing.{Framing}
+use Rattle.tlv_walk.specs.Reading.{AreOctets}
+use Rattle.tlv_why.specs.Laws.{AreShown}
 use Rattle.tlv_mend.specs.declared.lengths.WrongLength.{WrongLength}
+use Rattle.tlv_mend.specs.Remedies.{AreRemedies, length_line}
 use Rattle.tlv_mend.specs.WrongLength.{IsWrongLength, length_bound, with_length}
 
 -- of an input and offsets, one length is wrong, or none
 abbrev pub InputsHaveOneWrongLength : Type 0
-InputsHaveOneWrongLength = (padding : Bool) (octets candidates : List ℕ) (a b : Option WrongLength)
-    → IsWrongLength padding octets candidates a → IsWrongLength padding octets candidates b → a ≡ b
+InputsHaveOneWrongLength = (framing : Framing) (octets candidates : List ℕ) (a b : Option WrongLength)
+    → IsWrongLength framing octets candidates a → IsWrongLength framing octets candidates b → a ≡ b
 
 -- a header that says another length, which its length octets can say, is a header of as many octets
 abbrev pub OtherLengthsMakeHeaders : Type 0
@@ -16,3 +20,12 @@ OtherLengthsMakeHeaders =
     (h : HeaderValue) (said n : ℕ) → IsHeader h → h.size ≡ Definite said → n < length_bound (length h.lengths)
     → n < 2 ^ 40
     → IsHeader (with_length h n) × (length (octets_of (with_length h n)) ≡ length (octets_of h))
+
+-- what may be done of octets is said in printable ASCII, in lines
+abbrev pub RemediesAreShown : Type 0
+RemediesAreShown = (padding : Bool) (octets candidates lines : List ℕ) → AreOctets octets
+    → AreRemedies padding octets candidates lines → AreShown lines
+
+-- so is what another length would do
+abbrev pub LengthLinesAreShown : Type 0
+LengthLinesAreShown = (found : Option WrongLength) → AreShown (length_line found)

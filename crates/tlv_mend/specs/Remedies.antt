@@ -2,6 +2,7 @@
 use Rattle.std.specs.Prelude.{◌≡◌, ℕ, ◌+◌, Bool, eqb, nat_eq, if◌then◌else◌, List, [], ◌∷◌, ◌++◌}
 use Rattle.std.specs.Prelude.{Option, None, Some, codes, decimal}
 use Rattle.std.specs.List.{starts_with}
+use Rattle.tlv_open.specs.Opens.{closed_framing}
 use Rattle.tlv_mend.specs.declared.lengths.WrongLength.{WrongLength}
 use Rattle.tlv_mend.specs.declared.text_changes.TextChange.{TextChange}
 use Rattle.tlv_mend.specs.declared.text_changes.TextChange.TheVariants.{LineEnds, Utf8}
@@ -90,7 +91,7 @@ remedy_lines octets wrong change start = changes_lines wrong change ++ other_lin
 -- the lines of an input, with the headers at these offsets as candidates
 pub record AreRemedies (padding : Bool) (octets candidates lines : List ℕ) : Type 0 where
   pub wrong : Option WrongLength
-  pub is_wrong : IsWrongLength padding octets candidates wrong
+  pub is_wrong : IsWrongLength (closed_framing padding) octets candidates wrong
   pub change : Option TextChange
   pub is_change : IsTextChange padding octets change
   pub start : Option ℕ

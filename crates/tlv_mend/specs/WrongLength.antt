@@ -1,12 +1,12 @@
 -- Which one length, changed a little, would make an input sound: X.690 8.1.3.
-use Rattle.std.specs.Prelude.{◌≡◌, ℕ, ◌+◌, ◌-◌, ◌/◌, ◌%◌, ◌^◌, ◌<◌, ◌≤◌, Bool, false, eqb, nat_le, nat_lt}
+use Rattle.std.specs.Prelude.{◌≡◌, ℕ, ◌+◌, ◌-◌, ◌/◌, ◌%◌, ◌^◌, ◌<◌, ◌≤◌, false, eqb, nat_le, nat_lt}
 use Rattle.std.specs.Prelude.{if◌then◌else◌, List, [], ◌∷◌, ◌++◌, length, take, drop, Option, Some, None, zero, suc}
 use Rattle.std.specs.List.{filter}
 use Rattle.std.specs.Option.{option_map_or}
 use Rattle.tlv_head.specs.declared.header.Size.TheVariants.{Definite}
 use Rattle.tlv_head.specs.Header.{HeaderValue, announced_length, definite_length, octets_of}
 use Rattle.tlv_head.specs.Refusal.{BeginsWith}
-use Rattle.tlv_open.specs.Opens.{closed_framing}
+use Rattle.tlv_walk.specs.declared.framing.Framing.{Framing}
 use Rattle.tlv_walk.specs.Reading.{IsSoundList}
 use Rattle.tlv_mend.specs.declared.lengths.WrongLength.{WrongLength}
 use Rattle.tlv_mend.specs.FirstOf.{IsFirstOf}
@@ -56,24 +56,24 @@ input_with_length octets h n =
     take h.offset octets ++ (octets_of (with_length h n) ++ drop (h.offset + length (octets_of h)) octets)
 
 -- the input would be sound if the header said that length
-abbrev pub WouldBeSound : Bool → List ℕ → HeaderValue → ℕ → Type 0
-WouldBeSound padding octets h n = IsSoundList (closed_framing padding) (input_with_length octets h n)
+abbrev pub WouldBeSound : Framing → List ℕ → HeaderValue → ℕ → Type 0
+WouldBeSound framing octets h n = IsSoundList framing (input_with_length octets h n)
 
 -- the first of these offsets at which a header is that could say another length, so that the input would be sound; with
 -- the first such length
-pub data IsFirstWrongLength (padding : Bool) (octets : List ℕ) : List ℕ → Option WrongLength → Type 0 where
-  no_more : IsFirstWrongLength padding octets [] None
+pub data IsFirstWrongLength (framing : Framing) (octets : List ℕ) : List ℕ → Option WrongLength → Type 0 where
+  no_more : IsFirstWrongLength framing octets [] None
   here : {offset would : ℕ} {more : List ℕ} → (h : HeaderValue) → BeginsWith (drop offset octets) offset false h
-      → IsFirstOf (WouldBeSound padding octets h) (other_lengths h) (Some would)
-      → IsFirstWrongLength padding octets (offset ∷ more)
+      → IsFirstOf (WouldBeSound framing octets h) (other_lengths h) (Some would)
+      → IsFirstWrongLength framing octets (offset ∷ more)
       (Some (record { offset = offset; said = announced_length h.size; would = would }))
   -- there is no header, or none of its other lengths would do
   later : {offset : ℕ} {more : List ℕ} {found : Option WrongLength}
       → ((h : HeaderValue) → BeginsWith (drop offset octets) offset false h
-      → IsFirstOf (WouldBeSound padding octets h) (other_lengths h) None)
-      → IsFirstWrongLength padding octets more found → IsFirstWrongLength padding octets (offset ∷ more) found
+      → IsFirstOf (WouldBeSound framing octets h) (other_lengths h) None)
+      → IsFirstWrongLength framing octets more found → IsFirstWrongLength framing octets (offset ∷ more) found
 
 -- which of the headers at these offsets says a wrong length: the first, if the input is searched
-pub record IsWrongLength (padding : Bool) (octets candidates : List ℕ) (found : Option WrongLength) : Type 0 where
-  pub searched : length octets ≤ search_limit → IsFirstWrongLength padding octets candidates found
+pub record IsWrongLength (framing : Framing) (octets candidates : List ℕ) (found : Option WrongLength) : Type 0 where
+  pub searched : length octets ≤ search_limit → IsFirstWrongLength framing octets candidates found
   pub unsearched : search_limit < length octets → found ≡ None

@@ -3,7 +3,8 @@ ghost use Rattle.std.specs.Prelude.{◌≡◌, ◌<◌, ◌≤◌, ◌-◌, ◌^
 ghost use Rattle.tlv_mend.specs.Private.Lengths.{SoundWithOctets};
 ghost use Rattle.tlv_mend.specs.WrongLength.{base_256, length_bound, length_octets_saying, search_limit};
 
-use crate::sound::is_sound;
+use crate::sound::is_sound_list;
+use tlv_walk::Framing;
 
 /// Where length octets are in an input.
 #[derive(Clone, Copy)]
@@ -32,7 +33,7 @@ pub(crate) fn can_say(count: usize, would: u64) -> bool
 pub(crate) fn is_sound_with(
     octets: &[u8],
     copy: &mut [u8],
-    padding: bool,
+    framing: &Framing<'_>,
     place: LengthPlace,
     would: u64,
 ) -> bool
@@ -42,10 +43,10 @@ pub(crate) fn is_sound_with(
     requires within { place.end ≤ length octets.now }
     requires sayable { nat_lt would (length_bound (place.end - place.start)) ≡ true }
     ensures copied { copy.new ≡ octets.now }
-    ensures sound { IsTrue result ↔ SoundWithOctets padding place.start place.end octets.now would }
+    ensures sound { IsTrue result ↔ SoundWithOctets framing.now place.start place.end octets.now would }
 {
     set_length(&mut copy[place.start..place.end], would);
-    let sound = is_sound(copy, padding);
+    let sound = is_sound_list(copy, framing);
     copy[place.start..place.end].copy_from_slice(&octets[place.start..place.end]);
     sound
 }

@@ -12,6 +12,7 @@ use crate::length_octets::{LengthPlace, can_say, is_sound_with};
 use arrayvec::ArrayVec;
 use std::alloc::{AllocError, Global};
 use tlv_head::{Size, read_header};
+use tlv_walk::Framing;
 
 /// The most octets of an input that is searched.
 pub const SEARCH_LIMIT: usize = 1 << 20;
@@ -30,8 +31,8 @@ pub struct WrongLength {
 /// Which of the headers at these offsets, in octets from the start of the input, says a wrong length: the first that
 /// could say another, at most 5 octets more or fewer, so that the input would be sound. Nearer lengths are tried first,
 /// and of two that are as near the greater. A header says another length in as many length octets as before. `None` if
-/// there is no such header, or if the input has more than [`SEARCH_LIMIT`] octets. With `padding`, octets `00` are
-/// allowed at the top.
+/// there is no such header, or if the input has more than [`SEARCH_LIMIT`] octets. `framing` says how the input is
+/// read: which strings hold encodings, and whether octets `00` are allowed at the top.
 ///
 /// # Errors
 ///
@@ -39,32 +40,32 @@ pub struct WrongLength {
 pub fn wrong_length(
     alloc: Global,
     octets: &[u8],
-    padding: bool,
+    framing: &Framing<'_>,
     candidates: &[usize],
 ) -> Result<Option<WrongLength>, AllocError>
-    ensures { IfOk result (λ found. IsWrongLength padding octets.now candidates.now found) }
+    ensures { IfOk result (λ found. IsWrongLength framing.now octets.now candidates.now found) }
 {
     if octets.len() > SEARCH_LIMIT {
         return Ok(None);
     }
     let mut copy = Vec::new(alloc);
     copy.extend_from_slice(octets)?;
-    Ok(first_wrong_length(octets, copy.as_mut_slice(), padding, candidates))
+    Ok(first_wrong_length(octets, copy.as_mut_slice(), framing, candidates))
 }
 
-/// [`wrong_length`], with a copy of the input that is changed, and is the same in the end.
+/// [`wrong_length`] of an input that is searched, with a copy of it that is changed, and is the same in the end.
 fn first_wrong_length(
     octets: &[u8],
     copy: &mut [u8],
-    padding: bool,
+    framing: &Framing<'_>,
     candidates: &[usize],
 ) -> Option<WrongLength>
     requires copied { copy.old ≡ octets.now }
     requires limit { length octets.now ≤ search_limit }
-    ensures { IsFirstWrongLength padding octets.now candidates.now result }
+    ensures { IsFirstWrongLength framing.now octets.now candidates.now result }
 {
     for &candidate in candidates {
-        if let Some(found) = wrong_length_at(octets, copy, padding, candidate) {
+        if let Some(found) = wrong_length_at(octets, copy, framing, candidate) {
             return Some(found);
         }
     }
@@ -75,7 +76,7 @@ fn first_wrong_length(
 fn wrong_length_at(
     octets: &[u8],
     copy: &mut [u8],
-    padding: bool,
+    framing: &Framing<'_>,
     offset: usize,
 ) -> Option<WrongLength>
     requires copied { copy.old ≡ octets.now }
@@ -83,8 +84,8 @@ fn wrong_length_at(
     ensures copied { copy.new ≡ octets.now }
     ensures found { (more : List ℕ) → MatchOption result
         ((h : HeaderValue) → BeginsWith (drop offset octets.now) offset false h
-        → IsFirstOf (WouldBeSound padding octets.now h) (other_lengths h) None)
-        (λ w. IsFirstWrongLength padding octets.now (offset ∷ more) (Some w)) }
+        → IsFirstOf (WouldBeSound framing.now octets.now h) (other_lengths h) None)
+        (λ w. IsFirstWrongLength framing.now octets.now (offset ∷ more) (Some w)) }
 {
     if offset > octets.len() {
         return None;
@@ -98,7 +99,7 @@ fn wrong_length_at(
         end: offset + count,
     };
     let lengths = near_lengths(said);
-    match first_right_length(octets, copy, padding, place, lengths.as_slice()) {
+    match first_right_length(octets, copy, framing, place, lengths.as_slice()) {
         Some(would) => Some(WrongLength {
             offset,
             said,
@@ -128,7 +129,7 @@ fn near_lengths(said: u64) -> ArrayVec<u64, 10>
 fn first_right_length(
     octets: &[u8],
     copy: &mut [u8],
-    padding: bool,
+    framing: &Framing<'_>,
     place: LengthPlace,
     lengths: &[u64],
 ) -> Option<u64>
@@ -138,12 +139,12 @@ fn first_right_length(
     requires within { place.end ≤ length octets.now }
     requires below { All (λ n. n < 2 ^ 41) lengths.now }
     ensures copied { copy.new ≡ octets.now }
-    ensures first { IsFirstOf (SoundWithOctets padding place.start place.end octets.now)
+    ensures first { IsFirstOf (SoundWithOctets framing.now place.start place.end octets.now)
         (sayable (place.end - place.start) lengths.now) result }
 {
     for &length in lengths {
         if can_say(place.end - place.start, length)
-            && is_sound_with(octets, copy, padding, place, length)
+            && is_sound_with(octets, copy, framing, place, length)
         {
             return Some(length);
         }

@@ -1,18 +1,20 @@
 //! What may be done of an input that does not parse, in lines.
-ghost use Rattle.std.specs.Prelude.{◌≡◌, ◌≤◌, IfOk, IfSome, List, OnErr, length, ℕ};
+ghost use Rattle.std.specs.Prelude.{◌≡◌, ◌≤◌, IfOk, IfSome, List, OnErr, Option, length, ℕ};
 ghost use Rattle.tlv_head.specs.InputLimit.{input_limit};
 ghost use Rattle.tlv_io.specs.Out.{Puts, Sends};
 ghost use Rattle.tlv_mend.specs.NextStart.{IsNextStart};
 ghost use Rattle.tlv_mend.specs.Remedies.{AreRemedies, IsTextChange, change_line, changes_lines};
 ghost use Rattle.tlv_mend.specs.Remedies.{kind_line, length_line, other_lines, remedy_lines, start_line};
 ghost use Rattle.tlv_mend.specs.WrongLength.{IsWrongLength};
+ghost use Rattle.tlv_open.specs.Opens.{closed_framing};
 
 use crate::lengths::{WrongLength, wrong_length};
 use crate::remedy_texts::{change_line, kind_line, length_line, start_line};
+use crate::sound::closed_framing;
 use crate::start::next_start;
 use crate::text_changes::{TextChange, text_change};
 use std::alloc::{AllocError, Global};
-use tlv_walk::{Drain, Out, WriteFault};
+use tlv_walk::{Drain, Framing, Out, WriteFault};
 
 /// What was found in an input.
 #[derive(Clone, Copy)]
@@ -51,6 +53,41 @@ pub fn write_remedies<D: Drain>(
     Ok(write_lines(octets, &findings, drain))
 }
 
+/// Writes the line of the one length that would make an input sound, in ASCII; nothing if none would. `candidates` are
+/// the offsets of headers that may say a wrong length, the nearest to the fault first. `framing` says how the input is
+/// read: which strings hold encodings, and whether octets `00` are allowed at the top.
+///
+/// # Errors
+///
+/// `AllocError` if memory for a copy of the input is refused; nothing is written then. Within, `WriteFault` if a write
+/// failed. What was written is then a prefix of the line.
+pub fn write_wrong_length<D: Drain>(
+    alloc: Global,
+    octets: &[u8],
+    framing: &Framing<'_>,
+    candidates: &[usize],
+    drain: &mut D,
+) -> Result<Result<(), WriteFault>, AllocError>
+    ensures written { IfOk result (λ sent. (found : Option WrongLength)
+        × IsWrongLength framing.now octets.now candidates.now found
+        × Sends (D.state drain.old) (D.state drain.new) (length_line found) sent) }
+    ensures refused { OnErr result (drain.new ≡ drain.old) }
+{
+    let found = wrong_length(alloc, octets, framing, candidates)?;
+    Ok(write_length_line(found, drain))
+}
+
+/// Writes the line of a wrong length.
+#[tactic(auto, using(tlv_io::proofs::Sends::sends))]
+fn write_length_line<D: Drain>(wrong: Option<WrongLength>, drain: &mut D) -> Result<(), WriteFault>
+    ensures { Sends (D.state drain.old) (D.state drain.new) (length_line wrong) result }
+{
+    let mut out = Out::new(drain);
+    put_length_line(wrong, &mut out)?;
+    out.flush()?;
+    Ok(())
+}
+
 /// Looks for each in turn.
 fn findings_of(
     alloc: Global,
@@ -59,10 +96,10 @@ fn findings_of(
     candidates: &[usize],
 ) -> Result<Findings, AllocError>
     requires { length octets.now ≤ input_limit }
-    ensures { IfOk result (λ f. IsWrongLength padding octets.now candidates.now f.wrong
+    ensures { IfOk result (λ f. IsWrongLength (closed_framing padding) octets.now candidates.now f.wrong
         × IsTextChange padding octets.now f.change × IsNextStart padding octets.now f.start) }
 {
-    let wrong = wrong_length(alloc, octets, padding, candidates)?;
+    let wrong = wrong_length(alloc, octets, &closed_framing(padding), candidates)?;
     let change = text_change(alloc, octets, padding)?;
     Ok(Findings {
         wrong,

@@ -1,11 +1,12 @@
 //! Whether octets are sound.
-ghost use Rattle.std.specs.Prelude.{◌≤◌, ◌↔◌, IsTrue, length};
+ghost use Rattle.std.specs.Prelude.{◌≡◌, ◌≤◌, ◌↔◌, IsTrue, length};
 ghost use Rattle.tlv_head.specs.InputLimit.{input_limit};
 ghost use Rattle.tlv_open.specs.Opens.{closed_framing};
 ghost use Rattle.tlv_walk.specs.Reading.{IsSoundList};
 
-use tlv_open::ending_of;
-use tlv_walk::Ending;
+use crate::silence::{Nowhere, Silent};
+use tlv_run::UnfailingSource;
+use tlv_walk::{Ending, Framing, Inside, drive};
 
 /// Whether the octets are one or more whole encodings, and nothing open. With `padding`, octets `00` are allowed at the
 /// top.
@@ -13,8 +14,28 @@ pub(crate) fn is_sound(octets: &[u8], padding: bool) -> bool
     requires { length octets.now ≤ input_limit }
     ensures { IsTrue result ↔ IsSoundList (closed_framing padding) octets.now }
 {
-    match ending_of(octets, padding) {
-        Ending::Done => true,
-        Ending::Fault(_) => false,
+    is_sound_list(octets, &closed_framing(padding))
+}
+
+/// The framing in which no string is named.
+pub(crate) fn closed_framing(padding: bool) -> Framing<'static>
+    ensures { result ≡ closed_framing padding }
+{
+    Framing {
+        inside: Inside::none(),
+        padding,
+    }
+}
+
+/// Whether the octets, read so, are one or more whole encodings, and nothing open.
+pub(crate) fn is_sound_list(octets: &[u8], framing: &Framing<'_>) -> bool
+    requires { length octets.now ≤ input_limit }
+    ensures { IsTrue result ↔ IsSoundList framing.now octets.now }
+{
+    // `drive` takes whole elements at once, where `Walker::step` goes event by event: that is much slower.
+    let mut source = UnfailingSource::new(octets, &[]);
+    match drive(&mut source, &mut Silent, &mut Nowhere, framing) {
+        Ok(run) => matches!(run.ending, Ending::Done),
+        Err(_) => false,
     }
 }

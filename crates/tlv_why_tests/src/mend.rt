@@ -3,16 +3,27 @@ use crate::expect::expect_of;
 use std::test::Fail;
 use tlv_mend::{
     TextChange, WrongLength, latin1_of_utf8, laws, next_start, text_change, undone_line_ends,
-    undone_utf8, write_remedies, wrong_length,
+    undone_utf8, write_remedies, write_wrong_length, wrong_length,
 };
-use tlv_walk::MemDrain;
+use tlv_walk::{Framing, Inside, MemDrain};
 
 /// The INTEGER at 2 says two octets in place of one.
 const TOO_LONG: &[u8] = b"\x30\x03\x02\x02\x01";
 
+/// An OCTET STRING with an INTEGER that says two octets in place of one.
+const BROKEN_STRING: &[u8] = b"\x04\x03\x02\x02\x01";
+
+/// No string is named.
+fn closed() -> Framing<'static> {
+    Framing {
+        inside: Inside::none(),
+        padding: false,
+    }
+}
+
 #[test]
 fn a_wrong_length_is_found(rt: HostRuntime) -> Result<(), Fail> {
-    let found = wrong_length(rt.alloc(), TOO_LONG, false, &[2, 0])?;
+    let found = wrong_length(rt.alloc(), TOO_LONG, &closed(), &[2, 0])?;
     let want = WrongLength {
         offset: 2,
         said: 2,
@@ -22,15 +33,37 @@ fn a_wrong_length_is_found(rt: HostRuntime) -> Result<(), Fail> {
     expect_of(
         &rt,
         "the holder",
-        wrong_length(rt.alloc(), TOO_LONG, false, &[0])?,
+        wrong_length(rt.alloc(), TOO_LONG, &closed(), &[0])?,
         None,
     );
     expect_of(
         &rt,
         "no header",
-        wrong_length(rt.alloc(), TOO_LONG, false, &[])?,
+        wrong_length(rt.alloc(), TOO_LONG, &closed(), &[])?,
         None,
     );
+    Ok(())
+}
+
+/// The string is read as what it holds.
+#[test]
+fn a_wrong_length_in_a_string_is_found(rt: HostRuntime) -> Result<(), Fail> {
+    let want = WrongLength {
+        offset: 2,
+        said: 2,
+        would: 1,
+    };
+    match Inside::new(&[0]) {
+        Some(inside) => {
+            let framing = Framing {
+                inside,
+                padding: false,
+            };
+            let found = wrong_length(rt.alloc(), BROKEN_STRING, &framing, &[2, 0])?;
+            expect_of(&rt, "named", found, Some(want));
+        }
+        None => expect_of(&rt, "named", "none", "some"),
+    }
     Ok(())
 }
 
@@ -121,7 +154,21 @@ fn remedies_are_written(rt: HostRuntime) -> Result<(), Fail> {
 }
 
 #[test]
+fn a_wrong_length_is_written(rt: HostRuntime) -> Result<(), Fail> {
+    let length = b"If the header at offset 2 said 1 octet and not 2, all would parse.\n";
+    for (candidates, want) in [([2, 0].as_slice(), length.as_slice()), (&[0], b"")] {
+        let mut room = [0; 256];
+        let mut drain = MemDrain::new(&mut room, 5);
+        let sent = write_wrong_length(rt.alloc(), TOO_LONG, &closed(), candidates, &mut drain)?;
+        expect_of(&rt, "line", sent, Ok(()));
+        expect_of(&rt, "line", drain.written(), want);
+    }
+    Ok(())
+}
+
+#[test]
 fn the_laws_may_be_called(_rt: HostRuntime) {
     laws::inputs_have_one_wrong_length();
     laws::other_lengths_make_headers();
+    laws::remedies_are_shown();
 }

@@ -1,7 +1,7 @@
 -- Length octets of an input that are changed in place.
-use Rattle.std.specs.Prelude.{ℕ, Bool, List, ◌++◌, nat_lt, take, drop, slice_range}
+use Rattle.std.specs.Prelude.{ℕ, List, ◌++◌, nat_lt, take, drop, slice_range}
 use Rattle.std.specs.List.{filter}
-use Rattle.tlv_open.specs.Opens.{closed_framing}
+use Rattle.tlv_walk.specs.declared.framing.Framing.{Framing}
 use Rattle.tlv_walk.specs.Reading.{IsSoundList}
 use Rattle.tlv_mend.specs.WrongLength.{length_bound, length_octets_saying}
 
@@ -11,9 +11,8 @@ with_octets_saying start end n octets =
     take start octets ++ (length_octets_saying n (slice_range octets start end) ++ drop end octets)
 
 -- it would be sound
-abbrev pub SoundWithOctets : Bool → ℕ → ℕ → List ℕ → ℕ → Type 0
-SoundWithOctets padding start end octets n =
-    IsSoundList (closed_framing padding) (with_octets_saying start end n octets)
+abbrev pub SoundWithOctets : Framing → ℕ → ℕ → List ℕ → ℕ → Type 0
+SoundWithOctets framing start end octets n = IsSoundList framing (with_octets_saying start end n octets)
 
 -- those of the lengths that so many length octets can say
 abbrev pub sayable : ℕ → List ℕ → List ℕ

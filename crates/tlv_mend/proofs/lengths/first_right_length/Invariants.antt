@@ -8,8 +8,8 @@ abbrev pub invariant-loop-length : goal.invariant-loop-length
 invariant-loop-length l = record {
   copied : l.copy ≡ l.octets;
   first : (found : Option ℕ)
-      → IsFirstOf (SoundWithOctets l.padding l.place.start l.place.end l.octets)
+      → IsFirstOf (SoundWithOctets l.framing l.place.start l.place.end l.octets)
       (sayable (l.place.end - l.place.start) (drop l.length-index l.lengths)) found
-      → IsFirstOf (SoundWithOctets l.padding l.place.start l.place.end l.octets)
+      → IsFirstOf (SoundWithOctets l.framing l.place.start l.place.end l.octets)
       (sayable (l.place.end - l.place.start) l.lengths) found;
 }

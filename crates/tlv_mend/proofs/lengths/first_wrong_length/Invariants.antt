@@ -8,6 +8,6 @@ abbrev pub invariant-loop-candidate : goal.invariant-loop-candidate
 invariant-loop-candidate l = record {
   copied : l.copy ≡ l.octets;
   first : (found : Option WrongLength)
-      → IsFirstWrongLength l.padding l.octets (drop l.candidate-index l.candidates) found
-      → IsFirstWrongLength l.padding l.octets l.candidates found;
+      → IsFirstWrongLength l.framing l.octets (drop l.candidate-index l.candidates) found
+      → IsFirstWrongLength l.framing l.octets l.candidates found;
 }

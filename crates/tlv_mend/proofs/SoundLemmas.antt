@@ -1,0 +1,85 @@
+-- A walk of which nothing is made tells whether octets are sound.
+use Rattle.std.proofs.Common.{◌≡◌, ◌≤◌, ℕ, List, [], ◌∷◌, ◌++◌, length, take, false, refl, sym, ap, ◌∙◌, subst, arith}
+use Rattle.std.proofs.Common.{append-nil, length-append}
+use Rattle.std.proofs.lemmas.List.{take_all}
+use Rattle.std.specs.Prelude.{◌↔◌, Some, Result, Ok, Err}
+use Rattle.tlv_head.specs.InputLimit.{input_limit}
+use Rattle.tlv_io.specs.Device.{DrainState, SourceState, failures_after, new_source, octets_given}
+use Rattle.tlv_run.proofs.KnownDevices.{at_end, left_of, take_prefix}
+use Rattle.tlv_walk.specs.declared.ending.Ending.{Ending}
+use Rattle.tlv_walk.specs.declared.ending.Ending.TheVariants as ending
+use Rattle.tlv_walk.specs.declared.framing.Framing.{Framing}
+use Rattle.tlv_walk.specs.declared.run.DeviceFault.{DeviceFault}
+use Rattle.tlv_walk.specs.declared.run.Run.{Run}
+use Rattle.tlv_walk.specs.DriveJob.{Drives, drive_job, drive_states}
+use Rattle.tlv_walk.specs.Ending.{IsFinalEnding}
+use Rattle.tlv_walk.specs.Events.{EventValue, events}
+use Rattle.tlv_walk.specs.Follow.{effect_of, had_enough}
+use Rattle.tlv_walk.specs.Forest.{Forest}
+use Rattle.tlv_walk.specs.Job.{ComesTo, Job, at_enough, at_fault, at_input_end, drain_result, read_failed}
+use Rattle.tlv_walk.specs.Job.{source_result, too_long, write_failed}
+use Rattle.tlv_walk.specs.Reading.{IsSoundList}
+use Rattle.tlv_mend.specs.Private.Silence.{silent_step}
+
+-- there is never enough
+never-enough : {S : Type 0} (s : S) (es : List EventValue) → had_enough (effect_of silent_step s es).goes ≡ false
+never-enough s [] = refl
+never-enough s (e ∷ es) = never-enough s es
+
+-- a run that ended with whole encodings
+abbrev pub IsDone : Result Run DeviceFault → Type 0
+IsDone (Ok run) = run.ending ≡ ending.Done
+IsDone (Err e) = ⊥
+
+module _ {S : Type 0} (framing : Framing) (octets : List ℕ) (few : length octets ≤ input_limit) (before : S) where
+  abbrev job : Job Run
+  job = drive_job silent_step framing input_limit before
+
+  ending-is : (f : Forest) (e : Ending) → (job.result f e).ending ≡ e
+  ending-is f e = rw (never-enough before (events f)) refl
+
+  module _ (given left : List ℕ) (all : octets ≡ given ++ left) (f : Forest) (new : SourceState)
+      (left_is : new.left ≡ Some left) where
+    -- an octet is refused: then no input that goes on so is sound
+    refused-unsound : (more : List ℕ) → take input_limit (given ++ left) ≡ take input_limit given ++ more
+        → take input_limit given ++ more ≡ octets
+    refused-unsound more e = sym e ∙ ap (take input_limit) (sym all) ∙ take_all input_limit octets few
+
+    by_end : (result : Result Run DeviceFault) → ComesTo job given f new result
+        → 0 ≡ failures_after (source_result result) 0 → 0 ≡ failures_after (drain_result result) 0
+        → IsDone result ↔ IsSoundList framing octets
+    by_end _ (at_enough k) r w =
+        let other : job.is_enough f ≡ false = never-enough before (events f) in
+        absurd (cc (k, other))
+    by_end _ (at_fault e k final) r w =
+        let more = take_prefix input_limit given left in (
+          (λ d. absurd (subst IsFinalEnding (sym (ending-is f e) ∙ d) final)),
+          (λ s. absurd (k.ends.soundness.faults_are_right final more.0
+              (subst (IsSoundList framing) (sym (refused-unsound more.0 more.1)) s))),
+        )
+    by_end _ (at_input_end e k last end) r w =
+        let none : left ≡ [] = at_end new.left left left_is end in
+        let whole : octets ≡ given = all ∙ ap (λ (l : List ℕ). given ++ l) none ∙ append-nil given in
+        let read : take input_limit given ≡ octets =
+        ap (take input_limit) (sym whole) ∙ take_all input_limit octets few in (
+          (λ d. subst (IsSoundList framing) read (k.ends.soundness.done_is_sound.0 (sym (ending-is f e) ∙ d))),
+          (λ s. ending-is f e ∙ k.ends.soundness.done_is_sound.1 (subst (IsSoundList framing) (sym read) s)),
+        )
+    by_end _ (read_failed last) r w = absurd (cc (r))
+    by_end _ write_failed r w = absurd (cc (w))
+    by_end _ (too_long many wants) r w =
+        absurd (omega (arith, many, few, ap length all, length-append given left))
+
+  -- whatever the reads give, the run ends so exactly if the octets are sound
+  pub silent-sound : (after : S) (old new : SourceState) (from to : DrainState) (result : Result Run DeviceFault)
+      → old ≡ new_source (Some octets) → new.failures ≡ 0 → from.failures ≡ 0 → to.failures ≡ 0
+      → Drives silent_step framing input_limit (drive_states before old from) (drive_states after new to) result
+      → IsDone result ↔ IsSoundList framing octets
+  silent-sound after old new from to result o n f t d =
+      let given : List ℕ = octets_given d.runs.pieces in
+      let known : old.left ≡ Some octets = ap (λ (s : SourceState). s.left) o in
+      let quiet : old.failures ≡ 0 = ap (λ (s : SourceState). s.failures) o in
+      let left = left_of old.left new.left octets given known d.runs.pieces.consumed in
+      by_end given left.0 left.2 d.runs.reading new left.1 result d.runs.comes
+      (sym n ∙ d.runs.failures ∙ ap (failures_after (source_result result)) quiet)
+      (sym t ∙ d.runs.sends.failures ∙ ap (failures_after (drain_result result)) f)
