@@ -1,3 +1,6 @@
 pub mod Items
 pub mod BlockSteps
 pub mod InputBlockLemmas
+pub mod NamedOffsets
+pub mod ReasonSteps
+pub mod ShownLemmas

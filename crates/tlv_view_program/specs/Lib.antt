@@ -2,7 +2,9 @@ pub mod Streams
 pub mod Lines
 pub mod Notes
 pub mod InputBlocks
+pub mod WritesReasons
 pub mod Reasons
 pub mod ShowsBlock
 pub mod ShowsAll
+pub mod ShownLines
 pub mod Private

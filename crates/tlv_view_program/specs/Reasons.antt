@@ -1,7 +1,5 @@
 -- What is written of octets with `--why`: whether they parse, and if not, why, and what may be done.
-use Rattle.std.specs.Prelude.{◌++◌, ⊤, ℕ, Bool, true, false, List, [], ◌∷◌, Option, Some, None, Result, Ok, Err}
-use Rattle.std.specs.Prelude.{codes, map}
-use Rattle.std.specs.Result.{IsErr}
+use Rattle.std.specs.Prelude.{◌≡◌, ◌≢◌, ◌++◌, ⊤, ℕ, Bool, List, [], ◌∷◌, None, Ok, Err, codes}
 use Rattle.tlv_io.specs.Device.{DrainState}
 use Rattle.tlv_io.specs.Out.{Sends}
 use Rattle.tlv_io.specs.declared.drain.WriteFault.{WriteFault}
@@ -9,17 +7,17 @@ use Rattle.tlv_walk.specs.declared.run.DeviceFault.TheVariants.{WriteFailed}
 use Rattle.tlv_value.specs.Names.{NamesValue}
 use Rattle.tlv_show.specs.declared.rules.Rules.{Rules}
 use Rattle.tlv_show.specs.declared.rules.Rules.TheVariants.{Ber, Der}
+use Rattle.tlv_open.specs.Opens.{closed_framing}
 use Rattle.tlv_open.specs.declared.strings.BrokenString.{BrokenString}
 use Rattle.tlv_run.specs.Report.{ReportValue, device_report, report_with}
-use Rattle.tlv_mend.specs.Remedies.{AreRemedies}
 use Rattle.tlv_why.specs.Facts.{AreFacts}
-use Rattle.tlv_why.specs.Why.{WritesWhy}
-use Rattle.tlv_why.specs.declared.element.Element.{Element}
+use Rattle.tlv_why.specs.Why.{why_lines}
 use Rattle.tlv_why.specs.declared.facts.Facts.{Facts}
 use Rattle.tlv_view.specs.ReadWhole.{input_report}
 use Rattle.tlv_view.specs.declared.input.InputFault.TheVariants.{Memory}
 use Rattle.tlv_view.specs.Views.{AreBrokenUnless, Views}
 use Rattle.tlv_view.specs.declared.view_call.View.TheVariants as view
+use Rattle.tlv_view_program.specs.WritesReasons.{ExplainsFirst, ExplainsOctets, Outcome}
 
 -- ---- octets that parse
 
@@ -43,46 +41,40 @@ findings_line ber der =
     (codes "By the rules of BER: " ++ findings_words ber)
     ++ (codes ". By those of DER: " ++ findings_words der) ++ codes ".\n"
 
--- ---- octets that do not parse
-
-abbrev pub offset_there : Option Element → List ℕ
-offset_there None = []
-offset_there (Some e) = e.offset ∷ []
-
-abbrev pub element_offset : Element → ℕ
-element_offset e = e.offset
-
--- the headers that may say a wrong length, the nearest to the fault first: the one that is refused, those of the
--- elements before, and those of open elements
-abbrev pub suspect_offsets : Facts → List ℕ
-suspect_offsets facts =
-    (offset_there facts.there ++ facts.nearest.items) ++ map element_offset facts.holders.items
+-- that octets parse and the findings in them, and then why the first of the broken strings breaks: a line for each case
+pub data ExplainsParsing (padding : Bool) (octets : List ℕ) (text : List ℕ) (broken : List BrokenString)
+    (old new : DrainState)
+    : Outcome → Type 0 where
+  -- the first lines cannot be written
+  not_written : (fault : WriteFault) → Sends {T = ⊤} old new text (Err fault)
+      → ExplainsParsing padding octets text broken old new (Ok (Err fault))
+  written : (between : DrainState) (unit : ⊤) (outcome : Outcome) → Sends {E = WriteFault} old between text (Ok unit)
+      → ExplainsFirst padding octets between new broken outcome
+      → ExplainsParsing padding octets text broken old new outcome
 
 -- ---- what is reported
 
--- the status, unless a write failed
-abbrev pub explained_report : ℕ → Result ⊤ WriteFault → ReportValue
-explained_report status (Ok done) = report_with status []
-explained_report status (Err fault) = device_report WriteFailed
+-- the status, unless a write failed, or memory was refused
+abbrev pub explained_report : ℕ → Outcome → ReportValue
+explained_report status (Ok (Ok unit)) = report_with status []
+explained_report status (Ok (Err fault)) = device_report WriteFailed
+explained_report status (Err error) = input_report Memory
 
 -- what is written of octets, what is reported, and which strings in them are reported as broken: a line for each case
 pub data ShowsReasons (closed padding : Bool) (table : NamesValue) (octets : List ℕ) (old new : DrainState)
     : ReportValue → List BrokenString → Type 0 where
-  -- the first lines could not be written
-  not_written : (result : Result Bool WriteFault) → IsErr result → WritesWhy padding octets old new result
-      → ShowsReasons closed padding table octets old new (device_report WriteFailed) []
-  -- they parse
-  parses : (between : DrainState) (ber der : ReportValue) (broken : List BrokenString) (result : Result ⊤ WriteFault)
-      → WritesWhy padding octets old between (Ok true)
+  -- they do not parse: all lines about them, and what may be done
+  refused : (facts : Facts) (outcome : Outcome) → AreFacts (closed_framing padding) octets facts
+      → facts.fault ≢ None → ExplainsOctets padding octets facts (why_lines octets facts) old new outcome
+      → ShowsReasons closed padding table octets old new (explained_report 2 outcome) []
+  -- they parse: that they do, the findings, and why the first of the broken strings breaks
+  parses : (facts : Facts) (ber der : ReportValue) (broken : List BrokenString) (outcome : Outcome)
+      → AreFacts (closed_framing padding) octets facts → facts.fault ≡ None
       → ReportsFindings Ber closed padding table octets ber → ReportsFindings Der closed padding table octets der
       → AreBrokenUnless closed padding octets broken
-      → Sends between new (findings_line ber.message der.message) result
-      → ShowsReasons closed padding table octets old new (explained_report ber.status result) broken
-  -- they do not
-  refused : (between : DrainState) (facts : Facts) (lines : List ℕ) (result : Result ⊤ WriteFault)
-      → WritesWhy padding octets old between (Ok false) → AreFacts padding octets facts
-      → AreRemedies padding octets (suspect_offsets facts) lines → Sends between new lines result
-      → ShowsReasons closed padding table octets old new (explained_report 2 result) []
-  -- memory for what comes after the first lines is refused
-  no_memory : (parses : Bool) → WritesWhy padding octets old new (Ok parses)
+      → ExplainsParsing padding octets (why_lines octets facts ++ findings_line ber.message der.message) broken old new
+      outcome
+      → ShowsReasons closed padding table octets old new (explained_report ber.status outcome) broken
+  -- they parse, and memory for what is to be found in them is refused: nothing is written
+  no_memory : (facts : Facts) → AreFacts (closed_framing padding) octets facts → facts.fault ≡ None → new ≡ old
       → ShowsReasons closed padding table octets old new (input_report Memory) []

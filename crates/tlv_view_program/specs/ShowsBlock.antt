@@ -27,7 +27,10 @@ use Rattle.tlv_view.specs.declared.view_call.View.TheVariants as view
 use Rattle.tlv_view_words.specs.declared.request.Request.{Request}
 use Rattle.tlv_view_words.specs.declared.request.Wanted.{Wanted}
 use Rattle.tlv_view_words.specs.declared.request.Wanted.TheVariants.{Dump, Check, Extract, Offsets, Raw, Why}
+use Rattle.tlv_view_program.specs.declared.reasons.Explained.{Explained}
+use Rattle.tlv_view_program.specs.declared.reasons.Explained.TheVariants as what
 use Rattle.tlv_view_program.specs.Reasons.{ShowsReasons}
+use Rattle.tlv_view_program.specs.WritesReasons.{Outcome, WritesReasons, explained_by}
 use Rattle.tlv_view_program.specs.InputBlocks.{BlockContents, InputBlockValue}
 use Rattle.tlv_view_program.specs.Lines.{MessagePlace, block_line, block_title, placed_line}
 use Rattle.tlv_view_program.specs.Notes.{name_by, note_line}
@@ -180,6 +183,26 @@ pub data ShowsTitled (request : Request) (table : NamesValue) (p : BlockPlace) (
       → ShowsContents request table between new b.contents report broken
       → ShowsTitled request table p b old new report broken
 
+-- ---- reasons
+
+-- what is explained after the messages: nothing, where the octets are written as they are, or reasons are what is shown
+abbrev pub explained_in : Wanted → ReportValue → List BrokenString → Explained
+explained_in Raw report broken = what.Nothing
+explained_in (Why closed) report broken = what.Nothing
+explained_in wanted report broken = explained_by (has_failed_write report) report.status broken
+
+-- the octets of a block
+abbrev pub octets_of_contents : BlockContents → List ℕ
+octets_of_contents (BlockContents.reported report) = []
+octets_of_contents (BlockContents.taken t) = t.block.octets
+
+-- what is reported of the reasons: that memory for them is refused
+abbrev pub reasons_report : Outcome → ReportValue
+reasons_report (Ok result) = report_with 0 []
+reasons_report (Err error) = input_report Memory
+
+-- ---- all of a block
+
 -- the message of a block, and a line for each broken string
 abbrev pub block_messages : MessagePlace → List ℕ → List BrokenString → List ℕ
 block_messages place message broken =
@@ -190,15 +213,31 @@ block_messages place message broken =
 pub record ShowsBlock {S : Type 0} (request : Request) (table : NamesValue) (p : BlockPlace) (b : InputBlockValue)
     (old new : StreamsValue S) (failed : Bool) (status : ℕ)
     : Type 0 where
+  -- the note
   pub noted : Result ⊤ WriteFault
-  pub messages : DrainState
-  pub notes : Sends old.messages messages (contents_note (message_place p b) b.contents) noted
+  pub after_note : DrainState
+  pub notes : Sends old.messages after_note (contents_note (message_place p b) b.contents) noted
+  -- what is shown
   pub report : ReportValue
   pub broken : List BrokenString
   pub output : DrainState
   pub shows : ShowsTitled request table p b old.output output report broken
+  -- the messages
   pub said : Result ⊤ WriteFault
-  pub says : Sends messages new.messages (block_messages (message_place p b) report.message broken) said
+  pub after_messages : DrainState
+  pub says : Sends after_note after_messages (block_messages (message_place p b) report.message broken) said
+  -- the reasons
+  pub outcome : Outcome
+  pub after_reasons : DrainState
+  pub reasons :
+      WritesReasons request.padding (octets_of_contents b.contents) after_messages after_reasons
+      (explained_in request.wanted report broken) outcome
+  -- that memory for them is refused, if it is
+  pub told : Result ⊤ WriteFault
+  pub tells :
+      Sends after_reasons new.messages (block_messages (message_place p b) (reasons_report outcome).message []) told
   pub same : new ≡ record old { output = output; messages = new.messages }
   pub failed_is : failed ≡ has_failed_write report
-  pub status_is : status ≡ contents_status request.wanted b.contents (status_with report.status broken)
+  pub status_is :
+      status ≡ max (contents_status request.wanted b.contents (status_with report.status broken))
+      (reasons_report outcome).status

@@ -9,17 +9,22 @@ ghost use Rattle.tlv_view_program.specs.Private.BlockParts.{place_value};
 ghost use Rattle.tlv_view_program.specs.ShowsBlock.{BlockPlace, ShowsBlock, ShowsContents, ShowsTitled};
 ghost use Rattle.tlv_view_program.specs.ShowsBlock.{contents_name, contents_note};
 ghost use Rattle.tlv_view_program.specs.ShowsBlock.{contents_status, has_failed_write, has_octets, is_undecoded};
-ghost use Rattle.tlv_view_program.specs.ShowsBlock.{message_place, refused_status, status_with, title};
+ghost use Rattle.tlv_view_program.specs.ShowsBlock.{explained_in, message_place, octets_of_contents, refused_status};
+ghost use Rattle.tlv_view_program.specs.ShowsBlock.{status_with, title};
 ghost use Rattle.tlv_view_program.specs.Streams.{streams_value};
+ghost use Rattle.tlv_view_program.specs.WritesReasons.{WritesReasons};
 
+use crate::after_messages::{explained_in, octets_of_contents, reasons_report};
+use crate::files::highest;
 use crate::input_blocks::{Contents, InputBlock, report_without_blocks};
 use crate::lines::{BlockName, write_block_line, write_messages, write_note};
 use crate::notes::block_label;
 use crate::octets::show_octets;
+use crate::reasons::write_explained;
 use crate::streams::Streams;
 use crate::wanted::has_titles;
 use arrayvec::ArrayVec;
-use std::alloc::Global;
+use std::alloc::{AllocError, Global};
 use tlv_open::BrokenString;
 use tlv_program::System;
 use tlv_run::{Report, device_report};
@@ -72,11 +77,37 @@ impl Task<'_> {
             shown.broken.as_slice(),
             &mut streams.messages,
         );
-        let status = status_with(shown.report.status, shown.broken.as_slice());
+        let outcome = self.explained(&block.contents, &shown, &mut streams.messages);
+        let refusal = reasons_report(outcome);
+        let _ = write_messages(name, refusal.message.as_slice(), &[], &mut streams.messages);
+        let shown_status = status_with(shown.report.status, shown.broken.as_slice());
+        let status = contents_status(&self.request.wanted, &block.contents, shown_status);
         BlockResult {
-            status: contents_status(&self.request.wanted, &block.contents, status),
+            status: highest(status, refusal.status),
             has_failed: has_failed_write(&shown.report),
         }
+    }
+
+    /// Writes the reasons that come after the messages.
+    fn explained<D: Drain>(
+        &self,
+        contents: &Contents,
+        shown: &Viewed,
+        drain: &mut D,
+    ) -> Result<Result<(), WriteFault>, AllocError>
+        requires { contents_fit contents.now }
+        ensures { WritesReasons self.now.request.now.padding (octets_of_contents (block_contents contents.now))
+            (D.state drain.old) (D.state drain.new)
+            (explained_in self.now.request.now.wanted (report_value_of shown.now.report) shown.now.broken.items) result }
+    {
+        let explained = explained_in(&self.request.wanted, shown);
+        write_explained(
+            self.alloc,
+            explained,
+            self.request.padding,
+            octets_of_contents(contents),
+            drain,
+        )
     }
 
     /// Writes the line before a block, if there are several, and shows it.
@@ -235,7 +266,7 @@ fn status_with(status: u8, broken: &[BrokenString]) -> u8
 }
 
 /// Whether the report says that a write failed.
-fn has_failed_write(report: &Report) -> bool
+pub(crate) fn has_failed_write(report: &Report) -> bool
     ensures { result ≡ has_failed_write (report_value_of report.now) }
 {
     let failed = device_report(DeviceFault::WriteFailed);

@@ -1,26 +1,23 @@
-//! Why octets do not parse, and what may be done.
-ghost use Rattle.std.specs.Prelude.{◌≡◌, ◌≤◌, ◌+◌, ◌++◌, IfOk, [], length, map};
+//! Why octets do not parse, and what may be done, where that is what is wanted.
+ghost use Rattle.std.specs.Prelude.{◌≡◌, ◌≤◌, ◌++◌, IfOk, [], length};
 ghost use Rattle.tlv_show.specs.declared.rules.Rules.TheVariants.{Ber, Der};
 ghost use Rattle.tlv_head.specs.InputLimit.{input_limit};
 ghost use Rattle.tlv_io.specs.Out.{Puts, Sends};
 ghost use Rattle.tlv_run.specs.Report.{report_value_of};
 ghost use Rattle.tlv_view.specs.Views.{AreBrokenUnless};
-ghost use Rattle.tlv_view_program.specs.Reasons.{ShowsReasons, ReportsFindings, explained_report, findings_line};
-ghost use Rattle.tlv_view_program.specs.Reasons.{element_offset, findings_words, suspect_offsets};
+ghost use Rattle.tlv_why.specs.Why.{why_lines};
+ghost use Rattle.tlv_view_program.specs.Reasons.{ExplainsParsing, ShowsReasons, ReportsFindings};
+ghost use Rattle.tlv_view_program.specs.Reasons.{explained_report, findings_line, findings_words};
 
 use crate::octets::no_memory;
+use crate::reasons::{closed_facts, explain_first, explain_octets};
 use crate::silent::SilentDrain;
-use arrayvec::ArrayVec;
 use std::alloc::{AllocError, Global};
-use tlv_mend::write_remedies;
 use tlv_run::{Report, device_report};
 use tlv_show::{FiniteNames, Rules};
-use tlv_view::{View, Viewed, view_octets};
+use tlv_view::{InputFault, View, Viewed, input_report, view_octets};
 use tlv_walk::{DeviceFault, Drain, Out, WriteFault};
-use tlv_why::{Element, Facts, facts_of, write_why};
-
-/// How many headers may be looked at: one that is refused, those of open elements, and those of elements before.
-const SUSPECTS: usize = 154;
+use tlv_why::{Facts, write_why};
 
 /// The findings in octets that parse.
 #[derive(Drop)]
@@ -44,28 +41,58 @@ pub(crate) fn explain<N: FiniteNames, D: Drain>(
     ensures { ShowsReasons closed padding (N.table names.now) octets.now (D.state drain.old) (D.state drain.new)
         (report_value_of result.report) result.broken.items }
 {
-    match write_why(octets, padding, drain) {
-        Ok(true) => match findings_in(alloc, closed, padding, names, octets) {
-            Ok(found) => {
-                let ber = found.ber.report.message.as_slice();
-                let der = found.der.message.as_slice();
-                let written = write_findings(ber, der, drain);
-                Viewed {
-                    report: explained_report(found.ber.report.status, written),
-                    broken: found.ber.broken,
-                }
-            }
-            Err(_) => no_memory(alloc),
-        },
-        Ok(false) => {
-            let suspects = suspect_offsets(&facts_of(octets, padding));
-            match write_remedies(alloc, octets, padding, suspects.as_slice(), drain) {
-                Ok(written) => without_strings(alloc, explained_report(2, written)),
-                Err(_) => no_memory(alloc),
-            }
-        }
-        Err(_) => without_strings(alloc, device_report(DeviceFault::WriteFailed)),
+    let facts = closed_facts(octets, padding);
+    if facts.fault.is_some() {
+        let outcome = explain_octets(alloc, padding, octets, &facts, drain);
+        return without_strings(alloc, explained_report(2, outcome));
     }
+    let Ok(found) = findings_in(alloc, closed, padding, names, octets) else {
+        return no_memory(alloc);
+    };
+    let outcome = explain_parsing(alloc, padding, octets, &facts, &found, drain);
+    Viewed {
+        report: explained_report(found.ber.report.status, outcome),
+        broken: found.ber.broken,
+    }
+}
+
+/// Writes that octets parse and which findings are in them, and then why the first of the broken strings breaks.
+fn explain_parsing<D: Drain>(
+    alloc: Global,
+    padding: bool,
+    octets: &[u8],
+    facts: &Facts,
+    found: &Found,
+    drain: &mut D,
+) -> Result<Result<(), WriteFault>, AllocError>
+    requires { length octets.now ≤ input_limit }
+    ensures { ExplainsParsing padding octets.now (why_lines octets.now facts.now
+        ++ findings_line (report_value_of found.now.ber.report).message (report_value_of found.now.der).message)
+        found.now.ber.broken.items (D.state drain.old) (D.state drain.new) result }
+{
+    match write_parsing(octets, facts, found, drain) {
+        Ok(()) => explain_first(alloc, padding, octets, found.ber.broken.as_slice(), drain),
+        Err(fault) => Ok(Err(fault)),
+    }
+}
+
+/// Writes that octets parse, and which findings are in them.
+#[tactic(auto, using(tlv_io::proofs::Sends::sends))]
+fn write_parsing<D: Drain>(
+    octets: &[u8],
+    facts: &Facts,
+    found: &Found,
+    drain: &mut D,
+) -> Result<(), WriteFault>
+    ensures { Sends (D.state drain.old) (D.state drain.new) (why_lines octets.now facts.now
+        ++ findings_line (report_value_of found.now.ber.report).message (report_value_of found.now.der).message) result }
+{
+    write_why(octets, facts, drain)?;
+    write_findings(
+        found.ber.report.message.as_slice(),
+        found.der.message.as_slice(),
+        drain,
+    )
 }
 
 /// The findings by the rules of BER and of DER, and which strings are broken.
@@ -143,38 +170,14 @@ fn findings_words(message: &[u8]) -> &[u8]
     }
 }
 
-/// The headers that may say a wrong length, the nearest to the fault first.
-fn suspect_offsets(facts: &Facts) -> ArrayVec<usize, SUSPECTS>
-    ensures { result.items ≡ suspect_offsets facts.now }
+/// The status, unless a write failed, or memory was refused.
+fn explained_report(status: u8, outcome: Result<Result<(), WriteFault>, AllocError>) -> Report
+    ensures { report_value_of result ≡ explained_report status outcome }
 {
-    let mut offsets = ArrayVec::new();
-    if let Some(element) = facts.there {
-        offsets.push(element.offset as usize);
-    }
-    for offset in facts.nearest.as_slice() {
-        offsets.push(*offset as usize);
-    }
-    add_offsets(facts.holders.as_slice(), &mut offsets);
-    offsets
-}
-
-/// Adds the offsets of elements to a list that has room for them.
-fn add_offsets(elements: &[Element], offsets: &mut ArrayVec<usize, SUSPECTS>)
-    requires { length offsets.old.items + length elements.now ≤ 154 }
-    ensures { offsets.new.items ≡ offsets.old.items ++ map element_offset elements.now }
-{
-    for element in elements {
-        offsets.push(element.offset as usize);
-    }
-}
-
-/// The status, unless a write failed.
-fn explained_report(status: u8, written: Result<(), WriteFault>) -> Report
-    ensures { report_value_of result ≡ explained_report status written }
-{
-    match written {
-        Ok(()) => Report::without_message(status),
-        Err(_) => device_report(DeviceFault::WriteFailed),
+    match outcome {
+        Ok(Ok(())) => Report::without_message(status),
+        Ok(Err(_)) => device_report(DeviceFault::WriteFailed),
+        Err(_) => input_report(InputFault::Memory),
     }
 }
 

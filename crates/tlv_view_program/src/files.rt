@@ -64,7 +64,7 @@ fn show_blocks<S: System, I: Source, O: Drain, M: Drain>(
 }
 
 /// The higher of two statuses.
-fn highest(status: u8, other: u8) -> u8
+pub(crate) fn highest(status: u8, other: u8) -> u8
     ensures { result ≡ max status other }
 {
     status.max(other)

@@ -2,14 +2,17 @@
 //! prints.
 #![tactic(auto)]
 
+mod after_messages;
 mod block;
 mod explain;
 mod files;
 mod input_blocks;
+pub mod laws;
 mod lines;
 mod names;
 mod notes;
 mod octets;
+mod reasons;
 mod show_call;
 mod silent;
 mod streams;

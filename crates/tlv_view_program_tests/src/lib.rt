@@ -4,6 +4,8 @@
 #[cfg(test)]
 mod expect;
 #[cfg(test)]
+mod reasons;
+#[cfg(test)]
 mod row;
 #[cfg(test)]
 mod rows;

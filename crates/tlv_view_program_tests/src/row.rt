@@ -34,7 +34,7 @@ pub(crate) const NOTHING: ShowRow<'static> = ShowRow {
     places: &["names"],
     typed: false,
     can_print: true,
-    room: 512,
+    room: 1024,
     asked: b"",
     written: b"",
     said: b"",
@@ -65,15 +65,15 @@ pub(crate) fn expect_run(
     places: &FileNames,
     row: &ShowRow<'_>,
 ) {
-    let mut output_room = [0; 512];
-    let mut message_room = [0; 512];
+    let mut output_room = [0; 1024];
+    let mut message_room = [0; 1024];
     let mut streams = Streams {
         system: MemSystem {
             can_print: row.can_print,
             asked: ArrayVec::new(),
         },
         input: MemSource::new(INPUT, &[], None),
-        output: MemDrain::new(&mut output_room[..row.room.min(512)], 4096),
+        output: MemDrain::new(&mut output_room[..row.room.min(1024)], 4096),
         messages: MemDrain::new(&mut message_room, 4096),
     };
     let status = run_show(alloc, words, places, row.typed, &mut streams);

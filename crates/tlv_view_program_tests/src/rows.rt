@@ -95,34 +95,6 @@ fn several_files_are_shown(rt: HostRuntime) -> Result<(), Fail> {
     expect_rows(&rt, rt.alloc(), &rows)
 }
 
-/// A broken string has a line, and the status is then 1 at least.
-#[test]
-fn broken_strings_are_named(rt: HostRuntime) -> Result<(), Fail> {
-    let line = b"broken: string at 7 is the value of an extension and breaks at 10: \
-        F11 element runs past the enclosing length\n";
-    let rows = [
-        ShowRow {
-            words: &["--check", "broken"],
-            asked: b"b;",
-            said: line,
-            status: 1,
-            ..NOTHING
-        },
-        ShowRow {
-            words: &["--check", "--closed", "broken"],
-            asked: b"b;",
-            ..NOTHING
-        },
-        ShowRow {
-            words: &["--offset", "0", "--contents", "broken"],
-            asked: b"b;",
-            written: b"\x06\x03\x55\x1d\x0f\x04\x03\x03\x02\x05",
-            ..NOTHING
-        },
-    ];
-    expect_rows(&rt, rt.alloc(), &rows)
-}
-
 /// The first of words and names that is refused is said, and nothing is asked for after it.
 #[test]
 fn first_refusal_is_said(rt: HostRuntime) -> Result<(), Fail> {

@@ -5,16 +5,17 @@ use arrayvec::ArrayVec;
 use tlv_program::System;
 use tlv_walk::MemSource;
 
-/// The files: a NULL, a string that holds one, a string that is broken, text, names, and names that are refused. Then
-/// texts: a NULL and an INTEGER in PEM, an INTEGER that is encrypted, one that is refused in line 2, one in
+/// The files: a NULL, a string that holds one, a string that is broken, an INTEGER with a wrong length, text, names, and
+/// names that are refused. Then texts: a NULL and an INTEGER in PEM, an INTEGER that is encrypted, one that is refused in line 2, one in
 /// hexadecimal, and a letter.
-static FILES: [(&str, &[u8]); 11] = [
+static FILES: [(&str, &[u8]); 12] = [
     ("null", b"\x05\x00"),
     ("string", b"\x04\x02\x05\x00"),
     (
         "broken",
         b"\x30\x0a\x06\x03\x55\x1d\x0f\x04\x03\x03\x02\x05",
     ),
+    ("damaged", b"\x30\x03\x02\x02\x01"),
     ("text", b"\x80\x03abc"),
     ("names", b"2.5.29.15 keyUsage\n"),
     ("bad names", b"1.40 word\n"),

@@ -23,7 +23,8 @@ for is reported on standard error.
 
 With --check the findings alone are shown, with --offset the octets of one element are
 written, with --offsets the offsets of the strings that are opened, with --raw the decoded
-octets, and with --why the reasons why the input does not parse.";
+octets, and with --why the reasons why the input does not parse. Otherwise they follow a
+fault on standard error.";
 
 pub(super) const AFTER: &str = "\
 Examples:

@@ -1,6 +1,6 @@
 use Rattle.std.proofs.Common.{◌≡◌, ◌++◌, map, take}
-use Rattle.tlv_view_program.specs.Reasons.{element_offset}
-use Rattle.tlv_view_program.proofs.explain.add_offsets.Given as goal
+use Rattle.tlv_view_program.specs.WritesReasons.{element_offset}
+use Rattle.tlv_view_program.proofs.reasons.add_offsets.Given as goal
 
 abbrev pub invariant-loop-element : goal.invariant-loop-element
 invariant-loop-element l =

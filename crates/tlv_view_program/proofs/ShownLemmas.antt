@@ -1,0 +1,14 @@
+pub mod ShownLabels
+pub mod ShownTaken
+pub mod ShownNotes
+pub mod ShownReports
+pub mod ShownReasons
+pub mod ShownMessages
+pub mod ShownUsage
+pub mod ShownInputs
+pub mod ShownRuns
+pub mod ShownLists
+pub mod ShownText
+pub mod ShownValues
+pub mod ShownNames
+pub mod ShownDumps

@@ -1,0 +1,263 @@
+-- The lines of a dump are printable ASCII.
+use Rattle.std.proofs.Common.{◌<◌, inl, inr, ℕ, ◌+◌, ◌*◌, ◌&&◌, Bool, true, false, eqb}
+use Rattle.std.proofs.Common.{List, [], ◌∷◌, ◌++◌, Option, Some, None, refl, subst, sym, take}
+use Rattle.std.specs.Prelude.{codes, decimal, flat_map, if◌then◌else◌, nat_lt}
+use Rattle.std.specs.FinMap as finite
+use Rattle.std.specs.List.{All}
+use Rattle.std.specs.Option.{option_map_or}
+use Rattle.std.specs.Io.KnownBytes.{Consumes}
+use Rattle.std.proofs.lemmas.Bool.{cases_Bool}
+use Rattle.std.proofs.lemmas.List.Elements.{All-append, All-cons, All-head, All-map, All-nil, All-tail, All-take}
+use Rattle.tlv_head.specs.InputLimit.{input_limit}
+use Rattle.tlv_head.specs.Header.{HeaderValue, announced_length, octets_of}
+use Rattle.tlv_head.specs.Tag.{tag_text}
+use Rattle.tlv_head.specs.declared.header.Class.{Class}
+use Rattle.tlv_head.specs.declared.header.Size.{Size}
+use Rattle.tlv_head.specs.declared.header.Size.TheVariants.{Definite, Indefinite}
+use Rattle.tlv_io.specs.Device.{octets_given}
+use Rattle.tlv_walk.specs.Events.{end_octets_offset}
+use Rattle.tlv_walk.specs.Forest.{Forest, end_octets, opening, spelling}
+use Rattle.tlv_walk.specs.Forest.{Holder, NoMore, OpenBitString, OpenEndOctets, OpenHeader, OpenHolder, OpenPrimitive}
+use Rattle.tlv_walk.specs.Forest.{PaddingOctet, Primitive}
+use Rattle.tlv_walk.specs.Reading.{AreOctets}
+use Rattle.tlv_value.specs.declared.finding.Finding.{Finding}
+use Rattle.tlv_value.specs.declared.kind.Kind.{Kind}
+use Rattle.tlv_value.specs.declared.layout.Layout.{Layout}
+use Rattle.tlv_value.specs.Finding.{finding_code, finding_text}
+use Rattle.tlv_value.specs.Layout.{blank_columns, columns, inner_line, line, line_margin, margin, row_by_limit}
+use Rattle.tlv_value.specs.Layout.{row_line, spaces}
+use Rattle.tlv_value.specs.Value.{NameOf, Value, is_long, row_text, whole_value}
+use Rattle.tlv_value.specs.ValueLines.{element_line, element_prefix, has_line, header_kind, open_lines_with}
+use Rattle.tlv_value.specs.ValueLines.{row_lines, value_lines, whole_lines_with}
+use Rattle.tlv_show.specs.DumpJob.{top_layout}
+use Rattle.tlv_show.specs.HolderLines.{closing_line, dump_opening_line, opening_word, padding_line}
+use Rattle.tlv_show.specs.HolderLines.{size_text, text_line}
+use Rattle.tlv_show.specs.Items.{ClosingLine, FindingAt, Item, OpenPrimitiveLines, OpeningLine, PaddingLine}
+use Rattle.tlv_show.specs.Items.{PrimitiveLines, contents_items, end_items, finding_items, header_items, headers}
+use Rattle.tlv_show.specs.Items.{items}
+use Rattle.tlv_show.specs.Conditions.{segments_of, surroundings_of}
+use Rattle.tlv_show.specs.ShownFindings.{contents_findings, end_findings, header_findings}
+use Rattle.tlv_show.specs.Site.{Site, is_padding, site_after_holder, site_after_padding, site_after_primitive}
+use Rattle.tlv_show.specs.Site.{site_of_children, top_site}
+use Rattle.tlv_show.specs.Texts.{dump_finding_line, item_text, layout_at}
+use Rattle.tlv_show.specs.declared.rules.Rules.{Rules}
+use Rattle.tlv_open.specs.Laws.{opened_framing}
+use Rattle.tlv_view.specs.Views.{dump_options}
+use Rattle.tlv_why.specs.Laws.{AreShown}
+use Rattle.tlv_why.proofs.ShownLemmas.ShownWords.{decimal-shown}
+use Rattle.tlv_view_program.specs.ShownLines.{DumpsAreShown}
+use Rattle.tlv_view_program.proofs.ShownLemmas.ShownLabels.{joined-shown}
+use Rattle.tlv_view_program.proofs.ShownLemmas.ShownLists.{wording-shown}
+use Rattle.tlv_view_program.proofs.ShownLemmas.ShownReasons.{sends-shown}
+use Rattle.tlv_view_program.proofs.ShownLemmas.ShownText.{columns-shown, flat-shown, left-octets, right-octets}
+use Rattle.tlv_view_program.proofs.ShownLemmas.ShownText.{spaces-shown, tag-shown}
+use Rattle.tlv_view_program.proofs.ShownLemmas.ShownValues.{AreShownNames, IsShownValue, long-shown, row-shown}
+use Rattle.tlv_view_program.proofs.ShownLemmas.ShownValues.{whole-shown}
+
+-- ---- lines
+
+margin-shown : (pure : Bool) (first : List ℕ) (level : ℕ) → AreShown first → AreShown (margin pure first level)
+margin-shown true first level shown = spaces-shown (2 * level)
+margin-shown false first level shown = joined-shown first (spaces (2 * level)) shown (spaces-shown (2 * level))
+
+line-shown : (pure : Bool) (first : List ℕ) (level : ℕ) (text : List ℕ) → AreShown first → AreShown text
+    → AreShown (line pure first level text)
+line-shown pure first level text f t =
+    joined-shown (margin pure first level ++ text) (10 ∷ [])
+    (joined-shown (margin pure first level) text (margin-shown pure first level f) t) refl
+
+text_line-shown : (layout : Layout) (first text : List ℕ) → AreShown first → AreShown text
+    → AreShown (text_line layout first text)
+text_line-shown layout first text f t = line-shown layout.pure first layout.level text f t
+
+inner-shown : (layout : Layout) (text : List ℕ) → AreShown text → AreShown (inner_line layout text)
+inner-shown layout text t = line-shown layout.pure blank_columns (layout.level + 1) text refl t
+
+limited-shown : (layout : Layout) (limit : Option ℕ) (i : ℕ) (text : List ℕ) → AreShown text
+    → AreShown (option_map_or (inner_line layout) (row_by_limit limit i text) [])
+limited-shown layout None i text t = inner-shown layout text t
+limited-shown layout (Some limit) i text t = elim (cases_Bool (nat_lt i limit)) [
+  | inl below ↦ rw below (inner-shown layout text t)
+  | inr above ↦
+      rw above
+      (elim (cases_Bool (eqb i limit)) [
+        | inl same ↦ rw same (inner-shown layout (codes "...") refl)
+        | inr over ↦ rw over refl
+      ])
+]
+
+rows-shown : (with_text : Bool) (k : Kind) (layout : Layout) (i : ℕ) (rows : List (List ℕ))
+    → All (λ (row : List ℕ). AreOctets row) rows → AreShown (row_lines with_text k layout i rows)
+rows-shown with_text k layout i [] all = refl
+rows-shown with_text k layout i (row ∷ rows) all =
+    joined-shown (row_line layout i (row_text with_text k row)) (row_lines with_text k layout (i + 1) rows)
+    (limited-shown layout layout.limit i (row_text with_text k row)
+    (row-shown with_text k row (All-head (λ (r : List ℕ). AreOctets r) row rows all)))
+    (rows-shown with_text k layout (i + 1) rows (All-tail (λ (r : List ℕ). AreOctets r) row rows all))
+
+element-shown : (layout : Layout) (offset : ℕ) (class : Class) (number size : ℕ) (text : List ℕ) → AreShown text
+    → AreShown (element_line layout offset class number size text)
+element-shown layout offset class number size text t =
+    joined-shown (element_prefix layout offset class number size ++ text) (10 ∷ [])
+    (joined-shown (element_prefix layout offset class number size) text
+    (joined-shown (line_margin layout (columns offset (decimal size))) (tag_text class number)
+    (margin-shown layout.pure (columns offset (decimal size)) layout.level
+    (columns-shown offset (decimal size) (decimal-shown size))) (tag-shown class number)) t) refl
+
+value-shown : (with_text : Bool) (h : HeaderValue) (layout : Layout) (v : Value) → IsShownValue v
+    → AreShown (value_lines with_text h layout v)
+value-shown with_text h layout v shown =
+    joined-shown (element_line layout h.offset h.class h.number (announced_length h.size) v.text)
+    (row_lines with_text (header_kind h) layout 0 v.rows)
+    (element-shown layout h.offset h.class h.number (announced_length h.size) v.text shown.text)
+    (rows-shown with_text (header_kind h) layout 0 v.rows shown.rows)
+
+whole_lines-shown : (with_text : Bool) (name_of : NameOf) (h : HeaderValue) (layout : Layout) (c : List ℕ)
+    → AreShownNames name_of → AreOctets c → AreShown (whole_lines_with with_text name_of h layout c)
+whole_lines-shown with_text name_of h layout c names o =
+    value-shown with_text h layout (whole_value with_text name_of (header_kind h) c)
+    (whole-shown with_text name_of (header_kind h) c names o)
+
+open_lines-shown : (with_text : Bool) (h : HeaderValue) (layout : Layout) (c : List ℕ) → AreOctets c
+    → AreShown (open_lines_with with_text h layout c)
+open_lines-shown with_text h layout c o =
+    elim (cases_Bool (is_long (header_kind h) (announced_length h.size) && has_line (header_kind h) c)) [
+      | inl known ↦
+          rw known
+          (value-shown with_text h layout _ (long-shown false (header_kind h) (announced_length h.size) c o))
+      | inr unknown ↦ rw unknown refl
+    ]
+
+size-shown : (size : Size) → AreShown (size_text size)
+size-shown (Definite n) = decimal-shown n
+size-shown Indefinite = refl
+
+word-shown : (constructed : Bool) → AreShown (opening_word constructed)
+word-shown true = refl
+word-shown false = refl
+
+opening-shown : (layout : Layout) (h : HeaderValue) → AreShown (dump_opening_line layout h)
+opening-shown layout h =
+    text_line-shown layout (columns h.offset (size_text h.size))
+    (tag_text h.class h.number ++ opening_word h.constructed)
+    (columns-shown h.offset (size_text h.size) (size-shown h.size))
+    (joined-shown (tag_text h.class h.number) (opening_word h.constructed) (tag-shown h.class h.number)
+    (word-shown h.constructed))
+
+closing-shown : (layout : Layout) (offset : Option ℕ) → AreShown (closing_line layout offset)
+closing-shown layout None = text_line-shown layout blank_columns (codes "}") refl refl
+closing-shown layout (Some offset) =
+    text_line-shown layout (columns offset (codes "end")) (codes "}") (columns-shown offset (codes "end") refl) refl
+
+padding-shown : (layout : Layout) (offset : ℕ) → AreShown (padding_line layout offset)
+padding-shown layout offset =
+    text_line-shown layout (columns offset (codes "pad")) (codes "padding")
+    (columns-shown offset (codes "pad") refl) refl
+
+finding_in-shown : (pure : Bool) (limit : Option ℕ) (level offset : ℕ) (f : Finding)
+    → AreShown (dump_finding_line (record { level = level; limit = limit; pure = pure }) offset f)
+finding_in-shown true limit level offset f = refl
+finding_in-shown false limit level offset f =
+    line-shown false (columns offset (finding_code f)) level (finding_text f)
+    (columns-shown offset (finding_code f) (wording-shown f).0) (wording-shown f).1
+
+-- ---- items
+
+-- the contents of a primitive are octets
+abbrev pub IsOfOctets : Item → Type 0
+IsOfOctets (PrimitiveLines level h c) = AreOctets c
+IsOfOctets (OpenPrimitiveLines level h c) = AreOctets c
+IsOfOctets item = Unit {0}
+
+item-shown : (with_text : Bool) (name_of : NameOf) (layout : Layout) (item : Item) → AreShownNames name_of
+    → IsOfOctets item → AreShown (item_text with_text name_of layout item)
+item-shown with_text name_of layout (FindingAt level offset f) names o =
+    finding_in-shown layout.pure layout.limit level offset f
+item-shown with_text name_of layout (OpeningLine level h) names o = opening-shown (layout_at layout level) h
+item-shown with_text name_of layout (ClosingLine level offset) names o = closing-shown (layout_at layout level) offset
+item-shown with_text name_of layout (PrimitiveLines level h c) names o =
+    whole_lines-shown with_text name_of h (layout_at layout level) c names o
+item-shown with_text name_of layout (OpenPrimitiveLines level h c) names o =
+    open_lines-shown with_text h (layout_at layout level) c o
+item-shown with_text name_of layout (PaddingLine level offset) names o = padding-shown (layout_at layout level) offset
+
+findings-of : (level offset : ℕ) (findings : List Finding) → All IsOfOctets (finding_items level offset findings)
+findings-of level offset findings = All-map IsOfOctets (FindingAt level offset) findings (λ k d less. tt)
+
+none-of : All IsOfOctets []
+none-of = All-nil IsOfOctets
+
+padding-of : (before : Bool) (level offset : ℕ) → All IsOfOctets (if before then [] else PaddingLine level offset ∷ [])
+padding-of true level offset = none-of
+padding-of false level offset = All-cons IsOfOctets (PaddingLine level offset) [] tt none-of
+
+module _ (rules : Rules) where
+  header-of : (s : Site) (h : HeaderValue) (more : List Item) → All IsOfOctets more
+      → All IsOfOctets (header_items rules s h ++ more)
+  header-of s h more all =
+      All-append IsOfOctets (header_items rules s h) more
+      (findings-of s.level h.offset (header_findings rules (surroundings_of s) h)) all
+
+  items-of : (s : Site) (f : Forest) → AreOctets (spelling f) → All IsOfOctets (items rules s f)
+  items-of s (PaddingOctet rest) o =
+      All-append IsOfOctets (if is_padding s.previous then [] else PaddingLine s.level s.offset ∷ []) _
+      (padding-of (is_padding s.previous) s.level s.offset)
+      (items-of (site_after_padding s) rest (right-octets (0 ∷ []) (spelling rest) o))
+  items-of s (Primitive h c rest) o =
+      let after : AreOctets (c ++ spelling rest) = right-octets (octets_of h) (c ++ spelling rest) o in
+      header-of s h _
+      (All-cons IsOfOctets (PrimitiveLines s.level h c) _ (left-octets c (spelling rest) after)
+      (All-append IsOfOctets (contents_items rules s h c) _
+      (findings-of s.level h.offset (contents_findings rules h c))
+      (items-of (site_after_primitive s h c) rest (right-octets c (spelling rest) after))))
+  items-of s (Holder h children rest) o =
+      let after : AreOctets (spelling children ++ (end_octets h.size ++ spelling rest)) =
+      right-octets (opening h) (spelling children ++ (end_octets h.size ++ spelling rest)) o in
+      header-of s h _
+      (All-cons IsOfOctets (OpeningLine s.level h) _ tt
+      (All-append IsOfOctets (items rules (site_of_children s h) children) _
+      (items-of (site_of_children s h) children
+      (left-octets (spelling children) (end_octets h.size ++ spelling rest) after))
+      (All-cons IsOfOctets
+      (ClosingLine s.level (if h.constructed then end_octets_offset h children else None)) _ tt
+      (All-append IsOfOctets (end_items rules s h children) _
+      (findings-of s.level h.offset (end_findings rules (segments_of h (headers children))))
+      (items-of (site_after_holder s h children) rest
+      (right-octets (end_octets h.size) (spelling rest)
+      (right-octets (spelling children) (end_octets h.size ++ spelling rest) after)))))))
+  items-of s (OpenPrimitive h c) o =
+      header-of s h _
+      (All-cons IsOfOctets (OpenPrimitiveLines s.level h c) [] (right-octets (octets_of h) c o) none-of)
+  items-of s (OpenHolder h children) o =
+      header-of s h _
+      (All-cons IsOfOctets (OpeningLine s.level h) _ tt
+      (items-of (site_of_children s h) children (right-octets (opening h) (spelling children) o)))
+  items-of s (OpenBitString h) o =
+      header-of s h _ (All-cons IsOfOctets (OpeningLine s.level h) [] tt none-of)
+  items-of s NoMore o = none-of
+  items-of s (OpenHeader octets) o = none-of
+  items-of s OpenEndOctets o = none-of
+
+-- ---- views
+
+given-octets : (octets given : List ℕ) (left : Option (List ℕ)) → AreOctets octets → Consumes (Some octets) left given
+    → AreOctets given
+given-octets octets given (Some rest) o is =
+    left-octets given rest (subst (λ (l : List ℕ). AreOctets l) is o)
+given-octets octets given None o is = absurd is
+
+pub dumps-shown : DumpsAreShown
+dumps-shown rules limit pure with_text closed padding table octets old new report o names x =
+    let run = x.runs.runs in
+    let layout : Layout = top_layout (dump_options rules limit pure (opened_framing padding x.offsets)) in
+    let given : AreOctets (octets_given run.pieces) =
+    given-octets octets (octets_given run.pieces) x.source.left o run.pieces.consumed in
+    let read : AreOctets (take input_limit (octets_given run.pieces)) =
+    All-take (λ (n : ℕ). n < 256) input_limit (octets_given run.pieces) given in
+    let spelled : AreOctets (spelling run.reading) =
+    left-octets (spelling run.reading) run.is_reading.is_prefix.0
+    (subst (λ (l : List ℕ). AreOctets l) (sym run.is_reading.is_prefix.1) read) in
+    sends-shown old new (flat_map (item_text with_text (finite.get table) layout) (items rules top_site run.reading)) _
+    (flat-shown (item_text with_text (finite.get table) layout) IsOfOctets (items rules top_site run.reading)
+    (λ item is. item-shown with_text (finite.get table) layout item names is)
+    (items-of rules top_site run.reading spelled)) run.sends

@@ -1,0 +1,164 @@
+-- What is reported of blocks is printable ASCII.
+use Rattle.std.proofs.Common.{ℕ, ◌==◌, Bool, true, false, List, Option, Some, None, Result}
+use Rattle.std.proofs.Common.{inl, inr, refl, subst, sym}
+use Rattle.std.proofs.lemmas.Bool.{cases_Bool}
+use Rattle.std.proofs.lemmas.List.Folds.{list_all-append}
+use Rattle.tlv_head.specs.Fault.{fault_code, fault_text}
+use Rattle.tlv_head.specs.declared.fault.Fault.{Fault}
+use Rattle.tlv_head.specs.declared.fault.FaultCode.{FaultCode}
+use Rattle.tlv_head.specs.declared.fault.FaultCode.TheVariants as fault
+use Rattle.tlv_io.specs.Device.{DrainState, SourceState}
+use Rattle.tlv_walk.specs.Forest.{Forest}
+use Rattle.tlv_walk.specs.Job.{ComesTo, DeviceStates, Job}
+use Rattle.tlv_walk.specs.declared.ending.Ending.{Ending}
+use Rattle.tlv_walk.specs.declared.ending.Ending.TheVariants as ending
+use Rattle.tlv_walk.specs.declared.framing.Framing.{Framing}
+use Rattle.tlv_walk.specs.declared.run.DeviceFault.{DeviceFault}
+use Rattle.tlv_walk.specs.declared.run.DeviceFault.TheVariants.{ReadFailed, WriteFailed, InputTooLong}
+use Rattle.tlv_value.specs.Names.{NamesValue}
+use Rattle.tlv_open.specs.BrokenLine.{broken_line, suspicion_text}
+use Rattle.tlv_open.specs.declared.strings.BrokenString.{BrokenString}
+use Rattle.tlv_open.specs.declared.strings.Suspicion.{Suspicion}
+use Rattle.tlv_open.specs.declared.strings.Suspicion.TheVariants as suspicion
+use Rattle.tlv_show.specs.CheckJob.{check_job}
+use Rattle.tlv_show.specs.DumpJob.{dump_job_with}
+use Rattle.tlv_show.specs.declared.outcome.Outcome.{Outcome}
+use Rattle.tlv_text.specs.declared.text_fault.TextFault.{TextFault}
+use Rattle.tlv_text.specs.declared.text_fault.TextFault.TheVariants as text
+use Rattle.tlv_run.specs.Report.{ReportValue, clean_report, device_report, ending_report, fault_line}
+use Rattle.tlv_run.specs.Report.{findings_report, found_report, indef_report, outcome_report, result_report}
+use Rattle.tlv_run.specs.Report.{unused_report}
+use Rattle.tlv_run.specs.Results.{job_with_report}
+use Rattle.tlv_run.specs.RunsAndReports.{RunsAndReports}
+use Rattle.tlv_view.specs.ReadWhole.{input_report}
+use Rattle.tlv_view.specs.Views.{Views, dump_options, job_of_view}
+use Rattle.tlv_view.specs.declared.input.InputFault.{InputFault}
+use Rattle.tlv_view.specs.declared.input.InputFault.TheVariants as input
+use Rattle.tlv_view.specs.declared.view_call.View.{View}
+use Rattle.tlv_view.specs.declared.view_call.View.TheVariants as view
+use Rattle.tlv_why.specs.Laws.{AreShown}
+use Rattle.tlv_why.proofs.ShownLemmas.ShownWords.{decimal-shown}
+use Rattle.tlv_view_program.specs.Notes.{text_report}
+
+abbrev pub IsShownReport : ReportValue → Type 0
+IsShownReport report = AreShown report.message
+
+-- ---- faults
+
+code-shown : (code : FaultCode) → AreShown (fault_code code) × AreShown (fault_text code)
+code-shown fault.Empty = (refl, refl)
+code-shown fault.Short = (refl, refl)
+code-shown fault.StrayEnd = (refl, refl)
+code-shown fault.BadEnd = (refl, refl)
+code-shown fault.MissingEnd = (refl, refl)
+code-shown fault.TagTooLong = (refl, refl)
+code-shown fault.ReservedLength = (refl, refl)
+code-shown fault.IndefinitePrimitive = (refl, refl)
+code-shown fault.LengthTooLarge = (refl, refl)
+code-shown fault.TooDeep = (refl, refl)
+code-shown fault.Overrun = (refl, refl)
+code-shown fault.BadInside = (refl, refl)
+
+fault_line-shown : (f : Fault) → AreShown (fault_line f)
+fault_line-shown f =
+    simp (list_all-append, decimal-shown, (code-shown f.code).0, (code-shown f.code).1)
+
+suspicion-shown : (why : Suspicion) → AreShown (suspicion_text why)
+suspicion-shown suspicion.Sequence = refl
+suspicion-shown suspicion.Set = refl
+suspicion-shown suspicion.Extension = refl
+
+pub broken_line-shown : (s : BrokenString) → AreShown (broken_line s)
+broken_line-shown s =
+    simp (
+      list_all-append,
+      decimal-shown,
+      suspicion-shown,
+      (code-shown s.fault.code).0,
+      (code-shown s.fault.code).1,
+    )
+
+-- ---- what an input comes to
+
+ending_report-shown : (e : Ending) (other : ReportValue) → IsShownReport other
+    → IsShownReport (ending_report e other)
+ending_report-shown (ending.Fault f) other shown = fault_line-shown f
+ending_report-shown ending.Done other shown = shown
+
+unused_report-shown : (unused : Option ℕ) (other : ReportValue) → IsShownReport other
+    → IsShownReport (unused_report unused other)
+unused_report-shown None other shown = shown
+unused_report-shown (Some offset) other shown = simp (list_all-append, decimal-shown)
+
+findings_report-shown : (n : ℕ) → IsShownReport (findings_report n)
+findings_report-shown n = elim (cases_Bool (n == 0)) [
+  | inl none ↦ rw none refl
+  | inr some ↦ rw some (simp (list_all-append, decimal-shown))
+]
+
+outcome_report-shown : (outcome : Outcome) → IsShownReport (outcome_report outcome)
+outcome_report-shown outcome =
+    ending_report-shown outcome.ending _
+    (unused_report-shown outcome.unused _ (findings_report-shown outcome.findings))
+
+found_report-shown : (offset : ℕ) (found : Bool) → IsShownReport (found_report offset found)
+found_report-shown offset true = refl
+found_report-shown offset false = simp (list_all-append, decimal-shown)
+
+pub indef_report-shown : (e : Ending) → IsShownReport (indef_report e)
+indef_report-shown e = ending_report-shown e clean_report refl
+
+-- ---- devices
+
+pub device_report-shown : (fault : DeviceFault) → IsShownReport (device_report fault)
+device_report-shown ReadFailed = refl
+device_report-shown WriteFailed = refl
+device_report-shown InputTooLong = refl
+
+pub input_report-shown : (fault : InputFault) → IsShownReport (input_report fault)
+input_report-shown input.ReadFailed = refl
+input_report-shown input.TooLong = refl
+input_report-shown input.Memory = refl
+
+pub text_report-shown : (fault : TextFault) → IsShownReport (text_report fault)
+text_report-shown text.TooLong = refl
+text_report-shown text.Memory = refl
+
+-- ---- runs
+
+-- each report that a job may come to is shown
+abbrev pub ReportsShown : Job ReportValue → Type 0
+ReportsShown job = (f : Forest) (e : Ending) → IsShownReport (job.result f e)
+
+module _ (job : Job ReportValue) (all : ReportsShown job) where
+  comes-shown : (given : List ℕ) (f : Forest) (new : SourceState) (result : Result ReportValue DeviceFault)
+      → ComesTo job given f new result → IsShownReport (result_report result)
+  comes-shown given f new _ (ComesTo.at_enough is) = all f ending.Done
+  comes-shown given f new _ (ComesTo.at_fault e ends final) = all f e
+  comes-shown given f new _ (ComesTo.at_input_end e ends last end) = all f e
+  comes-shown given f new _ (ComesTo.read_failed last) = device_report-shown ReadFailed
+  comes-shown given f new _ ComesTo.write_failed = device_report-shown WriteFailed
+  comes-shown given f new _ (ComesTo.too_long long more) = device_report-shown InputTooLong
+
+  runs-shown : (old new : DeviceStates) (report : ReportValue) → RunsAndReports job old new report
+      → IsShownReport report
+  runs-shown old new report r =
+      subst IsShownReport (sym r.report_is) (comes-shown _ _ _ r.result r.runs.comes)
+
+job-shown : {A : Type 0} (make : A → ReportValue) (job : Job A) → ((a : A) → IsShownReport (make a))
+    → ReportsShown (job_with_report make job)
+job-shown make job all f e = all (job.result f e)
+
+view-shown : (v : View) (framing : Framing) (names : NamesValue) → ReportsShown (job_of_view v framing names)
+view-shown (view.Dump rules limit pure text) framing names =
+    job-shown outcome_report (dump_job_with text (dump_options rules limit pure framing) names) outcome_report-shown
+view-shown (view.Check rules) framing names =
+    job-shown outcome_report (check_job rules framing) outcome_report-shown
+view-shown (view.Extract offset contents) framing names =
+    λ f e. search (ending_report-shown, found_report-shown)
+
+pub views-shown : (v : View) (names : NamesValue) (closed padding : Bool) (octets : List ℕ) (old new : DrainState)
+    (report : ReportValue)
+    → Views v names closed padding octets old new report → IsShownReport report
+views-shown v names closed padding octets old new report x =
+    runs-shown (job_of_view v _ names) (view-shown v _ names) _ _ report x.runs
