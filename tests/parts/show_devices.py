@@ -12,6 +12,8 @@ from parts.show_program import Program
 NULL = b"\x05\x00"
 GIVEN = NULL * 5000
 STRINGS = b"\x04\x02\x05\x00" * 2000
+# After many elements a string that breaks, and an octet that is refused.
+BROKEN, CUT = GIVEN + bytes.fromhex("300b0603551d0f0404030305a0"), GIVEN + b"\x04"
 READ, WRITE = "E1 read failed", "E2 write failed"
 ERRORS = (errno.EAGAIN, errno.EINTR, errno.EIO, errno.ENOSPC)
 JOBS = (["--names", "none"], ["--check"], ["--offsets"], ["--offset", "4"], ["--raw"], ["--why"])
@@ -64,21 +66,41 @@ def reads(part, calls):
 
 
 def writes(part, calls):
-    """Each write that fails, or takes nothing: E2, the lines before it are right, and there is no write after it."""
+    """Each write that fails, or takes nothing: E2, the lines before it are right, and there is no write after it.
+
+    The strings that break have their lines after E2; there are no reasons.
+    """
     for words, given in ((["--names", "none"], GIVEN), (["--names", "none"], STRINGS), (["--offsets"], STRINGS),
                          (["--offset", "0"], b"\x04\x82\x27\x10" + GIVEN), (["--check"], b"\x02\x02\x00\x05" * 500),
-                         (["--raw"], GIVEN), (["--names", "none"], STRINGS.hex().encode()), (["--why"], STRINGS)):
+                         (["--raw"], GIVEN), (["--names", "none"], STRINGS.hex().encode()), (["--why"], STRINGS),
+                         (["--names", "none"], BROKEN), (["--names", "none"], CUT), (["--offsets"], STRINGS + b"\x04"),
+                         (["--why"], CUT), (["--why"], BROKEN)):
         whole, own = calls.run(words, given)
         count, taken = len(of(own, "write", 1)), 0
         note = whole.err if whole.err.startswith(b"taken for ") else b""
+        broken = b"".join(line for line in whole.err.splitlines(True) if line.startswith(b"string at "))
         part.expect(f"{words}: writes", count > 0, *whole.lines())
         for number in range(1, count + 1):
             for error in (*ERRORS, 0):
                 got, made = calls.run(words, given, fail=("write", 1, number, error))
                 what = f"{' '.join(words)}: write {number} fails with {errno.errorcode.get(error, 'nothing')}"
-                part.same(what, got, Done(3, whole.out[:taken], note + message(WRITE)))
+                part.same(what, got, Done(3, whole.out[:taken], note + message(WRITE) + broken))
                 part.expect(f"{what}: no write after it", len(of(made, "write", 1)) == number)
             taken += of(own, "write", 1)[number - 1][3]
+
+
+def messages(part, calls):
+    """Each write to standard error that fails changes no output and no status, and it is not made again."""
+    for words, given in ((["--names", "none"], BROKEN[-13:]), (["--check"], CUT), (["--offsets"], CUT), (["--why"], BROKEN)):
+        whole, own = calls.run(words, given)
+        lengths = [call[3] for call in of(own, "write", 2)]
+        part.expect(f"{words}: writes to standard error", lengths, *whole.lines())
+        for number in range(1, len(lengths) + 1):
+            before, lost = sum(lengths[: number - 1]), lengths[number - 1]
+            got, _ = calls.run(words, given, fail=("write", 2, number, errno.EIO))
+            fine = (got.status, got.out) == (whole.status, whole.out) and got.err[:before] == whole.err[:before]
+            fine = fine and whole.err[before + lost :].startswith(got.err[before:])
+            part.expect(f"{words}: write {number} to standard error fails", fine, *got.lines())
 
 
 def small_pieces(part, calls):
@@ -98,4 +120,5 @@ def test(part):
     part.write("none", b"# no names\n")
     reads(part, calls)
     writes(part, calls)
+    messages(part, calls)
     small_pieces(part, calls)

@@ -95,7 +95,8 @@ def words(part, program):
     program.gives(["--offset=9", "--contents"], SOUND, 0, SOUND[11:])
     program.gives(["--offset", "8"], SOUND, 1, err="E4 no element at offset 8")
     program.gives(["--offset", "8", "./-x"], b"", 1, err="./-x: E4 no element at offset 8")
-    program.gives(["--offset", "0"], b"\x30\x03\x05\x00", 2, b"\x30\x03\x05\x00", "fault at 4: F02 input ends inside an encoding")
+    cut = b"\x30\x03\x05\x00"
+    program.gives(["--offset", "0"], cut, 2, cut, program.with_reasons("fault at 4: F02 input ends inside an encoding", cut))
 
 
 def several(part, program):
@@ -103,17 +104,18 @@ def several(part, program):
     for name, octets in (("sound", SOUND), ("broken", BROKEN), ("cut", SOUND[:-1]), ("null", NULL)):
         part.write(name, octets)
     program.gives(["sound"], b"", 0, LINES)
-    program.gives(["broken", "--check"], b"", 1, err=f"broken: {BREAKS}")
+    broken = program.with_reasons(f"broken: {BREAKS}", BROKEN)
+    program.gives(["broken", "--check"], b"", 1, err=broken)
     two = b"# block 1 of 2: null\n" + NULL_LINE + b"# block 2 of 2: sound\n" + LINES
     program.gives(["null", "sound"], b"", 0, two)
     program.gives(["null", "--padding", "sound"], b"", 0, two)
     again = b"# block 1 of 2: null\n" + NULL_LINE + b"# block 2 of 2: null\n" + NULL_LINE
     program.gives(["null", "null"], b"", 0, again)
     checked = b"# block 1 of 3: null\n# block 2 of 3: broken\n# block 3 of 3: cut\n"
-    cut = "cut: fault at 12: F02 input ends inside an encoding"
-    program.gives(["--check", "null", "broken", "cut"], b"", 2, checked, f"broken: {BREAKS}\n{cut}")
+    cut = program.with_reasons("cut: fault at 12: F02 input ends inside an encoding", SOUND[:-1])
+    program.gives(["--check", "null", "broken", "cut"], b"", 2, checked, f"{broken}\n{cut}")
     program.gives(["--check", "cut", "broken", "null"], b"", 2, b"# block 1 of 3: cut\n# block 2 of 3: broken\n"
-                  b"# block 3 of 3: null\n", f"{cut}\nbroken: {BREAKS}")
+                  b"# block 3 of 3: null\n", f"{cut}\n{broken}")
     found = b"# block 1 of 2: found\n0 B08 integer is padded\n# block 2 of 2: null\n"
     part.write("found", b"\x02\x02\x00\x05")
     program.gives(["--check", "found", "null"], b"", 1, found, "found: findings: 1")
@@ -126,9 +128,10 @@ def several(part, program):
     odd = "\u00e9\x1b[0m\n"
     part.write(odd, BROKEN)
     shown = "???[0m?"
-    program.gives(["--check", odd], b"", 1, err=f"{shown}: {BREAKS}", what="a name that is not printable")
+    said = program.with_reasons(f"{shown}: {BREAKS}", BROKEN)
+    program.gives(["--check", odd], b"", 1, err=said, what="a name that is not printable")
     blocks = f"# block 1 of 2: {shown}\n# block 2 of 2: null\n".encode()
-    program.gives(["--check", odd, "null"], b"", 1, blocks, f"{shown}: {BREAKS}", what="it, and another file")
+    program.gives(["--check", odd, "null"], b"", 1, blocks, said, what="it, and another file")
 
 
 def names(part, program):
@@ -171,8 +174,9 @@ def inputs(part, program):
         for name in ("missing", "null/below", ""):
             program.gives([*given, name], NULL, 3, err=f"{name}: {OPEN}")
         program.gives([*given, "folder"], NULL, 3, err=f"folder: {READ}")
-        program.gives([*given, "/dev/null"], NULL, 2, err="/dev/null: fault at 0: F01 empty input")
-        program.gives(given, b"", 2, err="fault at 0: F01 empty input")
+        empty = "fault at 0: F01 empty input"
+        program.gives([*given, "/dev/null"], NULL, 2, err=program.with_reasons(f"/dev/null: {empty}", b""))
+        program.gives(given, b"", 2, err=program.with_reasons(empty, b""))
         folder = os.open(part.path("folder"), os.O_RDONLY)
         program.gives(given, None, 3, err=READ, stdin=folder)
         os.close(folder)

@@ -78,7 +78,7 @@ def large_crl(part, program):
     last = element(10, b"\x01")
     program.gives([f"--offset={offsets[-2] + 2}"], octets, 0, last, what="the last reason, cut out")
     cut = octets[: offsets[ENTRIES // 2] + 2]
-    program.agrees("its first half", cut)
+    program.agrees("its first half", cut, is_large=True)
 
 
 def command(part, text):
@@ -133,7 +133,9 @@ def damaged_certificates(part, program, octets):
             wrong = octets[:place] + bytes([octets[place] + more]) + octets[place + 1 :]
             what, got = f"length octet at {place}, {octets[place]:02x}, {more:+}", program.run([], wrong)
             part.same(what, got, program.wanted("dump", wrong))
-            says = re.fullmatch(rb"string at (\d+) .* and breaks at (\d+): F.*\n", got.err)
+            said = got.err.decode().partition("\n")[0]
+            part.expect(f"{what}: the reasons", got.err.decode() == program.with_reasons(said, wrong) + "\n", *got.lines())
+            says = re.fullmatch(r"string at (\d+) .* and breaks at (\d+): F.*", said)
             is_named = says and int(says[1]) == value.offset and value.start <= int(says[2]) <= value.end
             is_found = re.fullmatch(rb"findings: \d+\n", got.err) and value.offset in Strings(wrong).opened
             part.expect(f"{what}: it is named", got.status == 1 and (is_named or is_found), *got.lines())

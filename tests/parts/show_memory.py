@@ -1,7 +1,8 @@
 """Each request of tlvdump-show for memory refused in turn: it reports U3, N6 or E8, and writes nothing wrong.
 
 tests/parts/refuse.c does that for this program too (parts/memory_requests.py). The words come first, then the names
-file is read, then each FILE is opened and read whole, and then all are shown. Then the memory that it takes in all.
+file is read, then each FILE is opened and read whole, and then all are shown. After its messages a block has reasons, for
+which memory is needed too. Then the memory that it takes in all.
 """
 import base64
 import os
@@ -23,6 +24,10 @@ TAKEN = ["", "--check --rules der", "--offsets", "--offset 4", "--closed a.der",
 TAKEN += ["many.der", "--offsets many.der", "--check many.der a.der", "a.der many.der", "--names names - a.der"]
 TAKEN += ["chain.pem", "--raw chain.pem a.der", "--check base64 a.der", "--as hex digits", "--offset 4 --as dump dump"]
 TAKEN += ["--raw --as runs runs"]
+# Those with reasons, after messages or as what is shown, of a broken string and of a fault.
+EXPLAINED = ["", "--check --rules der", "many.der -", "cut", "--check cut a.der", "--offsets cut", "--offset 4 cut", "--why a.der"]
+EXPLAINED += ["--why cut"]
+TAKEN += [text for text in EXPLAINED if text not in TAKEN]
 FILES = {
     "a.der": OCTETS,
     "many.der": b"\x04\x02\x05\x00" * 3000,
@@ -32,6 +37,8 @@ FILES = {
     "dump": b"".join(b"%04x: %s\n" % (at, OCTETS[at : at + 16].hex(" ").encode()) for at in range(0, len(OCTETS), 16)),
     "runs": b"name:: " + base64.b64encode(OCTETS * 3) + b"\nother:: " + base64.b64encode(OCTETS * 2) + b"\n",
     "names": b"2.5.4.3 commonName\n",
+    # One octet is missing; and it may be a text.
+    "cut": bytes.fromhex("0402 0500 3009 0c02c3a9 04020d0a"),
 }
 PRINTED = ["--help", "--version", "--limit", "--check --pure"]
 # Words for which it looks for others that are alike: if one request alone is refused there, it may say so otherwise.
@@ -57,6 +64,7 @@ class Line:
         self.reads_standard_input = "-" in files
         places = "|".join("" if word == "-" else re.escape(f"{word}: ") for word in files)
         self.refusal = re.compile(f"(?:{places})(?:block [12]: )?{INPUT}")
+        self.refused_reasons = 0
 
     def run(self, first, last):
         """Runs it with these requests refused, and returns what it did, and what was reported."""
@@ -91,7 +99,15 @@ class Line:
         refused = [line for line in said if self.refusal.fullmatch(line)]
         blocks = iter(blocks_of(self.own.out))
         is_prefix = all(any(block.startswith(written) for block in blocks) for written in blocks_of(got.out))
+        self.refused_reasons += self.is_all_but_reasons(got.out, said, refused)
         return got.status == 5 and is_prefix and bool(refused) and set(said) <= {*refused, *own}
+
+    def is_all_but_reasons(self, out, said, refused):
+        """Returns whether this is all that it writes, but for reasons: E8 comes where they end."""
+        if "--why" in self.words:
+            return out not in (b"", self.own.out)
+        own, at = self.own.err.decode().splitlines(), said.index(refused[0]) if refused else 0
+        return out == self.own.out and len(refused) == 1 and 0 < at < len(own) and said[:at] == own[:at]
 
     def refuse_each(self, may_pass=False):
         """Refuses each request in turn, alone, and with all after it."""
@@ -120,6 +136,8 @@ def requests(part, program):
         line = Line(part, program, refusing, text)
         part.same(f"{line.text}: no request refused", line.own, program.run(line.words, OCTETS))
         line.refuse_each(text in ALIKE)
+        if text in EXPLAINED:
+            part.expect(f"{line.text}: memory for reasons is refused", line.refused_reasons > 1, str(line.refused_reasons))
         total += line.requests
     part.expect("requests for memory", total > 100)
     part.note(f"{len(TAKEN + PRINTED + ALIKE)} lines of words, {total} requests")

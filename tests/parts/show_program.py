@@ -1,10 +1,21 @@
 """The built program tlvdump-show, put below a prefix as ./install does, and runs of it."""
+import itertools
 import os
 
-from parts.harness import Done
+from parts.harness import Done, message
 from second_opinion.names import read_names
 from second_opinion.running import put
 from second_opinion.showing import File, Show, run
+
+
+# Jobs that are without reasons after their messages, and those in which no string is looked at.
+WITHOUT_REASONS, WITHOUT_STRINGS = {"--raw", "--why"}, {"--offset", "--offsets"}
+
+
+def words_of_why(words):
+    """Returns those of the words that --why has too."""
+    kept = [word for word in words if word in ("--padding", "--closed") or word.startswith("--as=")]
+    return kept + [f"--as={value}" for word, value in itertools.pairwise(words) if word == "--as"]
 
 
 class Program:
@@ -27,6 +38,28 @@ class Program:
         what = what or " ".join(words) or "no words"
         self.part.same(what, got, Done(status, out, f"{err}\n".encode() if err else b""))
 
+    def reasons(self, octets, *words):
+        """Returns the lines that follow the messages of a run with these words on these octets, which are one block.
+
+        They are those that --why writes, without the lines in front of the reasons.
+        """
+        options = {word.partition("=")[0] for word in words}
+        if options & WITHOUT_REASONS:
+            return []
+        got = self.run(["--why", *words_of_why(words)], octets)
+        lines = got.out.decode().splitlines()
+        front = ("It does not parse: ",) if got.status == 2 else ("It parses: ", "By the rules of BER: ", "The string at ")
+        # Without a broken string, the third of these lines is missing, and so are reasons.
+        is_whole = all(line.startswith(it) for line, it in zip(lines, front)) and len(lines) >= min(len(front), 2)
+        self.part.expect(f"--why of {octets[:20].hex()}: the lines in front", is_whole, *got.lines())
+        if got.status != 2 and options & WITHOUT_STRINGS:
+            return []
+        return lines[len(front) :]
+
+    def with_reasons(self, said, octets, *words):
+        """Returns the lines of messages, and after them the reasons of these octets."""
+        return "\n".join([said, *self.reasons(octets, *words)]) if said else ""
+
     def refuses(self, words, given=b"", **how):
         """Counts one test: that it refuses these words, with a text of the library that reads them."""
         got = self.run(words, given, **how)
@@ -39,8 +72,15 @@ class Program:
         wanted = run(show, lambda: self.names)
         return Done(wanted.status, wanted.out, wanted.err)
 
-    def agrees(self, what, octets, *jobs):
-        """Counts tests: that it does what the second opinion says, for each of these jobs, or for all three."""
+    def agrees(self, what, octets, *jobs, is_large=False):
+        """Counts tests: that it does what the second opinion says, for each of these jobs, or for all three.
+
+        The reasons in a large input are compared with those of --why in place of the second opinion, which takes minutes for them.
+        """
         for job in jobs or ("dump", "check", "offsets"):
             words = [] if job == "dump" else [f"--{job}"]
-            self.part.same(f"{what}: {job}", self.run(words, octets), self.wanted(job, octets))
+            wanted = self.wanted(job, octets, has_reasons=not is_large)
+            if is_large:
+                said = self.with_reasons(wanted.err.decode().removesuffix("\n"), octets, *words)
+                wanted.err = message(said)
+            self.part.same(f"{what}: {job}", self.run(words, octets), wanted)

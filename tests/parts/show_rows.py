@@ -25,22 +25,23 @@ def string(octets, tag=4):
     return bytes([tag]) + shortest(len(octets)) + octets
 
 
-def by_file(row):
-    """Returns what a row gives if its input is FILE: each line of standard error has the name in front."""
-    lines = "".join(f"input: {line}\n" for line in row.message.splitlines())
-    return Done(row.status, row.out, lines.encode())
+def wanted_of(program, row, name=""):
+    """Returns what a row gives: after its message the reasons. If its input is a FILE, its name is in front of the message."""
+    said = "\n".join(f"{name}{line}" for line in row.message.splitlines())
+    return Done(row.status, row.out, message(program.with_reasons(said, row.given, *row.words)))
 
 
 def run_row(part, program, row):
     """Runs a row of tests/show_rows."""
     if row.names is not None:
         part.write("names", row.names)
-    what, wanted = f"{row.place} {' '.join(row.words)}", Done(row.status, row.out, message(row.message))
+    what, wanted = f"{row.place} {' '.join(row.words)}", wanted_of(program, row)
     part.same(f"{what}, a pipe", program.run(row.words, row.given), wanted)
     path = part.write("input", row.given)
     with open(path, "rb") as file:
         part.same(f"{what}, a file as standard input", program.run(row.words, stdin=file), wanted)
-    part.same(f"{what}, a FILE", program.run([*row.words, "input"], stdin=subprocess.DEVNULL), by_file(row))
+    part.same(f"{what}, a FILE", program.run([*row.words, "input"], stdin=subprocess.DEVNULL),
+              wanted_of(program, row, "input: "))
 
 
 def words_of(row):
@@ -76,8 +77,10 @@ def rows_of_tlvdump(part, program):
         for row in rows:
             if row.names is not None:
                 part.write("names", row.names)
-            words, wanted = words_of(row), Done(row.status, row.out, message(row.message))
+            words = words_of(row)
             if words:
+                said = program.with_reasons(row.message, row.given, *words)
+                wanted = Done(row.status, row.out, message(said))
                 part.same(f"{row.place} {' '.join(words)}", program.run(words, row.given), wanted)
             strings = Strings(row.given, "--padding" in row.words)
             if words and not strings.opened and not strings.broken:

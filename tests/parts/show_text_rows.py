@@ -153,11 +153,14 @@ def handed_on(part, program):
     ):
         wanted = program.run([*given, "--as=octets"], octets)
         part.expect(f"{' '.join(given)} {octets[:9].hex()}: status", wanted.status == status, *wanted.lines())
+        reasons = program.reasons(octets, *given)
+        messages = wanted.err.decode().splitlines()[: -len(reasons) or None]
+        part.expect(f"{' '.join(given)} {octets[:9].hex()}: reasons", wanted.err.decode().splitlines() == messages + reasons)
         for note, text in ((HEX, octets.hex().encode()), ("taken for PEM, A", pem(b"A", octets))):
-            said = f"{note}\n{wanted.err.decode()}".removesuffix("\n")
+            said = "\n".join([note, *messages, *reasons])
             program.gives(given, text, status, wanted.out, said, what=f"{' '.join(given)}, {note}, {octets[:9].hex()}")
             part.write("-x", text)
-            said = "\n".join(f"-x: {line}" for line in said.splitlines())
+            said = "\n".join([*(f"-x: {line}" for line in (note, *messages)), *reasons])
             program.gives([*given, "--", "-x"], b"", status, wanted.out, said, what=f"{' '.join(given)}, {note}, a file")
 
 
@@ -188,8 +191,8 @@ def statuses(part, program):
         part.same(f"{text!r}", program.run(["--as=base64"], text), Done(status, shown.out, err.encode()))
     cut = base64.b64encode(NULL + b"\x04")
     program.gives(["--offset", "0"], b"-----BEGIN A-----\n" + cut, 0, NULL, f"taken for PEM, A; {NO_END}")
-    program.gives(["--offsets"], b"-----BEGIN A-----\n" + cut, 2, b"",
-                  f"taken for PEM, A; {NO_END}\nfault at 3: F02 input ends inside an encoding")
+    said = f"taken for PEM, A; {NO_END}\nfault at 3: F02 input ends inside an encoding"
+    program.gives(["--offsets"], b"-----BEGIN A-----\n" + cut, 2, b"", program.with_reasons(said, NULL + b"\x04"))
 
 
 def blocks(part, program):

@@ -11,8 +11,6 @@ from second_opinion.findings import shortest
 from second_opinion.reading import Reading
 
 NULL = b"\x05\x00"
-# A string that is the value of an extension, and breaks.
-BREAKS = bytes.fromhex("300b0603551d0f0404030305a0")
 
 
 def element(tag, octets):
@@ -42,7 +40,7 @@ FAULTS = [
      ["The input has octets 00 alone: 2.", "Try: look whether the program that should write it failed."]),
     ("F02", "30 05 02 01", [],
      ["The input ends inside the INTEGER at offset 2. " + header(2, "02 01", "1 octet"), "Missing there: 1 octet.",
-      "The outermost element that is not whole, the SEQUENCE at offset 0, would end at offset 7. Missing in all: 3 octets.", CUT]),
+      "The outermost element of definite length that is not whole, the SEQUENCE at offset 0, would end at offset 7. Missing up to there: 3 octets.", CUT]),
     ("F02", "30 82 01", [], ["The input ends inside the header at offset 0: 30 82 01.", CUT]),
     ("F02", "04 20 aa", [],
      ["The input ends inside the OCTET STRING at offset 0. " + header(0, "04 20", "32 octets"), "Missing there: 31 octets.", CUT]),
@@ -57,7 +55,7 @@ FAULTS = [
       "The input ends inside the INTEGER at offset 6. " + header(6, "02 02", "2 octets"), "Missing there: 1 octet.", CUT]),
     ("F02", "05 00 02 02 01 05 30 09 02 01 05 04 02 aa", [],
      ["The input ends inside the OCTET STRING at offset 11. " + header(11, "04 02", "2 octets"), "Missing there: 1 octet.",
-      "The outermost element that is not whole, the SEQUENCE at offset 6, would end at offset 17. Missing in all: 3 octets.", CUT,
+      "The outermost element of definite length that is not whole, the SEQUENCE at offset 6, would end at offset 17. Missing up to there: 3 octets.", CUT,
       "Whole encodings end at offset 6. Left over: 8 octets.", WHOLE.format(6)]),
     ("F02", "30 04 30 80 05 00", [],
      ["The input ends inside the SEQUENCE at offset 2. " + header(2, "30 80", INDEFINITE),
@@ -117,16 +115,6 @@ def findings(ber, der):
     """Returns the sentence about the findings in octets that parse."""
     return f"By the rules of BER: findings: {ber}. By those of DER: findings: {der}."
 
-
-def broken(place):
-    """Returns the line on standard error about the string in BREAKS that breaks, for BREAKS at an offset."""
-    return (f"string at {7 + place} is the value of an extension and breaks at {10 + place}:"
-            " F11 element runs past the enclosing length\n")
-
-
-# Octets with a string that breaks, and what is said of it.
-STRINGS = [(octets, broken(place)) for octets, place in (
-    (BREAKS, 0), (element(0x30, string(BREAKS) + NULL), 4), (NULL * 9 + BREAKS + NULL, 18))]
 
 BODY = element(0x30, b"\x02\x01\x05" * 9 + b"\x04\x02\xe9\x0a")
 # What to try: another start, a copy as a text, a file of another kind. Each with words that are said, and the status.
@@ -189,16 +177,6 @@ def faults(why):
         part.expect(f"why {octets.hex()}", got == (wanted, [sound(octets), findings(ber, der)]), str(got))
 
 
-def strings(why):
-    """A string that breaks is reported, with the offsets of the input, at the top and in another string; not with --closed."""
-    for octets, said in STRINGS:
-        for words, status, err in (([], 1, said), (["--closed"], 0, "")):
-            got = why.run(["--as", "octets", *words], octets)
-            lines = got.out.decode(errors="replace").splitlines()
-            fine = (got.status, got.err.decode()) == (status, err) and lines == [sound(octets), findings(0, 0)]
-            why.part.expect(f"why a string breaks, {octets.hex()} {words}", fine, *got.lines())
-
-
 def hints(why):
     """What to try, and that it helps."""
     for what, octets, wanted, ends in HINTS:
@@ -219,7 +197,7 @@ def cuts(why):
     wrong = []
     for size in [*range(4, 20), *range(len(octets) - 6, len(octets))]:
         status, lines = why.said(octets[:size])
-        stated = re.findall(r"Missing in all: (\d+) octets?\.", "\n".join(lines))
+        stated = re.findall(r"Missing up to there: (\d+) octets?\.", "\n".join(lines))
         if status != 2 or stated != [str(len(octets) - size)]:
             wrong += [f"{size}: {status}", *lines]
     why.part.expect("prefixes of an encoding", not wrong, *wrong)
@@ -276,7 +254,6 @@ def texts(why):
 def test(part):
     why = Why(part)
     faults(why)
-    strings(why)
     hints(why)
     cuts(why)
     texts(why)

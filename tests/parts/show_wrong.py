@@ -34,13 +34,16 @@ def show_of(row):
 
 
 def gives(row, names):
-    """Returns whether the second opinion gives what a row says. A wrong way may find a broken string without a fault."""
+    """Returns whether the second opinion gives what a row says.
+
+    A wrong way may find a broken string without a fault, or with F12, of which there are no reasons.
+    """
     known = read_names(row.names) if row.names is not None else names
     try:
         got = showing.run(show_of(row), lambda: known)
-    except AttributeError:
+    except (AttributeError, KeyError):
         return False
-    return (got.status, got.out, got.err.decode().removesuffix("\n")) == (row.status, row.out, row.message)
+    return (got.status, got.out, got.said.decode().removesuffix("\n")) == (row.status, row.out, row.message)
 
 
 def has_clean_ends(reading, codes):

@@ -26,7 +26,10 @@ class File:
 
 @dataclass
 class Show:
-    """The options of a run: `job` is dump, check, offset, offsets, raw or why. A value is the text in the words."""
+    """The options of a run: `job` is dump, check, offset, offsets, raw or why. A value is the text in the words.
+
+    Without `has_reasons` no reasons are looked for after the messages, which takes long in a large input.
+    """
 
     job: str
     rules: str | None = None
@@ -41,15 +44,27 @@ class Show:
     as_form: str | None = None
     names_open: bool = True
     files: list = field(default_factory=list)
+    has_reasons: bool = True
 
 
 @dataclass
 class Result:
-    """The status, and what is written to standard output and to standard error."""
+    """The status, and what is written to standard output and to standard error; `said` is the latter without reasons."""
 
     status: int
     out: bytes
     err: bytes
+    said: bytes = b""
+
+
+@dataclass
+class Shown:
+    """What is shown of a block: the status, the output, the lines that are reported, and the reasons after them."""
+
+    status: int
+    out: bytes = b""
+    lines: list = field(default_factory=list)
+    reasons: tuple = ()
 
 
 ALLOWED = {
@@ -81,11 +96,12 @@ def run(show, names):
             number += 1
             if count > 1 and show.job in ("dump", "check", "why"):
                 whole.out += f"# block {number} of {count}: {title(show, file, block)}\n".encode()
-            status, out, lines = of_block(show, block, known)
+            shown = of_block(show, block, known)
             front = "" if file.is_standard_input else f"{file.shown()}: "
             front += f"block {number}: " if len(of_file) > 1 else ""
-            whole.status, whole.out = max(whole.status, status), whole.out + out
-            whole.err += "".join(f"{front}{line}\n" for line in lines).encode()
+            whole.status, whole.out = max(whole.status, shown.status), whole.out + shown.out
+            said = written([f"{front}{line}" for line in shown.lines])
+            whole.err, whole.said = whole.err + said + written(shown.reasons), whole.said + said
     return whole
 
 
@@ -98,39 +114,59 @@ def title(show, file, block):
 
 
 def of_block(show, block, known):
-    """Returns the status, the output, and the lines that are reported: the note first."""
+    """Returns what is shown of a block; the first line that is reported is the note."""
     if block is None:
-        return 3, b"", ["E5 cannot open the file"]
+        return Shown(3, lines=["E5 cannot open the file"])
     note, is_raw = block.note(), show.job == "raw"
-    status, out, lines = of_octets(show, block.octets, known) if block.is_shown() else (0, b"", [])
-    return block.status(status, is_raw), out, [note] * bool(note) + lines
+    shown = of_octets(show, block.octets, known) if block.is_shown() else Shown(0)
+    shown.status, shown.lines = block.status(shown.status, is_raw), [note] * bool(note) + shown.lines
+    return shown
 
 
 def of_octets(show, octets, known):
-    """Returns the status, the output, and the lines that are reported, for the octets of a block."""
+    """Returns what is shown of the octets of a block."""
     if show.job == "raw":
-        return 0, octets, []
+        return Shown(0, octets)
     strings = Strings(octets, show.padding)
-    if show.job == "offsets":
-        return offsets(octets, show.padding, strings.opened)
-    if show.job == "why":
-        return reasons(show, octets, strings)
-    got = answer(options_of(show), values_of(show, strings.opened), known, octets)
-    if show.closed or show.job == "offset":
+    if show.closed or show.job in ("offset", "offsets"):
         strings.broken.clear()
+    if show.job == "why":
+        return why_shown(show, octets, strings)
+    if show.job == "offsets":
+        shown = offsets(octets, show.padding, strings.opened)
+    else:
+        got = answer(options_of(show), values_of(show, strings.opened), known, octets)
+        shown = Shown(got.status, got.out, [got.message] * bool(got.message))
+    if show.has_reasons:
+        shown.reasons = why.lines_of(octets, show.padding)[1:] if shown.status == 2 else of_first(strings)
+    return with_broken(shown, strings)
+
+
+def with_broken(shown, strings):
+    """Returns what is shown, with a line for each broken string."""
     broken = [line_of(*it) for it in strings.faults()]
-    return max(got.status, 1 if broken else 0), got.out, [got.message] * bool(got.message) + broken
+    shown.status, shown.lines = max(shown.status, 1 if broken else 0), shown.lines + broken
+    return shown
 
 
-def reasons(show, octets, strings):
-    """Returns the result of --why for a block."""
+def of_first(strings):
+    """Returns the reasons why the first of the broken strings breaks, if there is one."""
+    for broken in strings.broken[:1]:
+        before = [it for it in strings.opened if it < broken.offset]
+        return why.lines_of_string(strings.octets, strings.padding, (*before, broken.offset))
+    return ()
+
+
+def why_shown(show, octets, strings):
+    """Returns what --why shows of the octets of a block."""
     lines = why.lines_of(octets, show.padding)
-    if lines is not None:
-        return 2, written(lines), []
+    if lines:
+        return Shown(2, written(lines))
     inside = [] if show.closed else strings.opened
     ber, der = (found_by(rules, octets, show.padding, inside) for rules in ("ber", "der"))
-    broken = [] if show.closed else [line_of(*it) for it in strings.faults()]
-    return 1 if ber or broken else 0, written(why.sound_lines(octets, ber, der)), broken
+    headings = [f"The {line_of(*it)}." for it in strings.faults()][:1]
+    lines = [*why.sound_lines(octets, ber, der), *headings, *of_first(strings)]
+    return with_broken(Shown(1 if ber else 0, written(lines)), strings)
 
 
 def written(lines):
@@ -149,10 +185,10 @@ def line_of(broken, fault):
 
 
 def offsets(octets, padding, opened):
-    """Returns the result of --offsets for a file."""
+    """Returns what --offsets shows of the octets of a block."""
     out = (",".join(map(str, opened)) + "\n").encode() if opened else b""
     fault = Reading(octets, padding=padding).fault
-    return (2, out, [fault_text(fault)]) if fault else (0, out, [])
+    return Shown(2, out, [fault_text(fault)]) if fault else Shown(0, out)
 
 
 def options_of(show):

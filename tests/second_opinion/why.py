@@ -1,4 +1,6 @@
-"""What tlvdump-show --why writes of the octets of a block: docs/WHY.md up to "The fault"."""
+"""What tlvdump-show says of why octets, or a string in them, do not parse: docs/WHY.md up to "The fault"."""
+import functools
+
 from second_opinion import why_lines, why_search
 from second_opinion.commands import fault_text
 from second_opinion.reading import Element, Reading
@@ -15,14 +17,14 @@ class Stand:
     whole header begins at the place, or None.
     """
 
-    def __init__(self, octets, padding):
-        """Reads the octets."""
-        self.octets, self.reading = octets, Reading(octets, padding=padding)
+    def __init__(self, octets, padding, inside=()):
+        """Reads the octets, with the strings at the offsets `inside` as elements that hold others."""
+        self.octets, self.reading = octets, Reading(octets, inside, padding)
         self.fault = self.reading.fault
         self.open, elements = [], elements_of(self.reading.items)
         at_top = last_whole(elements)
         self.top = at_top.end if at_top else 0
-        while elements and elements[-1].end is None and elements[-1].constructed:
+        while elements and elements[-1].end is None and elements[-1].opens():
             self.open.append(elements[-1])
             elements = elements_of(elements[-1].children)
         self.inner, self.before = self.open[-1] if self.open else None, last_whole(elements)
@@ -56,13 +58,22 @@ def last_whole(elements):
     return next((it for it in reversed(elements) if it.end is not None), None)
 
 
+# A case has several runs on the same octets.
+@functools.lru_cache(maxsize=16)
 def lines_of(octets, padding):
-    """Returns the lines about octets that do not parse; None if they parse."""
+    """Returns the lines about octets that do not parse; none if they parse."""
     stand = Stand(octets, padding)
     if stand.fault is None:
-        return None
+        return ()
     first = f"It does not parse: {fault_text(stand.fault)}."
-    return [first, *reasons(stand), *why_search.remedies(octets, padding, stand.candidates())]
+    return (first, *reasons(stand), *why_search.remedies(octets, padding, stand.candidates()))
+
+
+@functools.lru_cache(maxsize=16)
+def lines_of_string(octets, padding, inside):
+    """Returns the lines about the string at the last of these offsets, which breaks; those at the others are opened."""
+    stand = Stand(octets, padding, inside)
+    return (*reasons(stand), *why_search.other_length(octets, padding, stand.candidates(), inside))
 
 
 def sound_lines(octets, ber, der):

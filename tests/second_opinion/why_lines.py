@@ -79,8 +79,8 @@ def of_cut(stand):
                      "its length leaves no room for what is missing.")
     elif bounds:
         end = end_of(bounds[0])
-        lines.append(f"The outermost element that is not whole, the {named(bounds[0])}, would end at offset {end}. "
-                     f"Missing in all: {so_many(end - size)}.")
+        lines.append(f"The outermost element of definite length that is not whole, the {named(bounds[0])}, would end at offset {end}. "
+                     f"Missing up to there: {so_many(end - size)}.")
     indefinite = len(stand.open) - len(bounds)
     if indefinite:
         lines.append(f"Elements with an indefinite length that are not ended: {indefinite}; each needs two octets 00.")

@@ -23,9 +23,9 @@ def remedies(octets, padding, candidates):
             *other_start(octets, padding)]
 
 
-def parses(octets, padding):
-    """Returns whether these octets parse."""
-    return Reading(octets, padding=padding).fault is None
+def parses(octets, padding, inside=()):
+    """Returns whether these octets parse, with the strings at the offsets `inside` as elements that hold others."""
+    return Reading(octets, inside, padding).fault is None
 
 
 def header_at(octets, offset):
@@ -38,15 +38,15 @@ def header_at(octets, offset):
     return element
 
 
-def other_length(octets, padding, candidates):
-    """Returns the line of the first candidate that would, with another length, make all parse."""
+def other_length(octets, padding, candidates, inside=()):
+    """Returns the line of the first candidate that would, with another length, make all parse, with these strings named."""
     if len(octets) > MOST_SEARCHED:
         return []
     for it in candidates:
         first = it.offset + len(it.identifier)
         for length in lengths_near(it.length):
             said = spelled(it.length_octets, length)
-            if said and parses(octets[:first] + said + octets[it.start :], padding):
+            if said and parses(octets[:first] + said + octets[it.start :], padding, inside):
                 word = "octet" if length == 1 else "octets"
                 said = f"said {length} {word} and not {it.length}"
                 return [f"If the header at offset {it.offset} {said}, all would parse."]
