@@ -40,7 +40,8 @@ const DAMAGED_LINES: &[u8] = b"damaged: fault at 3: F11 element runs past the en
     If the header at offset 2 said 1 octet and not 2, all would parse.\n";
 
 /// The same, as it is shown.
-const DAMAGED_TEXT: &[u8] = b"It does not parse: fault at 3: F11 element runs past the enclosing length.\n\
+const DAMAGED_TEXT: &[u8] =
+    b"It does not parse: fault at 3: F11 element runs past the enclosing length.\n\
     The octet at offset 3 completes the header of the INTEGER at offset 2. \
     The header at offset 2, 02 02, says that its contents are 2 octets.\n\
     It would end at offset 6, but the SEQUENCE at offset 0 ends at offset 5. Missing there: 1 octet. \
