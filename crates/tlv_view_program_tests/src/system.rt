@@ -5,9 +5,9 @@ use arrayvec::ArrayVec;
 use tlv_program::System;
 use tlv_walk::MemSource;
 
-/// The files: a NULL, a string that holds one, a string that is broken, an INTEGER with a wrong length, text, names, and
-/// names that are refused. Then texts: a NULL and an INTEGER in PEM, an INTEGER that is encrypted, one that is refused in line 2, one in
-/// hexadecimal, and a letter.
+/// The files: a NULL, a string that holds one, a string that is broken, an INTEGER with a wrong length, text, names,
+/// and names that are refused. Then texts: a NULL and an INTEGER in PEM, an INTEGER that is encrypted, one that is
+/// refused in line 2, one in hexadecimal, and a letter.
 static FILES: [(&str, &[u8]); 12] = [
     ("null", b"\x05\x00"),
     ("string", b"\x04\x02\x05\x00"),
