@@ -3,10 +3,12 @@ pub mod BlockLemmas
 pub mod BlockRows
 pub mod BodyLemmas
 pub mod BodyRows
+pub mod DecodeLemmas
 pub mod DumpLemmas
 pub mod DumpOutputLemmas
 pub mod DumpPairLemmas
 pub mod DumpRows
+pub mod DumpSignLemmas
 pub mod DumpStepLemmas
 pub mod GroupLemmas
 pub mod LineLemmas

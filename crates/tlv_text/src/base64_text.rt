@@ -1,6 +1,5 @@
 //! Octets in base64.
-ghost use Rattle.base64.specs.GeneralPurpose.{IsBytes};
-ghost use Rattle.std.specs.Prelude.{◌≡◌, ◌<◌, ◌≤◌, ◌+◌, ◌%◌, [], IfErr, IfOk, OnOk, length, slice_index, true, false};
+ghost use Rattle.std.specs.Prelude.{◌≡◌, ◌<◌, ◌≤◌, ◌+◌, ◌%◌, [], IfErr, IfOk, OnErr, OnOk, length, slice_index, true, false};
 ghost use Rattle.tlv_text.specs.Base64.{ReadsBase64, base64_of, fits_after, is_escaped_line_end};
 ghost use Rattle.tlv_text.specs.Base64.{is_escaped_slash, is_left_out, is_symbol, no_symbols, padding_of, symbols_read};
 ghost use Rattle.tlv_text.specs.Private.SymbolSteps.{AreAdded, AreSymbols, IsAtEnd, IsFailure, IsOfNone};
@@ -41,9 +40,9 @@ pub fn decode_base64(alloc: Global, alphabet: Alphabet, text: &[u8]) -> Result<D
         let mut symbols = ArrayVec::new();
         take_symbols(alphabet, &mut rest, &mut symbols);
         if symbols.len() < SYMBOLS {
-            return finish(alloc, alphabet, text, rest, symbols.as_slice(), octets);
+            return finish(alphabet, text, rest, symbols.as_slice(), octets);
         }
-        add_groups(alloc, alphabet, symbols.as_slice(), &mut octets)?;
+        add_groups(alphabet, symbols.as_slice(), &mut octets)?;
     }
 }
 
@@ -121,39 +120,33 @@ fn is_escaped_slash(first: u8, second: u8) -> bool
 }
 
 /// Adds the octets of whole groups of symbols.
-fn add_groups(
-    alloc: Global,
-    alphabet: Alphabet,
-    symbols: &[u8],
-    octets: &mut Vec<u8>,
-) -> Result<(), AllocError>
+fn add_groups(alphabet: Alphabet, symbols: &[u8], octets: &mut Vec<u8>) -> Result<(), AllocError>
     requires whole { length symbols.now % 4 ≡ 0 }
     requires symbols { AreSymbols alphabet symbols.now }
     ensures { OnOk result (AreAdded alphabet symbols.now octets.old.items octets.new.items) }
 {
-    match decode(alloc, alphabet, symbols) {
-        Ok(more) => octets.extend_from_slice(more.as_slice()),
+    match decode(alphabet, symbols, octets) {
+        Ok(()) => Ok(()),
         Err(DecodeAllocError::OutOfMemory) => Err(AllocError),
         // Whole groups of symbols are decoded.
         Err(DecodeAllocError::DecodeError(_)) => unreachable!(),
     }
 }
 
-/// The octets of symbols.
-fn decode(alloc: Global, alphabet: Alphabet, symbols: &[u8]) -> Result<Vec<u8>, DecodeAllocError>
-    ensures octets { IfOk result (λ octets. IsBytes octets.items) }
-    ensures symbols { IfOk result (λ octets. base64_of alphabet octets.items ≡ symbols.now) }
+/// Adds the octets of symbols. If there is an error, none is added.
+fn decode(alphabet: Alphabet, symbols: &[u8], octets: &mut Vec<u8>) -> Result<(), DecodeAllocError>
+    ensures added { OnOk result (AreAdded alphabet symbols.now octets.old.items octets.new.items) }
+    ensures same { OnErr result (octets.new.items ≡ octets.old.items) }
     ensures failure { IfErr result (λ error. IsFailure alphabet symbols.now error) }
 {
     match alphabet {
-        Alphabet::Standard => STANDARD_NO_PAD.decode(alloc, symbols),
-        Alphabet::UrlSafe => URL_SAFE_NO_PAD.decode(alloc, symbols),
+        Alphabet::Standard => STANDARD_NO_PAD.decode_vec(symbols, octets),
+        Alphabet::UrlSafe => URL_SAFE_NO_PAD.decode_vec(symbols, octets),
     }
 }
 
 /// Decodes the last symbols of a text. `rest` is what follows them.
 fn finish(
-    alloc: Global,
     alphabet: Alphabet,
     text: &[u8],
     rest: &[u8],
@@ -165,14 +158,14 @@ fn finish(
     ensures { IfOk result (λ d. ReadsBase64 alphabet text.now d.octets.items d.refused) }
 {
     let mut octets = octets;
-    if add_last(alloc, alphabet, symbols, rest, &mut octets)? {
+    if add_last(alphabet, symbols, rest, &mut octets)? {
         return Ok(Decoded {
             octets,
             refused: None,
         });
     }
     let groups = &symbols[..symbols.len() / 4 * 4];
-    add_groups(alloc, alphabet, groups, &mut octets)?;
+    add_groups(alphabet, groups, &mut octets)?;
     Ok(Decoded {
         octets,
         refused: Some(text.len() - rest.len()),
@@ -182,7 +175,6 @@ fn finish(
 /// Adds the octets of the last symbols of a text, unless what follows is not their padding or they are the base64 of
 /// no octets.
 fn add_last(
-    alloc: Global,
     alphabet: Alphabet,
     symbols: &[u8],
     rest: &[u8],
@@ -198,11 +190,8 @@ fn add_last(
     if !fits_after(symbols.len(), padding_of(rest)) {
         return Ok(false);
     }
-    match decode(alloc, alphabet, symbols) {
-        Ok(more) => {
-            octets.extend_from_slice(more.as_slice())?;
-            Ok(true)
-        }
+    match decode(alphabet, symbols, octets) {
+        Ok(()) => Ok(true),
         Err(DecodeAllocError::OutOfMemory) => Err(AllocError),
         Err(DecodeAllocError::DecodeError(_)) => Ok(false),
     }

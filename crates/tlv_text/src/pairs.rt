@@ -1,7 +1,8 @@
 //! Octets as pairs of hexadecimal digits.
-ghost use Rattle.std.specs.Prelude.{◌≡◌, IfOk};
+ghost use Rattle.std.specs.Prelude.{◌≡◌, ◌≤◌, IfOk, OnOk, false, length};
 ghost use Rattle.tlv_text.specs.Pairs.{is_between_pairs, pairs_read};
-ghost use Rattle.tlv_text.specs.TextRead.{refused_at};
+ghost use Rattle.tlv_text.specs.Private.PairSteps.{begins_pair};
+ghost use Rattle.tlv_text.specs.TextRead.{octets_then, refused_at};
 
 use crate::Decoded;
 use crate::decoded::refused_at;
@@ -21,11 +22,8 @@ pub fn decode_pairs(alloc: Global, text: &[u8]) -> Result<Decoded, AllocError>
     let mut octets = Vec::new(alloc);
     let mut rest = text;
     loop {
+        take_pairs(&mut rest, &mut octets)?;
         match rest {
-            [x, y, more @ ..] if is_digit(*x) && is_digit(*y) => {
-                octets.push(digit_value(*x) * 16 + digit_value(*y))?;
-                rest = more;
-            }
             [x, more @ ..] if is_between_pairs(*x) => rest = more,
             _ => {
                 return Ok(Decoded {
@@ -35,6 +33,25 @@ pub fn decode_pairs(alloc: Global, text: &[u8]) -> Result<Decoded, AllocError>
             }
         }
     }
+}
+
+/// Takes the pairs with which a text begins, and adds their octets.
+fn take_pairs(text: &mut &[u8], octets: &mut Vec<u8>) -> Result<(), AllocError>
+    ensures read { OnOk result (octets_then octets.old.items (pairs_read text.old.now)
+        ≡ octets_then octets.new.items (pairs_read text.new.now)) }
+    ensures last { OnOk result (begins_pair text.new.now ≡ false) }
+    ensures less { length text.new.now ≤ length text.old.now }
+{
+    let mut rest = *text;
+    while let [x, y, more @ ..] = rest
+        && is_digit(*x)
+        && is_digit(*y)
+    {
+        octets.push(digit_value(*x) * 16 + digit_value(*y))?;
+        rest = more;
+    }
+    *text = rest;
+    Ok(())
 }
 
 /// Whether this may be between pairs.

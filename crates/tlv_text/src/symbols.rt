@@ -1,45 +1,72 @@
 //! Symbols of base64.
 ghost use Rattle.std.specs.List.{prefix_len};
-ghost use Rattle.std.specs.Prelude.{◌≡◌, ◌≤◌, length};
+ghost use Rattle.std.specs.Prelude.{◌≡◌, ◌≤◌, ◌+◌, length};
 ghost use Rattle.tlv_text.specs.Base64.{is_symbol};
 
 use crate::Alphabet;
 
-/// The symbols of `Alphabet::Standard`, each at its own place, and an asterisk at every other place.
+/// The symbols of `Alphabet::Standard`, each at its own place, and `@` at every other place.
 static STANDARD: [u8; 256] = *b"\
-    ********************************\
-    ***********+***/0123456789******\
-    *ABCDEFGHIJKLMNOPQRSTUVWXYZ*****\
-    *abcdefghijklmnopqrstuvwxyz*****\
-    ********************************\
-    ********************************\
-    ********************************\
-    ********************************";
+    @@@@@@@@@@@@@@@@@@@@@@@@@@@@@@@@\
+    @@@@@@@@@@@+@@@/0123456789@@@@@@\
+    @ABCDEFGHIJKLMNOPQRSTUVWXYZ@@@@@\
+    @abcdefghijklmnopqrstuvwxyz@@@@@\
+    @@@@@@@@@@@@@@@@@@@@@@@@@@@@@@@@\
+    @@@@@@@@@@@@@@@@@@@@@@@@@@@@@@@@\
+    @@@@@@@@@@@@@@@@@@@@@@@@@@@@@@@@\
+    @@@@@@@@@@@@@@@@@@@@@@@@@@@@@@@@";
 
 /// The symbols of `Alphabet::UrlSafe`, in the same way.
 static URL_SAFE: [u8; 256] = *b"\
-    ********************************\
-    *************-**0123456789******\
-    *ABCDEFGHIJKLMNOPQRSTUVWXYZ****_\
-    *abcdefghijklmnopqrstuvwxyz*****\
-    ********************************\
-    ********************************\
-    ********************************\
-    ********************************";
+    @@@@@@@@@@@@@@@@@@@@@@@@@@@@@@@@\
+    @@@@@@@@@@@@@-@@0123456789@@@@@@\
+    @ABCDEFGHIJKLMNOPQRSTUVWXYZ@@@@_\
+    @abcdefghijklmnopqrstuvwxyz@@@@@\
+    @@@@@@@@@@@@@@@@@@@@@@@@@@@@@@@@\
+    @@@@@@@@@@@@@@@@@@@@@@@@@@@@@@@@\
+    @@@@@@@@@@@@@@@@@@@@@@@@@@@@@@@@\
+    @@@@@@@@@@@@@@@@@@@@@@@@@@@@@@@@";
 
 /// How many symbols a text begins with.
 pub(crate) fn symbols_before(alphabet: Alphabet, text: &[u8]) -> usize
     ensures count { result ≡ prefix_len (is_symbol alphabet) text.now }
     ensures within { result ≤ length text.now }
 {
-    let mut count = 0;
-    for character in text {
-        if !is_symbol(alphabet, *character) {
+    text.len() - after_symbols(alphabet, after_fours(alphabet, text)).len()
+}
+
+/// A text after the groups of four symbols with which it begins: together they cost less than one by one.
+fn after_fours(alphabet: Alphabet, text: &[u8]) -> &[u8]
+    ensures symbols { length text.now + prefix_len (is_symbol alphabet) result.now
+        ≡ length result.now + prefix_len (is_symbol alphabet) text.now }
+    ensures less { length result.now ≤ length text.now }
+{
+    let mut rest = text;
+    while let [a, b, c, d, more @ ..] = rest {
+        if !(is_symbol(alphabet, *a)
+            && is_symbol(alphabet, *b)
+            && is_symbol(alphabet, *c)
+            && is_symbol(alphabet, *d))
+        {
             break;
         }
-        count += 1;
+        rest = more;
     }
-    count
+    rest
+}
+
+/// A text after the symbols with which it begins.
+fn after_symbols(alphabet: Alphabet, text: &[u8]) -> &[u8]
+    ensures symbols { length text.now ≡ length result.now + prefix_len (is_symbol alphabet) text.now }
+{
+    let mut rest = text;
+    while let [x, more @ ..] = rest {
+        if !is_symbol(alphabet, *x) {
+            break;
+        }
+        rest = more;
+    }
+    rest
 }
 
 /// Whether this is a symbol of the alphabet.
@@ -49,7 +76,7 @@ pub(crate) fn is_symbol(alphabet: Alphabet, character: u8) -> bool
 {
     // A look-up costs less than a comparison with each range of characters.
     match alphabet {
-        Alphabet::Standard => STANDARD[usize::from(character)] != b'*',
-        Alphabet::UrlSafe => URL_SAFE[usize::from(character)] != b'*',
+        Alphabet::Standard => STANDARD[usize::from(character)] != b'@',
+        Alphabet::UrlSafe => URL_SAFE[usize::from(character)] != b'@',
     }
 }

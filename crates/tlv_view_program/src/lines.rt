@@ -159,8 +159,25 @@ fn put_note_line<D: Drain>(
 }
 
 /// Writes what is said of a block after it: its message, if there is one, and a line for each broken string.
-#[tactic(auto, using(tlv_io::proofs::Sends::sends))]
 pub(crate) fn write_messages<D: Drain>(
+    name: BlockName<'_>,
+    message: &[u8],
+    broken: &[BrokenString],
+    drain: &mut D,
+) -> Result<(), WriteFault>
+    ensures { Sends (D.state drain.old) (D.state drain.new)
+        (block_messages (name_value name.entry) message.now broken.now) result }
+{
+    if message.is_empty() && broken.is_empty() {
+        return Ok(());
+    }
+    write_message_lines(name, message, broken, drain)
+}
+
+/// Writes it. It is apart, since its buffer is cleared on each call, and most blocks have nothing that is said.
+#[tactic(auto, using(tlv_io::proofs::Sends::sends))]
+#[inline(never)]
+fn write_message_lines<D: Drain>(
     name: BlockName<'_>,
     message: &[u8],
     broken: &[BrokenString],

@@ -9,6 +9,7 @@ ghost use Rattle.tlv_walk.specs.Inside.{are_rising};
 ghost use Rattle.tlv_view_program.specs.WritesReasons.{ExplainsFirst, ExplainsOctets, ExplainsString, WritesReasons};
 ghost use Rattle.tlv_view_program.specs.WritesReasons.{element_offset, explained_by, heading, offsets_up_to};
 ghost use Rattle.tlv_view_program.specs.WritesReasons.{suspect_offsets};
+ghost use Rattle.tlv_view_program.specs.declared.reasons.Explained.TheVariants.{Octets};
 
 use arrayvec::ArrayVec;
 use std::alloc::{AllocError, Global};
@@ -61,22 +62,35 @@ pub(crate) fn write_explained<D: Drain>(
 {
     match explained {
         Explained::Nothing => Ok(Ok(())),
-        Explained::Octets => {
-            let facts = closed_facts(octets, padding);
-            match write_reasons(octets, &facts, drain) {
-                Ok(()) => write_remedies(
-                    alloc,
-                    octets,
-                    padding,
-                    suspect_offsets(&facts).as_slice(),
-                    drain,
-                ),
-                Err(fault) => Ok(Err(fault)),
-            }
-        }
+        Explained::Octets => write_fault_reasons(alloc, padding, octets, drain),
         Explained::String(string) => {
             explain_string(alloc, padding, octets, &string, false, drain)
         }
+    }
+}
+
+/// Writes the reasons of a fault, and what may be done. It is apart, since its facts are cleared on each call, and most
+/// blocks have no fault.
+#[inline(never)]
+fn write_fault_reasons<D: Drain>(
+    alloc: Global,
+    padding: bool,
+    octets: &[u8],
+    drain: &mut D,
+) -> Result<Result<(), WriteFault>, AllocError>
+    requires { length octets.now ≤ input_limit }
+    ensures { WritesReasons padding octets.now (D.state drain.old) (D.state drain.new) Octets result }
+{
+    let facts = closed_facts(octets, padding);
+    match write_reasons(octets, &facts, drain) {
+        Ok(()) => write_remedies(
+            alloc,
+            octets,
+            padding,
+            suspect_offsets(&facts).as_slice(),
+            drain,
+        ),
+        Err(fault) => Ok(Err(fault)),
     }
 }
 
@@ -134,6 +148,7 @@ pub(crate) fn explain_first<D: Drain>(
 }
 
 /// Writes why a string breaks, with the line before it if that is wanted, and which one length would mend it.
+#[inline(never)]
 fn explain_string<D: Drain>(
     alloc: Global,
     padding: bool,

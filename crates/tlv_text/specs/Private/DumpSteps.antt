@@ -1,7 +1,7 @@
 -- What the code of dumps stands for.
-use Rattle.std.specs.Prelude.{◌≡◌, ◌<◌, ◌≤◌, ℕ, Bool, true, false, ◌&&◌, nat_le, List, ◌++◌, length, Option, Some, None}
+use Rattle.std.specs.Prelude.{◌≡◌, ◌<◌, ◌≤◌, ℕ, Bool, true, false, ◌&&◌, ◌||◌, ◌==◌, nat_le, List, ◌++◌, length, Option, Some, None}
 use Rattle.tlv_text.specs.Dump.{DumpRead, DumpPlace, Step, dump_limit}
-use Rattle.tlv_text.specs.DumpLines.{LineKind, OffsetRead, RowRead, ends_offset, offset_read}
+use Rattle.tlv_text.specs.DumpLines.{LineKind, OffsetRead, RowRead, ends_offset, is_dump_blank, offset_read}
 use Rattle.tlv_text.specs.Private.PairSteps.{pair_octets}
 use Rattle.tlv_text.specs.declared.dump.Reading.{Reading}
 use Rattle.tlv_text.specs.declared.dump.lines.DumpLine.{DumpLine}
@@ -10,6 +10,10 @@ use Rattle.tlv_text.specs.declared.dump.lines.Radix.{Radix}
 use Rattle.tlv_text.specs.declared.dump.lines.RowLine.{RowLine}
 use Rattle.tlv_text.specs.declared.dump.output.Output.{Output}
 use Rattle.tlv_text.specs.declared.dump.rows.LastRow.{LastRow}
+
+-- a colon or a blank, one of which each row with a pair has, or an asterisk, as each repeat has
+abbrev pub is_row_sign : ℕ → Bool
+is_row_sign x = (x == 58) || is_dump_blank x || (x == 42)
 
 abbrev pub offset_seen : Offset → OffsetRead
 offset_seen offset = record { count = offset.count; number = offset.number; rest = offset.rest.now }

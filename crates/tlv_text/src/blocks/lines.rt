@@ -4,6 +4,7 @@ ghost use Rattle.tlv_text.specs.Blocks.{line_feeds, state_at_place};
 ghost use Rattle.tlv_text.specs.Private.BlockSteps.{IsLineIn, IsRefusedWithin};
 
 use crate::BlockState;
+use memchr::memchr;
 
 /// A place in a text.
 #[derive(Clone, Copy)]
@@ -37,10 +38,10 @@ fn line_feeds(text: &[u8]) -> usize
     ensures within { result ≤ length text.now }
 {
     let mut count = 0;
-    for character in text {
-        if *character == b'\n' {
-            count += 1;
-        }
+    let mut rest = text;
+    while let Some(place) = memchr(b'\n', rest) {
+        count += 1;
+        rest = &rest[place + 1..];
     }
     count
 }

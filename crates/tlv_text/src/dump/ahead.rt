@@ -1,18 +1,23 @@
 //! What the lines of a hex dump say of it before they are read.
+ghost use Rattle.std.specs.List.{list_any};
 ghost use Rattle.std.specs.Prelude.{◌≡◌, ◌<◌, ◌≤◌, MatchOption};
 ghost use Rattle.tlv_text.specs.Dump.{dump_in, has_pair, is_octal_first, size_by, size_in};
 ghost use Rattle.tlv_text.specs.DumpLines.{dump_lines};
-ghost use Rattle.tlv_text.specs.Private.DumpSteps.{row_seen};
+ghost use Rattle.tlv_text.specs.Private.DumpSteps.{is_row_sign, row_seen};
 ghost use Rattle.tlv_text.specs.declared.dump.lines.Radix.TheVariants.{Hexadecimal};
 
 use super::lines::{DumpLine, Radix, RowLine, has_od_offset, line_of, split_line};
 use super::pairs::{before_pairs, begins_pair};
+use memchr::{memchr, memchr3};
 
 /// A text from its first line on that is a row with a pair, or a repeat, with hexadecimal offsets.
 pub(super) fn from_first_row(text: &[u8]) -> &[u8]
     ensures read { dump_in Hexadecimal result.now ≡ dump_in Hexadecimal text.now }
     ensures octal { is_octal_first (dump_lines result.now) ≡ is_octal_first (dump_lines text.now) }
 {
+    if !has_row_sign(text) {
+        return &text[text.len()..];
+    }
     let mut rest = text;
     while !rest.is_empty() {
         let (line, after) = split_line(rest);
@@ -23,6 +28,14 @@ pub(super) fn from_first_row(text: &[u8]) -> &[u8]
         }
     }
     rest
+}
+
+/// Whether a text has a colon, a space or a tab, one of which each row with a pair has, or an asterisk, as each repeat
+/// has. A text that has none of them need not be read line by line.
+fn has_row_sign(text: &[u8]) -> bool
+    ensures { result ≡ list_any is_row_sign text.now }
+{
+    memchr3(b':', b' ', b'\t', text).is_some() || memchr(b'*', text).is_some()
 }
 
 /// Whether the offset of the first row has seven octal digits and no colon after it, as od writes it.

@@ -1,23 +1,12 @@
 use Rattle.std.proofs.Common.{refl}
-use Rattle.tlv_view_program.specs.WritesReasons.{failed, of_nothing, of_octets, of_string}
-use Rattle.tlv_view_program.proofs.ReasonSteps.{then-others}
+use Rattle.tlv_view_program.specs.WritesReasons.{of_nothing, of_string}
 use Rattle.tlv_view_program.proofs.reasons.write_explained.Goals as goal
 
 pub returns-in-Nothing : goal.returns-in-Nothing
 returns-in-Nothing g c = rw c.in-Nothing.is (of_nothing _ refl)
 
-pub returns-in-Ok : goal.returns-in-Ok
-returns-in-Ok g c =
-    rw c.in-Octets.is
-    (of_octets c.closed_facts-facts.result c.write_remedies.result c.closed_facts-facts.ensures
-    (then-others g.D.Drain.state _ c.write_reasons.new.drain c.write_remedies.new.drain _ _ _ _ c.in-Ok.ensures
-    (rw (c.as_slice.ensures.value, c.suspect_offsets.ensures) at c.write_remedies.ensures.written)
-    c.write_remedies.ensures.refused))
-
-pub returns-in-Err : goal.returns-in-Err
-returns-in-Err g c =
-    rw c.in-Octets.is
-    (of_octets c.closed_facts-facts.result _ c.closed_facts-facts.ensures (failed c.in-Err.fault c.in-Err.ensures))
+pub returns-in-Octets : goal.returns-in-Octets
+returns-in-Octets g c = rw c.in-Octets.is c.write_fault_reasons.ensures
 
 pub returns-in-String : goal.returns-in-String
 returns-in-String g c = rw c.in-String.is (of_string c.in-String.string _ c.explain_string.ensures)
