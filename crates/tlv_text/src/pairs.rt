@@ -1,7 +1,7 @@
 //! Octets as pairs of hexadecimal digits.
 ghost use Rattle.std.specs.Prelude.{◌≡◌, ◌≤◌, IfOk, OnOk, false, length};
+ghost use Rattle.tlv_text.specs.Dump.{begins_pair};
 ghost use Rattle.tlv_text.specs.Pairs.{is_between_pairs, pairs_read};
-ghost use Rattle.tlv_text.specs.Private.PairSteps.{begins_pair};
 ghost use Rattle.tlv_text.specs.TextRead.{octets_then, refused_at};
 
 use crate::Decoded;

@@ -1,5 +1,5 @@
 -- Pairs of digits, without what is between them.
-use Rattle.std.specs.Prelude.{◌≡◌, ℕ, ◌%◌, Bool, false, ◌&&◌, List, [], ◌∷◌, length}
+use Rattle.std.specs.Prelude.{◌≡◌, ℕ, ◌%◌, List, [], ◌∷◌, length}
 use Rattle.std.specs.List.{AllPass}
 use Rattle.hex.specs.Hex.{is_hex_digit}
 use Rattle.tlv_text.specs.Pairs.{pair_octet}
@@ -14,9 +14,3 @@ abbrev pub pair_octets : List ℕ → List ℕ
 pair_octets [] = []
 pair_octets (x ∷ []) = []
 pair_octets (x ∷ y ∷ digits) = pair_octet x y ∷ pair_octets digits
-
--- two digits come first
-abbrev pub begins_pair : List ℕ → Bool
-begins_pair [] = false
-begins_pair (x ∷ []) = false
-begins_pair (x ∷ y ∷ text) = is_hex_digit x && is_hex_digit y
