@@ -1,0 +1,63 @@
+"""What pages name is there: the pages and sections that they link to, files by their names or their paths, and in docs/READING.md
+the files of definitions of each crate."""
+import glob
+import os
+import re
+
+PAGES = ("README.md", "CONTRIBUTING.md", "bench/README.md", "docs/*.md")
+# A file that a page names as an example, or that is made.
+MADE = {"MODULE", "FUNCTION", "NAME", "out"}
+
+
+def without_blocks(text):
+    """Returns a page without its indented and fenced blocks of code."""
+    return re.sub(r"^```.*?^```", "", text, flags=re.M | re.S)
+
+
+def anchors(text):
+    """Returns the anchors of a page's headings, as they are made of them."""
+    heads = re.findall(r"^#+ (.*)", without_blocks(text), re.M)
+    return {re.sub(r"[^\w -]", "", head.lower()).strip().replace(" ", "-") for head in heads}
+
+
+def broken_links(root, page, text, texts):
+    """Yields the links of a page that lead nowhere."""
+    for path, anchor in re.findall(r"\]\(([^)#\s]*)(?:#([^)\s]*))?\)", without_blocks(text)):
+        if re.match(r"\w+:", path):
+            continue
+        target = os.path.normpath(os.path.join(os.path.dirname(page), path)) if path else page
+        if not os.path.exists(os.path.join(root, target)):
+            yield path
+        elif anchor and target in texts and anchor not in anchors(texts[target]):
+            yield f"{path}#{anchor}"
+
+
+def missing_files(text, known):
+    """Yields the files of code that a page names, by a name or the end of a path, and that are not there."""
+    for name in re.findall(r"`([\w./+-]+\.(?:antt|rt|rows|py))`", without_blocks(text)):
+        if not MADE & set(name.split("/")) and not any(path == name or path.endswith("/" + name) for path in known):
+            yield name
+
+
+def missing_definitions(root, text):
+    """Yields the files of definitions that docs/READING.md names of a crate and that the crate has not."""
+    for row in re.findall(r"^\| .*", text, re.M):
+        for crate, names in re.findall(r"`(tlv_\w+)`: ((?:`\w+`(?: \([^)]*\))?(?:, )?)+)", row):
+            for name in re.findall(r"`(\w+)`", re.sub(r"\([^)]*\)", "", names)):
+                if not glob.glob(os.path.join(root, "crates", crate, "specs", "**", f"{name}.antt"), recursive=True):
+                    yield f"{crate}: {name}"
+
+
+def test(part):
+    paths = [path for pattern in PAGES for path in sorted(glob.glob(os.path.join(part.root, pattern)))]
+    texts = {}
+    for path in paths:
+        with open(path, encoding="utf-8") as file:
+            texts[os.path.relpath(path, part.root)] = file.read()
+    known = [os.path.relpath(os.path.join(at, name), part.root)
+             for top in ("crates", "tests", "bench") for at, _, names in os.walk(os.path.join(part.root, top)) for name in names]
+    for page, text in texts.items():
+        broken = [*broken_links(part.root, page, text, texts), *missing_files(text, known)]
+        part.expect(f"{page} names what is there", not broken, *broken)
+    lacking = list(missing_definitions(part.root, texts["docs/READING.md"]))
+    part.expect("docs/READING.md names files of definitions", not lacking, *lacking)
