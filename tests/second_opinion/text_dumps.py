@@ -8,7 +8,7 @@ PAIR = rb"[0-9a-fA-F]{2}"
 OFFSET = rb"[ \t]*(?:0[xX])?(%s{4,16})"
 DIGITS = {16: rb"[0-9a-fA-F]", 8: rb"[0-7]"}
 # Between the offset and the first pair.
-FRONT = rb"([: \t][ \t]*:?)-?[ \t]*(?=%s)" % PAIR
+FRONT = rb"(:|[ \t]+:?)-?[ \t]*(?=%s)" % PAIR
 REPEAT, EMPTY = re.compile(rb"[ \t]*\*[ \t]*"), re.compile(rb"[ \t]*")
 # What may not come at once after the pairs of a row, and what not after those of a full row: after a blank a pair that a
 # blank or the end of the line follows.
