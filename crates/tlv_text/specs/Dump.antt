@@ -4,7 +4,7 @@
 --   dump   = *(other / empty) (single / rows)
 --   single = row *empty                        one row alone: its offset is 0 or a colon follows it
 --   rows   = row *(empty / row / repeat) [end] *empty
---   row    = *blank ["0x" / "0X"] 4*16digit (":" / blank) *blank [":"] ["-"] *blank pair *(gap pair) [others]
+--   row    = *blank ["0x" / "0X"] 4*16digit (":" / 1*blank [":"]) ["-"] *blank pair *(gap pair) [others]
 --   repeat = *blank "*" *blank                 the octets of the row before, up to the offset of the row after
 --   end    = *blank ["0x" / "0X"] 4*16digit *blank
 --   empty  = *blank
