@@ -57,39 +57,19 @@ pub fn put_whole_with<N: NameTable, D: Drain>(
         (whole_lines_with with_text (N.name_of names.now) header.now layout contents.now) result }
 {
     let primitive = Primitive::new(header, layout, with_text);
-    if with_text || primitive.is_long() {
+    if primitive.is_long() {
         // A reference to a copy: a value on its line then stays in registers.
         let other = primitive;
-        put_apart(&other, contents, names, out)
+        put_long_lines(&other, contents, names, out)
     } else {
         primitive.put(contents, names, out)
     }
 }
 
-/// Puts the lines of a primitive with text beside pairs of digits, or whose contents are too long for its line. It is
-/// apart and `cold`, since without text it comes seldom.
+/// Puts the lines of a primitive whose contents are too long for its line. It is apart and `cold`, since most values are
+/// on their line.
 #[cold]
 #[inline(never)]
-fn put_apart<N: NameTable, D: Drain>(
-    primitive: &Primitive,
-    contents: &[u8],
-    names: &N,
-    out: &mut Out<'_, D>,
-) -> Result<(), WriteFault>
-    requires { length contents.now ≡ primitive.now.size }
-    ensures { Puts D.state out.old out.new
-        (lines_in_steps (N.name_of names.now) (new_value_text_of primitive.now) contents.now)
-        result }
-{
-    if primitive.is_long() {
-        put_long_lines(primitive, contents, names, out)
-    } else {
-        primitive.put(contents, names, out)
-    }
-}
-
-/// Puts the lines of a primitive whose contents are too long for its line.
-#[inline(always)]
 fn put_long_lines<N: NameTable, D: Drain>(
     primitive: &Primitive,
     contents: &[u8],
