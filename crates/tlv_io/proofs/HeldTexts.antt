@@ -54,24 +54,6 @@ text_written new prefix text rest start n kept written e =
     ∙ ap₂ (λ (k l : List ℕ). k ++ take (length text) l) kept written
     ∙ ap (λ (l : List ℕ). prefix ++ l) (take-append_seam text rest)
 
--- spaces were written to so many places, and then a text to their right end
-pub right_written : (old new tail text rest pad : List ℕ) (at start places : ℕ) → at ≤ length old
-    → length text ≤ places → start + length text ≡ at + places → pad ≡ spaces places
-    → take start new ≡ take start (take at old ++ (pad ++ tail)) → drop start new ≡ text ++ rest
-    → take (at + places) new ≡ take at old ++ at_right places text
-right_written old new tail text rest pad at start places within short e is kept written =
-    let left : ℕ = places - length text in
-    let from : start ≡ at + left = omega (arith, e, short) in
-    let size : length pad ≡ places = ap length is ∙ length-replicate places 32 in
-    let blank : take left (pad ++ tail) ≡ spaces left =
-    take-append-le left pad tail (omega (arith, size)) ∙ ap (take left) is
-    ∙ take-replicate left places 32 (omega arith) in
-    let taken : take start new ≡ take at old ++ spaces left =
-    kept ∙ ap (λ (k : ℕ). take k (take at old ++ (pad ++ tail))) from
-    ∙ part_written old (pad ++ tail) (spaces left) at left within blank in
-    text_written new (take at old ++ spaces left) text rest start (at + places) taken written (sym e)
-    ∙ append_assoc (take at old) (spaces left) text
-
 -- a long text is as it is
 pub right_long : (places : ℕ) (text : List ℕ) → places ≤ length text → at_right places text ≡ text
 right_long places text long =
@@ -79,20 +61,20 @@ right_long places text long =
 
 -- ---- spaces
 
--- 32 of them hold as many as are wanted
-pub spaces_prefix : (count : ℕ) (pad tail : List ℕ) → pad ≡ replicate 32 32 → count ≤ 32
+-- so many of them hold as many as are wanted
+pub spaces_prefix : (count room : ℕ) (pad tail : List ℕ) → pad ≡ spaces room → count ≤ room
     → take count (pad ++ tail) ≡ spaces count
-spaces_prefix count pad tail e few =
+spaces_prefix count room pad tail e few =
     ap (λ (l : List ℕ). take count (l ++ tail)) e
-    ∙ take-append-le count (replicate 32 32) tail (omega (arith, length-replicate {A = ℕ} 32 32, few))
-    ∙ take-replicate count 32 32 few
+    ∙ take-append-le count (spaces room) tail (omega (arith, length-replicate {A = ℕ} room 32, few))
+    ∙ take-replicate count room 32 few
 
 -- 32 more
 pub spaces_step : (to pad tail : List ℕ) (done : ℕ) → done ≤ length to → pad ≡ replicate 32 32
     → take done to ≡ spaces done → take (done + 32) (take done to ++ (pad ++ tail)) ≡ spaces (done + 32)
 spaces_step to pad tail done within e is =
     let more : List ℕ = replicate 32 32 in
-    part_written to (pad ++ tail) more done 32 within (spaces_prefix 32 pad tail e (omega arith))
+    part_written to (pad ++ tail) more done 32 within (spaces_prefix 32 32 pad tail e (omega arith))
     ∙ ap (λ (l : List ℕ). l ++ more) is
     ∙ replicate-append-replicate done 32 32
 
@@ -101,6 +83,20 @@ pub spaces_of_more : (count done : ℕ) (to : List ℕ) → count ≤ done → t
     → take count to ≡ spaces count
 spaces_of_more count done to more e =
     sym (take-take count done to more) ∙ ap (take count) e ∙ take-replicate count done 32 more
+
+-- a text was written to the right end of so many places, over the first of more spaces
+pub right_written : (old new tail text rest pad : List ℕ) (at start end places room : ℕ) → at ≤ length old
+    → places ≤ room → start ≡ at + (places - length text) → end ≡ start + length text → pad ≡ spaces room
+    → take start new ≡ take start (take at old ++ (pad ++ tail)) → drop start new ≡ text ++ rest
+    → take end new ≡ take at old ++ at_right places text
+right_written old new tail text rest pad at start end places room within few from e is kept written =
+    let left : ℕ = places - length text in
+    let blank = spaces_prefix left room pad tail is (omega (arith, few)) in
+    let taken : take start new ≡ take at old ++ spaces left =
+    kept ∙ ap (λ (k : ℕ). take k (take at old ++ (pad ++ tail))) from
+    ∙ part_written old (pad ++ tail) (spaces left) at left within blank in
+    text_written new (take at old ++ spaces left) text rest start end taken written e
+    ∙ append_assoc (take at old) (spaces left) text
 
 -- ---- the first columns of a line
 
@@ -249,20 +245,6 @@ digits_of_power k n fits from to = sym (by k n (omega arith) from to)
           arith,
           length_step_wide n (omega (arith, power_some k, from)) fits,
           by k (n / 10) (omega arith) (omega (arith, from)) (omega (arith, to)),
-        )
-
--- a number of at least this power of ten has more digits
-pub long_number : (k n : ℕ) → n < 2 ^ 64 → 10 ^ k ≤ n → at_right k (decimal n) ≡ decimal n
-long_number k n fits from = right_long k (decimal n) (by k n (omega arith) from)
-  where
-    by : (k n : ℕ) → n < 2 ^ 128 → 10 ^ k ≤ n → k ≤ length (decimal n)
-    by zero n fits from = omega arith
-    by (suc zero) n fits from = omega (arith, length_step_wide n from fits)
-    by (suc (suc k)) n fits from =
-        omega (
-          arith,
-          length_step_wide n (omega (arith, power_some k, from)) fits,
-          by (suc k) (n / 10) (omega arith) (omega (arith, from)),
         )
 
 -- ---- pairs of digits

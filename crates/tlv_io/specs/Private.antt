@@ -1,3 +1,2 @@
-pub mod LastRead
 pub mod ReadLog
 pub mod WritesOver

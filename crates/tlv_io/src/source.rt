@@ -42,7 +42,7 @@ pub(crate) struct ReadLog {
 
 impl Model for ReadLog {
     ghost use Rattle.tlv_io.specs.Device.{ReadLogState};
-    ghost use Rattle.tlv_io.specs.Private.LastRead.{last_read};
+    ghost use Rattle.tlv_io.specs.Private.ReadLog.{last_read};
 
     ghost Value = { ReadLogState };
 

@@ -176,9 +176,9 @@ impl<N: FiniteNames> Dump<'_, N> {
         ensures { HasEffect D.state (dump_step self.old (Begin header.now))
             out.old out.new self.new result }
     {
-        let may_have_findings = self.finder.begin(header);
+        self.finder.begin(header);
         let style = self.lines.style();
-        put_findings(may_have_findings, style, &self.finder, out)?;
+        put_findings(true, style, &self.finder, out)?;
         self.lines.begin(header, out)
     }
 

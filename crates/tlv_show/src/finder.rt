@@ -1,6 +1,6 @@
 //! What is found in elements, event by event.
-ghost use Rattle.std.specs.Prelude.{◌≡◌, length};
-ghost use Rattle.tlv_head.specs.Header.{HasAllContents, announced_length};
+ghost use Rattle.std.specs.Prelude.{◌≡◌};
+ghost use Rattle.tlv_head.specs.Header.{HasAllContents};
 ghost use Rattle.tlv_walk.specs.Events.{event_value_of};
 ghost use Rattle.tlv_show.specs.FinderState.{finder_in_primitive, finder_begin_step, finder_bytes_step};
 ghost use Rattle.tlv_show.specs.FinderState.{finder_close_step, finder_end_step, finder_open_step};
@@ -109,7 +109,10 @@ impl Finder {
     {
         match event {
             Event::Open(header) | Event::Enter(header) => self.open(header),
-            Event::Begin(header) => self.begin(header),
+            Event::Begin(header) => {
+                self.begin(header);
+                true
+            }
             Event::Bytes(octets) => {
                 self.bytes(octets);
                 false
@@ -141,22 +144,9 @@ impl Finder {
         true
     }
 
-    /// Finds what is to be found with a header, after a short look. Returns whether there may be findings.
-    #[inline(always)]
-    fn find_with_header(&mut self, header: &Header) -> bool
-        ensures { ReturnsFindings
-            (with_header_findings self.old.kept header.now self.old.kept) self.new result }
-    {
-        if has_no_header_findings(self.rules, self.holders.frame(), header) {
-            return false;
-        }
-        self.find_all_with_header(header);
-        true
-    }
-
     /// Finds what is to be found with a header, without a short look.
     #[inline(always)]
-    fn find_all_with_header(&mut self, header: &Header)
+    fn find_with_header(&mut self, header: &Header)
         ensures { self.new ≡ with_header_findings self.old.kept header.now self.old.kept }
     {
         let level = self.holders.depth();
@@ -193,19 +183,18 @@ impl Finder {
             self.holders.open_without_frame(header);
             return false;
         }
-        self.find_all_with_header(header);
+        self.find_with_header(header);
         self.holders.open(header);
         true
     }
 
-    /// A primitive begins.
+    /// A primitive begins. There is no short look first: those that come to this did not pass, or are cut.
     #[inline(always)]
-    pub fn begin(&mut self, header: &Header) -> bool
-        ensures { ReturnsFindings (finder_begin_step self.old.kept header.now) self.new result }
+    pub fn begin(&mut self, header: &Header)
+        ensures { self.new ≡ finder_begin_step self.old.kept header.now }
     {
-        let may_have_findings = self.find_with_header(header);
+        self.find_with_header(header);
         self.set_in_primitive(header);
-        may_have_findings
     }
 
     /// Contents of a primitive go on. Octets after the announced ones are not looked at.

@@ -15,7 +15,7 @@ use crate::headers::{
 };
 use crate::holder_frame::HolderFrame;
 use arrayvec::ArrayVec;
-use tlv_head::{Header, universal};
+use tlv_head::Header;
 use tlv_value::Finding;
 
 /// Adds what is found with a header, in order, by the frame of the element that holds it.
@@ -88,35 +88,13 @@ fn is_tag_usual(header: &Header) -> bool
     !has_high_form(header) || (header.number >= 31 && header.second_identifier_octet() % 128 != 0)
 }
 
-/// Whether the element has a universal type that can have its form, and is no constructed string; or its class is
-/// not universal.
+/// Whether an element is constructed, and has a universal type that is always so or a class that is not universal. All
+/// that hold others are, but for strings in segments and primitives that hold encodings, which are few.
 #[inline(always)]
 fn is_usual(header: &Header) -> bool
     ensures { IsTrue result → IsUsual header.now }
 {
-    if !is_universal(header) {
-        return true;
-    }
-    if header.constructed {
-        matches!(
-            header.number,
-            universal::EXTERNAL
-                | universal::EMBEDDED_PDV
-                | universal::SEQUENCE
-                | universal::SET
-                | universal::CHARACTER_STRING
-        )
-    } else {
-        matches!(
-            header.number,
-            universal::BOOLEAN..=universal::OBJECT_DESCRIPTOR
-                | universal::REAL
-                | universal::ENUMERATED
-                | universal::UTF8_STRING..=universal::TIME
-                | universal::NUMERIC_STRING..=universal::UNIVERSAL_STRING
-                | universal::BMP_STRING..=universal::RELATIVE_OID_IRI
-        )
-    }
+    header.constructed && (!is_universal(header) || is_always_constructed(header))
 }
 
 /// Adds what is found with the end of the element whose frame this is.

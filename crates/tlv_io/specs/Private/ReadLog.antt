@@ -1,9 +1,17 @@
--- What is kept of reads, as a private function says it.
+-- What the code keeps of reads.
 use Rattle.std.specs.Prelude.{ℕ, Result}
-use Rattle.tlv_io.specs.Device.{ReadLogState, failures_after, last_after, next_count}
+use Rattle.tlv_io.specs.Device.{LastReadValue, ReadLogState, never, gave, failed, failures_after, last_after, next_count}
+use Rattle.tlv_io.specs.declared.source.LastRead.{LastRead}
+use Rattle.tlv_io.specs.declared.source.LastRead.TheVariants.{Never, Gave, Failed}
+
+-- of the last one
+abbrev pub last_read : LastRead → LastReadValue
+last_read Never = never
+last_read (Gave n) = gave n
+last_read Failed = failed
 
 module _ {E : Type 0} where
-  -- what is kept of reads after one more with this result
+  -- of all of them, after one more with this result
   abbrev pub read_log_after : Result ℕ E → ReadLogState → ReadLogState
   read_log_after result old =
       record { reads = next_count old.reads; last = last_after result; failures = failures_after result old.failures }

@@ -1,5 +1,5 @@
 //! Numbers that are added to the octets held.
-ghost use Rattle.std.specs.Prelude.{◌≡◌, ◌++◌, decimal, length};
+ghost use Rattle.std.specs.Prelude.{◌≡◌, ◌≤◌, ◌++◌, decimal, length};
 ghost use Rattle.tlv_io.specs.LineTexts.{HasRoomFor, columns, at_right};
 
 use super::HeldOctets;
@@ -64,9 +64,9 @@ impl HeldOctets {
         requires { HasRoomFor self.old 43 }
         ensures { self.new ≡ self.old ++ columns offset (decimal size) }
     {
-        self.right_8(offset);
+        self.right(offset, 8);
         self.add(b" ");
-        self.right_6(size);
+        self.right(size, 6);
         self.add(b": ");
     }
 
@@ -94,44 +94,24 @@ impl HeldOctets {
         requires { HasRoomFor self.old 29 }
         ensures { self.new ≡ self.old ++ columns offset word.now }
     {
-        self.right_8(offset);
+        self.right(offset, 8);
         self.add(b" ");
         self.add(word);
         self.add(b": ");
     }
 
-    /// Adds a number, in decimal, at the right of eight places; a longer one takes as many as it needs.
-    #[inline(always)]
-    fn right_8(&mut self, number: u64)
-        requires { HasRoomFor self.old 20 }
-        ensures { self.new ≡ self.old ++ at_right 8 (decimal number) }
+    /// Adds a number, in decimal, at the right of so many places; a longer one takes as many as it needs.
+    fn right(&mut self, number: u64, places: usize)
+        requires places { places ≤ 20 }
+        requires room { HasRoomFor self.old 20 }
+        ensures { self.new ≡ self.old ++ at_right places (decimal number) }
     {
-        if number >= 100_000_000 {
-            self.number(number);
-        } else {
-            let start = self.len();
-            let end = start + 8;
-            self.octets[start..end].copy_from_slice(&[b' '; 8]);
-            let _ = write_digits(number, &mut self.octets, end);
-            self.len = end;
-        }
-    }
-
-    /// Adds a number, in decimal, at the right of six places; a longer one takes as many as it needs.
-    #[inline(always)]
-    fn right_6(&mut self, number: u64)
-        requires { HasRoomFor self.old 20 }
-        ensures { self.new ≡ self.old ++ at_right 6 (decimal number) }
-    {
-        if number >= 1_000_000 {
-            self.number(number);
-        } else {
-            let start = self.len();
-            let end = start + 6;
-            self.octets[start..end].copy_from_slice(&[b' '; 6]);
-            let _ = write_digits(number, &mut self.octets, end);
-            self.len = end;
-        }
+        let start = self.len();
+        let end = start + digit_count(number).max(places);
+        // As many spaces as a number has digits at most; what stands after the end does not count.
+        self.octets[start..start + 20].copy_from_slice(&[b' '; 20]);
+        let _ = write_digits(number, &mut self.octets, end);
+        self.len = end;
     }
 }
 

@@ -7,16 +7,16 @@ pub add-requires : goal.add-requires
 add-requires c =
     omega (
       arith,
-      length-added _ _ (at_right 8 (decimal c.args.offset)) c.right_8.ensures,
+      length-added _ _ (at_right 8 (decimal c.args.offset)) c.right.ensures,
       right-short 8 c.args.offset (omega arith) c.ranges.offset.fits,
       c.requires,
     )
 
-pub right_6-requires : goal.right_6-requires
-right_6-requires c =
+pub right-requires-2 : goal.right-requires-2
+right-requires-2 c =
     omega (
       arith,
-      length-added _ _ (at_right 8 (decimal c.args.offset)) c.right_8.ensures,
+      length-added _ _ (at_right 8 (decimal c.args.offset)) c.right.ensures,
       right-short 8 c.args.offset (omega arith) c.ranges.offset.fits,
       length-added _ _ (32 ∷ []) c.add.ensures,
       c.requires,
@@ -24,8 +24,8 @@ right_6-requires c =
 
 pub add-requires-2 : goal.add-requires-2
 add-requires-2 c =
-    let first = length-added _ _ (at_right 8 (decimal c.args.offset)) c.right_8.ensures in
-    let last = length-added _ _ (at_right 6 (decimal c.args.size)) c.right_6.ensures in
+    let first = length-added _ _ (at_right 8 (decimal c.args.offset)) c.right.ensures in
+    let last = length-added _ _ (at_right 6 (decimal c.args.size)) c.right-2.ensures in
     omega (
       arith,
       first,
@@ -38,5 +38,5 @@ add-requires-2 c =
 
 pub returns : goal.returns
 returns c =
-    columns_added _ _ _ _ _ (at_right 8 (decimal c.args.offset)) (at_right 6 (decimal c.args.size)) c.right_8.ensures
-    c.add.ensures c.right_6.ensures c.add-2.ensures
+    columns_added _ _ _ _ _ (at_right 8 (decimal c.args.offset)) (at_right 6 (decimal c.args.size)) c.right.ensures
+    c.add.ensures c.right-2.ensures c.add-2.ensures

@@ -7,14 +7,14 @@ pub add-requires : goal.add-requires
 add-requires c =
     omega (
       arith,
-      length-added _ _ (at_right 8 (decimal c.args.offset)) c.right_8.ensures,
+      length-added _ _ (at_right 8 (decimal c.args.offset)) c.right.ensures,
       right-short 8 c.args.offset (omega arith) c.ranges.offset.fits,
       c.requires,
     )
 
 pub add-requires-2 : goal.add-requires-2
 add-requires-2 c =
-    let first = length-added _ _ (at_right 8 (decimal c.args.offset)) c.right_8.ensures in
+    let first = length-added _ _ (at_right 8 (decimal c.args.offset)) c.right.ensures in
     omega (
       arith,
       first,
@@ -26,7 +26,7 @@ add-requires-2 c =
 
 pub add-requires-3 : goal.add-requires-3
 add-requires-3 c =
-    let first = length-added _ _ (at_right 8 (decimal c.args.offset)) c.right_8.ensures in
+    let first = length-added _ _ (at_right 8 (decimal c.args.offset)) c.right.ensures in
     omega (
       arith,
       first,
@@ -40,7 +40,7 @@ add-requires-3 c =
 pub returns : goal.returns
 returns c =
     let joined =
-    columns_added _ _ _ _ _ (at_right 8 (decimal c.args.offset)) c.args.word.now c.right_8.ensures c.add.ensures
+    columns_added _ _ _ _ _ (at_right 8 (decimal c.args.offset)) c.args.word.now c.right.ensures c.add.ensures
     c.add-2.ensures c.add-3.ensures in
     joined
     ∙ ap (λ (l : List ℕ). c.args.self.now ++ (at_right 8 (decimal c.args.offset) ++ 32 ∷ [] ++ l ++ 58 ∷ 32 ∷ []))

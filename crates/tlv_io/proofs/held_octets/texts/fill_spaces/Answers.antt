@@ -12,6 +12,6 @@ copy_from_slice-requires c = length-take-le 32 c.args.to.now (omega (arith, c.re
 pub returns-else-count-gt32 : goal.returns-else-count-gt32
 returns-else-count-gt32 c = record {
   text =
-      spaces_prefix c.args.count c.copy_from_slice.new.self _ c.copy_from_slice.ensures.after c.if-count-gt32.false;
+      spaces_prefix c.args.count 32 c.copy_from_slice.new.self _ c.copy_from_slice.ensures.after c.if-count-gt32.false;
   size = search rules;
 }

@@ -1,4 +1,4 @@
-use Rattle.std.proofs.Common.{rules}
+use Rattle.std.proofs.Common.{rules, true}
 use Rattle.tlv_show.specs.DumpStep.{DumpState}
 use Rattle.tlv_show.proofs.DumpLemmas.DumpSteps.{found_failed, found_before}
 use Rattle.tlv_show.proofs.dump_follower.Dump.begin.Goals as goal
@@ -9,8 +9,8 @@ returns-in_err-put_findings g c =
     record {
       puts =
           rw (← c.self.view_is)
-          (found_failed g.D.Drain.state s _ c.begin-may_have_findings.new.self c.begin-may_have_findings.result
-          _ _ _ _ _ _ c.style-style.ensures c.begin-may_have_findings.ensures c.in_err-put_findings.ensures
+          (found_failed g.D.Drain.state s _ c.begin.new.self true
+          _ _ _ _ _ _ c.style-style.ensures c.begin.ensures c.in_err-put_findings.ensures
           (search rules));
       state = search rules;
     }
@@ -21,8 +21,8 @@ returns g c =
     record {
       puts =
           rw (← c.self.view_is)
-          (found_before g.D.Drain.state s _ c.begin-may_have_findings.new.self c.begin-may_have_findings.result
-          _ _ _ _ _ _ _ c.style-style.ensures c.begin-may_have_findings.ensures c.in_ok-put_findings.ensures
-          c.begin.ensures.puts);
+          (found_before g.D.Drain.state s _ c.begin.new.self true
+          _ _ _ _ _ _ _ c.style-style.ensures c.begin.ensures c.in_ok-put_findings.ensures
+          c.begin-2.ensures.puts);
       state = search rules;
     }
