@@ -1,0 +1,19 @@
+//! A command, as words and as a run.
+use crate::expect::expect_eq;
+use tlv_run::{Command, run_octets};
+use tlv_show::Rules;
+use tlv_value::Names;
+use tlv_walk::Framing;
+
+/// tlv_run: `check --rules der` of octets in memory: what is written, and the status that the program ends with.
+#[test]
+fn run_a_command(rt: HostRuntime) {
+    let command = Command::Check {
+        rules: Rules::Der,
+        framing: Framing::plain(),
+        file: None,
+    };
+    let run = run_octets::<64>(&command, &Names::empty(), b"\x30\x80\x00\x00", &[], false);
+    expect_eq(&rt, run.written.as_slice(), b"0 D01 indefinite length\n");
+    expect_eq(&rt, run.report.status, 1);
+}

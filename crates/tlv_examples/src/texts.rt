@@ -1,0 +1,27 @@
+//! Octets that are written as text.
+use crate::expect::expect_eq;
+use std::test::Fail;
+use tlv_forms::take_input;
+use tlv_text::decode_pairs;
+
+/// tlv_text: pairs of hexadecimal digits, and where a text is refused.
+#[test]
+fn decode_hexadecimal(rt: HostRuntime) -> Result<(), Fail> {
+    let decoded = decode_pairs(rt.alloc(), b"30 03:02 01 05\n")?;
+    expect_eq(&rt, decoded.octets.as_slice(), b"\x30\x03\x02\x01\x05");
+    expect_eq(&rt, decoded.refused.is_none(), true);
+    Ok(())
+}
+
+/// tlv_forms: an input is taken for what it is, here PEM, and its block decoded.
+#[test]
+fn take_a_text_for_what_it_is(rt: HostRuntime) -> Result<(), Fail> {
+    let text = b"-----BEGIN X-----\nMAMCAQU=\n-----END X-----\n";
+    let input = Vec::from_slice(rt.alloc(), text)?;
+    if let Ok(blocks) = take_input(rt.alloc(), input)
+        && let [taken] = blocks.as_slice()
+    {
+        expect_eq(&rt, taken.block.octets.as_slice(), b"\x30\x03\x02\x01\x05");
+    }
+    Ok(())
+}

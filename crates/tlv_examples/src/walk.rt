@@ -1,0 +1,29 @@
+//! Headers and events.
+use crate::expect::expect_eq;
+use tlv_head::{Size, read_header};
+use tlv_walk::{Event, Framing, Step, Walker};
+
+/// tlv_head: the header with which octets begin. A SEQUENCE of three contents octets.
+#[test]
+fn read_the_header_of_a_slice(rt: HostRuntime) {
+    let octets = b"\x30\x03\x02\x01\x05";
+    if let Some((fields, count)) = read_header(0, false, octets) {
+        expect_eq(&rt, fields.number, 16);
+        expect_eq(&rt, fields.constructed, true);
+        expect_eq(&rt, fields.size, Size::Definite(3));
+        expect_eq(&rt, count, 2);
+    }
+}
+
+/// tlv_walk: the first event of a piece. What is left of the piece is for the next step.
+#[test]
+fn take_the_first_event(rt: HostRuntime) {
+    let framing = Framing::plain();
+    let mut walker = Walker::new(&framing);
+    let mut piece: &[u8] = b"\x30\x03\x02\x01\x05";
+    if let Step::Event(Event::Open(header)) = walker.step(&mut piece) {
+        expect_eq(&rt, header.number, 16);
+    }
+    expect_eq(&rt, walker.depth(), 1);
+    expect_eq(&rt, piece, b"\x02\x01\x05");
+}
