@@ -241,7 +241,7 @@ impl<'f> Walker<'f> {
         if piece.is_empty() {
             return Step::NeedMore;
         }
-        self.slow_header(piece)
+        self.header(piece)
     }
 
     /// Refuses the next octet.
