@@ -1,6 +1,6 @@
 -- What a header begins, on a walker's state.
-use Rattle.std.proofs.Common.{◌≡◌, ℕ, ◌+◌, ◌<◌, Bool, true, false, ◌||◌, eqb, if◌then◌else◌, List, [], ◌∷◌, ◌++◌, length}
-use Rattle.std.proofs.Common.{take, Option, refl, sym, ap, ◌∙◌, subst}
+use Rattle.std.proofs.Common.{◌≡◌, ℕ, ◌+◌, ◌<◌, Bool, true, false, ◌||◌, eqb, if◌then◌else◌, List, [], ◌∷◌, ◌++◌}
+use Rattle.std.proofs.Common.{length, take, Option, refl, sym, ap, ◌∙◌, subst}
 use Rattle.std.proofs.lemmas.Bool.{true≢false}
 use Rattle.std.proofs.lemmas.List.{take-append-drop}
 use Rattle.tlv_head.specs.declared.header.HeaderFields.{HeaderFields}
@@ -185,14 +185,14 @@ count_after_header w v f o offset kind.Constructed e = ap (λ (m : WalkerState).
 count_after_header w v f o offset kind.Wrapper e = ap (λ (m : WalkerState). m.wrapper_count) e.2
 
 -- octets that begin with a header, at a walker between elements
-pub takes_header_at_once : (w v : WalkerState) (piece : List ℕ) (named : Bool) (f : HeaderFields) (count : ℕ) (o : List ℕ)
+pub takes_at_once : (w v : WalkerState) (piece : List ℕ) (named : Bool) (f : HeaderFields) (count : ℕ) (o : List ℕ)
     (k : HeaderKind)
     → w.phase ≡ Between
     → BeginsWithFields piece w.offset named f count → o ≡ take count piece → named ≡ is_among w.offset w.framing.inside
     → (holds (new_header f o) ≡ true → length w.stack < 128)
     → IsWithin (bound_of w.stack) (f.offset + length o + announced_length f.size)
     → TakesHeader w v f (f.offset + length o) k → Continues w v o (event_of k (new_header f o) ∷ [])
-takes_header_at_once w v piece named f count o k e begins front name shallow fits takes =
+takes_at_once w v piece named f count o k e begins front name shallow fits takes =
     let h : HeaderValue = new_header f o in
     let whole : octets_of h ≡ o = take-append-drop f.id_len o in
     let begins' : BeginsWith piece w.offset named h =

@@ -121,10 +121,11 @@ events-preserved g c =
             (follows_event g.F.Follow.next g.D.Drain.state _ _ _ _ _ _ _ _ left
             (unmoved_event _ _ _ _ _ _ _ (w.in-None-constructed.ensures.steps.counts.0 ∙ w.in-None.ensures.counts.0)
             (w.in-None-constructed.ensures.steps.counts.1 ∙ w.in-None.ensures.counts.1)
-            (stands_all _ _ _ _ _ w.in-Some-contents_event.ensures.yields)) w.in_ok-go-in-Some-contents_event.ensures);
+            (stands_all _ _ _ _ _ w.in-Some-contents_event.ensures.steps.yields))
+            w.in_ok-go-in-Some-contents_event.ensures);
         walked =
             rw (w.walker-is, w.rest-is)
-            (w.in-Some-contents_event.ensures.counts.0.counts
+            (w.in-Some-contents_event.ensures.steps.counts.0.counts
             ∙ counts-of_none _ _ _ _ (w.in-None-constructed.ensures.steps.counts.0 ∙ w.in-None.ensures.counts.0)
             (w.in-None-constructed.ensures.steps.counts.1 ∙ w.in-None.ensures.counts.1)
             ∙ left_walked g.F.Follow.next g.D.Drain.state _ _ _ _ _ c.if-branch.false
@@ -136,17 +137,17 @@ events-preserved g c =
             rw (w.out-is, w.follower-is, w.walker-is, w.rest-is, ← on, w.go-is)
             (follows_one g.F.Follow.next g.D.Drain.state _ _ _ _ _ _ _ _ w.in-Some-2.is
             (follows_same g.F.Follow.next g.D.Drain.state _ _ _ _ _ _ left
-            (w.in-None-contents_event.ensures.counts.0 ∙ w.in-None-constructed.ensures.steps.counts.0
-            ∙ w.in-None.ensures.counts.0) refl refl (w.in-None-contents_event.ensures.counts.1
+            (w.in-None-contents_event.ensures.steps.counts.0 ∙ w.in-None-constructed.ensures.steps.counts.0
+            ∙ w.in-None.ensures.counts.0) refl refl (w.in-None-contents_event.ensures.steps.counts.1
             ∙ w.in-None-constructed.ensures.steps.counts.1
             ∙ w.in-None.ensures.counts.1)) w.in_ok-go-in-None-contents_event.ensures);
         walked =
             rw (w.walker-is, w.rest-is)
             ((one_counts g.F.Follow.next g.D.Drain.state _ _ _ _ _ _ w.in-Some-2.is
             w.in_ok-go-in-None-contents_event.ensures).counts
-            ∙ counts-of_none _ _ _ _ (w.in-None-contents_event.ensures.counts.0
+            ∙ counts-of_none _ _ _ _ (w.in-None-contents_event.ensures.steps.counts.0
             ∙ w.in-None-constructed.ensures.steps.counts.0 ∙ w.in-None.ensures.counts.0)
-            (w.in-None-contents_event.ensures.counts.1 ∙ w.in-None-constructed.ensures.steps.counts.1
+            (w.in-None-contents_event.ensures.steps.counts.1 ∙ w.in-None-constructed.ensures.steps.counts.1
             ∙ w.in-None.ensures.counts.1)
             ∙ left_walked g.F.Follow.next g.D.Drain.state _ _ _ _ _ c.if-branch.false
             c.in_ok-follow_primitive.ensures
@@ -158,8 +159,8 @@ events-preserved g c =
             (follows_event g.F.Follow.next g.D.Drain.state _ _ _ _ _ _ _ _
             (follows_no_more g.F.Follow.next g.D.Drain.state _ _ _ _ _ _ _ w.in-None-2.is
             (follows_same g.F.Follow.next g.D.Drain.state _ _ _ _ _ _ left
-            (w.in-None-contents_event.ensures.counts.0 ∙ w.in-None-constructed.ensures.steps.counts.0
-            ∙ w.in-None.ensures.counts.0) refl refl (w.in-None-contents_event.ensures.counts.1
+            (w.in-None-contents_event.ensures.steps.counts.0 ∙ w.in-None-constructed.ensures.steps.counts.0
+            ∙ w.in-None.ensures.counts.0) refl refl (w.in-None-contents_event.ensures.steps.counts.1
             ∙ w.in-None-constructed.ensures.steps.counts.1
             ∙ w.in-None.ensures.counts.1)) w.in_ok-go-in-None-contents_event.ensures)
             (walked_event _ _ _ _ _ w.in-Event.ensures)
@@ -169,9 +170,9 @@ events-preserved g c =
             (event_offset _ _ _ _ _ w.in-Event.ensures
             ∙ no_more_walked g.F.Follow.next g.D.Drain.state _ _ _ _ _ w.in-None-2.is
             w.in_ok-go-in-None-contents_event.ensures
-            ∙ counts-of_none _ _ _ _ (w.in-None-contents_event.ensures.counts.0
+            ∙ counts-of_none _ _ _ _ (w.in-None-contents_event.ensures.steps.counts.0
             ∙ w.in-None-constructed.ensures.steps.counts.0 ∙ w.in-None.ensures.counts.0)
-            (w.in-None-contents_event.ensures.counts.1 ∙ w.in-None-constructed.ensures.steps.counts.1
+            (w.in-None-contents_event.ensures.steps.counts.1 ∙ w.in-None-constructed.ensures.steps.counts.1
             ∙ w.in-None.ensures.counts.1)
             ∙ left_walked g.F.Follow.next g.D.Drain.state _ _ _ _ _ c.if-branch.false
             c.in_ok-follow_primitive.ensures
@@ -233,7 +234,7 @@ returns-in_err-go-in-Some-contents_event g c =
     (fails_event g.F.Follow.next g.D.Drain.state _ _ _ _ _ _ _ _ left
     (unmoved_event _ _ _ _ _ _ _ (c.in-None-constructed.ensures.steps.counts.0 ∙ c.in-None.ensures.counts.0)
     (c.in-None-constructed.ensures.steps.counts.1 ∙ c.in-None.ensures.counts.1)
-    (stands_all _ _ _ _ _ c.in-Some-contents_event.ensures.yields))
+    (stands_all _ _ _ _ _ c.in-Some-contents_event.ensures.steps.yields))
     _ _ c.in_err-go-in-Some-contents_event.ensures)
 
 pub returns-in_err-go-in-None-contents_event : goal.returns-in_err-go-in-None-contents_event
@@ -245,9 +246,9 @@ returns-in_err-go-in-None-contents_event g c =
     c.in_ok-follow_primitive.ensures in
     rw p.1
     (fails_one g.F.Follow.next g.D.Drain.state _ _ _ _ _ _ _ _
-    (follows_same g.F.Follow.next g.D.Drain.state _ _ _ _ _ _ left (c.in-None-contents_event.ensures.counts.0
+    (follows_same g.F.Follow.next g.D.Drain.state _ _ _ _ _ _ left (c.in-None-contents_event.ensures.steps.counts.0
     ∙ c.in-None-constructed.ensures.steps.counts.0 ∙ c.in-None.ensures.counts.0) refl refl
-    (c.in-None-contents_event.ensures.counts.1 ∙ c.in-None-constructed.ensures.steps.counts.1
+    (c.in-None-contents_event.ensures.steps.counts.1 ∙ c.in-None-constructed.ensures.steps.counts.1
     ∙ c.in-None.ensures.counts.1)) c.in_err-go-in-None-contents_event.ensures)
 
 pub returns-in_err-go-in-Event : goal.returns-in_err-go-in-Event
@@ -260,9 +261,9 @@ returns-in_err-go-in-Event g c =
     rw p.1
     (fails_event g.F.Follow.next g.D.Drain.state _ _ _ _ _ _ _ _
     (follows_no_more g.F.Follow.next g.D.Drain.state _ _ _ _ _ _ _ c.in-None-2.is
-    (follows_same g.F.Follow.next g.D.Drain.state _ _ _ _ _ _ left (c.in-None-contents_event.ensures.counts.0
+    (follows_same g.F.Follow.next g.D.Drain.state _ _ _ _ _ _ left (c.in-None-contents_event.ensures.steps.counts.0
     ∙ c.in-None-constructed.ensures.steps.counts.0 ∙ c.in-None.ensures.counts.0) refl refl
-    (c.in-None-contents_event.ensures.counts.1 ∙ c.in-None-constructed.ensures.steps.counts.1
+    (c.in-None-contents_event.ensures.steps.counts.1 ∙ c.in-None-constructed.ensures.steps.counts.1
     ∙ c.in-None.ensures.counts.1)) c.in_ok-go-in-None-contents_event.ensures)
     (walked_event _ _ _ _ _ c.in-Event.ensures)
     _ _ c.in_err-go-in-Event.ensures)
@@ -274,15 +275,15 @@ returns-in-NeedMore g c =
     c.in_ok-follow_primitive.ensures in
     pauses_used_up g.F.Follow.next g.D.Drain.state _ _ _ _ _ _
     (follows_no_more g.F.Follow.next g.D.Drain.state _ _ _ _ _ _ _ c.in-None-2.is
-    (follows_same g.F.Follow.next g.D.Drain.state _ _ _ _ _ _ left (c.in-None-contents_event.ensures.counts.0
+    (follows_same g.F.Follow.next g.D.Drain.state _ _ _ _ _ _ left (c.in-None-contents_event.ensures.steps.counts.0
     ∙ c.in-None-constructed.ensures.steps.counts.0 ∙ c.in-None.ensures.counts.0) refl refl
-    (c.in-None-contents_event.ensures.counts.1 ∙ c.in-None-constructed.ensures.steps.counts.1
+    (c.in-None-contents_event.ensures.steps.counts.1 ∙ c.in-None-constructed.ensures.steps.counts.1
     ∙ c.in-None.ensures.counts.1)) c.in_ok-go-in-None-contents_event.ensures)
     c.in-NeedMore.ensures
     (no_more_walked g.F.Follow.next g.D.Drain.state _ _ _ _ _ c.in-None-2.is c.in_ok-go-in-None-contents_event.ensures
-    ∙ counts-of_none _ _ _ _ (c.in-None-contents_event.ensures.counts.0
+    ∙ counts-of_none _ _ _ _ (c.in-None-contents_event.ensures.steps.counts.0
     ∙ c.in-None-constructed.ensures.steps.counts.0 ∙ c.in-None.ensures.counts.0)
-    (c.in-None-contents_event.ensures.counts.1 ∙ c.in-None-constructed.ensures.steps.counts.1
+    (c.in-None-contents_event.ensures.steps.counts.1 ∙ c.in-None-constructed.ensures.steps.counts.1
     ∙ c.in-None.ensures.counts.1)
     ∙ left_walked g.F.Follow.next g.D.Drain.state _ _ _ _ _ c.if-branch.false
     c.in_ok-follow_primitive.ensures
@@ -295,9 +296,9 @@ returns-in-Fault g c =
     c.in_ok-follow_primitive.ensures in
     pauses_fault g.F.Follow.next g.D.Drain.state _ _ _ _ _ _ _
     (follows_no_more g.F.Follow.next g.D.Drain.state _ _ _ _ _ _ _ c.in-None-2.is
-    (follows_same g.F.Follow.next g.D.Drain.state _ _ _ _ _ _ left (c.in-None-contents_event.ensures.counts.0
+    (follows_same g.F.Follow.next g.D.Drain.state _ _ _ _ _ _ left (c.in-None-contents_event.ensures.steps.counts.0
     ∙ c.in-None-constructed.ensures.steps.counts.0 ∙ c.in-None.ensures.counts.0) refl refl
-    (c.in-None-contents_event.ensures.counts.1 ∙ c.in-None-constructed.ensures.steps.counts.1
+    (c.in-None-contents_event.ensures.steps.counts.1 ∙ c.in-None-constructed.ensures.steps.counts.1
     ∙ c.in-None.ensures.counts.1)) c.in_ok-go-in-None-contents_event.ensures)
     c.in-Fault.ensures
 
@@ -335,15 +336,17 @@ returns-then-eq g c =
           (follows_event g.F.Follow.next g.D.Drain.state _ _ _ _ _ _ _ _ left
           (unmoved_event _ _ _ _ _ _ _ (w.in-None-constructed.ensures.steps.counts.0 ∙ w.in-None.ensures.counts.0)
           (w.in-None-constructed.ensures.steps.counts.1 ∙ w.in-None.ensures.counts.1)
-          (stands_all _ _ _ _ _ w.in-Some-contents_event.ensures.yields)) w.in_ok-go-in-Some-contents_event.ensures)
-          (sym w.go-is ∙ enough) w.in-Some-contents_event.ensures.counts.0.has_yielded.after_event)
+          (stands_all _ _ _ _ _ w.in-Some-contents_event.ensures.steps.yields))
+          w.in_ok-go-in-Some-contents_event.ensures)
+          (sym w.go-is ∙ enough) w.in-Some-contents_event.ensures.steps.counts.0.has_yielded.after_event)
       | in-None+in-None-constructed+in-None-contents_event+in_ok-go-in-None-contents_event+in-Some-2 w ↦
           rw (w.out-is, w.follower-is, w.walker-is)
           (pauses_enough g.F.Follow.next g.D.Drain.state _ _ _ _ _
           (follows_one g.F.Follow.next g.D.Drain.state _ _ _ _ _ _ _ _ w.in-Some-2.is
-          (follows_same g.F.Follow.next g.D.Drain.state _ _ _ _ _ _ left (w.in-None-contents_event.ensures.counts.0
+          (follows_same g.F.Follow.next g.D.Drain.state _ _ _ _ _ _ left
+          (w.in-None-contents_event.ensures.steps.counts.0
           ∙ w.in-None-constructed.ensures.steps.counts.0 ∙ w.in-None.ensures.counts.0) refl refl
-          (w.in-None-contents_event.ensures.counts.1 ∙ w.in-None-constructed.ensures.steps.counts.1
+          (w.in-None-contents_event.ensures.steps.counts.1 ∙ w.in-None-constructed.ensures.steps.counts.1
           ∙ w.in-None.ensures.counts.1)) w.in_ok-go-in-None-contents_event.ensures)
           (sym w.go-is ∙ enough)
           (one_counts g.F.Follow.next g.D.Drain.state _ _ _ _ _ _ w.in-Some-2.is
@@ -353,9 +356,10 @@ returns-then-eq g c =
           (pauses_enough g.F.Follow.next g.D.Drain.state _ _ _ _ _
           (follows_event g.F.Follow.next g.D.Drain.state _ _ _ _ _ _ _ _
           (follows_no_more g.F.Follow.next g.D.Drain.state _ _ _ _ _ _ _ w.in-None-2.is
-          (follows_same g.F.Follow.next g.D.Drain.state _ _ _ _ _ _ left (w.in-None-contents_event.ensures.counts.0
+          (follows_same g.F.Follow.next g.D.Drain.state _ _ _ _ _ _ left
+          (w.in-None-contents_event.ensures.steps.counts.0
           ∙ w.in-None-constructed.ensures.steps.counts.0 ∙ w.in-None.ensures.counts.0) refl refl
-          (w.in-None-contents_event.ensures.counts.1 ∙ w.in-None-constructed.ensures.steps.counts.1
+          (w.in-None-contents_event.ensures.steps.counts.1 ∙ w.in-None-constructed.ensures.steps.counts.1
           ∙ w.in-None.ensures.counts.1)) w.in_ok-go-in-None-contents_event.ensures)
           (walked_event _ _ _ _ _ w.in-Event.ensures)
           w.in_ok-go-in-Event.ensures)
