@@ -119,7 +119,8 @@ events-preserved g c =
         follows =
             rw (w.out-is, w.follower-is, w.walker-is, w.rest-is, ← on, w.go-is)
             (follows_event g.F.Follow.next g.D.Drain.state _ _ _ _ _ _ _ _ left
-            (unmoved_event _ _ _ _ _ _ _ (w.in_default-constructed.ensures.steps.counts.0 ∙ w.in_default.ensures.counts.0)
+            (unmoved_event _ _ _ _ _ _ _
+            (w.in_default-constructed.ensures.steps.counts.0 ∙ w.in_default.ensures.counts.0)
             (w.in_default-constructed.ensures.steps.counts.1 ∙ w.in_default.ensures.counts.1)
             (stands_all _ _ _ _ _ w.in-Some-contents_event.ensures.steps.yields))
             w.in_ok-go-2.ensures);
