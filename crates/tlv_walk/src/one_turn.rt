@@ -163,29 +163,28 @@ fn follow<F: Follow, D: Drain>(
         if follow_primitive(walker, follower, &mut rest, out)? {
             continue;
         }
-        let go = match walker.close(&mut rest) {
-            Some(HolderEnd::Close(offset)) => follower.on(&Event::Close(offset), out)?,
-            Some(HolderEnd::Leave) => follow_event(follower, &Event::Leave, out)?,
-            None => match walker.constructed(&mut rest) {
-                Some((fields, octets)) => follower.open(&fields, octets, out)?,
-                None => match walker.contents_event(&mut rest) {
-                    Some(event) => follower.on(&event, out)?,
-                    None => {
-                        // A copy is lent, so that `rest` itself stays in registers.
-                        let mut left = rest;
-                        let go = match follow_string(walker, follower, &mut left, out)? {
-                            Some(go) => go,
-                            None => match walker.step(&mut left) {
-                                Step::Event(event) => follow_event(follower, &event, out)?,
-                                Step::NeedMore => return Ok(Pause::UsedUp),
-                                Step::Fault(fault) => return Ok(Pause::Fault(fault)),
-                            },
-                        };
-                        rest = left;
-                        go
-                    }
+        let go = if let Some(end) = walker.close(&mut rest) {
+            match end {
+                HolderEnd::Close(offset) => follower.on(&Event::Close(offset), out)?,
+                HolderEnd::Leave => follow_event(follower, &Event::Leave, out)?,
+            }
+        } else if let Some((fields, octets)) = walker.constructed(&mut rest) {
+            follower.open(&fields, octets, out)?
+        } else if let Some(event) = walker.contents_event(&mut rest) {
+            follower.on(&event, out)?
+        } else {
+            // A copy is lent, so that `rest` itself stays in registers.
+            let mut left = rest;
+            let go = match follow_string(walker, follower, &mut left, out)? {
+                Some(go) => go,
+                None => match walker.step(&mut left) {
+                    Step::Event(event) => follow_event(follower, &event, out)?,
+                    Step::NeedMore => return Ok(Pause::UsedUp),
+                    Step::Fault(fault) => return Ok(Pause::Fault(fault)),
                 },
-            },
+            };
+            rest = left;
+            go
         };
         if go == Go::Enough {
             return Ok(Pause::Enough);

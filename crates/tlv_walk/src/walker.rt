@@ -214,14 +214,8 @@ impl<'f> Walker<'f> {
         ensures again { IfRefused self.old (λ fault. (result ≡ Step.Fault fault)
             × RefusesAgain self.old self.new piece.old.now piece.new.now fault) }
     {
-        if let Phase::InPrimitive(left) = self.phase {
-            if left == 0 {
-                return Step::Event(self.end_primitive());
-            }
-            if piece.is_empty() {
-                return Step::NeedMore;
-            }
-            return Step::Event(self.contents(left, piece));
+        if let Some(event) = self.contents_event(piece) {
+            return Step::Event(event);
         }
         if matches!(self.phase, Phase::Between) {
             if self.stack.is_filled(self.offset) {
@@ -238,10 +232,11 @@ impl<'f> Walker<'f> {
         if let Phase::Refused(fault) = &self.phase {
             return Step::Fault(*fault);
         }
+        // A primitive or a header is open, and goes on with the next octet.
         if piece.is_empty() {
             return Step::NeedMore;
         }
-        self.slow_header(piece)
+        self.header(piece)
     }
 
     /// Refuses the next octet.

@@ -1,6 +1,6 @@
 -- What a header begins, on a walker's state.
-use Rattle.std.proofs.Common.{◌≡◌, ℕ, ◌+◌, ◌^◌, ◌<◌, ◌≤◌, Bool, true, false, ◌||◌, eqb, if◌then◌else◌, List, [], ◌∷◌}
-use Rattle.std.proofs.Common.{◌++◌, length, take, Option, refl, sym, ap, ◌∙◌, subst, arith, length-take}
+use Rattle.std.proofs.Common.{◌≡◌, ℕ, ◌+◌, ◌<◌, Bool, true, false, ◌||◌, eqb, if◌then◌else◌, List, [], ◌∷◌, ◌++◌}
+use Rattle.std.proofs.Common.{length, take, Option, refl, sym, ap, ◌∙◌, subst}
 use Rattle.std.proofs.lemmas.Bool.{true≢false}
 use Rattle.std.proofs.lemmas.List.{take-append-drop}
 use Rattle.tlv_head.specs.declared.header.HeaderFields.{HeaderFields}
@@ -15,7 +15,7 @@ use Rattle.tlv_walk.specs.Events.{Begin, Enter, EventValue, Open}
 use Rattle.tlv_walk.specs.Forest.{NoMore, lead, lead_by}
 use Rattle.tlv_walk.specs.WalkerState.{WalkerState}
 use Rattle.tlv_walk.specs.Private.Stack.{frame_with}
-use Rattle.tlv_walk.specs.Private.WalkerCalls.{CanTakeHeader, TakesHeader, after_header}
+use Rattle.tlv_walk.specs.Private.WalkerCalls.{TakesHeader, after_header}
 use Rattle.tlv_walk.specs.Private.WrapperCount.{next_wrapper_count, wrapper_count_after}
 use Rattle.tlv_walk.specs.Wrappers.{entered_offsets}
 use Rattle.tlv_walk.specs.Inside.{is_among}
@@ -185,14 +185,14 @@ count_after_header w v f o offset kind.Constructed e = ap (λ (m : WalkerState).
 count_after_header w v f o offset kind.Wrapper e = ap (λ (m : WalkerState). m.wrapper_count) e.2
 
 -- octets that begin with a header, at a walker between elements
-pub takes_quick_header : (w v : WalkerState) (piece : List ℕ) (named : Bool) (f : HeaderFields) (count : ℕ) (o : List ℕ)
+pub takes_at_once : (w v : WalkerState) (piece : List ℕ) (named : Bool) (f : HeaderFields) (count : ℕ) (o : List ℕ)
     (k : HeaderKind)
     → w.phase ≡ Between
     → BeginsWithFields piece w.offset named f count → o ≡ take count piece → named ≡ is_among w.offset w.framing.inside
     → (holds (new_header f o) ≡ true → length w.stack < 128)
     → IsWithin (bound_of w.stack) (f.offset + length o + announced_length f.size)
     → TakesHeader w v f (f.offset + length o) k → Continues w v o (event_of k (new_header f o) ∷ [])
-takes_quick_header w v piece named f count o k e begins front name shallow fits takes =
+takes_at_once w v piece named f count o k e begins front name shallow fits takes =
     let h : HeaderValue = new_header f o in
     let whole : octets_of h ≡ o = take-append-drop f.id_len o in
     let begins' : BeginsWith piece w.offset named h =
@@ -215,30 +215,6 @@ takes_quick_header w v piece named f count o k e begins front name shallow fits 
           state_after_header w v b yielded (with_tail s NoTail) r o f o k (at_new w b yielded s r has e refl refl name)
           completed
           (subst (λ (x : List ℕ). TakesHeader w v f (f.offset + length x) k) (sym whole) takes);
-    }
-
--- such a header may be there
-pub can_take_quick_header : (w : WalkerState) (piece : List ℕ) (named : Bool) (f : HeaderFields) (count : ℕ)
-    (o : List ℕ)
-    → BeginsWithFields piece w.offset named f count → o ≡ take count piece
-    → w.events + length w.stack ≤ w.offset → w.offset + length piece ≤ 2 ^ 40
-    → (holds (new_header f o) ≡ true → length w.stack < 128)
-    → IsWithin (bound_of w.stack) (f.offset + length o + announced_length f.size) → CanTakeHeader w (new_header f o)
-can_take_quick_header w piece named f count o begins front counted limit shallow fits =
-    let h : HeaderValue = new_header f o in
-    let whole : octets_of h ≡ o = take-append-drop f.id_len o in
-    let begins' : BeginsWith piece w.offset named h =
-    subst (λ (x : List ℕ). BeginsWith piece w.offset named (new_header f x)) (sym front) begins.begins in
-    let there : h.offset ≡ w.offset = begins'.offset in
-    record {
-      valid = begins'.valid;
-      end = omega (arith, there);
-      counted = omega (arith, there);
-      limit = omega (arith, there, ap length whole, ap length front, length-take count piece);
-      shallow = shallow;
-      fits =
-          subst (λ (x : List ℕ). IsWithin (bound_of w.stack) (f.offset + length x + announced_length f.size))
-          (sym whole) fits;
     }
 
 -- a constructed header begins a constructed element

@@ -17,7 +17,7 @@ use Rattle.tlv_walk.specs.Private.WalkerCalls.{CanPass, after_header, header_at}
 use Rattle.tlv_walk.specs.Private.Yields.{Continues}
 use Rattle.tlv_walk.specs.Stack.{bound_of}
 use Rattle.tlv_walk.specs.Place.{IsWithin}
-use Rattle.tlv_walk.proofs.WalkerLemmas.HeaderKinds.{takes_quick_header}
+use Rattle.tlv_walk.proofs.WalkerLemmas.HeaderKinds.{takes_at_once}
 use Rattle.tlv_walk.proofs.WalkerLemmas.ZipperGrowth.{continues_both}
 use Rattle.tlv_walk.proofs.WalkerLemmas.YieldedEvents.{yields_passed}
 
@@ -75,7 +75,7 @@ yields_header w piece p can =
     ap₂ (λ (c n : Bool). c || is_wrapper n f.class c f.number f.size) can.primitive can.begins.begins.named in
     let end : w.offset + p.octet_count ≡ f.offset + length o + announced_length f.size =
     omega (arith, can.begins.begins.offset, can.octet_count, length-take-le p.header_length piece can.begins.within) in
-    takes_quick_header w _ piece false f p.header_length o kind.Primitive can.phase can.begins refl (sym can.unnamed)
+    takes_at_once w _ piece false f p.header_length o kind.Primitive can.phase can.begins refl (sym can.unnamed)
     (λ e. absurd (true≢false (sym e ∙ form)))
     (subst (IsWithin (bound_of w.stack)) end can.fits) (form, refl)
 

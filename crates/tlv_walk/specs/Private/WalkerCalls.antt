@@ -56,6 +56,14 @@ HasBegunHeader InBitString = ⊥
 HasBegunHeader InEndOctets = ⊥
 HasBegunHeader (Refused fault) = ⊥
 
+-- a primitive is open
+abbrev pub HasOpenPrimitive : PhaseValue → Type 0
+HasOpenPrimitive phase = (left : ℕ) × (phase ≡ InPrimitive left)
+
+-- if a primitive is open, more of its contents are to follow, and the piece has none of them
+abbrev pub HasNoContents : WalkerState → List ℕ → Type 0
+HasNoContents w piece = (left : ℕ) → w.phase ≡ InPrimitive left → (0 < left) × (piece ≡ [])
+
 -- the piece begins where a header begins or goes on
 abbrev pub CanRead : WalkerState → List ℕ → Type 0
 CanRead w piece = CanBegin w piece ⊎ (HasBegunHeader w.phase × (piece ≢ []))

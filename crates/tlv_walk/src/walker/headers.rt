@@ -3,25 +3,23 @@ ghost use Rattle.std.specs.Prelude.{◌≡◌, ◌≢◌, ◌+◌, ◌^◌, ◌<
 ghost use Rattle.tlv_head.specs.DepthLimit.{depth_limit};
 ghost use Rattle.tlv_head.specs.HeaderFields.{IsHeaderSized, new_header};
 ghost use Rattle.tlv_head.specs.Header.{announced_length, holds, octets_of};
-ghost use Rattle.tlv_head.specs.ReadHeader.{BeginsWithFields};
 ghost use Rattle.tlv_walk.specs.Phase.{Between};
-ghost use Rattle.tlv_walk.specs.Inside.{is_among};
 ghost use Rattle.tlv_walk.specs.Events.{IsNoEmptyPart, event_value_of};
 ghost use Rattle.tlv_walk.specs.WalkerState.{IsWithinInputLimit, least_octets};
-ghost use Rattle.tlv_walk.specs.Private.WalkerCalls.{CanBegin, CanTakeHeader, CanRead, CanReadOn, CountsStep};
+ghost use Rattle.tlv_walk.specs.Private.WalkerCalls.{CanTakeHeader, CanRead, CanReadOn, CountsStep};
 ghost use Rattle.tlv_walk.specs.Private.WalkerCalls.{TakesHeader, CountsAt};
 ghost use Rattle.tlv_walk.specs.Private.WrapperCount.{next_wrapper_count};
 ghost use Rattle.tlv_walk.specs.Private.HandsOver.{YieldsFrom, YieldsHeader};
 ghost use Rattle.tlv_walk.specs.Stack.{bound_of};
 ghost use Rattle.tlv_walk.specs.Place.{IsWithin};
-ghost use Rattle.tlv_walk.specs.Private.Yields.{Steps, StepsAtOnce};
+ghost use Rattle.tlv_walk.specs.Private.Yields.{Steps};
 ghost use Rattle.tlv_head.specs.InputLimit.{input_limit};
 
 use super::{Phase, Walker};
 use crate::stack::room_to;
 use crate::{Event, Step};
 use std::mem::replace;
-use tlv_head::{Head, HeadReader, Header, HeaderFields, Size, read_header, universal};
+use tlv_head::{Head, HeadReader, Header, HeaderFields, Size, universal};
 
 /// What a header begins.
 #[derive(Clone, Copy)]
@@ -35,51 +33,8 @@ pub(super) enum HeaderKind {
 }
 
 impl Walker<'_> {
-    /// Begins a header: takes it at once, if it lies whole in the piece and may be here, and else octet by octet.
-    pub(super) fn header<'a>(&mut self, piece: &mut &'a [u8]) -> Step<'a>
-        requires can { CanBegin self.old piece.old.now }
-        requires limit { IsWithinInputLimit self.old piece.old.now }
-        ensures { Steps self.old self.new piece.old.now piece.new.now result }
-    {
-        let named = self.cursor.is_at(self.inside, self.offset);
-        if let Some((fields, count)) = read_header(self.offset, named, *piece)
-            && let Some(event) = self.quick_header(&fields, count, piece)
-        {
-            return Step::Event(event);
-        }
-        self.slow_header(piece)
-    }
-
-    /// Takes the header with which the piece begins, if it may be here.
-    #[inline(always)]
-    fn quick_header<'a>(
-        &mut self,
-        fields: &HeaderFields,
-        count: usize,
-        piece: &mut &'a [u8],
-    ) -> Option<Event<'a>>
-        requires phase { self.old.phase ≡ Between }
-        requires counted { least_octets self.old.events self.old.stack ≤ self.old.offset }
-        requires begins { BeginsWithFields piece.old.now self.old.offset
-            (is_among self.old.offset self.old.framing.inside) fields.now count }
-        requires limit { IsWithinInputLimit self.old piece.old.now }
-        ensures { StepsAtOnce self.old self.new piece.old.now piece.new.now result }
-    {
-        let octets: &'a [u8] = *piece;
-        let (front, rest) = octets.split_at(count);
-        if !self.fits_there(fields, front) {
-            return None;
-        }
-        *piece = rest;
-        match self.take_header(fields, front) {
-            HeaderKind::Constructed => Some(Event::Open(Header::new(fields, front))),
-            HeaderKind::Wrapper => Some(Event::Enter(Header::new(fields, front))),
-            HeaderKind::Primitive => Some(Event::Begin(Header::new(fields, front))),
-        }
-    }
-
     /// Begins a header or goes on with one, octet by octet.
-    pub(super) fn slow_header<'a>(&mut self, piece: &mut &'a [u8]) -> Step<'a>
+    pub(super) fn header<'a>(&mut self, piece: &mut &'a [u8]) -> Step<'a>
         requires can { CanRead self.old piece.old.now }
         requires limit { IsWithinInputLimit self.old piece.old.now }
         ensures { Steps self.old self.new piece.old.now piece.new.now result }

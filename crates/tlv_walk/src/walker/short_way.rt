@@ -1,10 +1,11 @@
 //! How a walker finds the next event in few instructions.
-ghost use Rattle.std.specs.Prelude.{◌≡◌, IfSome, take, true};
+ghost use Rattle.std.specs.Prelude.{◌≡◌, IfNone, IfSome, take, true};
 ghost use Rattle.tlv_head.specs.HeaderFields.{IsHeaderSized};
 ghost use Rattle.tlv_walk.specs.Follow.{whole_events};
 ghost use Rattle.tlv_walk.specs.WalkerState.{IsWithinInputLimit};
-ghost use Rattle.tlv_walk.specs.Private.WalkerCalls.{CanPass, Passes, end_event_if_taken, enter_event_if_taken};
-ghost use Rattle.tlv_walk.specs.Private.WalkerCalls.{header_at, open_event_if_taken, unused_event_if_taken};
+ghost use Rattle.tlv_walk.specs.Private.WalkerCalls.{CanPass, HasNoContents, HasOpenPrimitive, Passes};
+ghost use Rattle.tlv_walk.specs.Private.WalkerCalls.{end_event_if_taken, enter_event_if_taken, header_at};
+ghost use Rattle.tlv_walk.specs.Private.WalkerCalls.{open_event_if_taken, unused_event_if_taken};
 ghost use Rattle.tlv_walk.specs.Private.Yields.{StepsAtOnce, YieldsEvents};
 
 use super::{Phase, Walker};
@@ -155,12 +156,14 @@ impl Walker<'_> {
         Some(HolderEnd::Close(None))
     }
 
-    /// Takes contents of a primitive, or its end, if a primitive is open. Otherwise nothing is taken, and
-    /// [`Walker::step`] says what comes next.
+    /// Takes contents of the primitive that is open, or its end. Nothing is taken if none is open, or if the next of
+    /// its contents octets is not in the piece.
     #[inline(always)]
     pub(crate) fn contents_event<'a>(&mut self, piece: &mut &'a [u8]) -> Option<Event<'a>>
         requires { IsWithinInputLimit self.old piece.old.now }
-        ensures { StepsAtOnce self.old self.new piece.old.now piece.new.now result }
+        ensures steps { StepsAtOnce self.old self.new piece.old.now piece.new.now result }
+        ensures none { IfNone result (HasNoContents self.old piece.old.now) }
+        ensures some { IfSome result (λ e. HasOpenPrimitive self.old.phase) }
     {
         let Phase::InPrimitive(left) = self.phase else {
             return None;

@@ -15,17 +15,17 @@ use Rattle.tlv_walk.proofs.FollowerLemmas.OneEvent.{no_more_walked, one_counts}
 use Rattle.tlv_walk.proofs.FollowerLemmas.Prefixes.{fails_prefix, follows_left, follows_prefix, left_walked}
 use Rattle.tlv_walk.proofs.FollowerLemmas.Prefixes.{prefix_passes}
 use Rattle.tlv_walk.proofs.WalkerLemmas.StepStands.{event_offset, stands_all, walked_event}
-use Rattle.tlv_walk.proofs.one_turn.follow.Goals.{in-Some-Close+in_ok-go-in-Some-Close}
-use Rattle.tlv_walk.proofs.one_turn.follow.Goals.{in-Some-Leave+in_ok-go-in-Some-Leave}
-use Rattle.tlv_walk.proofs.one_turn.follow.Goals.{in-None+in-Some+in_ok-go-in-Some}
+use Rattle.tlv_walk.proofs.one_turn.follow.Goals.{in-Some+in-Close+in_ok-go-in-Close}
+use Rattle.tlv_walk.proofs.one_turn.follow.Goals.{in-Some+in-Leave+in_ok-go-in-Leave}
+use Rattle.tlv_walk.proofs.one_turn.follow.Goals.{in_default+in-Some-constructed+in_ok-go}
 use Rattle.tlv_walk.proofs.one_turn.follow.Goals.{
-  in-None+in-None-constructed+in-Some-contents_event+in_ok-go-in-Some-contents_event,
+  in_default+in_default-constructed+in-Some-contents_event+in_ok-go-2,
 }
 use Rattle.tlv_walk.proofs.one_turn.follow.Goals.{
-  in-None+in-None-constructed+in-None-contents_event+in_ok-go-in-None-contents_event+in-Some-2,
+  in_default+in_default-constructed+in_default-contents_event+in_ok-go-3+in-Some-2,
 }
 use Rattle.tlv_walk.proofs.one_turn.follow.Goals.{
-  in-None+in-None-constructed+in-None-contents_event+in_ok-go-in-None-contents_event+in-None-2+in-Event+in_ok-go-in-Event,
+  in_default+in_default-constructed+in_default-contents_event+in_ok-go-3+in-None+in-Event+in_ok-go-in-Event,
 }
 use Rattle.tlv_walk.proofs.one_turn.follow.Goals as goal
 
@@ -75,104 +75,106 @@ events-preserved g c =
     follows_left g.F.Follow.next g.D.Drain.state _ _ _ _ _ _ _ c.events.invariant.follows c.if-branch.false
     c.in_ok-follow_primitive.ensures in
     elim c.match-close.branch [
-      | in-Some-Close+in_ok-go-in-Some-Close w ↦ record {
+      | in-Some+in-Close+in_ok-go-in-Close w ↦ record {
         follows =
             rw (w.out-is, w.follower-is, w.walker-is, w.rest-is, ← on, w.go-is)
             (follows_event g.F.Follow.next g.D.Drain.state _ _ _ _ _ _ _ _ left
-            (ended _ _ _ _ _ (end.Close w.in-Some-Close.offset) w.in-Some-Close.field-0-is
-            (stands_all _ _ _ _ _ w.in-Some-Close.ensures.yields)) w.in_ok-go-in-Some-Close.ensures);
+            (ended _ _ _ _ _ (end.Close w.in-Close.offset) w.in-Close.is
+            (stands_all _ _ _ _ _ w.in-Some.ensures.yields)) w.in_ok-go-in-Close.ensures);
         walked =
             rw (w.walker-is, w.rest-is)
-            (w.in-Some-Close.ensures.counts.0.counts
+            (w.in-Some.ensures.counts.0.counts
             ∙ left_walked g.F.Follow.next g.D.Drain.state _ _ _ _ _ c.if-branch.false
             c.in_ok-follow_primitive.ensures
             ∙ c.events.invariant.walked);
       }
-      | in-Some-Leave+in_ok-go-in-Some-Leave w ↦ record {
+      | in-Some+in-Leave+in_ok-go-in-Leave w ↦ record {
         follows =
             rw (w.out-is, w.follower-is, w.walker-is, w.rest-is, ← on, w.go-is)
             (follows_event g.F.Follow.next g.D.Drain.state _ _ _ _ _ _ _ _ left
-            (ended _ _ _ _ _ end.Leave w.in-Some-Leave.field-0-is
-            (stands_all _ _ _ _ _ w.in-Some-Leave.ensures.yields)) w.in_ok-go-in-Some-Leave.ensures);
+            (ended _ _ _ _ _ end.Leave w.in-Leave.is
+            (stands_all _ _ _ _ _ w.in-Some.ensures.yields)) w.in_ok-go-in-Leave.ensures);
         walked =
             rw (w.walker-is, w.rest-is)
-            (w.in-Some-Leave.ensures.counts.0.counts
+            (w.in-Some.ensures.counts.0.counts
             ∙ left_walked g.F.Follow.next g.D.Drain.state _ _ _ _ _ c.if-branch.false
             c.in_ok-follow_primitive.ensures
             ∙ c.events.invariant.walked);
       }
-      | in-None+in-Some+in_ok-go-in-Some w ↦ record {
+      | in_default+in-Some-constructed+in_ok-go w ↦ record {
         follows =
             rw (w.out-is, w.follower-is, w.walker-is, w.rest-is, ← on, w.go-is)
             (follows_event g.F.Follow.next g.D.Drain.state _ _ _ _ _ _ _ _ left
-            (unmoved_event _ _ _ _ _ _ _ (w.in-None.ensures.counts.0) (w.in-None.ensures.counts.1)
-            (stands_all _ _ _ _ _ w.in-Some.ensures.steps.yields)) w.in_ok-go-in-Some.ensures);
+            (unmoved_event _ _ _ _ _ _ _ (w.in_default.ensures.counts.0) (w.in_default.ensures.counts.1)
+            (stands_all _ _ _ _ _ w.in-Some-constructed.ensures.steps.yields)) w.in_ok-go.ensures);
         walked =
             rw (w.walker-is, w.rest-is)
-            (w.in-Some.ensures.steps.counts.0.counts
-            ∙ counts-of_none _ _ _ _ (w.in-None.ensures.counts.0) (w.in-None.ensures.counts.1)
+            (w.in-Some-constructed.ensures.steps.counts.0.counts
+            ∙ counts-of_none _ _ _ _ (w.in_default.ensures.counts.0) (w.in_default.ensures.counts.1)
             ∙ left_walked g.F.Follow.next g.D.Drain.state _ _ _ _ _ c.if-branch.false
             c.in_ok-follow_primitive.ensures
             ∙ c.events.invariant.walked);
       }
-      | in-None+in-None-constructed+in-Some-contents_event+in_ok-go-in-Some-contents_event w ↦ record {
+      | in_default+in_default-constructed+in-Some-contents_event+in_ok-go-2 w ↦ record {
         follows =
             rw (w.out-is, w.follower-is, w.walker-is, w.rest-is, ← on, w.go-is)
             (follows_event g.F.Follow.next g.D.Drain.state _ _ _ _ _ _ _ _ left
-            (unmoved_event _ _ _ _ _ _ _ (w.in-None-constructed.ensures.steps.counts.0 ∙ w.in-None.ensures.counts.0)
-            (w.in-None-constructed.ensures.steps.counts.1 ∙ w.in-None.ensures.counts.1)
-            (stands_all _ _ _ _ _ w.in-Some-contents_event.ensures.yields)) w.in_ok-go-in-Some-contents_event.ensures);
+            (unmoved_event _ _ _ _ _ _ _
+            (w.in_default-constructed.ensures.steps.counts.0 ∙ w.in_default.ensures.counts.0)
+            (w.in_default-constructed.ensures.steps.counts.1 ∙ w.in_default.ensures.counts.1)
+            (stands_all _ _ _ _ _ w.in-Some-contents_event.ensures.steps.yields))
+            w.in_ok-go-2.ensures);
         walked =
             rw (w.walker-is, w.rest-is)
-            (w.in-Some-contents_event.ensures.counts.0.counts
-            ∙ counts-of_none _ _ _ _ (w.in-None-constructed.ensures.steps.counts.0 ∙ w.in-None.ensures.counts.0)
-            (w.in-None-constructed.ensures.steps.counts.1 ∙ w.in-None.ensures.counts.1)
+            (w.in-Some-contents_event.ensures.steps.counts.0.counts
+            ∙ counts-of_none _ _ _ _ (w.in_default-constructed.ensures.steps.counts.0 ∙ w.in_default.ensures.counts.0)
+            (w.in_default-constructed.ensures.steps.counts.1 ∙ w.in_default.ensures.counts.1)
             ∙ left_walked g.F.Follow.next g.D.Drain.state _ _ _ _ _ c.if-branch.false
             c.in_ok-follow_primitive.ensures
             ∙ c.events.invariant.walked);
       }
-      | in-None+in-None-constructed+in-None-contents_event+in_ok-go-in-None-contents_event+in-Some-2 w ↦ record {
+      | in_default+in_default-constructed+in_default-contents_event+in_ok-go-3+in-Some-2 w ↦ record {
         follows =
             rw (w.out-is, w.follower-is, w.walker-is, w.rest-is, ← on, w.go-is)
             (follows_one g.F.Follow.next g.D.Drain.state _ _ _ _ _ _ _ _ w.in-Some-2.is
             (follows_same g.F.Follow.next g.D.Drain.state _ _ _ _ _ _ left
-            (w.in-None-contents_event.ensures.counts.0 ∙ w.in-None-constructed.ensures.steps.counts.0
-            ∙ w.in-None.ensures.counts.0) refl refl (w.in-None-contents_event.ensures.counts.1
-            ∙ w.in-None-constructed.ensures.steps.counts.1
-            ∙ w.in-None.ensures.counts.1)) w.in_ok-go-in-None-contents_event.ensures);
+            (w.in_default-contents_event.ensures.steps.counts.0 ∙ w.in_default-constructed.ensures.steps.counts.0
+            ∙ w.in_default.ensures.counts.0) refl refl (w.in_default-contents_event.ensures.steps.counts.1
+            ∙ w.in_default-constructed.ensures.steps.counts.1
+            ∙ w.in_default.ensures.counts.1)) w.in_ok-go-3.ensures);
         walked =
             rw (w.walker-is, w.rest-is)
             ((one_counts g.F.Follow.next g.D.Drain.state _ _ _ _ _ _ w.in-Some-2.is
-            w.in_ok-go-in-None-contents_event.ensures).counts
-            ∙ counts-of_none _ _ _ _ (w.in-None-contents_event.ensures.counts.0
-            ∙ w.in-None-constructed.ensures.steps.counts.0 ∙ w.in-None.ensures.counts.0)
-            (w.in-None-contents_event.ensures.counts.1 ∙ w.in-None-constructed.ensures.steps.counts.1
-            ∙ w.in-None.ensures.counts.1)
+            w.in_ok-go-3.ensures).counts
+            ∙ counts-of_none _ _ _ _ (w.in_default-contents_event.ensures.steps.counts.0
+            ∙ w.in_default-constructed.ensures.steps.counts.0 ∙ w.in_default.ensures.counts.0)
+            (w.in_default-contents_event.ensures.steps.counts.1 ∙ w.in_default-constructed.ensures.steps.counts.1
+            ∙ w.in_default.ensures.counts.1)
             ∙ left_walked g.F.Follow.next g.D.Drain.state _ _ _ _ _ c.if-branch.false
             c.in_ok-follow_primitive.ensures
             ∙ c.events.invariant.walked);
       }
-      | in-None+in-None-constructed+in-None-contents_event+in_ok-go-in-None-contents_event+in-None-2+in-Event+in_ok-go-in-Event w ↦ record {
+      | in_default+in_default-constructed+in_default-contents_event+in_ok-go-3+in-None+in-Event+in_ok-go-in-Event w ↦ record {
         follows =
             rw (w.out-is, w.follower-is, w.walker-is, w.rest-is, ← on, w.go-is)
             (follows_event g.F.Follow.next g.D.Drain.state _ _ _ _ _ _ _ _
-            (follows_no_more g.F.Follow.next g.D.Drain.state _ _ _ _ _ _ _ w.in-None-2.is
+            (follows_no_more g.F.Follow.next g.D.Drain.state _ _ _ _ _ _ _ w.in-None.is
             (follows_same g.F.Follow.next g.D.Drain.state _ _ _ _ _ _ left
-            (w.in-None-contents_event.ensures.counts.0 ∙ w.in-None-constructed.ensures.steps.counts.0
-            ∙ w.in-None.ensures.counts.0) refl refl (w.in-None-contents_event.ensures.counts.1
-            ∙ w.in-None-constructed.ensures.steps.counts.1
-            ∙ w.in-None.ensures.counts.1)) w.in_ok-go-in-None-contents_event.ensures)
+            (w.in_default-contents_event.ensures.steps.counts.0 ∙ w.in_default-constructed.ensures.steps.counts.0
+            ∙ w.in_default.ensures.counts.0) refl refl (w.in_default-contents_event.ensures.steps.counts.1
+            ∙ w.in_default-constructed.ensures.steps.counts.1
+            ∙ w.in_default.ensures.counts.1)) w.in_ok-go-3.ensures)
             (walked_event _ _ _ _ _ w.in-Event.ensures)
             w.in_ok-go-in-Event.ensures);
         walked =
             rw (w.walker-is, w.rest-is)
             (event_offset _ _ _ _ _ w.in-Event.ensures
-            ∙ no_more_walked g.F.Follow.next g.D.Drain.state _ _ _ _ _ w.in-None-2.is
-            w.in_ok-go-in-None-contents_event.ensures
-            ∙ counts-of_none _ _ _ _ (w.in-None-contents_event.ensures.counts.0
-            ∙ w.in-None-constructed.ensures.steps.counts.0 ∙ w.in-None.ensures.counts.0)
-            (w.in-None-contents_event.ensures.counts.1 ∙ w.in-None-constructed.ensures.steps.counts.1
-            ∙ w.in-None.ensures.counts.1)
+            ∙ no_more_walked g.F.Follow.next g.D.Drain.state _ _ _ _ _ w.in-None.is
+            w.in_ok-go-3.ensures
+            ∙ counts-of_none _ _ _ _ (w.in_default-contents_event.ensures.steps.counts.0
+            ∙ w.in_default-constructed.ensures.steps.counts.0 ∙ w.in_default.ensures.counts.0)
+            (w.in_default-contents_event.ensures.steps.counts.1 ∙ w.in_default-constructed.ensures.steps.counts.1
+            ∙ w.in_default.ensures.counts.1)
             ∙ left_walked g.F.Follow.next g.D.Drain.state _ _ _ _ _ c.if-branch.false
             c.in_ok-follow_primitive.ensures
             ∙ c.events.invariant.walked);
@@ -185,70 +187,70 @@ returns-in_err-follow_primitive g c =
     (fails_prefix g.F.Follow.next g.D.Drain.state _ _ _ _ _ _ _ _ c.events.invariant.follows
     c.in_err-follow_primitive.ensures)
 
-pub returns-in_err-go-in-Some-Close : goal.returns-in_err-go-in-Some-Close
-returns-in_err-go-in-Some-Close g c =
-    let p = err_from_is_err_and c.from_residual-in_err-go-in-Some-Close.result
-    c.from_residual-in_err-go-in-Some-Close.ensures.1 in
+pub returns-in_err-go-in-Close : goal.returns-in_err-go-in-Close
+returns-in_err-go-in-Close g c =
+    let p = err_from_is_err_and c.from_residual-in_err-go-in-Close.result
+    c.from_residual-in_err-go-in-Close.ensures.1 in
     let left =
     follows_left g.F.Follow.next g.D.Drain.state _ _ _ _ _ _ _ c.events.invariant.follows c.if-branch.false
     c.in_ok-follow_primitive.ensures in
     rw p.1
     (fails_event g.F.Follow.next g.D.Drain.state _ _ _ _ _ _ _ _ left
-    (ended _ _ _ _ _ (end.Close c.in-Some-Close.offset) c.in-Some-Close.field-0-is
-    (stands_all _ _ _ _ _ c.in-Some-Close.ensures.yields))
-    _ _ c.in_err-go-in-Some-Close.ensures)
+    (ended _ _ _ _ _ (end.Close c.in-Close.offset) c.in-Close.is
+    (stands_all _ _ _ _ _ c.in-Some.ensures.yields))
+    _ _ c.in_err-go-in-Close.ensures)
 
-pub returns-in_err-go-in-Some-Leave : goal.returns-in_err-go-in-Some-Leave
-returns-in_err-go-in-Some-Leave g c =
-    let p = err_from_is_err_and c.from_residual-in_err-go-in-Some-Leave.result
-    c.from_residual-in_err-go-in-Some-Leave.ensures.1 in
+pub returns-in_err-go-in-Leave : goal.returns-in_err-go-in-Leave
+returns-in_err-go-in-Leave g c =
+    let p = err_from_is_err_and c.from_residual-in_err-go-in-Leave.result
+    c.from_residual-in_err-go-in-Leave.ensures.1 in
     let left =
     follows_left g.F.Follow.next g.D.Drain.state _ _ _ _ _ _ _ c.events.invariant.follows c.if-branch.false
     c.in_ok-follow_primitive.ensures in
     rw p.1
     (fails_event g.F.Follow.next g.D.Drain.state _ _ _ _ _ _ _ _ left
-    (ended _ _ _ _ _ end.Leave c.in-Some-Leave.field-0-is (stands_all _ _ _ _ _ c.in-Some-Leave.ensures.yields))
-    _ _ c.in_err-go-in-Some-Leave.ensures)
+    (ended _ _ _ _ _ end.Leave c.in-Leave.is (stands_all _ _ _ _ _ c.in-Some.ensures.yields))
+    _ _ c.in_err-go-in-Leave.ensures)
 
-pub returns-in_err-go-in-Some : goal.returns-in_err-go-in-Some
-returns-in_err-go-in-Some g c =
-    let p = err_from_is_err_and c.from_residual-in_err-go-in-Some.result c.from_residual-in_err-go-in-Some.ensures.1 in
+pub returns-in_err-go : goal.returns-in_err-go
+returns-in_err-go g c =
+    let p = err_from_is_err_and c.from_residual-in_err-go.result c.from_residual-in_err-go.ensures.1 in
     let left =
     follows_left g.F.Follow.next g.D.Drain.state _ _ _ _ _ _ _ c.events.invariant.follows c.if-branch.false
     c.in_ok-follow_primitive.ensures in
     rw p.1
     (fails_event g.F.Follow.next g.D.Drain.state _ _ _ _ _ _ _ _ left
-    (unmoved_event _ _ _ _ _ _ _ (c.in-None.ensures.counts.0) (c.in-None.ensures.counts.1)
-    (stands_all _ _ _ _ _ c.in-Some.ensures.steps.yields))
-    _ _ c.in_err-go-in-Some.ensures)
+    (unmoved_event _ _ _ _ _ _ _ (c.in_default.ensures.counts.0) (c.in_default.ensures.counts.1)
+    (stands_all _ _ _ _ _ c.in-Some-constructed.ensures.steps.yields))
+    _ _ c.in_err-go.ensures)
 
-pub returns-in_err-go-in-Some-contents_event : goal.returns-in_err-go-in-Some-contents_event
-returns-in_err-go-in-Some-contents_event g c =
-    let p = err_from_is_err_and c.from_residual-in_err-go-in-Some-contents_event.result
-    c.from_residual-in_err-go-in-Some-contents_event.ensures.1 in
+pub returns-in_err-go-2 : goal.returns-in_err-go-2
+returns-in_err-go-2 g c =
+    let p = err_from_is_err_and c.from_residual-in_err-go-2.result
+    c.from_residual-in_err-go-2.ensures.1 in
     let left =
     follows_left g.F.Follow.next g.D.Drain.state _ _ _ _ _ _ _ c.events.invariant.follows c.if-branch.false
     c.in_ok-follow_primitive.ensures in
     rw p.1
     (fails_event g.F.Follow.next g.D.Drain.state _ _ _ _ _ _ _ _ left
-    (unmoved_event _ _ _ _ _ _ _ (c.in-None-constructed.ensures.steps.counts.0 ∙ c.in-None.ensures.counts.0)
-    (c.in-None-constructed.ensures.steps.counts.1 ∙ c.in-None.ensures.counts.1)
-    (stands_all _ _ _ _ _ c.in-Some-contents_event.ensures.yields))
-    _ _ c.in_err-go-in-Some-contents_event.ensures)
+    (unmoved_event _ _ _ _ _ _ _ (c.in_default-constructed.ensures.steps.counts.0 ∙ c.in_default.ensures.counts.0)
+    (c.in_default-constructed.ensures.steps.counts.1 ∙ c.in_default.ensures.counts.1)
+    (stands_all _ _ _ _ _ c.in-Some-contents_event.ensures.steps.yields))
+    _ _ c.in_err-go-2.ensures)
 
-pub returns-in_err-go-in-None-contents_event : goal.returns-in_err-go-in-None-contents_event
-returns-in_err-go-in-None-contents_event g c =
-    let p = err_from_is_err_and c.from_residual-in_err-go-in-None-contents_event.result
-    c.from_residual-in_err-go-in-None-contents_event.ensures.1 in
+pub returns-in_err-go-3 : goal.returns-in_err-go-3
+returns-in_err-go-3 g c =
+    let p = err_from_is_err_and c.from_residual-in_err-go-3.result
+    c.from_residual-in_err-go-3.ensures.1 in
     let left =
     follows_left g.F.Follow.next g.D.Drain.state _ _ _ _ _ _ _ c.events.invariant.follows c.if-branch.false
     c.in_ok-follow_primitive.ensures in
     rw p.1
     (fails_one g.F.Follow.next g.D.Drain.state _ _ _ _ _ _ _ _
-    (follows_same g.F.Follow.next g.D.Drain.state _ _ _ _ _ _ left (c.in-None-contents_event.ensures.counts.0
-    ∙ c.in-None-constructed.ensures.steps.counts.0 ∙ c.in-None.ensures.counts.0) refl refl
-    (c.in-None-contents_event.ensures.counts.1 ∙ c.in-None-constructed.ensures.steps.counts.1
-    ∙ c.in-None.ensures.counts.1)) c.in_err-go-in-None-contents_event.ensures)
+    (follows_same g.F.Follow.next g.D.Drain.state _ _ _ _ _ _ left (c.in_default-contents_event.ensures.steps.counts.0
+    ∙ c.in_default-constructed.ensures.steps.counts.0 ∙ c.in_default.ensures.counts.0) refl refl
+    (c.in_default-contents_event.ensures.steps.counts.1 ∙ c.in_default-constructed.ensures.steps.counts.1
+    ∙ c.in_default.ensures.counts.1)) c.in_err-go-3.ensures)
 
 pub returns-in_err-go-in-Event : goal.returns-in_err-go-in-Event
 returns-in_err-go-in-Event g c =
@@ -259,11 +261,11 @@ returns-in_err-go-in-Event g c =
     c.in_ok-follow_primitive.ensures in
     rw p.1
     (fails_event g.F.Follow.next g.D.Drain.state _ _ _ _ _ _ _ _
-    (follows_no_more g.F.Follow.next g.D.Drain.state _ _ _ _ _ _ _ c.in-None-2.is
-    (follows_same g.F.Follow.next g.D.Drain.state _ _ _ _ _ _ left (c.in-None-contents_event.ensures.counts.0
-    ∙ c.in-None-constructed.ensures.steps.counts.0 ∙ c.in-None.ensures.counts.0) refl refl
-    (c.in-None-contents_event.ensures.counts.1 ∙ c.in-None-constructed.ensures.steps.counts.1
-    ∙ c.in-None.ensures.counts.1)) c.in_ok-go-in-None-contents_event.ensures)
+    (follows_no_more g.F.Follow.next g.D.Drain.state _ _ _ _ _ _ _ c.in-None.is
+    (follows_same g.F.Follow.next g.D.Drain.state _ _ _ _ _ _ left (c.in_default-contents_event.ensures.steps.counts.0
+    ∙ c.in_default-constructed.ensures.steps.counts.0 ∙ c.in_default.ensures.counts.0) refl refl
+    (c.in_default-contents_event.ensures.steps.counts.1 ∙ c.in_default-constructed.ensures.steps.counts.1
+    ∙ c.in_default.ensures.counts.1)) c.in_ok-go-3.ensures)
     (walked_event _ _ _ _ _ c.in-Event.ensures)
     _ _ c.in_err-go-in-Event.ensures)
 
@@ -273,17 +275,17 @@ returns-in-NeedMore g c =
     follows_left g.F.Follow.next g.D.Drain.state _ _ _ _ _ _ _ c.events.invariant.follows c.if-branch.false
     c.in_ok-follow_primitive.ensures in
     pauses_used_up g.F.Follow.next g.D.Drain.state _ _ _ _ _ _
-    (follows_no_more g.F.Follow.next g.D.Drain.state _ _ _ _ _ _ _ c.in-None-2.is
-    (follows_same g.F.Follow.next g.D.Drain.state _ _ _ _ _ _ left (c.in-None-contents_event.ensures.counts.0
-    ∙ c.in-None-constructed.ensures.steps.counts.0 ∙ c.in-None.ensures.counts.0) refl refl
-    (c.in-None-contents_event.ensures.counts.1 ∙ c.in-None-constructed.ensures.steps.counts.1
-    ∙ c.in-None.ensures.counts.1)) c.in_ok-go-in-None-contents_event.ensures)
+    (follows_no_more g.F.Follow.next g.D.Drain.state _ _ _ _ _ _ _ c.in-None.is
+    (follows_same g.F.Follow.next g.D.Drain.state _ _ _ _ _ _ left (c.in_default-contents_event.ensures.steps.counts.0
+    ∙ c.in_default-constructed.ensures.steps.counts.0 ∙ c.in_default.ensures.counts.0) refl refl
+    (c.in_default-contents_event.ensures.steps.counts.1 ∙ c.in_default-constructed.ensures.steps.counts.1
+    ∙ c.in_default.ensures.counts.1)) c.in_ok-go-3.ensures)
     c.in-NeedMore.ensures
-    (no_more_walked g.F.Follow.next g.D.Drain.state _ _ _ _ _ c.in-None-2.is c.in_ok-go-in-None-contents_event.ensures
-    ∙ counts-of_none _ _ _ _ (c.in-None-contents_event.ensures.counts.0
-    ∙ c.in-None-constructed.ensures.steps.counts.0 ∙ c.in-None.ensures.counts.0)
-    (c.in-None-contents_event.ensures.counts.1 ∙ c.in-None-constructed.ensures.steps.counts.1
-    ∙ c.in-None.ensures.counts.1)
+    (no_more_walked g.F.Follow.next g.D.Drain.state _ _ _ _ _ c.in-None.is c.in_ok-go-3.ensures
+    ∙ counts-of_none _ _ _ _ (c.in_default-contents_event.ensures.steps.counts.0
+    ∙ c.in_default-constructed.ensures.steps.counts.0 ∙ c.in_default.ensures.counts.0)
+    (c.in_default-contents_event.ensures.steps.counts.1 ∙ c.in_default-constructed.ensures.steps.counts.1
+    ∙ c.in_default.ensures.counts.1)
     ∙ left_walked g.F.Follow.next g.D.Drain.state _ _ _ _ _ c.if-branch.false
     c.in_ok-follow_primitive.ensures
     ∙ c.events.invariant.walked)
@@ -294,11 +296,11 @@ returns-in-Fault g c =
     follows_left g.F.Follow.next g.D.Drain.state _ _ _ _ _ _ _ c.events.invariant.follows c.if-branch.false
     c.in_ok-follow_primitive.ensures in
     pauses_fault g.F.Follow.next g.D.Drain.state _ _ _ _ _ _ _
-    (follows_no_more g.F.Follow.next g.D.Drain.state _ _ _ _ _ _ _ c.in-None-2.is
-    (follows_same g.F.Follow.next g.D.Drain.state _ _ _ _ _ _ left (c.in-None-contents_event.ensures.counts.0
-    ∙ c.in-None-constructed.ensures.steps.counts.0 ∙ c.in-None.ensures.counts.0) refl refl
-    (c.in-None-contents_event.ensures.counts.1 ∙ c.in-None-constructed.ensures.steps.counts.1
-    ∙ c.in-None.ensures.counts.1)) c.in_ok-go-in-None-contents_event.ensures)
+    (follows_no_more g.F.Follow.next g.D.Drain.state _ _ _ _ _ _ _ c.in-None.is
+    (follows_same g.F.Follow.next g.D.Drain.state _ _ _ _ _ _ left (c.in_default-contents_event.ensures.steps.counts.0
+    ∙ c.in_default-constructed.ensures.steps.counts.0 ∙ c.in_default.ensures.counts.0) refl refl
+    (c.in_default-contents_event.ensures.steps.counts.1 ∙ c.in_default-constructed.ensures.steps.counts.1
+    ∙ c.in_default.ensures.counts.1)) c.in_ok-go-3.ensures)
     c.in-Fault.ensures
 
 pub returns-then-eq : goal.returns-then-eq
@@ -308,55 +310,58 @@ returns-then-eq g c =
     follows_left g.F.Follow.next g.D.Drain.state _ _ _ _ _ _ _ c.events.invariant.follows c.if-branch.false
     c.in_ok-follow_primitive.ensures in
     elim c.match-close.branch [
-      | in-Some-Close+in_ok-go-in-Some-Close w ↦
+      | in-Some+in-Close+in_ok-go-in-Close w ↦
           rw (w.out-is, w.follower-is, w.walker-is)
           (pauses_enough g.F.Follow.next g.D.Drain.state _ _ _ _ _
           (follows_event g.F.Follow.next g.D.Drain.state _ _ _ _ _ _ _ _ left
-          (ended _ _ _ _ _ (end.Close w.in-Some-Close.offset) w.in-Some-Close.field-0-is
-          (stands_all _ _ _ _ _ w.in-Some-Close.ensures.yields)) w.in_ok-go-in-Some-Close.ensures)
-          (sym w.go-is ∙ enough) w.in-Some-Close.ensures.counts.0.has_yielded.after_event)
-      | in-Some-Leave+in_ok-go-in-Some-Leave w ↦
+          (ended _ _ _ _ _ (end.Close w.in-Close.offset) w.in-Close.is
+          (stands_all _ _ _ _ _ w.in-Some.ensures.yields)) w.in_ok-go-in-Close.ensures)
+          (sym w.go-is ∙ enough) w.in-Some.ensures.counts.0.has_yielded.after_event)
+      | in-Some+in-Leave+in_ok-go-in-Leave w ↦
           rw (w.out-is, w.follower-is, w.walker-is)
           (pauses_enough g.F.Follow.next g.D.Drain.state _ _ _ _ _
           (follows_event g.F.Follow.next g.D.Drain.state _ _ _ _ _ _ _ _ left
-          (ended _ _ _ _ _ end.Leave w.in-Some-Leave.field-0-is
-          (stands_all _ _ _ _ _ w.in-Some-Leave.ensures.yields)) w.in_ok-go-in-Some-Leave.ensures)
-          (sym w.go-is ∙ enough) w.in-Some-Leave.ensures.counts.0.has_yielded.after_event)
-      | in-None+in-Some+in_ok-go-in-Some w ↦
+          (ended _ _ _ _ _ end.Leave w.in-Leave.is
+          (stands_all _ _ _ _ _ w.in-Some.ensures.yields)) w.in_ok-go-in-Leave.ensures)
+          (sym w.go-is ∙ enough) w.in-Some.ensures.counts.0.has_yielded.after_event)
+      | in_default+in-Some-constructed+in_ok-go w ↦
           rw (w.out-is, w.follower-is, w.walker-is)
           (pauses_enough g.F.Follow.next g.D.Drain.state _ _ _ _ _
           (follows_event g.F.Follow.next g.D.Drain.state _ _ _ _ _ _ _ _ left
-          (unmoved_event _ _ _ _ _ _ _ (w.in-None.ensures.counts.0) (w.in-None.ensures.counts.1)
-          (stands_all _ _ _ _ _ w.in-Some.ensures.steps.yields)) w.in_ok-go-in-Some.ensures)
-          (sym w.go-is ∙ enough) w.in-Some.ensures.steps.counts.0.has_yielded.after_event)
-      | in-None+in-None-constructed+in-Some-contents_event+in_ok-go-in-Some-contents_event w ↦
+          (unmoved_event _ _ _ _ _ _ _ (w.in_default.ensures.counts.0) (w.in_default.ensures.counts.1)
+          (stands_all _ _ _ _ _ w.in-Some-constructed.ensures.steps.yields)) w.in_ok-go.ensures)
+          (sym w.go-is ∙ enough) w.in-Some-constructed.ensures.steps.counts.0.has_yielded.after_event)
+      | in_default+in_default-constructed+in-Some-contents_event+in_ok-go-2 w ↦
           rw (w.out-is, w.follower-is, w.walker-is)
           (pauses_enough g.F.Follow.next g.D.Drain.state _ _ _ _ _
           (follows_event g.F.Follow.next g.D.Drain.state _ _ _ _ _ _ _ _ left
-          (unmoved_event _ _ _ _ _ _ _ (w.in-None-constructed.ensures.steps.counts.0 ∙ w.in-None.ensures.counts.0)
-          (w.in-None-constructed.ensures.steps.counts.1 ∙ w.in-None.ensures.counts.1)
-          (stands_all _ _ _ _ _ w.in-Some-contents_event.ensures.yields)) w.in_ok-go-in-Some-contents_event.ensures)
-          (sym w.go-is ∙ enough) w.in-Some-contents_event.ensures.counts.0.has_yielded.after_event)
-      | in-None+in-None-constructed+in-None-contents_event+in_ok-go-in-None-contents_event+in-Some-2 w ↦
+          (unmoved_event _ _ _ _ _ _ _ (w.in_default-constructed.ensures.steps.counts.0 ∙ w.in_default.ensures.counts.0)
+          (w.in_default-constructed.ensures.steps.counts.1 ∙ w.in_default.ensures.counts.1)
+          (stands_all _ _ _ _ _ w.in-Some-contents_event.ensures.steps.yields))
+          w.in_ok-go-2.ensures)
+          (sym w.go-is ∙ enough) w.in-Some-contents_event.ensures.steps.counts.0.has_yielded.after_event)
+      | in_default+in_default-constructed+in_default-contents_event+in_ok-go-3+in-Some-2 w ↦
           rw (w.out-is, w.follower-is, w.walker-is)
           (pauses_enough g.F.Follow.next g.D.Drain.state _ _ _ _ _
           (follows_one g.F.Follow.next g.D.Drain.state _ _ _ _ _ _ _ _ w.in-Some-2.is
-          (follows_same g.F.Follow.next g.D.Drain.state _ _ _ _ _ _ left (w.in-None-contents_event.ensures.counts.0
-          ∙ w.in-None-constructed.ensures.steps.counts.0 ∙ w.in-None.ensures.counts.0) refl refl
-          (w.in-None-contents_event.ensures.counts.1 ∙ w.in-None-constructed.ensures.steps.counts.1
-          ∙ w.in-None.ensures.counts.1)) w.in_ok-go-in-None-contents_event.ensures)
+          (follows_same g.F.Follow.next g.D.Drain.state _ _ _ _ _ _ left
+          (w.in_default-contents_event.ensures.steps.counts.0
+          ∙ w.in_default-constructed.ensures.steps.counts.0 ∙ w.in_default.ensures.counts.0) refl refl
+          (w.in_default-contents_event.ensures.steps.counts.1 ∙ w.in_default-constructed.ensures.steps.counts.1
+          ∙ w.in_default.ensures.counts.1)) w.in_ok-go-3.ensures)
           (sym w.go-is ∙ enough)
           (one_counts g.F.Follow.next g.D.Drain.state _ _ _ _ _ _ w.in-Some-2.is
-          w.in_ok-go-in-None-contents_event.ensures).has_yielded.after_event)
-      | in-None+in-None-constructed+in-None-contents_event+in_ok-go-in-None-contents_event+in-None-2+in-Event+in_ok-go-in-Event w ↦
+          w.in_ok-go-3.ensures).has_yielded.after_event)
+      | in_default+in_default-constructed+in_default-contents_event+in_ok-go-3+in-None+in-Event+in_ok-go-in-Event w ↦
           rw (w.out-is, w.follower-is, w.walker-is)
           (pauses_enough g.F.Follow.next g.D.Drain.state _ _ _ _ _
           (follows_event g.F.Follow.next g.D.Drain.state _ _ _ _ _ _ _ _
-          (follows_no_more g.F.Follow.next g.D.Drain.state _ _ _ _ _ _ _ w.in-None-2.is
-          (follows_same g.F.Follow.next g.D.Drain.state _ _ _ _ _ _ left (w.in-None-contents_event.ensures.counts.0
-          ∙ w.in-None-constructed.ensures.steps.counts.0 ∙ w.in-None.ensures.counts.0) refl refl
-          (w.in-None-contents_event.ensures.counts.1 ∙ w.in-None-constructed.ensures.steps.counts.1
-          ∙ w.in-None.ensures.counts.1)) w.in_ok-go-in-None-contents_event.ensures)
+          (follows_no_more g.F.Follow.next g.D.Drain.state _ _ _ _ _ _ _ w.in-None.is
+          (follows_same g.F.Follow.next g.D.Drain.state _ _ _ _ _ _ left
+          (w.in_default-contents_event.ensures.steps.counts.0
+          ∙ w.in_default-constructed.ensures.steps.counts.0 ∙ w.in_default.ensures.counts.0) refl refl
+          (w.in_default-contents_event.ensures.steps.counts.1 ∙ w.in_default-constructed.ensures.steps.counts.1
+          ∙ w.in_default.ensures.counts.1)) w.in_ok-go-3.ensures)
           (walked_event _ _ _ _ _ w.in-Event.ensures)
           w.in_ok-go-in-Event.ensures)
           (sym w.go-is ∙ enough) w.in-Event.ensures.has_yielded.after_event)

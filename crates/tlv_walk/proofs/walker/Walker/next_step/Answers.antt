@@ -5,8 +5,8 @@ use Rattle.tlv_walk.proofs.walker.Walker.next_step.Goals as goal
 pub returns-in-Refused : goal.returns-in-Refused
 returns-in-Refused c = search rules
 
-pub returns-then-is_empty-2 : goal.returns-then-is_empty-2
-returns-then-is_empty-2 c = grind (arith, common_steps)
+pub returns-then-is_empty : goal.returns-then-is_empty
+returns-then-is_empty c = grind (arith, common_steps)
 
 pub end_filled-requires : goal.end_filled-requires
 end_filled-requires c = search rules

@@ -4,7 +4,7 @@ use Rattle.tlv_head.specs.ReadHeader.{BeginsWithFields}
 use Rattle.tlv_walk.specs.declared.walker.headers.HeaderKind.{HeaderKind}
 use Rattle.tlv_walk.specs.Private.WalkerCalls.{TakesHeader}
 use Rattle.tlv_walk.specs.Private.Yields.{Continues}
-use Rattle.tlv_walk.proofs.WalkerLemmas.HeaderKinds.{event_of, takes_quick_header, wrapper_kind}
+use Rattle.tlv_walk.proofs.WalkerLemmas.HeaderKinds.{event_of, takes_at_once, wrapper_kind}
 use Rattle.tlv_walk.proofs.walker.Walker.wrapper.Goals as goal
 
 pub returns-clause-steps : goal.returns-clause-steps
@@ -25,7 +25,7 @@ returns-clause-steps c =
             (event_of k (new_header c.in_ok-fields.fields c.split_at.result.0.now) ∷ []))
             (wrapper_kind c.args.self.now c.take_header.new.self c.in_ok-fields.fields _ c.take_header.result
             (search rules) (search rules) takes)
-            (takes_quick_header c.args.self.now c.take_header.new.self c.args.piece.now.now true c.in_ok-fields.fields
+            (takes_at_once c.args.self.now c.take_header.new.self c.args.piece.now.now true c.in_ok-fields.fields
             c.in_ok-fields.count c.split_at.result.0.now c.take_header.result
             (search rules) begins c.split_at.ensures.front (search rules) (search rules) (search rules)
             takes));
