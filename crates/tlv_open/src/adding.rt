@@ -41,15 +41,22 @@ pub(crate) fn add_strings(
     let mut at = 0;
     let mut sound = true;
     while at < octets.len() {
-        if let Some(size) = plain_size(&octets[at..], offset + at as u64, spot.likely) {
-            at += size;
+        let rest = &octets[at..];
+        let begin = offset + at as u64;
+        if let Some((fields, count)) = two_octet_header(rest, begin) {
+            if let Some(size) = plain_size(rest, &fields, count, spot.likely) {
+                at += size;
+            } else {
+                let element = add_with(rest, begin, &fields, count, spot, end_octets, found)?;
+                at += element.size;
+                sound &= element.sound;
+            }
         } else if octets[at] != 0 {
-            let rest = &octets[at..];
-            let element = add_strings_in(rest, offset + at as u64, spot, end_octets, found)?;
+            let element = add_after_long(rest, begin, spot, end_octets, found)?;
             at += element.size;
             sound &= element.sound;
         } else if end_octets {
-            sound &= is_elements_end(&octets[at..], true);
+            sound &= is_elements_end(rest, true);
             return Ok(Extent { size: at, sound });
         } else {
             sound &= spot.padding;
@@ -61,33 +68,7 @@ pub(crate) fn add_strings(
 }
 
 /// Adds the strings that are found in the element with which the octets begin, which may itself be one. Returns how
-/// many octets it has, and whether it is sound; if it has not ended, these are all.
-#[cycle(find)]
-fn add_strings_in(
-    octets: &[u8],
-    offset: u64,
-    spot: &Spot,
-    end_octets: bool,
-    found: &mut Strings,
-) -> Result<Extent, AllocError>
-    requires limit { spot.now.start + (offset + length octets.now) ≤ input_limit }
-    requires begun { slice_index octets.now 0 ≢ 0 }
-    ensures adds { IfOk result (λ e. AddsFirst spot.now offset end_octets octets.now
-        (found_of found.old) (found_of found.new) e.size) }
-    ensures sound { IfOk result (λ e. SaysElement (place_at offset spot.now.depth) spot.now.likely octets.now e) }
-    ensures kept { OnOk result (IsKept (found_of found.old) (found_of found.new)) }
-    ensures some { 0 < length octets.now → IfOk result (λ e. 0 < e.size) }
-    ensures within { IfOk result (λ e. e.size ≤ length octets.now) }
-{
-    match two_octet_header(octets, offset) {
-        Some((fields, count)) => {
-            add_with(octets, offset, &fields, count, spot, end_octets, found)
-        }
-        None => add_after_long(octets, offset, spot, end_octets, found),
-    }
-}
-
-/// [`add_strings_in`], whatever the header.
+/// many octets it has, and whether it is sound; if it has not ended, these are all. The header may be of any length.
 #[cycle(find)]
 #[inline(never)]
 fn add_after_long(
@@ -114,7 +95,7 @@ fn add_after_long(
     }
 }
 
-/// [`add_strings_in`], of an element whose header has these fields and so many octets.
+/// [`add_after_long`], of an element whose header has these fields and so many octets.
 #[cycle(find)]
 #[inline(always)]
 fn add_with(
@@ -152,7 +133,7 @@ fn add_with(
     Ok(Extent { size, sound })
 }
 
-/// [`add_strings_in`], of a constructed element whose header has these fields and so many octets.
+/// [`add_after_long`], of a constructed element whose header has these fields and so many octets.
 #[cycle(find)]
 #[inline(always)]
 fn add_in_holder(

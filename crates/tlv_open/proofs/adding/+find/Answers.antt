@@ -2,6 +2,7 @@ use Rattle.std.proofs.Common.{◌≡◌, ◌↔◌, ◌+◌, ◌&&◌, Bool, IsT
 use Rattle.std.proofs.Common.{refl, sym}
 use Rattle.std.proofs.Common.{ap, append-nil, ◌∙◌, arith, length-drop, subst, vec_len}
 use Rattle.tlv_head.specs.HeaderFields.{new_header}
+use Rattle.tlv_head.specs.ReadHeader.{BeginsWithFields}
 use Rattle.tlv_open.specs.Private.Adds.{IsKept, IsPlain, SaysSound}
 use Rattle.tlv_open.specs.Private.Elements.{SaysElement, is_elements_end, place_at}
 use Rattle.tlv_open.specs.Private.Finds.{AddsAll, FoundStrings, found_of, list_of, spot_held}
@@ -10,7 +11,7 @@ use Rattle.tlv_open.proofs.ElementLemmas.Extents.{says-definite, says-indefinite
 use Rattle.tlv_open.proofs.ElementLemmas.Extents.{says-unended}
 use Rattle.tlv_open.proofs.ElementLemmas.FirstElement.{first-too_deep, first-too_long, no_header-none}
 use Rattle.tlv_open.proofs.ElementLemmas.Held.{HoldsSome, holds-if, holds-nothing, holds-too_deep}
-use Rattle.tlv_open.proofs.ElementLemmas.OneHeader.{adds-at, header-there}
+use Rattle.tlv_open.proofs.ElementLemmas.OneHeader.{adds-at, begins-nonzero, header-there}
 use Rattle.tlv_open.proofs.FinderLemmas.NothingFound.{nothing_found}
 use Rattle.tlv_open.proofs.FinderLemmas.FirstFound.{adds-ended_holder, adds-holder, adds-open_holder, adds-primitive}
 use Rattle.tlv_open.proofs.FinderLemmas.FirstFound.{adds-too_deep, adds-unended_holder, adds-unfinished}
@@ -38,14 +39,20 @@ add_strings-loop-at-init t c = record {
   kept = kept-all (found_of c.args.found.now);
 }
 
-pub add_strings-loop-at-preserved-in-Some : goal.add_strings-loop-at-preserved-in-Some
-add_strings-loop-at-preserved-in-Some t c =
-    let plain : IsPlain (drop c.loop-at.at c.args.octets.now) (c.args.offset + c.loop-at.at) c.args.spot.now.likely
-    c.in-Some.size =
-    subst (λ (o : List ℕ). IsPlain o (c.args.offset + c.loop-at.at) c.args.spot.now.likely c.in-Some.size)
-    (tail-all c.args.octets.now c.loop-at.at) c.in-Some.ensures in
-    let element = plain-sound (drop c.loop-at.at c.args.octets.now) (c.args.offset + c.loop-at.at) c.in-Some.size
-    c.args.spot.now.depth c.args.spot.now.likely plain in
+pub add_strings-loop-at-preserved-in-Some-plain_size : goal.add_strings-loop-at-preserved-in-Some-plain_size
+add_strings-loop-at-preserved-in-Some-plain_size t c =
+    let tail = tail-all c.args.octets.now c.loop-at.at in
+    let begins : BeginsWithFields (drop c.loop-at.at c.args.octets.now) (c.args.offset + c.loop-at.at) false
+    c.in-Some.fields c.in-Some.count =
+    subst (λ (o : List ℕ). BeginsWithFields o (c.args.offset + c.loop-at.at) false c.in-Some.fields c.in-Some.count)
+    tail c.in-Some.ensures in
+    let plain : IsPlain (drop c.loop-at.at c.args.octets.now) c.in-Some.fields c.in-Some.count c.args.spot.now.likely
+    c.in-Some-plain_size.size =
+    subst
+    (λ (o : List ℕ). IsPlain o c.in-Some.fields c.in-Some.count c.args.spot.now.likely c.in-Some-plain_size.size)
+    tail c.in-Some-plain_size.ensures in
+    let element = plain-sound (drop c.loop-at.at c.args.octets.now) (c.args.offset + c.loop-at.at) c.in-Some.fields
+    c.in-Some.count c.in-Some-plain_size.size begins c.args.spot.now.depth c.args.spot.now.likely plain in
     record {
       within =
           omega (
@@ -55,18 +62,19 @@ add_strings-loop-at-preserved-in-Some t c =
             c.loop-at-test.true,
           );
       adds =
-          adds-more c.args.spot.now c.args.offset c.args.end_octets c.args.octets.now _ _ _ c.loop-at.at c.in-Some.size
-          c.loop-at-test.true c.loop-at.invariant.adds
-          (adds-plain (drop c.loop-at.at c.args.octets.now) (c.args.offset + c.loop-at.at) c.in-Some.size
-          c.args.spot.now c.args.end_octets (found_of c.loop-at.found) plain);
+          adds-more c.args.spot.now c.args.offset c.args.end_octets c.args.octets.now _ _ _ c.loop-at.at
+          c.in-Some-plain_size.size c.loop-at-test.true c.loop-at.invariant.adds
+          (adds-plain (drop c.loop-at.at c.args.octets.now) (c.args.offset + c.loop-at.at) c.in-Some.fields
+          c.in-Some.count c.in-Some-plain_size.size begins c.args.spot.now c.args.end_octets
+          (found_of c.loop-at.found) plain);
       far =
           so_far-sound c.args.spot.now c.args.offset c.args.end_octets c.args.octets.now c.loop-at.at c.loop-at.sound
-          c.loop-at-test.true c.loop-at.invariant.far c.in-Some.size element;
+          c.loop-at-test.true c.loop-at.invariant.far c.in-Some-plain_size.size element;
       kept = c.loop-at.invariant.kept;
     }
 
-pub add_strings-loop-at-preserved-then-octets-at-ne0 : goal.add_strings-loop-at-preserved-then-octets-at-ne0
-add_strings-loop-at-preserved-then-octets-at-ne0 t c =
+pub add_strings-loop-at-preserved-in_default-plain_size : goal.add_strings-loop-at-preserved-in_default-plain_size
+add_strings-loop-at-preserved-in_default-plain_size t c =
     let tail = tail-all c.args.octets.now c.loop-at.at in
     record {
       within =
@@ -84,12 +92,43 @@ add_strings-loop-at-preserved-then-octets-at-ne0 t c =
       far =
           so_far-element c.args.spot.now c.args.offset c.args.end_octets c.args.octets.now c.loop-at.at c.loop-at.sound
           c.loop-at-test.true c.loop-at.invariant.far c.in_ok-element.element.size c.in_ok-element.element.sound
-          c.if-octets-at-ne0.true
+          (begins-nonzero c.args.octets.now c.loop-at.at (c.args.offset + c.loop-at.at) c.in-Some.fields c.in-Some.count
+          c.loop-at-test.true
+          (subst
+          (λ (o : List ℕ). BeginsWithFields o (c.args.offset + c.loop-at.at) false c.in-Some.fields c.in-Some.count)
+          tail c.in-Some.ensures))
           (subst
           (λ (o : List ℕ). SaysElement (place_at (c.args.offset + c.loop-at.at) c.args.spot.now.depth)
           c.args.spot.now.likely o c.in_ok-element.element)
           (tail-all c.args.octets.now c.loop-at.at) c.in_ok-element.ensures.sound);
       kept = kept-then _ _ _ c.loop-at.invariant.kept c.in_ok-element.ensures.kept;
+    }
+
+pub add_strings-loop-at-preserved-then-octets-at-ne0 : goal.add_strings-loop-at-preserved-then-octets-at-ne0
+add_strings-loop-at-preserved-then-octets-at-ne0 t c =
+    let tail = tail-all c.args.octets.now c.loop-at.at in
+    record {
+      within =
+          omega (
+            arith,
+            c.in_ok-element-2.ensures.within,
+            ap length (tail-all c.args.octets.now c.loop-at.at),
+            length-drop c.loop-at.at c.args.octets.now,
+            c.loop-at-test.true,
+          );
+      adds =
+          adds-more c.args.spot.now c.args.offset c.args.end_octets c.args.octets.now _ _ _ c.loop-at.at
+          c.in_ok-element-2.element.size c.loop-at-test.true c.loop-at.invariant.adds
+          (adds-first-at _ _ _ _ _ _ _ _ tail c.in_ok-element-2.ensures.adds);
+      far =
+          so_far-element c.args.spot.now c.args.offset c.args.end_octets c.args.octets.now c.loop-at.at c.loop-at.sound
+          c.loop-at-test.true c.loop-at.invariant.far c.in_ok-element-2.element.size c.in_ok-element-2.element.sound
+          c.if-octets-at-ne0.true
+          (subst
+          (λ (o : List ℕ). SaysElement (place_at (c.args.offset + c.loop-at.at) c.args.spot.now.depth)
+          c.args.spot.now.likely o c.in_ok-element-2.element)
+          (tail-all c.args.octets.now c.loop-at.at) c.in_ok-element-2.ensures.sound);
+      kept = kept-then _ _ _ c.loop-at.invariant.kept c.in_ok-element-2.ensures.kept;
     }
 
 pub add_strings-loop-at-preserved : goal.add_strings-loop-at-preserved
