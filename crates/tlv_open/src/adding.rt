@@ -13,7 +13,9 @@ ghost use Rattle.tlv_walk.specs.Forest.{Forest};
 
 use crate::Strings;
 use crate::breaking::{add_broken, broken_string};
-use crate::elements::{DEPTH_LIMIT, header_at, is_elements_end, is_likely_if, two_octet_header};
+use crate::elements::{
+    DEPTH_LIMIT, is_elements_end, is_likely_if, quick_header_at, two_octet_header,
+};
 use crate::extent::{Extent, plain_size, unended};
 use crate::held::held_octets;
 use crate::spot::{Spot, inside, inside_lacking, is_octet_or_bit_string, is_value_before};
@@ -87,7 +89,7 @@ fn add_after_long(
     ensures some { 0 < length octets.now → IfOk result (λ e. 0 < e.size) }
     ensures within { IfOk result (λ e. e.size ≤ length octets.now) }
 {
-    match header_at(octets, offset) {
+    match quick_header_at(octets, offset) {
         Some((fields, count)) => {
             add_with(octets, offset, &fields, count, spot, end_octets, found)
         }
@@ -231,7 +233,7 @@ fn add_string(
     if !spot.may_open {
         return Ok(());
     }
-    let Some((fields, count)) = header_at(octets, offset) else {
+    let Some((fields, count)) = quick_header_at(octets, offset) else {
         return Ok(());
     };
     let Some(inner) = held_octets(fields.class, fields.number, &octets[count..]) else {

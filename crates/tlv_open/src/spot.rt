@@ -1,9 +1,7 @@
 //! Where elements are that are read by themselves, and what is looked for among them.
-ghost use Rattle.std.specs.Prelude.{◌≡◌, ◌<◌, ◌+◌, ◌&&◌, ◌||◌, Bool, List, MatchOption, false, ℕ};
+ghost use Rattle.std.specs.Prelude.{◌≡◌, ◌<◌, ◌+◌, ◌&&◌, ◌||◌, Bool, List, false, ℕ};
 ghost use Rattle.tlv_head.specs.DepthLimit.{depth_limit};
 ghost use Rattle.tlv_head.specs.HeaderFields.{new_header};
-ghost use Rattle.tlv_head.specs.ReadHeader.{BeginsWithFields};
-ghost use Rattle.tlv_head.specs.Refusal.{BeginsWithNoHeader};
 ghost use Rattle.tlv_head.specs.UniversalTypes.{bit_string, octet_string};
 ghost use Rattle.tlv_open.specs.Breaks.{begin_extension, is_extension, names_extension};
 ghost use Rattle.tlv_open.specs.Opens.{is_one_primitive, may_open_in};
@@ -13,7 +11,7 @@ ghost use Rattle.tlv_value.specs.Types.{has_segments, is_a, is_string};
 ghost use Rattle.tlv_walk.specs.Forest.{Forest};
 ghost use Rattle.tlv_walk.specs.Place.{Place};
 
-use crate::elements::{first_octet, header_at, is_elements_end, two_octet_header};
+use crate::elements::{first_octet, header_at, is_elements_end, quick_header_at};
 use tlv_head::{Class, HeaderFields, Size, universal};
 
 /// Where elements are that are read by themselves.
@@ -188,18 +186,6 @@ fn begin_extension(octets: &[u8], offset: u64) -> bool
         return false;
     }
     is_a(universal::OBJECT_IDENTIFIER, &fields) && names_extension(&rest[..length as usize])
-}
-
-/// [`header_at`], first of two octets.
-#[inline(always)]
-fn quick_header_at(octets: &[u8], offset: u64) -> Option<(HeaderFields, usize)>
-    ensures { MatchOption result (BeginsWithNoHeader octets.now)
-        (λ (fields, count). BeginsWithFields octets.now offset false fields count) }
-{
-    match two_octet_header(octets, offset) {
-        Some(found) => Some(found),
-        None => header_at(octets, offset),
-    }
 }
 
 /// Whether these are the contents of an OBJECT IDENTIFIER below 2.5.29 or 1.3.6.1.5.5.7.1.
