@@ -45,25 +45,26 @@ pub(crate) fn add_strings(
     while at < octets.len() {
         let rest = &octets[at..];
         let begin = offset + at as u64;
-        if let Some((fields, count)) = two_octet_header(rest, begin) {
-            if let Some(size) = plain_size(rest, &fields, count, spot.likely) {
-                at += size;
-            } else {
-                let element = add_with(rest, begin, &fields, count, spot, end_octets, found)?;
-                at += element.size;
-                sound &= element.sound;
+        let element = match two_octet_header(rest, begin) {
+            Some((fields, count)) => {
+                if let Some(size) = plain_size(rest, &fields, count, spot.likely) {
+                    at += size;
+                    continue;
+                }
+                add_with(rest, begin, &fields, count, spot, end_octets, found)?
             }
-        } else if octets[at] != 0 {
-            let element = add_after_long(rest, begin, spot, end_octets, found)?;
-            at += element.size;
-            sound &= element.sound;
-        } else if end_octets {
-            sound &= is_elements_end(rest, true);
-            return Ok(Extent { size: at, sound });
-        } else {
-            sound &= spot.padding;
-            at += 1;
-        }
+            None if octets[at] != 0 => add_after_long(rest, begin, spot, end_octets, found)?,
+            None if end_octets => {
+                sound &= is_elements_end(rest, true);
+                return Ok(Extent { size: at, sound });
+            }
+            None => Extent {
+                size: 1,
+                sound: spot.padding,
+            },
+        };
+        at += element.size;
+        sound &= element.sound;
     }
     sound &= !end_octets;
     Ok(Extent { size: at, sound })

@@ -25,9 +25,9 @@ pub(crate) fn unended(octets: &[u8]) -> Extent
     }
 }
 
-/// How many octets the primitive has with which the octets begin, if it is no OCTET STRING and no BIT STRING, and if it
-/// need not be `likely`. Its header has these fields and so many octets. Most primitives are such, and then nothing more
-/// is asked.
+/// How many octets the primitive has with which the octets begin, if it is no OCTET STRING and no BIT STRING, and need
+/// not be `likely`. Its header has these fields and so many octets. Most primitives are such, and then nothing more is
+/// asked.
 #[inline(always)]
 pub(crate) fn plain_size(
     octets: &[u8],
