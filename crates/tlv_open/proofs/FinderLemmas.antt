@@ -9,5 +9,6 @@ pub mod Extensions
 pub mod Strings
 pub mod Inputs
 pub mod Sounds
+pub mod Steps
 pub mod Kept
 pub mod Plain

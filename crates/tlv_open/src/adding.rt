@@ -13,7 +13,9 @@ ghost use Rattle.tlv_walk.specs.Forest.{Forest};
 
 use crate::Strings;
 use crate::breaking::{add_broken, broken_string};
-use crate::elements::{DEPTH_LIMIT, header_at, is_elements_end, is_likely_if, two_octet_header};
+use crate::elements::{
+    DEPTH_LIMIT, is_elements_end, is_likely_if, quick_header_at, two_octet_header,
+};
 use crate::extent::{Extent, plain_size, unended};
 use crate::held::held_octets;
 use crate::spot::{Spot, inside, inside_lacking, is_octet_or_bit_string, is_value_before};
@@ -41,53 +43,35 @@ pub(crate) fn add_strings(
     let mut at = 0;
     let mut sound = true;
     while at < octets.len() {
-        if let Some(size) = plain_size(&octets[at..], offset + at as u64, spot.likely) {
-            at += size;
-        } else if octets[at] != 0 {
-            let rest = &octets[at..];
-            let element = add_strings_in(rest, offset + at as u64, spot, end_octets, found)?;
-            at += element.size;
-            sound &= element.sound;
-        } else if end_octets {
-            sound &= is_elements_end(&octets[at..], true);
-            return Ok(Extent { size: at, sound });
-        } else {
-            sound &= spot.padding;
-            at += 1;
-        }
+        let rest = &octets[at..];
+        let begin = offset + at as u64;
+        let element = match two_octet_header(rest, begin) {
+            Some((fields, count)) => {
+                if let Some(size) = plain_size(rest, &fields, count, spot.likely) {
+                    at += size;
+                    continue;
+                }
+                add_with(rest, begin, &fields, count, spot, end_octets, found)?
+            }
+            None if octets[at] != 0 => add_after_long(rest, begin, spot, end_octets, found)?,
+            None if end_octets => {
+                sound &= is_elements_end(rest, true);
+                return Ok(Extent { size: at, sound });
+            }
+            None => Extent {
+                size: 1,
+                sound: spot.padding,
+            },
+        };
+        at += element.size;
+        sound &= element.sound;
     }
     sound &= !end_octets;
     Ok(Extent { size: at, sound })
 }
 
 /// Adds the strings that are found in the element with which the octets begin, which may itself be one. Returns how
-/// many octets it has, and whether it is sound; if it has not ended, these are all.
-#[cycle(find)]
-fn add_strings_in(
-    octets: &[u8],
-    offset: u64,
-    spot: &Spot,
-    end_octets: bool,
-    found: &mut Strings,
-) -> Result<Extent, AllocError>
-    requires limit { spot.now.start + (offset + length octets.now) ≤ input_limit }
-    requires begun { slice_index octets.now 0 ≢ 0 }
-    ensures adds { IfOk result (λ e. AddsFirst spot.now offset end_octets octets.now
-        (found_of found.old) (found_of found.new) e.size) }
-    ensures sound { IfOk result (λ e. SaysElement (place_at offset spot.now.depth) spot.now.likely octets.now e) }
-    ensures kept { OnOk result (IsKept (found_of found.old) (found_of found.new)) }
-    ensures some { 0 < length octets.now → IfOk result (λ e. 0 < e.size) }
-    ensures within { IfOk result (λ e. e.size ≤ length octets.now) }
-{
-    match two_octet_header(octets, offset) {
-        Some((fields, count)) => {
-            add_with(octets, offset, &fields, count, spot, end_octets, found)
-        }
-        None => add_after_long(octets, offset, spot, end_octets, found),
-    }
-}
-
-/// [`add_strings_in`], whatever the header.
+/// many octets it has, and whether it is sound; if it has not ended, these are all. The header may be of any length.
 #[cycle(find)]
 #[inline(never)]
 fn add_after_long(
@@ -106,7 +90,7 @@ fn add_after_long(
     ensures some { 0 < length octets.now → IfOk result (λ e. 0 < e.size) }
     ensures within { IfOk result (λ e. e.size ≤ length octets.now) }
 {
-    match header_at(octets, offset) {
+    match quick_header_at(octets, offset) {
         Some((fields, count)) => {
             add_with(octets, offset, &fields, count, spot, end_octets, found)
         }
@@ -114,7 +98,7 @@ fn add_after_long(
     }
 }
 
-/// [`add_strings_in`], of an element whose header has these fields and so many octets.
+/// [`add_after_long`], of an element whose header has these fields and so many octets.
 #[cycle(find)]
 #[inline(always)]
 fn add_with(
@@ -152,7 +136,7 @@ fn add_with(
     Ok(Extent { size, sound })
 }
 
-/// [`add_strings_in`], of a constructed element whose header has these fields and so many octets.
+/// [`add_after_long`], of a constructed element whose header has these fields and so many octets.
 #[cycle(find)]
 #[inline(always)]
 fn add_in_holder(
@@ -250,7 +234,7 @@ fn add_string(
     if !spot.may_open {
         return Ok(());
     }
-    let Some((fields, count)) = header_at(octets, offset) else {
+    let Some((fields, count)) = quick_header_at(octets, offset) else {
         return Ok(());
     };
     let Some(inner) = held_octets(fields.class, fields.number, &octets[count..]) else {

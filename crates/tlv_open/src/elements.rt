@@ -51,6 +51,31 @@ pub(crate) fn header_at(octets: &[u8], offset: u64) -> Option<(HeaderFields, usi
     }
 }
 
+/// [`header_at`], with few instructions if the header has at most four octets and no high tag number, as most have.
+#[inline(always)]
+pub(crate) fn quick_header_at(octets: &[u8], offset: u64) -> Option<(HeaderFields, usize)>
+    ensures { MatchOption result (BeginsWithNoHeader octets.now)
+        (λ (fields, count). BeginsWithFields octets.now offset false fields count) }
+{
+    match four_octet_header(octets, offset) {
+        Some(found) => Some(found),
+        None => header_at(octets, offset),
+    }
+}
+
+/// The header with which the octets begin, at this offset, if it has at most four octets and no high tag number.
+#[inline(always)]
+fn four_octet_header(octets: &[u8], offset: u64) -> Option<(HeaderFields, usize)>
+    ensures { IfSome result (λ (fields, count). BeginsWithFields octets.now offset false fields count) }
+{
+    match octets {
+        [identifier, length, _, _, ..] if *identifier & 0x1f != 0x1f && *length <= 0x82 => {
+            read_short(offset, false, octets)
+        }
+        _ => None,
+    }
+}
+
 /// How many octets the sound elements have with which the octets begin, at this offset and depth, up to the octets `00
 /// 00` if those end them, and else up to the last octet. If `likely`, each of the outermost has to be constructed, or a
 /// primitive of the universal class in which BER finds nothing.
@@ -174,7 +199,7 @@ fn is_clear_at(octets: &[u8], offset: u64) -> bool
     ensures { (fields : HeaderFields) (count : ℕ) → BeginsWithFields octets.now offset false fields count
         → IsTrue result ↔ IsClearPrimitive (new_header fields (take count octets.now)) (drop count octets.now) }
 {
-    match header_at(octets, offset) {
+    match quick_header_at(octets, offset) {
         Some((fields, count)) => is_clear_primitive(&fields, &octets[..count], &octets[count..]),
         None => false,
     }

@@ -1,9 +1,9 @@
 //! How many octets elements have, and whether they are sound.
-ghost use Rattle.std.specs.Prelude.{◌≡◌, IfSome, false, length};
+ghost use Rattle.std.specs.Prelude.{◌≡◌, ◌≤◌, IfSome, false, length};
 ghost use Rattle.tlv_open.specs.Private.Adds.{IsPlain};
 
-use crate::elements::two_octet_header;
 use crate::spot::is_octet_or_bit_string;
+use tlv_head::HeaderFields;
 
 /// How many octets elements have that are looked for among octets, and whether they are sound.
 #[derive(Clone, Copy)]
@@ -25,17 +25,20 @@ pub(crate) fn unended(octets: &[u8]) -> Extent
     }
 }
 
-/// How many octets the primitive has with which the octets begin, if its header has two octets and it is no OCTET
-/// STRING and no BIT STRING, and if it need not be `likely`. Most primitives are such, and then nothing more is asked.
+/// How many octets the primitive has with which the octets begin, if it is no OCTET STRING and no BIT STRING, and need
+/// not be `likely`. Its header has these fields and so many octets. Most primitives are such, and then nothing more is
+/// asked.
 #[inline(always)]
-pub(crate) fn plain_size(octets: &[u8], offset: u64, likely: bool) -> Option<usize>
-    ensures { IfSome result (λ n. IsPlain octets.now offset likely n) }
+pub(crate) fn plain_size(
+    octets: &[u8],
+    fields: &HeaderFields,
+    count: usize,
+    likely: bool,
+) -> Option<usize>
+    requires { count ≤ length octets.now }
+    ensures { IfSome result (λ n. IsPlain octets.now fields.now count likely n) }
 {
-    if likely {
-        return None;
-    }
-    let (fields, count) = two_octet_header(octets, offset)?;
-    if fields.constructed || is_octet_or_bit_string(&fields) {
+    if likely || fields.constructed || is_octet_or_bit_string(fields) {
         return None;
     }
     let length = fields.size.announced_length();

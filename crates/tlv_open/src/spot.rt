@@ -1,9 +1,7 @@
 //! Where elements are that are read by themselves, and what is looked for among them.
-ghost use Rattle.std.specs.Prelude.{◌≡◌, ◌<◌, ◌+◌, ◌&&◌, ◌||◌, Bool, List, MatchOption, false, ℕ};
+ghost use Rattle.std.specs.Prelude.{◌≡◌, ◌<◌, ◌+◌, ◌&&◌, ◌||◌, Bool, List, false, true, ℕ};
 ghost use Rattle.tlv_head.specs.DepthLimit.{depth_limit};
 ghost use Rattle.tlv_head.specs.HeaderFields.{new_header};
-ghost use Rattle.tlv_head.specs.ReadHeader.{BeginsWithFields};
-ghost use Rattle.tlv_head.specs.Refusal.{BeginsWithNoHeader};
 ghost use Rattle.tlv_head.specs.UniversalTypes.{bit_string, octet_string};
 ghost use Rattle.tlv_open.specs.Breaks.{begin_extension, is_extension, names_extension};
 ghost use Rattle.tlv_open.specs.Opens.{is_one_primitive, may_open_in};
@@ -13,7 +11,7 @@ ghost use Rattle.tlv_value.specs.Types.{has_segments, is_a, is_string};
 ghost use Rattle.tlv_walk.specs.Forest.{Forest};
 ghost use Rattle.tlv_walk.specs.Place.{Place};
 
-use crate::elements::{first_octet, header_at, is_elements_end, two_octet_header};
+use crate::elements::{header_at, is_elements_end, quick_header_at};
 use tlv_head::{Class, HeaderFields, Size, universal};
 
 /// Where elements are that are read by themselves.
@@ -174,9 +172,7 @@ fn begin_extension(octets: &[u8], offset: u64) -> bool
     ensures { (p : Place) (f : Forest) (depth : ℕ) (end_octets : Bool) (rest : List ℕ)
         → IsReadAt p f depth offset end_octets octets.now rest → result ≡ begin_extension f }
 {
-    // Its first octet is 06, or in the high form 1f; so few headers are read here.
-    let first = first_octet(octets);
-    if first != 6 && first != 0x1f {
+    if !may_begin_extension(octets) {
         return false;
     }
     let Some((fields, count)) = quick_header_at(octets, offset) else {
@@ -190,15 +186,17 @@ fn begin_extension(octets: &[u8], offset: u64) -> bool
     is_a(universal::OBJECT_IDENTIFIER, &fields) && names_extension(&rest[..length as usize])
 }
 
-/// [`header_at`], first of two octets.
+/// Whether a primitive OBJECT IDENTIFIER of an extension may be the first element: a look at four octets, so that few
+/// headers are read. The first octet of such an element is 06, or in the high form 1f.
 #[inline(always)]
-fn quick_header_at(octets: &[u8], offset: u64) -> Option<(HeaderFields, usize)>
-    ensures { MatchOption result (BeginsWithNoHeader octets.now)
-        (λ (fields, count). BeginsWithFields octets.now offset false fields count) }
+fn may_begin_extension(octets: &[u8]) -> bool
+    ensures { (p : Place) (f : Forest) (depth offset : ℕ) (end_octets : Bool) (rest : List ℕ)
+        → IsReadAt p f depth offset end_octets octets.now rest → begin_extension f ≡ true → result ≡ true }
 {
-    match two_octet_header(octets, offset) {
-        Some(found) => Some(found),
-        None => header_at(octets, offset),
+    match octets {
+        [6, 0..=0x7f, first, second, ..] => matches!((*first, *second), (0x55, 0x1d) | (0x2b, 6)),
+        [6 | 0x1f, ..] => true,
+        _ => false,
     }
 }
 

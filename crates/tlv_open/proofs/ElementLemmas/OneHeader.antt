@@ -1,5 +1,6 @@
 -- Octets begin with one header.
-use Rattle.std.proofs.Common.{◌≡◌, ◌↔◌, ℕ, Bool, false, List, length, take, drop, IsTrue, sym, ap, ◌∙◌, subst}
+use Rattle.std.proofs.Common.{◌≡◌, ◌≢◌, ◌↔◌, ◌<◌, ℕ, suc, Bool, false, List, length, take, drop, get_or, drop-cons}
+use Rattle.std.proofs.Common.{IsTrue, sym, ap, ◌∙◌, subst}
 use Rattle.std.proofs.lemmas.List.{length-take-le, take-append-drop}
 use Rattle.tlv_head.specs.declared.header.HeaderFields.{HeaderFields}
 use Rattle.tlv_head.specs.Header.{HeaderValue, announced_length, octets_of}
@@ -11,12 +12,20 @@ use Rattle.tlv_open.specs.Held.{IsClearPrimitive}
 use Rattle.tlv_open.specs.Private.Adds.{AddsAt}
 use Rattle.tlv_open.specs.Private.Finds.{AddsPrimitive, FoundStrings}
 use Rattle.tlv_open.specs.declared.spot.Spot.{Spot}
+use Rattle.tlv_open.proofs.ElementLemmas.OneElement.{zero-no_header}
 
 -- if a header is there, it is not so that none is
 pub header-there : (octets : List ℕ) (offset : ℕ) (f : HeaderFields) (n : ℕ) → BeginsWithFields octets offset false f n
     → BeginsWithNoHeader octets → ⊥
 header-there octets offset f n a none =
     none (new_header f (take n octets)) a.begins.rest a.begins.valid a.begins.octets_are
+
+-- and the first octet is not 00
+pub begins-nonzero : (octets : List ℕ) (at offset : ℕ) (f : HeaderFields) (n : ℕ) → at < length octets
+    → BeginsWithFields (drop at octets) offset false f n → get_or octets at 0 ≢ 0
+begins-nonzero octets at offset f n less b z =
+    zero-no_header (new_header f (take n (drop at octets))) (get_or octets at 0) b.begins.rest (drop (suc at) octets)
+    b.begins.valid (sym b.begins.octets_are ∙ drop-cons octets at 0 less) z
 
 module _ (octets : List ℕ) (offset : ℕ) (f g : HeaderFields) (n m : ℕ) (a : BeginsWithFields octets offset false f n)
     (b : BeginsWithFields octets offset false g m) where

@@ -1,11 +1,14 @@
 -- Whether octets are read as what an extension begins with.
 use Rattle.std.proofs.Common.{◌∷◌, [], ◌≢◌, eqb, eqb-true, get_or}
-use Rattle.std.proofs.lemmas.Bool.{and_parts, cases_Bool}
+use Rattle.std.proofs.lemmas.Bool.{and_parts, cases_Bool, or_cases}
 use Rattle.std.proofs.Common.{◌≡◌, ◌⊎◌, inl, inr, ℕ, ◌<◌, ◌≤◌, Bool, true, false, ◌&&◌, List, ◌++◌, length, take}
-use Rattle.std.proofs.Common.{drop, refl, sym, ap, ap₂, ◌∙◌, arith, length-append}
+use Rattle.std.proofs.Common.{subst, drop, refl, sym, ap, ap₂, ◌∙◌, arith, length-append}
 use Rattle.std.proofs.Math.Seq.{take-append_seam}
 use Rattle.tlv_head.specs.declared.header.HeaderFields.{HeaderFields}
-use Rattle.tlv_head.specs.Header.{HeaderValue, IsHeader, announced_length, class_bits, identifier_octet, is_universal}
+use Rattle.tlv_head.specs.declared.header.Size.{Size}
+use Rattle.tlv_head.specs.declared.header.Size.TheVariants.{Definite, Indefinite}
+use Rattle.tlv_head.specs.Header.{HeaderValue, IsHeader, IsLength, announced_length, class_bits, identifier_octet}
+use Rattle.tlv_head.specs.Header.{is_universal}
 use Rattle.tlv_head.specs.Header.{octets_of}
 use Rattle.tlv_head.specs.HeaderFields.{new_header}
 use Rattle.tlv_head.specs.ReadHeader.{BeginsWithFields}
@@ -15,7 +18,7 @@ use Rattle.tlv_value.specs.Types.{is_a}
 use Rattle.tlv_walk.specs.Forest.{Forest, Holder, NoMore, OpenBitString, OpenEndOctets, OpenHeader, OpenHolder}
 use Rattle.tlv_walk.specs.Forest.{OpenPrimitive, PaddingOctet, Primitive, spelling}
 use Rattle.tlv_walk.specs.Place.{Place}
-use Rattle.tlv_open.specs.Breaks.{begin_extension, names_extension}
+use Rattle.tlv_open.specs.Breaks.{begin_extension, goes_beyond, names_extension}
 use Rattle.tlv_open.specs.Private.Finds.{IsReadAt}
 use Rattle.tlv_open.proofs.ElementLemmas.OneElement.{regroup-3}
 use Rattle.tlv_open.proofs.FinderLemmas.FirstRead.{IsReadFirst, first_holder, first_open_holder, first_open_primitive}
@@ -77,6 +80,69 @@ other-begin_extension p (OpenHolder k inside) depth offset ends octets rest r si
 other-begin_extension p (OpenBitString k) depth offset ends octets rest r six high = refl
 other-begin_extension p (OpenHeader o) depth offset ends octets rest r six high = refl
 other-begin_extension p OpenEndOctets depth offset ends octets rest r six high = refl
+
+-- 8.19: contents that name an extension, by their first two octets
+abbrev pub MayName : ℕ → ℕ → Type 0
+MayName x y = ((x ≡ 0x55) × (y ≡ 0x1d)) ⊎ ((x ≡ 0x2b) × (y ≡ 6))
+
+names-first : (c more : List ℕ) → names_extension c ≡ true → MayName (get_or (c ++ more) 0 0) (get_or (c ++ more) 1 0)
+names-first [] more e = absurd (cc (e))
+names-first (x ∷ []) more e = elim (or_cases (eqb x 0x55 && false) (eqb x 0x2b && false) e) [
+  | inl t ↦ let u : false ≡ true = (and_parts (eqb x 0x55) false t).1 in absurd (cc (u))
+  | inr t ↦ let u : false ≡ true = (and_parts (eqb x 0x2b) false t).1 in absurd (cc (u))
+]
+names-first (x ∷ y ∷ c) more e =
+    let either = or_cases (goes_beyond (0x55 ∷ 0x1d ∷ []) (x ∷ y ∷ c))
+    (goes_beyond (0x2b ∷ 6 ∷ 1 ∷ 5 ∷ 5 ∷ 7 ∷ 1 ∷ []) (x ∷ y ∷ c)) e in
+    elim either [
+      | inl t ↦
+          let parts = and_parts (eqb x 0x55) (goes_beyond (0x1d ∷ []) (y ∷ c)) t in
+          inl (eqb-true x 0x55 parts.0, eqb-true y 0x1d (and_parts (eqb y 0x1d) (goes_beyond [] c) parts.1).0)
+      | inr t ↦
+          let parts = and_parts (eqb x 0x2b) (goes_beyond (6 ∷ 1 ∷ 5 ∷ 5 ∷ 7 ∷ 1 ∷ []) (y ∷ c)) t in
+          let second = and_parts (eqb y 6) (goes_beyond (1 ∷ 5 ∷ 5 ∷ 7 ∷ 1 ∷ []) c) parts.1 in
+          inr (eqb-true x 0x2b parts.0, eqb-true y 6 second.0)
+    ]
+
+-- 8.1.3.4: length octets of which the first is below 80 are one
+length-short : (size : Size) (o more : List ℕ) → IsLength size o → get_or (o ++ more) 0 0 < 128
+    → (n : ℕ) × (o ≡ n ∷ [])
+length-short (Definite n) o more (inl t) less = (n, t.1)
+length-short (Definite n) o more (inr t) less =
+    absurd (omega (arith, less, ap (λ (x : List ℕ). get_or (x ++ more) 0 0) t.octets_are))
+length-short Indefinite o more t less = absurd (omega (arith, less, ap (λ (x : List ℕ). get_or (x ++ more) 0 0) t))
+
+-- after a header of which the first octet is 06 and the second below 80 the contents begin
+short-octets : (k : HeaderValue) (more octets : List ℕ) → IsHeader k → octets_of k ++ more ≡ octets
+    → get_or octets 0 0 ≡ 6 → get_or octets 1 0 < 128 → (x : ℕ) × ((y : ℕ) × (octets ≡ x ∷ y ∷ more))
+short-octets k more octets v e six less = elim v.identifier [
+  | inl low ↦
+      let second : get_or octets 1 0 ≡ get_or (k.lengths ++ more) 0 0 =
+      ap (λ (o : List ℕ). get_or o 1 0) (sym e)
+      ∙ ap (λ (i : List ℕ). get_or ((i ++ k.lengths) ++ more) 1 0) low.octets_are in
+      let one = length-short k.size k.lengths more v.lengths (omega (arith, second, less)) in
+      (_, (one.0, sym e ∙ ap₂ (λ (i l : List ℕ). (i ++ l) ++ more) low.octets_are one.1))
+  | inr long ↦
+      absurd (omega (arith, six, first_in k.identifier k.lengths more _ octets _ long.octets_are e))
+]
+
+-- an OBJECT IDENTIFIER of an extension that has a short header, by its first four octets
+pub named-first : (p : Place) (f : Forest) (depth offset : ℕ) (ends : Bool) (octets rest : List ℕ)
+    → IsReadAt p f depth offset ends octets rest → begin_extension f ≡ true → get_or octets 0 0 ≡ 6
+    → get_or octets 1 0 < 128 → MayName (get_or octets 2 0) (get_or octets 3 0)
+named-first p (Primitive k c g) depth offset ends octets rest r e six less =
+    let short = short-octets k (c ++ (spelling g ++ rest)) octets r.obeys_grammar.0.0.header.valid
+    (sym (regroup-3 (octets_of k) c (spelling g) rest) ∙ r.spelled) six less in
+    subst (λ (o : List ℕ). MayName (get_or o 2 0) (get_or o 3 0)) (sym short.1.1)
+    (names-first c (spelling g ++ rest) (and_parts (is_a universal.object_identifier k) (names_extension c) e).1)
+named-first p NoMore depth offset ends octets rest r e six less = absurd (cc (e))
+named-first p (PaddingOctet g) depth offset ends octets rest r e six less = absurd (cc (e))
+named-first p (Holder k inside g) depth offset ends octets rest r e six less = absurd (cc (e))
+named-first p (OpenPrimitive k c) depth offset ends octets rest r e six less = absurd (cc (e))
+named-first p (OpenHolder k inside) depth offset ends octets rest r e six less = absurd (cc (e))
+named-first p (OpenBitString k) depth offset ends octets rest r e six less = absurd (cc (e))
+named-first p (OpenHeader o) depth offset ends octets rest r e six less = absurd (cc (e))
+named-first p OpenEndOctets depth offset ends octets rest r e six less = absurd (cc (e))
 
 module _ (octets : List ℕ) (offset : ℕ) (f : HeaderFields) (count : ℕ)
     (b : BeginsWithFields octets offset false f count) where

@@ -29,23 +29,24 @@ no-inner h contents e =
     neither false true x y t = absurd (cc (t))
     neither false false x y t = refl
 
-module _ (octets : List ℕ) (offset n : ℕ) where
-  pub adds-plain : (w : Spot) (ends : Bool) (old : FoundStrings) → IsPlain octets offset w.likely n
+module _ (octets : List ℕ) (offset : ℕ) (f : HeaderFields) (count n : ℕ)
+    (b : BeginsWithFields octets offset false f count) where
+  pub adds-plain : (w : Spot) (ends : Bool) (old : FoundStrings) → IsPlain octets f count w.likely n
       → AddsFirst w offset ends octets old old n
   adds-plain w ends old p =
       subst (λ (k : ℕ). AddsFirst w offset ends octets old old k) (sym p.size)
-      (adds-primitive octets offset p.fields p.count p.begins w old old p.announced
-      (w.in_extension && is_elements_end ends (drop (p.count + p.announced) octets)) ends p.primitive p.announced_is
+      (adds-primitive octets offset f count b w old old p.announced
+      (w.in_extension && is_elements_end ends (drop (count + p.announced) octets)) ends p.primitive p.announced_is
       p.within refl
-      (adds-no_octets w (w.in_extension && is_elements_end ends (drop (p.count + p.announced) octets))
-      (new_header p.fields (take p.count octets)) (take p.announced (drop p.count octets)) old
-      (p.no_string (take p.announced (drop p.count octets)))))
+      (adds-no_octets w (w.in_extension && is_elements_end ends (drop (count + p.announced) octets))
+      (new_header f (take count octets)) (take p.announced (drop count octets)) old
+      (p.no_string (take p.announced (drop count octets)))))
 
-  pub plain-sound : (depth : ℕ) (likely : Bool) → IsPlain octets offset likely n
+  pub plain-sound : (depth : ℕ) (likely : Bool) → IsPlain octets f count likely n
       → BeginsWithElement (place_at offset depth) likely octets n
   plain-sound depth likely p =
       subst (λ (k : ℕ). BeginsWithElement (place_at offset depth) likely octets k) (sym p.size)
-      (says-primitive octets offset depth likely p.fields p.count p.begins p.announced true p.primitive p.announced_is
+      (says-primitive octets offset depth likely f count b p.announced true p.primitive p.announced_is
       p.within (λ t. refl) (λ t. let u : true ≡ false = sym t ∙ p.unasked in absurd (cc (u))))
 
 -- a primitive that may have to be likely, by its octets alone

@@ -27,12 +27,10 @@ pub record SaysSound (s : Spot) (offset : ℕ) (end_octets : Bool) (octets : Lis
   pub unsound : s.padding ≡ false → e.sound ≡ false
       → BeginsWithNoElements (place_at offset s.depth) s.likely end_octets octets
 
--- the octets begin with a primitive of n octets that is no OCTET STRING and no BIT STRING, and nothing more is asked
-pub record IsPlain (octets : List ℕ) (offset : ℕ) (likely : Bool) (n : ℕ) : Type 0 where
+-- the octets, which begin with a header that has these fields and so many of them, begin with a primitive of n octets
+-- that is no OCTET STRING and no BIT STRING, and nothing more is asked
+pub record IsPlain (octets : List ℕ) (fields : HeaderFields) (count : ℕ) (likely : Bool) (n : ℕ) : Type 0 where
   pub unasked : likely ≡ false
-  pub fields : HeaderFields
-  pub count : ℕ
-  pub begins : BeginsWithFields octets offset false fields count
   pub primitive : fields.constructed ≡ false
   pub announced : ℕ
   pub announced_is : announced ≡ announced_length fields.size

@@ -2,6 +2,7 @@ use Rattle.std.proofs.Common.{◌≡◌, ◌↔◌, ◌+◌, ◌&&◌, Bool, IsT
 use Rattle.std.proofs.Common.{refl, sym}
 use Rattle.std.proofs.Common.{ap, append-nil, ◌∙◌, arith, length-drop, subst, vec_len}
 use Rattle.tlv_head.specs.HeaderFields.{new_header}
+use Rattle.tlv_head.specs.ReadHeader.{BeginsWithFields}
 use Rattle.tlv_open.specs.Private.Adds.{IsKept, IsPlain, SaysSound}
 use Rattle.tlv_open.specs.Private.Elements.{SaysElement, is_elements_end, place_at}
 use Rattle.tlv_open.specs.Private.Finds.{AddsAll, FoundStrings, found_of, list_of, spot_held}
@@ -10,21 +11,23 @@ use Rattle.tlv_open.proofs.ElementLemmas.Extents.{says-definite, says-indefinite
 use Rattle.tlv_open.proofs.ElementLemmas.Extents.{says-unended}
 use Rattle.tlv_open.proofs.ElementLemmas.FirstElement.{first-too_deep, first-too_long, no_header-none}
 use Rattle.tlv_open.proofs.ElementLemmas.Held.{HoldsSome, holds-if, holds-nothing, holds-too_deep}
-use Rattle.tlv_open.proofs.ElementLemmas.OneHeader.{adds-at, header-there}
+use Rattle.tlv_open.proofs.ElementLemmas.OneHeader.{adds-at, begins-nonzero, header-there}
 use Rattle.tlv_open.proofs.FinderLemmas.NothingFound.{nothing_found}
 use Rattle.tlv_open.proofs.FinderLemmas.FirstFound.{adds-ended_holder, adds-holder, adds-open_holder, adds-primitive}
 use Rattle.tlv_open.proofs.FinderLemmas.FirstFound.{adds-too_deep, adds-unended_holder, adds-unfinished}
 use Rattle.tlv_open.proofs.FinderLemmas.FirstFound.{indefinite-constructed}
 use Rattle.tlv_open.proofs.FinderLemmas.FirstRead.{finds-header}
-use Rattle.tlv_open.proofs.FinderLemmas.Found.{adds-all-at, adds-done, adds-ended, adds-first-at, adds-more}
-use Rattle.tlv_open.proofs.FinderLemmas.Found.{adds-padding, adds-start}
+use Rattle.tlv_open.proofs.FinderLemmas.Found.{adds-all-at, adds-done, adds-ended, adds-more, adds-start}
 use Rattle.tlv_open.proofs.FinderLemmas.FoundBoth.{both-nothing}
 use Rattle.tlv_open.proofs.FinderLemmas.Kept.{kept-all, kept-broken, kept-opened, kept-pushed, kept-same, kept-then}
 use Rattle.tlv_open.proofs.FinderLemmas.Plain.{adds-plain, no-inner, plain-sound, says-alone}
 use Rattle.tlv_open.proofs.FinderLemmas.Sounds.{adds-all_octets, says-done, says-ended, says-inside, says-unsound}
-use Rattle.tlv_open.proofs.FinderLemmas.Sounds.{so_far-element, so_far-sound, so_far-start, so_far-zero}
+use Rattle.tlv_open.proofs.FinderLemmas.Sounds.{so_far-sound, so_far-start}
+use Rattle.tlv_open.proofs.FinderLemmas.Steps.{GoneOver, gone-element, gone-padding}
 use Rattle.tlv_open.proofs.FinderLemmas.Strings.{adds-held, adds-no_octets, adds-unheld, adds-unopened, begins-taken}
 use Rattle.tlv_open.proofs.FinderLemmas.Strings.{primitive-at, string-count, string-whole, whole-taken}
+use Rattle.tlv_open.proofs.adding.+find.Goals.{add_strings-in-Some+in_default+in_ok-element-in-Some}
+use Rattle.tlv_open.proofs.adding.+find.Goals.{add_strings-in-None+in_ok-element-in-None, add_strings-in-None-3}
 use Rattle.tlv_open.proofs.adding.+find.Goals.{add_held-then-spot-ge-DEPTH_LIMIT-via-then-spot-ge-DEPTH_LIMIT}
 use Rattle.tlv_open.proofs.adding.+find.Goals.{add_held-then-spot-ge-DEPTH_LIMIT-via-else-spot-ge-DEPTH_LIMIT+then-is_empty}
 use Rattle.tlv_open.proofs.adding.+find.Goals as goal
@@ -38,14 +41,20 @@ add_strings-loop-at-init t c = record {
   kept = kept-all (found_of c.args.found.now);
 }
 
-pub add_strings-loop-at-preserved-in-Some : goal.add_strings-loop-at-preserved-in-Some
-add_strings-loop-at-preserved-in-Some t c =
-    let plain : IsPlain (drop c.loop-at.at c.args.octets.now) (c.args.offset + c.loop-at.at) c.args.spot.now.likely
-    c.in-Some.size =
-    subst (λ (o : List ℕ). IsPlain o (c.args.offset + c.loop-at.at) c.args.spot.now.likely c.in-Some.size)
-    (tail-all c.args.octets.now c.loop-at.at) c.in-Some.ensures in
-    let element = plain-sound (drop c.loop-at.at c.args.octets.now) (c.args.offset + c.loop-at.at) c.in-Some.size
-    c.args.spot.now.depth c.args.spot.now.likely plain in
+pub add_strings-loop-at-preserved-in-Some-plain_size : goal.add_strings-loop-at-preserved-in-Some-plain_size
+add_strings-loop-at-preserved-in-Some-plain_size t c =
+    let tail = tail-all c.args.octets.now c.loop-at.at in
+    let begins : BeginsWithFields (drop c.loop-at.at c.args.octets.now) (c.args.offset + c.loop-at.at) false
+    c.in-Some.fields c.in-Some.count =
+    subst (λ (o : List ℕ). BeginsWithFields o (c.args.offset + c.loop-at.at) false c.in-Some.fields c.in-Some.count)
+    tail c.in-Some.ensures in
+    let plain : IsPlain (drop c.loop-at.at c.args.octets.now) c.in-Some.fields c.in-Some.count c.args.spot.now.likely
+    c.in-Some-plain_size.size =
+    subst
+    (λ (o : List ℕ). IsPlain o c.in-Some.fields c.in-Some.count c.args.spot.now.likely c.in-Some-plain_size.size)
+    tail c.in-Some-plain_size.ensures in
+    let element = plain-sound (drop c.loop-at.at c.args.octets.now) (c.args.offset + c.loop-at.at) c.in-Some.fields
+    c.in-Some.count c.in-Some-plain_size.size begins c.args.spot.now.depth c.args.spot.now.likely plain in
     record {
       within =
           omega (
@@ -55,62 +64,65 @@ add_strings-loop-at-preserved-in-Some t c =
             c.loop-at-test.true,
           );
       adds =
-          adds-more c.args.spot.now c.args.offset c.args.end_octets c.args.octets.now _ _ _ c.loop-at.at c.in-Some.size
-          c.loop-at-test.true c.loop-at.invariant.adds
-          (adds-plain (drop c.loop-at.at c.args.octets.now) (c.args.offset + c.loop-at.at) c.in-Some.size
-          c.args.spot.now c.args.end_octets (found_of c.loop-at.found) plain);
+          adds-more c.args.spot.now c.args.offset c.args.end_octets c.args.octets.now _ _ _ c.loop-at.at
+          c.in-Some-plain_size.size c.loop-at-test.true c.loop-at.invariant.adds
+          (adds-plain (drop c.loop-at.at c.args.octets.now) (c.args.offset + c.loop-at.at) c.in-Some.fields
+          c.in-Some.count c.in-Some-plain_size.size begins c.args.spot.now c.args.end_octets
+          (found_of c.loop-at.found) plain);
       far =
           so_far-sound c.args.spot.now c.args.offset c.args.end_octets c.args.octets.now c.loop-at.at c.loop-at.sound
-          c.loop-at-test.true c.loop-at.invariant.far c.in-Some.size element;
+          c.loop-at-test.true c.loop-at.invariant.far c.in-Some-plain_size.size element;
       kept = c.loop-at.invariant.kept;
     }
 
-pub add_strings-loop-at-preserved-then-octets-at-ne0 : goal.add_strings-loop-at-preserved-then-octets-at-ne0
-add_strings-loop-at-preserved-then-octets-at-ne0 t c =
-    let tail = tail-all c.args.octets.now c.loop-at.at in
-    record {
-      within =
-          omega (
-            arith,
-            c.in_ok-element.ensures.within,
-            ap length (tail-all c.args.octets.now c.loop-at.at),
-            length-drop c.loop-at.at c.args.octets.now,
-            c.loop-at-test.true,
-          );
-      adds =
-          adds-more c.args.spot.now c.args.offset c.args.end_octets c.args.octets.now _ _ _ c.loop-at.at
-          c.in_ok-element.element.size c.loop-at-test.true c.loop-at.invariant.adds
-          (adds-first-at _ _ _ _ _ _ _ _ tail c.in_ok-element.ensures.adds);
-      far =
-          so_far-element c.args.spot.now c.args.offset c.args.end_octets c.args.octets.now c.loop-at.at c.loop-at.sound
-          c.loop-at-test.true c.loop-at.invariant.far c.in_ok-element.element.size c.in_ok-element.element.sound
-          c.if-octets-at-ne0.true
-          (subst
-          (λ (o : List ℕ). SaysElement (place_at (c.args.offset + c.loop-at.at) c.args.spot.now.depth)
-          c.args.spot.now.likely o c.in_ok-element.element)
-          (tail-all c.args.octets.now c.loop-at.at) c.in_ok-element.ensures.sound);
-      kept = kept-then _ _ _ c.loop-at.invariant.kept c.in_ok-element.ensures.kept;
-    }
-
 pub add_strings-loop-at-preserved : goal.add_strings-loop-at-preserved
-add_strings-loop-at-preserved t c = record {
-  within = omega (arith, c.loop-at-test.true);
-  adds =
-      adds-padding c.args.spot.now c.args.offset c.args.end_octets c.args.octets.now _ _ c.loop-at.at
-      c.loop-at-test.true c.if-octets-at-ne0.false c.if-end_octets.false c.loop-at.invariant.adds;
-  far =
-      so_far-zero c.args.spot.now c.args.offset c.args.end_octets c.args.octets.now c.loop-at.at c.loop-at.sound
-      c.loop-at-test.true c.loop-at.invariant.far c.if-octets-at-ne0.false c.if-end_octets.false;
-  kept = c.loop-at.invariant.kept;
-}
+add_strings-loop-at-preserved t c =
+    let tail = tail-all c.args.octets.now c.loop-at.at in
+    let before : GoneOver c.args.spot.now c.args.offset c.args.end_octets c.args.octets.now (found_of c.args.found.now)
+    (found_of c.loop-at.found) c.loop-at.at c.loop-at.sound = record {
+      within = c.loop-at.invariant.within;
+      adds = c.loop-at.invariant.adds;
+      far = c.loop-at.invariant.far;
+      kept = c.loop-at.invariant.kept;
+    } in
+    let after : GoneOver c.args.spot.now c.args.offset c.args.end_octets c.args.octets.now (found_of c.args.found.now)
+    (found_of c.match-two_octet_header.found) (c.loop-at.at + c.match-two_octet_header.element.size)
+    (c.loop-at.sound && c.match-two_octet_header.element.sound) =
+    elim c.match-two_octet_header.branch [
+      | add_strings-in-Some+in_default+in_ok-element-in-Some w ↦
+          rw (w.element-is, w.found-is)
+          (gone-element c.args.spot.now c.args.offset c.args.end_octets c.args.octets.now (found_of c.args.found.now)
+          (found_of c.loop-at.found) c.loop-at.at c.loop-at.sound c.loop-at-test.true before
+          w.in_ok-element-in-Some.element (found_of w.add_with.new.found) _ tail
+          (begins-nonzero c.args.octets.now c.loop-at.at (c.args.offset + c.loop-at.at) w.in-Some.fields
+          w.in-Some.count c.loop-at-test.true
+          (subst
+          (λ (o : List ℕ). BeginsWithFields o (c.args.offset + c.loop-at.at) false w.in-Some.fields w.in-Some.count)
+          tail w.in-Some.ensures))
+          w.in_ok-element-in-Some.ensures.within w.in_ok-element-in-Some.ensures.adds
+          w.in_ok-element-in-Some.ensures.sound w.in_ok-element-in-Some.ensures.kept)
+      | add_strings-in-None+in_ok-element-in-None w ↦
+          rw (w.element-is, w.found-is)
+          (gone-element c.args.spot.now c.args.offset c.args.end_octets c.args.octets.now (found_of c.args.found.now)
+          (found_of c.loop-at.found) c.loop-at.at c.loop-at.sound c.loop-at-test.true before
+          w.in_ok-element-in-None.element (found_of w.add_after_long.new.found) _ tail w.if-octets-at-ne0.true
+          w.in_ok-element-in-None.ensures.within w.in_ok-element-in-None.ensures.adds
+          w.in_ok-element-in-None.ensures.sound w.in_ok-element-in-None.ensures.kept)
+      | add_strings-in-None-3 w ↦
+          rw (w.element-is, w.found-is)
+          (gone-padding c.args.spot.now c.args.offset c.args.end_octets c.args.octets.now (found_of c.args.found.now)
+          (found_of c.loop-at.found) c.loop-at.at c.loop-at.sound c.loop-at-test.true before
+          w.if-octets-at-ne0.false w.if-end_octets.false)
+    ] in
+    record { within = after.within; adds = after.adds; far = after.far; kept = after.kept }
 
-pub add_strings-returns-then-end_octets-clause-adds : goal.add_strings-returns-then-end_octets-clause-adds
-add_strings-returns-then-end_octets-clause-adds t c =
+pub add_strings-returns-in-None-2-clause-adds : goal.add_strings-returns-in-None-2-clause-adds
+add_strings-returns-in-None-2-clause-adds t c =
     adds-ended c.args.spot.now c.args.offset c.args.end_octets c.args.octets.now _ _ c.loop-at.at
     c.loop-at-test.true c.if-octets-at-ne0.false c.if-end_octets.true c.loop-at.invariant.adds
 
-pub add_strings-returns-then-end_octets-clause-sound : goal.add_strings-returns-then-end_octets-clause-sound
-add_strings-returns-then-end_octets-clause-sound t c =
+pub add_strings-returns-in-None-2-clause-sound : goal.add_strings-returns-in-None-2-clause-sound
+add_strings-returns-in-None-2-clause-sound t c =
     let end : is_elements_end true (drop c.loop-at.at c.args.octets.now) ≡ c.is_elements_end-sound.result =
     sym (c.is_elements_end-sound.ensures ∙ ap (is_elements_end true) (tail-all c.args.octets.now c.loop-at.at)) in
     subst

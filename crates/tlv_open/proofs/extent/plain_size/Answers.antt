@@ -6,15 +6,12 @@ use Rattle.tlv_open.proofs.extent.plain_size.Goals as goal
 pub returns : goal.returns
 returns c = record {
   unasked = c.if-likely.false;
-  fields = c.in_ok-fields.fields;
-  count = c.in_ok-fields.count;
-  begins = c.in_ok-fields.ensures;
   primitive = c.if-fields.false;
   announced = c.announced_length-length.result;
   announced_is = c.announced_length-length.ensures;
-  within = omega (arith, c.if-length-octets.false, length-drop c.in_ok-fields.count c.args.octets.now);
+  within = omega (arith, c.if-length-octets.false, length-drop c.args.count c.args.octets.now);
   size = refl;
   no_string = λ contents.
-      no-inner (new_header c.in_ok-fields.fields (take c.in_ok-fields.count c.args.octets.now)) contents
-      (sym (c.if-is_octet_or_bit_string.ensures (take c.in_ok-fields.count c.args.octets.now)));
+      no-inner (new_header c.args.fields.now (take c.args.count c.args.octets.now)) contents
+      (sym (c.if-is_octet_or_bit_string.ensures (take c.args.count c.args.octets.now)));
 }
