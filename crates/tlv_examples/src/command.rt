@@ -1,9 +1,11 @@
 //! A command, as words and as a run.
 use crate::expect::expect_eq;
+use std::test::Fail;
 use tlv_run::{Command, run_octets};
 use tlv_show::Rules;
 use tlv_value::Names;
 use tlv_walk::Framing;
+use tlv_words::{Words, command_of};
 
 /// tlv_run: `check --rules der` of octets in memory: what is written, and the status that the program ends with.
 #[test]
@@ -16,4 +18,15 @@ fn run_a_command(rt: HostRuntime) {
     let run = run_octets::<64>(&command, &Names::empty(), b"\x30\x80\x00\x00", &[], false);
     expect_eq(&rt, run.written.as_slice(), b"0 D01 indefinite length\n");
     expect_eq(&rt, run.report.status, 1);
+}
+
+/// tlv_words: the command that the words of a command line ask for.
+#[test]
+fn read_the_words_of_a_command(rt: HostRuntime) -> Result<(), Fail> {
+    let mut words = Words::new(rt.alloc());
+    words.push("tlvdump")?;
+    words.push("check")?;
+    let command = command_of(rt.alloc(), &words);
+    expect_eq(&rt, matches!(command, Ok(Command::Check { .. })), true);
+    Ok(())
 }

@@ -1,4 +1,4 @@
-//! An example for each library: how a caller uses it, in a test.
+//! How a caller uses the libraries: short examples, as tests.
 #![tactic(auto)]
 
 #[cfg(test)]

@@ -1,6 +1,7 @@
-//! Headers and events.
+//! Headers and events, and octets on their way to a drain.
 use crate::expect::expect_eq;
 use tlv_head::{Size, read_header};
+use tlv_io::{MemDrain, Out};
 use tlv_walk::{Event, Framing, Step, Walker};
 
 /// tlv_head: the header with which octets begin. A SEQUENCE of three contents octets.
@@ -26,4 +27,15 @@ fn take_the_first_event(rt: HostRuntime) {
     }
     expect_eq(&rt, walker.depth(), 1);
     expect_eq(&rt, piece, b"\x02\x01\x05");
+}
+
+/// tlv_io: octets are held, and handed to a drain that takes four at a time.
+#[test]
+fn put_octets_to_a_drain(rt: HostRuntime) {
+    let mut room = [0; 8];
+    let mut drain = MemDrain::new(&mut room, 4);
+    let mut out = Out::new(&mut drain);
+    expect_eq(&rt, out.put(b"abcdef").is_ok(), true);
+    expect_eq(&rt, out.flush().is_ok(), true);
+    expect_eq(&rt, drain.written(), b"abcdef");
 }
