@@ -22,11 +22,54 @@ use crate::spot::{Spot, inside, inside_lacking, is_octet_or_bit_string, is_value
 use std::alloc::AllocError;
 use tlv_head::{HeaderFields, Size};
 
+/// Adds the strings that are found among the elements that the octets are, at this offset from where these are counted,
+/// and in them. Returns whether the elements are sound. Most elements are in one that has a length, so that this is
+/// called the most: that it returns no more than a yes or no makes it fast.
+#[cycle(find)]
+#[inline(never)]
+pub(crate) fn add_all_strings(
+    octets: &[u8],
+    offset: u64,
+    spot: &Spot,
+    found: &mut Strings,
+) -> Result<bool, AllocError>
+    requires { spot.now.start + (offset + length octets.now) ≤ input_limit }
+    ensures adds { OnOk result (AddsAll spot.now offset false octets.now
+        (found_of found.old) (found_of found.new) (length octets.now)) }
+    ensures sound { IfOk result (λ sound. SaysSound spot.now offset false octets.now
+        (record { size = length octets.now; sound = sound })) }
+    ensures kept { OnOk result (IsKept (found_of found.old) (found_of found.new)) }
+{
+    let extent = add_strings(octets, offset, spot, false, found)?;
+    Ok(extent.sound)
+}
+
+/// Adds the strings that are found among the elements with which the octets begin, up to `00 00`, and in them. Returns
+/// how many octets they have, and whether they are sound.
+#[cycle(find)]
+#[inline(never)]
+fn add_ended_strings(
+    octets: &[u8],
+    offset: u64,
+    spot: &Spot,
+    found: &mut Strings,
+) -> Result<Extent, AllocError>
+    requires { spot.now.start + (offset + length octets.now) ≤ input_limit }
+    ensures adds { IfOk result (λ e. AddsAll spot.now offset true octets.now
+        (found_of found.old) (found_of found.new) e.size) }
+    ensures sound { IfOk result (λ e. SaysSound spot.now offset true octets.now e) }
+    ensures kept { OnOk result (IsKept (found_of found.old) (found_of found.new)) }
+    ensures within { IfOk result (λ e. e.size ≤ length octets.now) }
+{
+    add_strings(octets, offset, spot, true, found)
+}
+
 /// Adds the strings that are found among the elements with which the octets begin, at this offset from where these are
 /// counted, and in them. They end with `00 00`, if `end_octets`, or with the octets. Returns how many octets they have,
-/// and whether they are sound.
+/// and whether they are sound. It becomes a part of the two functions that call it, by whether `end_octets` or not.
 #[cycle(find)]
-pub(crate) fn add_strings(
+#[inline(always)]
+fn add_strings(
     octets: &[u8],
     offset: u64,
     spot: &Spot,
@@ -38,6 +81,7 @@ pub(crate) fn add_strings(
         (found_of found.old) (found_of found.new) e.size) }
     ensures sound { IfOk result (λ e. SaysSound spot.now offset end_octets octets.now e) }
     ensures kept { OnOk result (IsKept (found_of found.old) (found_of found.new)) }
+    ensures all { end_octets ≡ false → IfOk result (λ e. e.size ≡ length octets.now) }
     ensures within { IfOk result (λ e. e.size ≤ length octets.now) }
 {
     let mut at = 0;
@@ -167,15 +211,15 @@ fn add_in_holder(
     let rest = &octets[count..];
     let start = offset + count as u64;
     if length > rest.len() as u64 {
-        add_strings(rest, start, &inside_lacking(spot, fields), false, found)?;
+        add_all_strings(rest, start, &inside_lacking(spot, fields), found)?;
         return Ok(unended(octets));
     }
     let contents = &rest[..length as usize];
     let inner = inside(spot, fields, contents, start, false);
-    let extent = add_strings(contents, start, &inner, false, found)?;
+    let sound = add_all_strings(contents, start, &inner, found)?;
     Ok(Extent {
         size: count + contents.len(),
-        sound: extent.sound,
+        sound,
     })
 }
 
@@ -205,7 +249,7 @@ fn add_in_indefinite(
     let rest = &octets[count..];
     let start = offset + count as u64;
     let inner = inside(spot, fields, rest, start, true);
-    let extent = add_strings(rest, start, &inner, true, found)?;
+    let extent = add_ended_strings(rest, start, &inner, found)?;
     if is_elements_end(&rest[extent.size..], true) {
         return Ok(Extent {
             size: count + extent.size + 2,
@@ -281,8 +325,8 @@ fn add_held(
         likely: true,
         padding: false,
     };
-    let extent = add_strings(octets, 0, &held, false, found)?;
-    if extent.sound {
+    let sound = add_all_strings(octets, 0, &held, found)?;
+    if sound {
         return Ok(true);
     }
     found.opened.truncate(opened);

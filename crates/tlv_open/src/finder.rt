@@ -5,7 +5,7 @@ ghost use Rattle.tlv_open.specs.Breaks.{AreBroken};
 ghost use Rattle.tlv_open.specs.Opens.{AreOpened};
 
 use crate::Strings;
-use crate::adding::add_strings;
+use crate::adding::add_all_strings;
 use crate::reading::count_read;
 use crate::spot::Spot;
 use std::alloc::{AllocError, Global};
@@ -52,13 +52,13 @@ pub fn strings_of(alloc: Global, octets: &[u8], padding: bool) -> Result<Strings
         padding,
     };
     // Most inputs are sound, and then one pass is enough.
-    let all = add_strings(octets, 0, &spot, false, &mut found)?;
-    if all.sound {
+    let sound = add_all_strings(octets, 0, &spot, &mut found)?;
+    if sound {
         return Ok(found);
     }
     found.opened.truncate(0);
     found.broken.truncate(0);
     let read = &octets[..count_read(octets, padding)];
-    add_strings(read, 0, &spot, false, &mut found)?;
+    add_all_strings(read, 0, &spot, &mut found)?;
     Ok(found)
 }

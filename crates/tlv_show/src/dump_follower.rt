@@ -157,8 +157,8 @@ impl<N: FiniteNames> Dump<'_, N> {
         self.lines.open(header, word, out)
     }
 
-    /// A string that holds encodings begins. Such strings are few, so this is no part of `put_lines`.
-    #[inline(never)]
+    /// A string that holds encodings begins.
+    #[inline(always)]
     fn open_wrapper<D: Drain>(
         &mut self,
         header: &Header,

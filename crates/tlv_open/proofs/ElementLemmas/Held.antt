@@ -23,7 +23,7 @@ at_end [] w = refl
 at_end (x ∷ o) w = absurd (cc (w))
 
 -- sound elements that have octets are some
-element-there : (p : Place) (f : Forest) → p.padding ≡ false → IsSound p f → eqb (length (spelling f)) 0 ≡ false
+pub element-there : (p : Place) (f : Forest) → p.padding ≡ false → IsSound p f → eqb (length (spelling f)) 0 ≡ false
     → has_element f ≡ true
 element-there p NoMore z s e = absurd (cc (e))
 element-there p (PaddingOctet rest) z s e = let w : true ≡ false = sym s.0 ∙ z in absurd (cc (w))

@@ -1,6 +1,6 @@
 -- What is found in an input.
 use Rattle.std.proofs.Common.{◌≡◌, ℕ, ◌+◌, ◌<◌, ◌≤◌, Bool, true, false, ◌++◌, List, [], ◌∷◌, Fits, w8, length, take}
-use Rattle.std.proofs.Common.{inl}
+use Rattle.std.proofs.Common.{inl, eqb, IsTrue, MatchOption, Option, Some, None, is_some}
 use Rattle.std.proofs.Common.{refl, sym, ap, ap₂, arith, subst, append-nil, length-append, slice_index_or, ◌∙◌}
 use Rattle.std.proofs.lemmas.List.{get_or_default, take_all}
 use Rattle.std.proofs.Math.Seq.{take-append_seam}
@@ -9,15 +9,16 @@ use Rattle.tlv_walk.specs.Forest.{Forest, Holder, NoMore, OpenBitString, OpenEnd
 use Rattle.tlv_walk.specs.Forest.{OpenPrimitive, PaddingOctet, Primitive, extent, opening, primitive_extent, spelling}
 use Rattle.tlv_walk.specs.Inside.{is_among}
 use Rattle.tlv_walk.specs.Place.{Place, place_after, place_of_children, top_place}
-use Rattle.tlv_walk.specs.Reading.{AreOctets, IsReading, IsSound}
+use Rattle.tlv_walk.specs.Reading.{AreOctets, IsReading, IsSound, IsSoundList}
 use Rattle.tlv_walk.proofs.GrammarLemmas.SoundElements.{sound-obeys_grammar_top}
 use Rattle.tlv_open.specs.declared.extent.Extent.{Extent}
 use Rattle.tlv_open.specs.declared.spot.Spot.{Spot}
 use Rattle.tlv_open.specs.Breaks.{AreBroken}
 use Rattle.tlv_open.specs.Opens.{AreOpened, closed_framing}
 use Rattle.tlv_open.specs.Private.Adds.{SaysSound, place_among}
-use Rattle.tlv_open.specs.Private.Elements.{BeginsWithElements, is_elements_end}
+use Rattle.tlv_open.specs.Private.Elements.{BeginsWithElements, BeginsWithNoElements, is_elements_end, place_at}
 use Rattle.tlv_open.specs.Private.Finds.{AddsAll, AddsStrings, FoundStrings, spot_before}
+use Rattle.tlv_open.proofs.ElementLemmas.Held.{element-there}
 use Rattle.tlv_open.proofs.FinderLemmas.NothingFound.{nothing_found}
 
 -- if each number of a slice fits an octet, they are octets
@@ -104,6 +105,29 @@ sound-padded p q OpenEndOctets z o d i s = absurd s
 at_end : (o : List ℕ) → is_elements_end false o ≡ true → o ≡ []
 at_end [] w = refl
 at_end (x ∷ o) w = absurd (cc (w))
+
+-- octets that are sound elements are a sound list, whether padding is allowed or not
+sound-from : (padding : Bool) (octets : List ℕ) (n : ℕ) → eqb (length octets) 0 ≡ false
+    → BeginsWithElements (place_at 0 0) false false octets n → IsSoundList (closed_framing padding) octets
+sound-from padding octets n some b =
+    let spelled : spelling b.elements ≡ octets =
+    sym (append-nil (spelling b.elements))
+    ∙ (ap (λ (o : List ℕ). spelling b.elements ++ o) (sym (at_end b.rest b.end)) ∙ b.spelled) in
+    record {
+      forest = b.elements;
+      sound = sound-padded (place_at 0 0) (top_place (closed_framing padding)) b.elements refl refl refl refl b.sound;
+      some =
+          element-there (place_at 0 0) b.elements refl b.sound
+          (ap (λ (o : List ℕ). eqb (length o) 0) spelled ∙ some);
+      spelled = spelled;
+    }
+
+pub sound-by : (octets : List ℕ) (r : Option ℕ) (k : Bool) → eqb (length octets) 0 ≡ false → k ≡ is_some r
+    → MatchOption r (BeginsWithNoElements (place_at 0 0) false false octets)
+    (λ n. BeginsWithElements (place_at 0 0) false false octets n)
+    → IsTrue k → (padding : Bool) → IsSoundList (closed_framing padding) octets
+sound-by octets None k some e m t padding = absurd (cc (e, t))
+sound-by octets (Some n) k some e m t padding = sound-from padding octets n some m
 
 -- of sound elements all is read
 pub all-read : (padding : Bool) (octets : List ℕ) (n : ℕ) (f : Forest)

@@ -289,13 +289,13 @@ add_in_holder-returns-then-spot-ge-DEPTH_LIMIT-clause-kept t c = kept-all (found
 pub add_in_holder-returns-then-length-rest-clause-adds : goal.add_in_holder-returns-then-length-rest-clause-adds
 add_in_holder-returns-then-length-rest-clause-adds t c =
     adds-all_octets c.args.spot.now c.args.offset c.args.end_octets c.args.octets.now (found_of c.args.found.now)
-    (found_of c.add_strings.new.found) c.unended-then-length-rest.result c.unended-then-length-rest.ensures
+    (found_of c.add_all_strings.new.found) c.unended-then-length-rest.result c.unended-then-length-rest.ensures
     (adds-open_holder c.args.octets.now c.args.offset c.args.fields.now c.args.count c.requires.begins
-    c.args.spot.now (found_of c.args.found.now) (found_of c.add_strings.new.found) c.in-Definite.length
-    c.in_ok-add_strings.field-0.size c.inside_lacking.result c.requires.constructed c.in-Definite.is
+    c.args.spot.now (found_of c.args.found.now) (found_of c.add_all_strings.new.found) c.in-Definite.length
+    _ c.inside_lacking.result c.requires.constructed c.in-Definite.is
     (omega (arith, c.if-length-rest.true, ap length (tail-all c.args.octets.now c.args.count)))
     (c.inside_lacking.ensures.inner (take c.args.count c.args.octets.now))
-    (adds-all-at _ _ _ _ _ _ _ _ _ refl (tail-all c.args.octets.now c.args.count) c.in_ok-add_strings.ensures.adds)
+    (adds-all-at _ _ _ _ _ _ _ _ _ refl (tail-all c.args.octets.now c.args.count) c.in_ok-add_all_strings.ensures.adds)
     c.args.end_octets)
 
 pub add_in_holder-returns-then-length-rest-clause-sound : goal.add_in_holder-returns-then-length-rest-clause-sound
@@ -311,40 +311,40 @@ pub add_in_holder-returns-clause-adds : goal.add_in_holder-returns-clause-adds
 add_in_holder-returns-clause-adds t c =
     rw (tail-all c.args.octets.now c.args.count)
     (adds-holder c.args.octets.now c.args.offset c.args.fields.now c.args.count c.requires.begins
-    c.args.spot.now (found_of c.args.found.now) (found_of c.add_strings-2.new.found) c.in-Definite.length
-    c.in_ok-extent.extent.size c.inside-inner.result c.requires.constructed c.in-Definite.is
+    c.args.spot.now (found_of c.args.found.now) (found_of c.add_all_strings-2.new.found) c.in-Definite.length
+    _ c.inside-inner.result c.requires.constructed c.in-Definite.is
     (omega (arith, c.if-length-rest.false, ap length (tail-all c.args.octets.now c.args.count)))
     (rw (tail-all c.args.octets.now c.args.count)
     at (c.inside-inner.ensures.inner (take c.args.count c.args.octets.now)))
     (adds-all-at _ _ _ _ _ _ _ _ _ refl (ap (take c.in-Definite.length) (tail-all c.args.octets.now c.args.count))
-    c.in_ok-extent.ensures.adds)
+    c.in_ok-sound.ensures.adds)
     c.args.end_octets)
 
 pub add_in_holder-returns-clause-sound : goal.add_in_holder-returns-clause-sound
 add_in_holder-returns-clause-sound t c =
     subst
     (λ (o : List ℕ). SaysElement (place_at c.args.offset c.args.spot.now.depth) c.args.spot.now.likely c.args.octets.now
-    (record { size = c.args.count + length (take c.in-Definite.length o); sound = c.in_ok-extent.extent.sound }))
+    (record { size = c.args.count + length (take c.in-Definite.length o); sound = c.in_ok-sound.sound }))
     (sym (tail-all c.args.octets.now c.args.count))
     (says-definite c.args.octets.now c.args.offset c.args.spot.now.depth c.args.spot.now.likely c.args.fields.now
     c.args.count
-    c.requires.begins c.in-Definite.length c.in_ok-extent.extent.size c.in_ok-extent.extent.sound
+    c.requires.begins c.in-Definite.length _ c.in_ok-sound.sound
     c.requires.constructed c.in-Definite.is
     (omega (arith, c.if-length-rest.false, ap length (tail-all c.args.octets.now c.args.count)))
     c.if-spot-ge-DEPTH_LIMIT.false
     (says-inside c.inside-inner.result (c.args.offset + c.args.count) (c.args.spot.now.depth + 1) false false
-    (take c.in-Definite.length (drop c.args.count c.args.octets.now)) c.in_ok-extent.extent c.inside-inner.ensures.depth
+    (take c.in-Definite.length (drop c.args.count c.args.octets.now)) _ c.inside-inner.ensures.depth
     c.inside-inner.ensures.unasked.0 c.inside-inner.ensures.unasked.1
     (subst
     (λ (o : List ℕ). SaysSound c.inside-inner.result (c.args.offset + c.args.count) false (take c.in-Definite.length o)
-    c.in_ok-extent.extent)
-    (tail-all c.args.octets.now c.args.count) c.in_ok-extent.ensures.sound)))
+    (record { size = length (take c.in-Definite.length o); sound = c.in_ok-sound.sound }))
+    (tail-all c.args.octets.now c.args.count) c.in_ok-sound.ensures.sound)))
 
 pub add_in_indefinite-returns-then-is_elements_end-clause-adds :
     goal.add_in_indefinite-returns-then-is_elements_end-clause-adds
 add_in_indefinite-returns-then-is_elements_end-clause-adds t c =
     adds-ended_holder c.args.octets.now c.args.offset c.args.fields.now c.args.count c.requires.begins
-    c.args.spot.now (found_of c.args.found.now) (found_of c.add_strings.new.found) c.in_ok-extent.extent.size
+    c.args.spot.now (found_of c.args.found.now) (found_of c.add_ended_strings.new.found) c.in_ok-extent.extent.size
     c.inside-inner.result
     (indefinite-constructed c.args.fields.now.constructed c.args.fields.now.size c.requires.indefinite
     c.requires.begins.begins.valid.allowed)
@@ -373,9 +373,9 @@ add_in_indefinite-returns-then-is_elements_end-clause-sound t c =
 pub add_in_indefinite-returns-clause-adds : goal.add_in_indefinite-returns-clause-adds
 add_in_indefinite-returns-clause-adds t c =
     adds-all_octets c.args.spot.now c.args.offset c.args.end_octets c.args.octets.now (found_of c.args.found.now)
-    (found_of c.add_strings.new.found) c.unended.result c.unended.ensures
+    (found_of c.add_ended_strings.new.found) c.unended.result c.unended.ensures
     (adds-unended_holder c.args.octets.now c.args.offset c.args.fields.now c.args.count c.requires.begins
-    c.args.spot.now (found_of c.args.found.now) (found_of c.add_strings.new.found) c.in_ok-extent.extent.size
+    c.args.spot.now (found_of c.args.found.now) (found_of c.add_ended_strings.new.found) c.in_ok-extent.extent.size
     c.inside-inner.result
     (indefinite-constructed c.args.fields.now.constructed c.args.fields.now.size c.requires.indefinite
     c.requires.begins.begins.valid.allowed)
@@ -498,65 +498,65 @@ add_held-returns-then-spot-ge-DEPTH_LIMIT-clause-held t c = λ h contents e. (
 pub add_held-returns-then-spot-ge-DEPTH_LIMIT-clause-kept : goal.add_held-returns-then-spot-ge-DEPTH_LIMIT-clause-kept
 add_held-returns-then-spot-ge-DEPTH_LIMIT-clause-kept t c = kept-all (found_of c.args.found.now)
 
-pub add_held-returns-then-extent-clause-held : goal.add_held-returns-then-extent-clause-held
-add_held-returns-then-extent-clause-held t c = λ h contents e.
-    subst (λ (k : Bool). IsTrue k ↔ HoldsSome c.args.spot.now.depth h contents) c.if-extent.true
-    (holds-if c.args.spot.now.depth h contents c.args.octets.now e c.in_ok-extent.extent.sound
-    c.in_ok-extent.extent.size
+pub add_held-returns-then-sound-clause-held : goal.add_held-returns-then-sound-clause-held
+add_held-returns-then-sound-clause-held t c = λ h contents e.
+    subst (λ (k : Bool). IsTrue k ↔ HoldsSome c.args.spot.now.depth h contents) c.if-sound.true
+    (holds-if c.args.spot.now.depth h contents c.args.octets.now e c.in_ok-sound.sound
+    (length c.args.octets.now)
     c.if-spot-ge-DEPTH_LIMIT.false (sym c.is_empty.ensures ∙ c.if-is_empty.false)
     (says-inside (spot_held c.args.spot.now c.args.start) 0 (c.args.spot.now.depth + 1) true false c.args.octets.now
-    c.in_ok-extent.extent refl refl refl c.in_ok-extent.ensures.sound))
+    _ refl refl refl c.in_ok-sound.ensures.sound))
 
-pub add_held-returns-then-extent-clause-tries : goal.add_held-returns-then-extent-clause-tries
-add_held-returns-then-extent-clause-tries t c = record {
-  size = c.in_ok-extent.extent.size;
+pub add_held-returns-then-sound-clause-tries : goal.add_held-returns-then-sound-clause-tries
+add_held-returns-then-sound-clause-tries t c = record {
+  size = (length c.args.octets.now);
   adds =
       subst
       (λ (o : FoundStrings). AddsAll (spot_held c.args.spot.now c.args.start) 0 false c.args.octets.now o
-      (found_of c.add_strings.new.found) c.in_ok-extent.extent.size)
+      (found_of c.add_all_strings.new.found) (length c.args.octets.now))
       (λ i. record {
         opened = c.in_ok-push.ensures.items i;
         broken = sym (append-nil c.args.found.now.broken.items) i;
       })
-      c.in_ok-extent.ensures.adds;
+      c.in_ok-sound.ensures.adds;
 }
 
-pub add_held-returns-then-extent-clause-kept : goal.add_held-returns-then-extent-clause-kept
-add_held-returns-then-extent-clause-kept t c =
+pub add_held-returns-then-sound-clause-kept : goal.add_held-returns-then-sound-clause-kept
+add_held-returns-then-sound-clause-kept t c =
     kept-pushed _ _ _ (record { opened = c.args.offset ∷ []; broken = [] })
     (λ i. record {
       opened = c.in_ok-push.ensures.items i;
       broken = sym (append-nil c.args.found.now.broken.items) i;
     })
-    c.in_ok-extent.ensures.kept
+    c.in_ok-sound.ensures.kept
 
 pub add_held-returns-clause-held : goal.add_held-returns-clause-held
 add_held-returns-clause-held t c = λ h contents e.
-    subst (λ (k : Bool). IsTrue k ↔ HoldsSome c.args.spot.now.depth h contents) c.if-extent.false
-    (holds-if c.args.spot.now.depth h contents c.args.octets.now e c.in_ok-extent.extent.sound
-    c.in_ok-extent.extent.size
+    subst (λ (k : Bool). IsTrue k ↔ HoldsSome c.args.spot.now.depth h contents) c.if-sound.false
+    (holds-if c.args.spot.now.depth h contents c.args.octets.now e c.in_ok-sound.sound
+    (length c.args.octets.now)
     c.if-spot-ge-DEPTH_LIMIT.false (sym c.is_empty.ensures ∙ c.if-is_empty.false)
     (says-inside (spot_held c.args.spot.now c.args.start) 0 (c.args.spot.now.depth + 1) true false c.args.octets.now
-    c.in_ok-extent.extent refl refl refl c.in_ok-extent.ensures.sound))
+    _ refl refl refl c.in_ok-sound.ensures.sound))
 
 pub add_held-returns-clause-kept : goal.add_held-returns-clause-kept
 add_held-returns-clause-kept t c =
-    let kept : IsKept (found_of c.args.found.now) (found_of c.add_strings.new.found) =
+    let kept : IsKept (found_of c.args.found.now) (found_of c.add_all_strings.new.found) =
     kept-pushed _ _ _ (record { opened = c.args.offset ∷ []; broken = [] })
     (λ i. record {
       opened = c.in_ok-push.ensures.items i;
       broken = sym (append-nil c.args.found.now.broken.items) i;
     })
-    c.in_ok-extent.ensures.kept in
+    c.in_ok-sound.ensures.kept in
     let count_opened : c.len-opened.result ≡ vec_len c.args.found.now.opened = c.len-opened.ensures in
     let count_broken : c.len-broken.result ≡ vec_len c.args.found.now.broken = c.len-broken.ensures in
     kept-same _ _ (λ i. record {
       opened =
           (c.truncate.ensures.items
-          ∙ kept-opened (found_of c.args.found.now) (found_of c.add_strings.new.found) _ kept
+          ∙ kept-opened (found_of c.args.found.now) (found_of c.add_all_strings.new.found) _ kept
           (omega (arith, c.args.found.now.opened.ok.0, count_opened))) i;
       broken =
           (c.truncate-2.ensures.items
-          ∙ kept-broken (found_of c.args.found.now) (found_of c.add_strings.new.found) _ kept
+          ∙ kept-broken (found_of c.args.found.now) (found_of c.add_all_strings.new.found) _ kept
           (omega (arith, c.args.found.now.broken.ok.0, count_broken))) i;
     })
