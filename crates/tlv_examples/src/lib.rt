@@ -6,6 +6,8 @@ mod command;
 #[cfg(test)]
 mod expect;
 #[cfg(test)]
+mod programs;
+#[cfg(test)]
 mod reasons;
 #[cfg(test)]
 mod shown;
