@@ -16,6 +16,7 @@ pub mod MarkLemmas
 pub mod NumberLemmas
 pub mod NumberRows
 pub mod PairLemmas
+pub mod PairReadLemmas
 pub mod PairRows
 pub mod PemLemmas
 pub mod RunLemmas

@@ -38,7 +38,7 @@ token-first before (x ∷ text) t one e =
 
 -- ---- what is read
 
-octets-and_more : (a b : List ℕ) (r : TextRead) → octets_then a (octets_then b r) ≡ octets_then (a ++ b) r
+pub octets-and_more : (a b : List ℕ) (r : TextRead) → octets_then a (octets_then b r) ≡ octets_then (a ++ b) r
 octets-and_more a b r =
     ap (λ (octets : List ℕ). record { octets = octets; rest = r.rest }) (sym (append_assoc a b r.octets))
 

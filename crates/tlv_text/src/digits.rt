@@ -1,27 +1,33 @@
 //! Hexadecimal digits.
 ghost use Rattle.hex.specs.Hex.{is_hex_digit};
-ghost use Rattle.std.specs.Prelude.{◌≡◌, ◌<◌, true};
+ghost use Rattle.std.specs.Prelude.{◌≡◌, ◌<◌, ◌≤◌, nat_lt, true};
 ghost use Rattle.tlv_text.specs.Pairs.{hex_value};
+ghost use Rattle.tlv_text.specs.Private.PairSteps.{octet_of, value_or_256};
 
-/// The value of each hexadecimal digit at the digit's own place: in the four low bits of a character from `0` to `?`. At
-/// every other place is `@`.
-static VALUES: [u8; 256] = *b"\
-    @@@@@@@@@@@@@@@@@@@@@@@@@@@@@@@@\
-    @@@@@@@@@@@@@@@@0123456789@@@@@@\
-    @:;<=>?@@@@@@@@@@@@@@@@@@@@@@@@@\
-    @:;<=>?@@@@@@@@@@@@@@@@@@@@@@@@@\
-    @@@@@@@@@@@@@@@@@@@@@@@@@@@@@@@@\
-    @@@@@@@@@@@@@@@@@@@@@@@@@@@@@@@@\
-    @@@@@@@@@@@@@@@@@@@@@@@@@@@@@@@@\
-    @@@@@@@@@@@@@@@@@@@@@@@@@@@@@@@@";
+/// The value of each hexadecimal digit at the digit's own place, and 256 at every other place.
+static VALUES: [u32; 256] = [
+    256, 256, 256, 256, 256, 256, 256, 256, 256, 256, 256, 256, 256, 256, 256, 256, 256, 256, 256,
+    256, 256, 256, 256, 256, 256, 256, 256, 256, 256, 256, 256, 256, 256, 256, 256, 256, 256, 256,
+    256, 256, 256, 256, 256, 256, 256, 256, 256, 256, 0, 1, 2, 3, 4, 5, 6, 7, 8, 9, 256, 256, 256,
+    256, 256, 256, 256, 10, 11, 12, 13, 14, 15, 256, 256, 256, 256, 256, 256, 256, 256, 256, 256,
+    256, 256, 256, 256, 256, 256, 256, 256, 256, 256, 256, 256, 256, 256, 256, 256, 10, 11, 12, 13,
+    14, 15, 256, 256, 256, 256, 256, 256, 256, 256, 256, 256, 256, 256, 256, 256, 256, 256, 256,
+    256, 256, 256, 256, 256, 256, 256, 256, 256, 256, 256, 256, 256, 256, 256, 256, 256, 256, 256,
+    256, 256, 256, 256, 256, 256, 256, 256, 256, 256, 256, 256, 256, 256, 256, 256, 256, 256, 256,
+    256, 256, 256, 256, 256, 256, 256, 256, 256, 256, 256, 256, 256, 256, 256, 256, 256, 256, 256,
+    256, 256, 256, 256, 256, 256, 256, 256, 256, 256, 256, 256, 256, 256, 256, 256, 256, 256, 256,
+    256, 256, 256, 256, 256, 256, 256, 256, 256, 256, 256, 256, 256, 256, 256, 256, 256, 256, 256,
+    256, 256, 256, 256, 256, 256, 256, 256, 256, 256, 256, 256, 256, 256, 256, 256, 256, 256, 256,
+    256, 256, 256, 256, 256, 256, 256, 256, 256, 256, 256, 256, 256, 256, 256, 256, 256, 256, 256,
+    256, 256, 256,
+];
 
 /// Whether this is a hexadecimal digit.
 #[inline(always)]
 pub(crate) fn is_digit(character: u8) -> bool
     ensures { result ≡ is_hex_digit character }
 {
-    // A look-up costs less than a comparison with each range of characters.
-    VALUES[usize::from(character)] != b'@'
+    value_or_256(character) < 16
 }
 
 /// The value of a hexadecimal digit.
@@ -31,5 +37,26 @@ pub(crate) fn digit_value(digit: u8) -> u8
     ensures value { result ≡ hex_value digit }
     ensures few { result < 16 }
 {
-    VALUES[usize::from(digit)] % 16
+    value_or_256(digit) as u8
+}
+
+/// The octet of two hexadecimal digits. `None` if one of the two characters is no digit.
+#[inline(always)]
+pub(crate) fn octet_of(x: u8, y: u8) -> Option<u8>
+    ensures { result ≡ octet_of x y }
+{
+    // One comparison tells whether both are digits, since the value of another character is 256.
+    let octet = value_or_256(x) * 16 + value_or_256(y);
+    if octet < 256 { Some(octet as u8) } else { None }
+}
+
+/// The value of a hexadecimal digit, or 256 for another character. A look-up costs less than a comparison with each
+/// range of characters.
+#[inline(always)]
+fn value_or_256(character: u8) -> u32
+    ensures value { result ≡ value_or_256 character }
+    ensures digit { nat_lt result 16 ≡ is_hex_digit character }
+    ensures few { result ≤ 256 }
+{
+    VALUES[usize::from(character)]
 }

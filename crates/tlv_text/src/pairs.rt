@@ -1,12 +1,11 @@
 //! Octets as pairs of hexadecimal digits.
-ghost use Rattle.std.specs.Prelude.{◌≡◌, ◌≤◌, IfOk, OnOk, false, length};
-ghost use Rattle.tlv_text.specs.Dump.{begins_pair};
+ghost use Rattle.std.specs.Prelude.{◌≡◌, ◌≤◌, IfOk, OnOk, length};
 ghost use Rattle.tlv_text.specs.Pairs.{is_between_pairs, pairs_read};
 ghost use Rattle.tlv_text.specs.TextRead.{octets_then, refused_at};
 
 use crate::Decoded;
 use crate::decoded::refused_at;
-use crate::digits::{digit_value, is_digit};
+use crate::digits::octet_of;
 use std::alloc::{AllocError, Global};
 
 /// The octets of a text that is pairs of hexadecimal digits in either case, with white space, colons, commas, hyphens
@@ -22,9 +21,14 @@ pub fn decode_pairs(alloc: Global, text: &[u8]) -> Result<Decoded, AllocError>
     let mut octets = Vec::new(alloc);
     let mut rest = text;
     loop {
-        take_pairs(&mut rest, &mut octets)?;
+        take_four_pairs(&mut rest, &mut octets)?;
         match rest {
             [x, more @ ..] if is_between_pairs(*x) => rest = more,
+            [x, y, more @ ..] if let Some(octet) = octet_of(*x, *y) => {
+                octets.push(octet)?;
+                rest = more;
+                take_separated(&mut rest, &mut octets)?;
+            }
             _ => {
                 return Ok(Decoded {
                     octets,
@@ -35,19 +39,39 @@ pub fn decode_pairs(alloc: Global, text: &[u8]) -> Result<Decoded, AllocError>
     }
 }
 
-/// Takes the pairs with which a text begins, and adds their octets.
-fn take_pairs(text: &mut &[u8], octets: &mut Vec<u8>) -> Result<(), AllocError>
+/// Takes pairs with which a text begins, four at a time, and adds their octets: together they cost less than one by
+/// one.
+fn take_four_pairs(text: &mut &[u8], octets: &mut Vec<u8>) -> Result<(), AllocError>
     ensures read { OnOk result (octets_then octets.old.items (pairs_read text.old.now)
         ≡ octets_then octets.new.items (pairs_read text.new.now)) }
-    ensures last { OnOk result (begins_pair text.new.now ≡ false) }
     ensures less { length text.new.now ≤ length text.old.now }
 {
     let mut rest = *text;
-    while let [x, y, more @ ..] = rest
-        && is_digit(*x)
-        && is_digit(*y)
+    while let [a, b, c, d, e, f, g, h, more @ ..] = rest
+        && let Some(first) = octet_of(*a, *b)
+        && let Some(second) = octet_of(*c, *d)
+        && let Some(third) = octet_of(*e, *f)
+        && let Some(fourth) = octet_of(*g, *h)
     {
-        octets.push(digit_value(*x) * 16 + digit_value(*y))?;
+        octets.extend_from_slice(&[first, second, third, fourth])?;
+        rest = more;
+    }
+    *text = rest;
+    Ok(())
+}
+
+/// Takes pairs that come after one character between pairs each, with that character, and adds their octets.
+fn take_separated(text: &mut &[u8], octets: &mut Vec<u8>) -> Result<(), AllocError>
+    ensures read { OnOk result (octets_then octets.old.items (pairs_read text.old.now)
+        ≡ octets_then octets.new.items (pairs_read text.new.now)) }
+    ensures less { length text.new.now ≤ length text.old.now }
+{
+    let mut rest = *text;
+    while let [between, x, y, more @ ..] = rest
+        && is_between_pairs(*between)
+        && let Some(octet) = octet_of(*x, *y)
+    {
+        octets.push(octet)?;
         rest = more;
     }
     *text = rest;

@@ -4,14 +4,14 @@ ghost use Rattle.std.specs.Prelude.{◌≡◌, ◌<◌, ◌≤◌, ◌+◌, ◌�
 ghost use Rattle.std.specs.Prelude.{nat_le, true};
 ghost use Rattle.tlv_text.specs.Characters.{is_quote, is_white};
 ghost use Rattle.tlv_text.specs.Pairs.{hex_value};
-ghost use Rattle.tlv_text.specs.Private.TokenSteps.{token_around};
+ghost use Rattle.tlv_text.specs.Private.TokenSteps.{IsTokenOrEnd, NoneMarked, token_from};
 ghost use Rattle.tlv_text.specs.TextRead.{refused_at};
 ghost use Rattle.tlv_text.specs.Tokens.{begins_like_token, begins_word, ends_escape, escape_token, is_word};
 ghost use Rattle.tlv_text.specs.Tokens.{number_token, pieces, token_at, token_count, tokens_in, tokens_read};
 
 use crate::Decoded;
 use crate::digits::{digit_value, is_digit};
-use memchr::memchr2;
+use memchr::{memchr2, memmem};
 use std::alloc::{AllocError, Global};
 
 /// A token of a text.
@@ -89,29 +89,46 @@ fn after_token(before: u8, text: &[u8]) -> Option<&[u8]>
     ensures { MatchOption result (tokens_in (pieces 0 before text.now) ≡ 0)
         (λ rest. tokens_in (pieces 0 before text.now) ≡ 1 + tokens_in (pieces 0 32 rest.now)) }
 {
-    let mut rest = text;
-    let mut before = before;
-    // The second character of a token is an x.
-    while let Some(place) = memchr2(b'x', b'X', rest) {
-        if let Some(token) = token_around(before, rest, place) {
-            return Some(&rest[place + token.more..]);
-        }
-        before = rest[place];
-        rest = &rest[place + 1..];
-    }
-    None
+    // Each token has an x. Few texts without tokens have one.
+    memchr2(b'x', b'X', text)?;
+    let end = first_marked(b"0x", before, text, text.len());
+    let end = first_marked(b"0X", before, text, end);
+    let place = first_marked(b"\\x", before, text, end);
+    let token = token_from(place, before, text)?;
+    Some(&text[place + 1 + token.more..])
 }
 
-/// The token whose second character has this place in a text. `before` is the character before the text.
-fn token_around(before: u8, text: &[u8], place: usize) -> Option<Token>
-    requires { place < length text.now }
-    ensures token { result ≡ token_around place before text.now }
-    ensures within { MatchOption result Unit (λ t. place + t.more ≤ length text.now) }
+/// The place of the first token with this mark, its first two characters, if there is one before `end`; if not, `end`,
+/// which is the place of another token or the end of the text. `before` is the character before the text.
+fn first_marked(mark: &[u8; 2], before: u8, text: &[u8], end: usize) -> usize
+    requires within { end ≤ length text.now }
+    requires end { IsTokenOrEnd before text.now end }
+    ensures within { result ≤ end }
+    ensures token { IsTokenOrEnd before text.now result }
+    ensures first { NoneMarked mark.now before text.now result }
+{
+    // The second character of a token may be at the end.
+    let part = &text[..text.len().min(end + 1)];
+    let mut start = 0;
+    while let Some(more) = memmem::find(&part[start..], mark) {
+        let place = start + more;
+        if token_from(place, before, text).is_some() {
+            return place;
+        }
+        start = place + 1;
+    }
+    end
+}
+
+/// The token that begins at this place of a text. `before` is the character before the text.
+fn token_from(place: usize, before: u8, text: &[u8]) -> Option<Token>
+    requires { place ≤ length text.now }
+    ensures token { result ≡ token_from place before text.now }
+    ensures within { MatchOption result Unit (λ t. place + 1 + t.more ≤ length text.now) }
 {
     match place {
-        0 => None,
-        1 => token_at(before, text),
-        _ => token_at(text[place - 2], &text[place - 1..]),
+        0 => token_at(before, text),
+        _ => token_at(text[place - 1], &text[place..]),
     }
 }
 

@@ -1,7 +1,7 @@
 -- Pairs of digits, without what is between them.
-use Rattle.std.specs.Prelude.{◌≡◌, ℕ, ◌%◌, List, [], ◌∷◌, length}
+use Rattle.std.specs.Prelude.{◌≡◌, ℕ, ◌%◌, ◌&&◌, if◌then◌else◌, List, [], ◌∷◌, length, Option, Some, None, unwrap_or}
 use Rattle.std.specs.List.{AllPass}
-use Rattle.hex.specs.Hex.{is_hex_digit}
+use Rattle.hex.specs.Hex.{hex_digit_value, is_hex_digit}
 use Rattle.tlv_text.specs.Pairs.{pair_octet}
 
 -- digits in pairs
@@ -14,3 +14,11 @@ abbrev pub pair_octets : List ℕ → List ℕ
 pair_octets [] = []
 pair_octets (x ∷ []) = []
 pair_octets (x ∷ y ∷ digits) = pair_octet x y ∷ pair_octets digits
+
+-- the octet of two characters, if both are digits
+abbrev pub octet_of : ℕ → ℕ → Option ℕ
+octet_of x y = if is_hex_digit x && is_hex_digit y then Some (pair_octet x y) else None
+
+-- the value of a digit, or 256 for another character
+abbrev pub value_or_256 : ℕ → ℕ
+value_or_256 x = unwrap_or (hex_digit_value x) 256

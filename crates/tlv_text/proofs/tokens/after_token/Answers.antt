@@ -1,18 +1,26 @@
-use Rattle.std.proofs.Common.{rules}
-use Rattle.tlv_text.proofs.TokenPlaceLemmas.{after-x, no-tokens, token-around_x}
+use Rattle.std.proofs.Common.{arith, sym, ◌∙◌}
+use Rattle.tlv_text.proofs.TokenPlaceLemmas.{NoneBefore, no-token, no-token-without_x, none-before, token-first_of}
 use Rattle.tlv_text.proofs.tokens.after_token.Goals as goal
 
-pub returns-in-Some-token_around : goal.returns-in-Some-token_around
-returns-in-Some-token_around c =
-    token-around_x _ c.loop-place.before c.loop-place.rest.now c.in-Some.place c.in-Some-token_around.token
-    c.in-Some.ensures c.in-Some-token_around.ensures.token c.loop-place.invariant.tokens
+pub returns-in_err-memchr2 : goal.returns-in_err-memchr2
+returns-in_err-memchr2 c =
+    rw c.from_residual.ensures (no-token-without_x c.args.before c.args.text.now c.in_err-memchr2.ensures)
 
-pub loop-place-preserved : goal.loop-place-preserved
-loop-place-preserved c = record {
-  tokens = after-x _ c.loop-place.before c.loop-place.rest.now c.in-Some.place c.in-Some.ensures
-      c.in_default-token_around.ensures.token c.loop-place.invariant.tokens;
-  less = let i = c.loop-place.invariant in search rules;
-}
+pub returns-in_err-token : goal.returns-in_err-token
+returns-in_err-token c =
+    let none : NoneBefore c.args.before c.args.text.now c.first_marked-place.result =
+    none-before c.args.before c.args.text.now c.first_marked-end.result c.first_marked-end-2.result _
+    c.first_marked-end-2.ensures.within c.first_marked-place.ensures.within
+    c.first_marked-end.ensures.first c.first_marked-end-2.ensures.first c.first_marked-place.ensures.first in
+    rw c.from_residual-in_err-token.ensures
+    (no-token c.args.before c.args.text.now c.first_marked-place.result none c.first_marked-place.ensures.token
+    c.in_err-token.ensures.token)
 
 pub returns : goal.returns
-returns c = no-tokens _ c.loop-place.before c.loop-place.rest.now c.in_default.ensures c.loop-place.invariant.tokens
+returns c =
+    let none : NoneBefore c.args.before c.args.text.now c.first_marked-place.result =
+    none-before c.args.before c.args.text.now c.first_marked-end.result c.first_marked-end-2.result _
+    c.first_marked-end-2.ensures.within c.first_marked-place.ensures.within
+    c.first_marked-end.ensures.first c.first_marked-end-2.ensures.first c.first_marked-place.ensures.first in
+    token-first_of c.args.before c.args.text.now c.first_marked-place.result c.in_ok-token.token
+    (omega (arith, c.in_ok-token.ensures.within)) none c.in_ok-token.ensures.token

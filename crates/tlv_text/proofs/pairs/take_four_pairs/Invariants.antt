@@ -1,7 +1,7 @@
 use Rattle.std.proofs.Common.{◌≡◌, ◌≤◌, length}
 use Rattle.tlv_text.specs.Pairs.{pairs_read}
 use Rattle.tlv_text.specs.TextRead.{octets_then}
-use Rattle.tlv_text.proofs.pairs.take_pairs.Given as goal
+use Rattle.tlv_text.proofs.pairs.take_four_pairs.Given as goal
 
 abbrev pub invariant-loop-rest : goal.invariant-loop-rest
 invariant-loop-rest l = record {

@@ -1,0 +1,72 @@
+-- What is read of pairs of digits, one after another.
+use Rattle.std.proofs.Common.{◌≡◌, ℕ, ◌≤◌, ◌&&◌, Bool, true, false, List, [], ◌∷◌, ◌++◌, length, refl, ap, sym, ◌∙◌}
+use Rattle.std.proofs.Common.{arith, append_assoc, rules, Option, Some, None, slice_index}
+use Rattle.std.proofs.lemmas.Bool.{cases_Bool, and_parts}
+use Rattle.std.specs.Prelude.{if◌then◌else◌, unwrap_or}
+use Rattle.hex.specs.Hex.{is_hex_digit}
+use Rattle.tlv_text.proofs.Slices.{from-on, slice_from}
+use Rattle.tlv_text.proofs.TokenLemmas.{octets-and_more}
+use Rattle.tlv_text.specs.Pairs.{is_between_pairs, pair_octet, pairs_read}
+use Rattle.tlv_text.specs.Private.PairSteps.{octet_of}
+use Rattle.tlv_text.specs.TextRead.{TextRead, octets_then}
+
+-- no digit may be between pairs
+digit-not_between : (x : ℕ) → is_hex_digit x ≡ true → is_between_pairs x ≡ false
+digit-not_between x e = search rules
+
+some-pair : (both : Bool) (octet value : ℕ) → Some octet ≡ (if both then Some value else None)
+    → (both ≡ true) × (octet ≡ value)
+some-pair true octet value e = (refl, ap (λ (o : Option ℕ). unwrap_or o 0) e)
+some-pair false octet value e = absurd (cc)
+
+-- a pair comes first
+pub pair-first : (x y octet : ℕ) (more : List ℕ) → Some octet ≡ octet_of x y
+    → pairs_read (x ∷ y ∷ more) ≡ octets_then (octet ∷ []) (pairs_read more)
+pair-first x y octet more e =
+    let found = some-pair (is_hex_digit x && is_hex_digit y) octet (pair_octet x y) e in
+    let apart : is_between_pairs x ≡ false = digit-not_between x (and_parts _ _ found.0).0 in
+    rw (apart, found.0, found.1) refl
+
+-- four pairs are read after other octets
+pub four-read : (all : TextRead) (octets text : List ℕ) (first second third fourth : ℕ) → 8 ≤ length text
+    → Some first ≡ octet_of (slice_index text 0) (slice_index text 1)
+    → Some second ≡ octet_of (slice_index text 2) (slice_index text 3)
+    → Some third ≡ octet_of (slice_index text 4) (slice_index text 5)
+    → Some fourth ≡ octet_of (slice_index text 6) (slice_index text 7)
+    → all ≡ octets_then octets (pairs_read text)
+    → all ≡ octets_then (octets ++ first ∷ second ∷ third ∷ fourth ∷ []) (pairs_read (slice_from 8 text))
+four-read all octets [] _ _ _ _ eight _ _ _ _ i = absurd (omega arith)
+four-read all octets (a ∷ []) _ _ _ _ eight _ _ _ _ i = absurd (omega arith)
+four-read all octets (a ∷ b ∷ []) _ _ _ _ eight _ _ _ _ i = absurd (omega arith)
+four-read all octets (a ∷ b ∷ c ∷ []) _ _ _ _ eight _ _ _ _ i = absurd (omega arith)
+four-read all octets (a ∷ b ∷ c ∷ d ∷ []) _ _ _ _ eight _ _ _ _ i = absurd (omega arith)
+four-read all octets (a ∷ b ∷ c ∷ d ∷ e ∷ []) _ _ _ _ eight _ _ _ _ i = absurd (omega arith)
+four-read all octets (a ∷ b ∷ c ∷ d ∷ e ∷ f ∷ []) _ _ _ _ eight _ _ _ _ i = absurd (omega arith)
+four-read all octets (a ∷ b ∷ c ∷ d ∷ e ∷ f ∷ g ∷ []) _ _ _ _ eight _ _ _ _ i = absurd (omega arith)
+four-read all octets (a ∷ b ∷ c ∷ d ∷ e ∷ f ∷ g ∷ h ∷ more) first second third fourth eight p q r s i =
+    i
+    ∙ ap (octets_then octets) (
+    pair-first a b first (c ∷ d ∷ e ∷ f ∷ g ∷ h ∷ more) p
+    ∙ ap (octets_then (first ∷ [])) (pair-first c d second (e ∷ f ∷ g ∷ h ∷ more) q
+    ∙ ap (octets_then (second ∷ [])) (pair-first e f third (g ∷ h ∷ more) r
+    ∙ ap (octets_then (third ∷ [])) (pair-first g h fourth more s)))
+    )
+    ∙ octets-and_more octets (first ∷ second ∷ third ∷ fourth ∷ []) (pairs_read more)
+    ∙ ap (λ (t : List ℕ). octets_then (octets ++ first ∷ second ∷ third ∷ fourth ∷ []) (pairs_read t))
+    (sym (from-on 8 (a ∷ b ∷ c ∷ d ∷ e ∷ f ∷ g ∷ h ∷ more)))
+
+-- a pair behind a character between pairs is read after other octets
+pub separated-read : (all : TextRead) (octets text : List ℕ) (octet : ℕ) → 3 ≤ length text
+    → is_between_pairs (slice_index text 0) ≡ true
+    → Some octet ≡ octet_of (slice_index text 1) (slice_index text 2)
+    → all ≡ octets_then octets (pairs_read text)
+    → all ≡ octets_then (octets ++ octet ∷ []) (pairs_read (slice_from 3 text))
+separated-read all octets [] _ three _ _ i = absurd (omega arith)
+separated-read all octets (a ∷ []) _ three _ _ i = absurd (omega arith)
+separated-read all octets (a ∷ b ∷ []) _ three _ _ i = absurd (omega arith)
+separated-read all octets (between ∷ x ∷ y ∷ more) octet three passed p i =
+    let behind : pairs_read (between ∷ x ∷ y ∷ more) ≡ pairs_read (x ∷ y ∷ more) = rw passed refl in
+    i
+    ∙ ap (octets_then octets) (behind ∙ pair-first x y octet more p)
+    ∙ octets-and_more octets (octet ∷ []) (pairs_read more)
+    ∙ ap (λ (t : List ℕ). octets_then (octets ++ octet ∷ []) (pairs_read t)) (sym (from-on 3 (between ∷ x ∷ y ∷ more)))
