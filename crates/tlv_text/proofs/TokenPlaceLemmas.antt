@@ -94,15 +94,15 @@ other-first before x text e =
     ∙ not-counted (begins_like_token before (x ∷ text)) x text (pieces 0 x text)
 
 -- no token begins before this place
-abbrev pub NoneBefore : ℕ → List ℕ → ℕ → Type 0
-NoneBefore before text n = (k : ℕ) → k < n → token_from k before text ≡ None
+abbrev pub NoTokenBefore : ℕ → List ℕ → ℕ → Type 0
+NoTokenBefore before text n = (k : ℕ) → k < n → token_from k before text ≡ None
 
-none-in : (before : ℕ) (text : List ℕ) → NoneBefore before text (length text) → tokens_in (pieces 0 before text) ≡ 0
+none-in : (before : ℕ) (text : List ℕ) → NoTokenBefore before text (length text) → tokens_in (pieces 0 before text) ≡ 0
 none-in before [] none = refl
 none-in before (x ∷ text) none =
     other-first before x text (none 0 (omega arith)) ∙ none-in x text (λ k less. none (suc k) (omega (arith, less)))
 
-first-in : (n before : ℕ) (text : List ℕ) (t : Token) → NoneBefore before text n → n < length text
+first-in : (n before : ℕ) (text : List ℕ) (t : Token) → NoTokenBefore before text n → n < length text
     → Some t ≡ token_from n before text
     → tokens_in (pieces 0 before text) ≡ 1 + tokens_in (pieces 0 32 (drop t.more (drop (suc n) text)))
 first-in n before [] t none less e = absurd (omega arith)
@@ -118,12 +118,12 @@ first-in (suc n) before (x ∷ text) t none less e =
 
 -- where the marks are searched for one after another, each up to the place that the one before it gave
 pub none-before : (before : ℕ) (text : List ℕ) (m n k : ℕ) → n ≤ m → k ≤ n → NoneMarked small_mark before text m
-    → NoneMarked large_mark before text n → NoneMarked escape_mark before text k → NoneBefore before text k
+    → NoneMarked large_mark before text n → NoneMarked escape_mark before text k → NoTokenBefore before text k
 none-before before text m n k n_up k_up small large escape i less =
     unmarked i before text (small i (omega (arith, less, k_up, n_up))) (large i (omega (arith, less, k_up)))
     (escape i less)
 
-pub no-token : (before : ℕ) (text : List ℕ) (n : ℕ) → NoneBefore before text n → IsTokenOrEnd before text n
+pub no-token : (before : ℕ) (text : List ℕ) (n : ℕ) → NoTokenBefore before text n → IsTokenOrEnd before text n
     → None ≡ token_from n before text → tokens_in (pieces 0 before text) ≡ 0
 no-token before text n none token_or_end e =
     elim (cases_lt n (length text)) [
@@ -131,7 +131,7 @@ no-token before text n none token_or_end e =
       | inr end ↦ none-in before text (λ k less. none k (omega (arith, less, end)))
     ]
 
-pub token-first_of : (before : ℕ) (text : List ℕ) (n : ℕ) (t : Token) → n < length text → NoneBefore before text n
+pub token-first_of : (before : ℕ) (text : List ℕ) (n : ℕ) (t : Token) → n < length text → NoTokenBefore before text n
     → Some t ≡ token_from n before text
     → tokens_in (pieces 0 before text) ≡ 1 + tokens_in (pieces 0 32 (slice_from (n + 1 + t.more) text))
 token-first_of before text n t less none found =

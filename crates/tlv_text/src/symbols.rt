@@ -32,21 +32,25 @@ pub(crate) fn symbols_before(alphabet: Alphabet, text: &[u8]) -> usize
     ensures count { result ≡ prefix_len (is_symbol alphabet) text.now }
     ensures within { result ≤ length text.now }
 {
-    text.len() - after_symbols(alphabet, after_fours(alphabet, text)).len()
+    text.len() - after_symbols(alphabet, after_eights(alphabet, text)).len()
 }
 
-/// A text after the groups of four symbols with which it begins: together they cost less than one by one.
-fn after_fours(alphabet: Alphabet, text: &[u8]) -> &[u8]
+/// A text after the groups of eight symbols with which it begins: together they cost less than one by one.
+fn after_eights(alphabet: Alphabet, text: &[u8]) -> &[u8]
     ensures symbols { length text.now + prefix_len (is_symbol alphabet) result.now
         ≡ length result.now + prefix_len (is_symbol alphabet) text.now }
     ensures less { length result.now ≤ length text.now }
 {
     let mut rest = text;
-    while let [a, b, c, d, more @ ..] = rest {
+    while let [a, b, c, d, e, f, g, h, more @ ..] = rest {
         if !(is_symbol(alphabet, *a)
             && is_symbol(alphabet, *b)
             && is_symbol(alphabet, *c)
-            && is_symbol(alphabet, *d))
+            && is_symbol(alphabet, *d)
+            && is_symbol(alphabet, *e)
+            && is_symbol(alphabet, *f)
+            && is_symbol(alphabet, *g)
+            && is_symbol(alphabet, *h))
         {
             break;
         }

@@ -89,7 +89,7 @@ fn after_token(before: u8, text: &[u8]) -> Option<&[u8]>
     ensures { MatchOption result (tokens_in (pieces 0 before text.now) ≡ 0)
         (λ rest. tokens_in (pieces 0 before text.now) ≡ 1 + tokens_in (pieces 0 32 rest.now)) }
 {
-    // Each token has an x. Few texts without tokens have one.
+    // A text without an x has no token, and this search costs less than the others.
     memchr2(b'x', b'X', text)?;
     let end = first_marked(b"0x", before, text, text.len());
     let end = first_marked(b"0X", before, text, end);
@@ -98,8 +98,8 @@ fn after_token(before: u8, text: &[u8]) -> Option<&[u8]>
     Some(&text[place + 1 + token.more..])
 }
 
-/// The place of the first token with this mark, its first two characters, if there is one before `end`; if not, `end`,
-/// which is the place of another token or the end of the text. `before` is the character before the text.
+/// The place of the first token that begins with this mark, if it is before `end`; if not, `end`, which is the place of
+/// another token or the end of the text. `before` is the character before the text.
 fn first_marked(mark: &[u8; 2], before: u8, text: &[u8], end: usize) -> usize
     requires within { end ≤ length text.now }
     requires end { IsTokenOrEnd before text.now end }

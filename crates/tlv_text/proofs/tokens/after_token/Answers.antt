@@ -1,5 +1,5 @@
-use Rattle.std.proofs.Common.{arith, sym, ◌∙◌}
-use Rattle.tlv_text.proofs.TokenPlaceLemmas.{NoneBefore, no-token, no-token-without_x, none-before, token-first_of}
+use Rattle.std.proofs.Common.{arith}
+use Rattle.tlv_text.proofs.TokenPlaceLemmas.{NoTokenBefore, no-token, no-token-without_x, none-before, token-first_of}
 use Rattle.tlv_text.proofs.tokens.after_token.Goals as goal
 
 pub returns-in_err-memchr2 : goal.returns-in_err-memchr2
@@ -8,7 +8,7 @@ returns-in_err-memchr2 c =
 
 pub returns-in_err-token : goal.returns-in_err-token
 returns-in_err-token c =
-    let none : NoneBefore c.args.before c.args.text.now c.first_marked-place.result =
+    let none : NoTokenBefore c.args.before c.args.text.now c.first_marked-place.result =
     none-before c.args.before c.args.text.now c.first_marked-end.result c.first_marked-end-2.result _
     c.first_marked-end-2.ensures.within c.first_marked-place.ensures.within
     c.first_marked-end.ensures.first c.first_marked-end-2.ensures.first c.first_marked-place.ensures.first in
@@ -18,7 +18,7 @@ returns-in_err-token c =
 
 pub returns : goal.returns
 returns c =
-    let none : NoneBefore c.args.before c.args.text.now c.first_marked-place.result =
+    let none : NoTokenBefore c.args.before c.args.text.now c.first_marked-place.result =
     none-before c.args.before c.args.text.now c.first_marked-end.result c.first_marked-end-2.result _
     c.first_marked-end-2.ensures.within c.first_marked-place.ensures.within
     c.first_marked-end.ensures.first c.first_marked-end-2.ensures.first c.first_marked-place.ensures.first in
