@@ -21,26 +21,26 @@ abbrev always : ℕ → Bool
 always x = true
 
 -- the table says what the definitions say: all are computed at each character
-values : map same VALUES ≡ map value_or_256 (range_with_len 0 256)
-values = refl
+same-says : map same VALUES ≡ map value_or_256 (range_with_len 0 256)
+same-says = refl
 
-digits : map below_16 VALUES ≡ map is_hex_digit (range_with_len 0 256)
-digits = refl
+below_16-says : map below_16 VALUES ≡ map is_hex_digit (range_with_len 0 256)
+below_16-says = refl
 
-few : map up_to_256 VALUES ≡ map always (range_with_len 0 256)
-few = refl
+up_to_256-says : map up_to_256 VALUES ≡ map always (range_with_len 0 256)
+up_to_256-says = refl
 
 pub returns-clause-value : goal.returns-clause-value
 returns-clause-value c =
     ap (λ (i : ℕ). get_or VALUES i 0) c.from.ensures
-    ∙ says-at ℕ 0 same value_or_256 VALUES refl values c.args.character (omega arith)
+    ∙ says-at ℕ 0 same value_or_256 VALUES refl same-says c.args.character (omega arith)
 
 pub returns-clause-digit : goal.returns-clause-digit
 returns-clause-digit c =
     ap (λ (i : ℕ). below_16 (get_or VALUES i 0)) c.from.ensures
-    ∙ says-at Bool false below_16 is_hex_digit VALUES refl digits c.args.character (omega arith)
+    ∙ says-at Bool false below_16 is_hex_digit VALUES refl below_16-says c.args.character (omega arith)
 
 pub returns-clause-few : goal.returns-clause-few
 returns-clause-few c =
     leb-true _ 256 (ap (λ (i : ℕ). up_to_256 (get_or VALUES i 0)) c.from.ensures
-    ∙ says-at Bool false up_to_256 always VALUES refl few c.args.character (omega arith))
+    ∙ says-at Bool false up_to_256 always VALUES refl up_to_256-says c.args.character (omega arith))
