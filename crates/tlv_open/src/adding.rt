@@ -6,9 +6,8 @@ ghost use Rattle.tlv_head.specs.Header.{HeaderValue};
 ghost use Rattle.tlv_head.specs.InputLimit.{input_limit};
 ghost use Rattle.tlv_head.specs.ReadHeader.{BeginsWithFields};
 ghost use Rattle.tlv_open.specs.Held.{HoldsEncodings, inner_octets};
-ghost use Rattle.tlv_open.specs.Private.Adds.{AddsAt, IsKept, SaysSound, Tries};
-ghost use Rattle.tlv_open.specs.Private.Elements.{SaysElement, place_at};
-ghost use Rattle.tlv_open.specs.Private.Finds.{AddsAll, AddsFirst, found_of};
+ghost use Rattle.tlv_open.specs.Private.Adds.{AddsAt, AddsElement, AddsElements, IsKept, Tries};
+ghost use Rattle.tlv_open.specs.Private.Finds.{found_of};
 ghost use Rattle.tlv_walk.specs.Forest.{Forest};
 
 use crate::Strings;
@@ -34,11 +33,8 @@ pub(crate) fn add_all_strings(
     found: &mut Strings,
 ) -> Result<bool, AllocError>
     requires { spot.now.start + (offset + length octets.now) ≤ input_limit }
-    ensures adds { OnOk result (AddsAll spot.now offset false octets.now
-        (found_of found.old) (found_of found.new) (length octets.now)) }
-    ensures sound { IfOk result (λ sound. SaysSound spot.now offset false octets.now
-        (record { size = length octets.now; sound = sound })) }
-    ensures kept { OnOk result (IsKept (found_of found.old) (found_of found.new)) }
+    ensures { IfOk result (λ sound. AddsElements spot.now offset false octets.now
+        (found_of found.old) (found_of found.new) (record { size = length octets.now; sound = sound })) }
 {
     let extent = add_strings(octets, offset, spot, false, found)?;
     Ok(extent.sound)
@@ -55,11 +51,8 @@ fn add_ended_strings(
     found: &mut Strings,
 ) -> Result<Extent, AllocError>
     requires { spot.now.start + (offset + length octets.now) ≤ input_limit }
-    ensures adds { IfOk result (λ e. AddsAll spot.now offset true octets.now
-        (found_of found.old) (found_of found.new) e.size) }
-    ensures sound { IfOk result (λ e. SaysSound spot.now offset true octets.now e) }
-    ensures kept { OnOk result (IsKept (found_of found.old) (found_of found.new)) }
-    ensures within { IfOk result (λ e. e.size ≤ length octets.now) }
+    ensures { IfOk result (AddsElements spot.now offset true octets.now
+        (found_of found.old) (found_of found.new)) }
 {
     add_strings(octets, offset, spot, true, found)
 }
@@ -77,12 +70,9 @@ fn add_strings(
     found: &mut Strings,
 ) -> Result<Extent, AllocError>
     requires { spot.now.start + (offset + length octets.now) ≤ input_limit }
-    ensures adds { IfOk result (λ e. AddsAll spot.now offset end_octets octets.now
-        (found_of found.old) (found_of found.new) e.size) }
-    ensures sound { IfOk result (λ e. SaysSound spot.now offset end_octets octets.now e) }
-    ensures kept { OnOk result (IsKept (found_of found.old) (found_of found.new)) }
+    ensures adds { IfOk result (AddsElements spot.now offset end_octets octets.now
+        (found_of found.old) (found_of found.new)) }
     ensures all { end_octets ≡ false → IfOk result (λ e. e.size ≡ length octets.now) }
-    ensures within { IfOk result (λ e. e.size ≤ length octets.now) }
 {
     let mut at = 0;
     let mut sound = true;
@@ -127,12 +117,8 @@ fn add_after_long(
 ) -> Result<Extent, AllocError>
     requires limit { spot.now.start + (offset + length octets.now) ≤ input_limit }
     requires begun { slice_index octets.now 0 ≢ 0 }
-    ensures adds { IfOk result (λ e. AddsFirst spot.now offset end_octets octets.now
-        (found_of found.old) (found_of found.new) e.size) }
-    ensures sound { IfOk result (λ e. SaysElement (place_at offset spot.now.depth) spot.now.likely octets.now e) }
-    ensures kept { OnOk result (IsKept (found_of found.old) (found_of found.new)) }
-    ensures some { 0 < length octets.now → IfOk result (λ e. 0 < e.size) }
-    ensures within { IfOk result (λ e. e.size ≤ length octets.now) }
+    ensures { IfOk result (AddsElement spot.now offset end_octets octets.now
+        (found_of found.old) (found_of found.new)) }
 {
     match quick_header_at(octets, offset) {
         Some((fields, count)) => {
@@ -156,12 +142,8 @@ fn add_with(
 ) -> Result<Extent, AllocError>
     requires limit { spot.now.start + (offset + length octets.now) ≤ input_limit }
     requires begins { BeginsWithFields octets.now offset false fields.now count }
-    ensures adds { IfOk result (λ e. AddsFirst spot.now offset end_octets octets.now
-        (found_of found.old) (found_of found.new) e.size) }
-    ensures sound { IfOk result (λ e. SaysElement (place_at offset spot.now.depth) spot.now.likely octets.now e) }
-    ensures kept { OnOk result (IsKept (found_of found.old) (found_of found.new)) }
-    ensures some { IfOk result (λ e. 0 < e.size) }
-    ensures within { IfOk result (λ e. e.size ≤ length octets.now) }
+    ensures { IfOk result (AddsElement spot.now offset end_octets octets.now
+        (found_of found.old) (found_of found.new)) }
 {
     if fields.constructed {
         return add_in_holder(octets, offset, fields, count, spot, end_octets, found);
@@ -195,12 +177,8 @@ fn add_in_holder(
     requires limit { spot.now.start + (offset + length octets.now) ≤ input_limit }
     requires begins { BeginsWithFields octets.now offset false fields.now count }
     requires constructed { fields.now.constructed ≡ true }
-    ensures adds { IfOk result (λ e. AddsFirst spot.now offset end_octets octets.now
-        (found_of found.old) (found_of found.new) e.size) }
-    ensures sound { IfOk result (λ e. SaysElement (place_at offset spot.now.depth) spot.now.likely octets.now e) }
-    ensures kept { OnOk result (IsKept (found_of found.old) (found_of found.new)) }
-    ensures some { IfOk result (λ e. 0 < e.size) }
-    ensures within { IfOk result (λ e. e.size ≤ length octets.now) }
+    ensures { IfOk result (AddsElement spot.now offset end_octets octets.now
+        (found_of found.old) (found_of found.new)) }
 {
     if spot.depth >= DEPTH_LIMIT {
         return Ok(unended(octets));
@@ -239,12 +217,8 @@ fn add_in_indefinite(
     requires begins { BeginsWithFields octets.now offset false fields.now count }
     requires indefinite { fields.now.size ≡ Size.Indefinite }
     requires shallow { spot.now.depth < depth_limit }
-    ensures adds { IfOk result (λ e. AddsFirst spot.now offset end_octets octets.now
-        (found_of found.old) (found_of found.new) e.size) }
-    ensures sound { IfOk result (λ e. SaysElement (place_at offset spot.now.depth) spot.now.likely octets.now e) }
-    ensures kept { OnOk result (IsKept (found_of found.old) (found_of found.new)) }
-    ensures some { IfOk result (λ e. 0 < e.size) }
-    ensures within { IfOk result (λ e. e.size ≤ length octets.now) }
+    ensures { IfOk result (AddsElement spot.now offset end_octets octets.now
+        (found_of found.old) (found_of found.new)) }
 {
     let rest = &octets[count..];
     let start = offset + count as u64;

@@ -1,6 +1,6 @@
 -- Octets begin with one header.
 use Rattle.std.proofs.Common.{◌≡◌, ◌≢◌, ◌↔◌, ◌<◌, ℕ, suc, Bool, false, List, length, take, drop, get_or, drop-cons}
-use Rattle.std.proofs.Common.{IsTrue, sym, ap, ◌∙◌, subst}
+use Rattle.std.proofs.Common.{IsTrue, [], ◌∷◌, slice_index, refl, arith, sym, ap, ◌∙◌, subst}
 use Rattle.std.proofs.lemmas.List.{length-take-le, take-append-drop}
 use Rattle.tlv_head.specs.declared.header.HeaderFields.{HeaderFields}
 use Rattle.tlv_head.specs.Header.{HeaderValue, announced_length, octets_of}
@@ -73,3 +73,8 @@ adds-at s v octets offset f n old new a e g m b c =
     subst (λ (h : HeaderValue). AddsPrimitive s v h (drop m octets) old new) (fields-one octets offset f g n m a b)
     (subst (λ (l : ℕ). AddsPrimitive s v (new_header f (take n octets)) (drop l octets) old new)
     (counts-one octets offset f g n m a b) (e (forms-one octets offset f g n m a b ∙ c)))
+
+-- octets of which the first is not 0 are some
+pub some-octets : (octets : List ℕ) → slice_index octets 0 ≢ 0 → 0 < length octets
+some-octets [] begun = absurd (begun refl)
+some-octets (x ∷ octets) begun = omega arith

@@ -1,5 +1,5 @@
 -- What is added to what was found before, and whether the octets are sound.
-use Rattle.std.specs.Prelude.{◌≡◌, ℕ, ◌+◌, ◌≤◌, Bool, true, false, List, [], ◌∷◌, length, take, drop, None}
+use Rattle.std.specs.Prelude.{◌≡◌, ℕ, ◌+◌, ◌<◌, ◌≤◌, Bool, true, false, List, [], ◌∷◌, length, take, drop, None}
 use Rattle.tlv_head.specs.declared.header.HeaderFields.{HeaderFields}
 use Rattle.tlv_head.specs.Header.{announced_length}
 use Rattle.tlv_head.specs.HeaderFields.{new_header}
@@ -8,8 +8,8 @@ use Rattle.tlv_walk.specs.Place.{Place}
 use Rattle.tlv_open.specs.declared.extent.Extent.{Extent}
 use Rattle.tlv_open.specs.declared.spot.Spot.{Spot}
 use Rattle.tlv_open.specs.Held.{inner_octets}
-use Rattle.tlv_open.specs.Private.Elements.{BeginsWithElements, BeginsWithNoElements, place_at}
-use Rattle.tlv_open.specs.Private.Finds.{AddsAll, AddsPrimitive, FoundStrings, found_in_turn, spot_held}
+use Rattle.tlv_open.specs.Private.Elements.{BeginsWithElements, BeginsWithNoElements, SaysElement, place_at}
+use Rattle.tlv_open.specs.Private.Finds.{AddsAll, AddsFirst, AddsPrimitive, FoundStrings, found_in_turn, spot_held}
 
 -- what was found before is still there
 pub record IsKept (old new : FoundStrings) : Type 0 where
@@ -26,6 +26,26 @@ pub record SaysSound (s : Spot) (offset : ℕ) (end_octets : Bool) (octets : Lis
   pub sound : e.sound ≡ true → BeginsWithElements (place_among s offset) s.likely end_octets octets e.size
   pub unsound : s.padding ≡ false → e.sound ≡ false
       → BeginsWithNoElements (place_at offset s.depth) s.likely end_octets octets
+
+-- of the elements with which the octets begin: what is found in them is added to what was found before, and the extent
+-- is theirs
+pub record AddsElements
+    (s : Spot) (offset : ℕ) (end_octets : Bool) (octets : List ℕ) (old new : FoundStrings) (e : Extent)
+    : Type 0 where
+  pub adds : AddsAll s offset end_octets octets old new e.size
+  pub sound : SaysSound s offset end_octets octets e
+  pub kept : IsKept old new
+  pub within : e.size ≤ length octets
+
+-- the same of the first of them
+pub record AddsElement
+    (s : Spot) (offset : ℕ) (end_octets : Bool) (octets : List ℕ) (old new : FoundStrings) (e : Extent)
+    : Type 0 where
+  pub adds : AddsFirst s offset end_octets octets old new e.size
+  pub sound : SaysElement (place_at offset s.depth) s.likely octets e
+  pub kept : IsKept old new
+  pub some : 0 < e.size
+  pub within : e.size ≤ length octets
 
 -- the octets, which begin with a header that has these fields and so many of them, begin with a primitive of n octets
 -- that is no OCTET STRING and no BIT STRING, and nothing more is asked

@@ -1,8 +1,9 @@
 use Rattle.std.proofs.Common.{◌≡◌, ◌↔◌, ◌+◌, ◌&&◌, Bool, IsTrue, false, true, List, ℕ, [], ◌∷◌, length, take, drop}
-use Rattle.std.proofs.Common.{refl, sym}
+use Rattle.std.proofs.Common.{refl, rules, sym}
 use Rattle.std.proofs.Common.{ap, append-nil, ◌∙◌, arith, length-drop, subst, vec_len}
 use Rattle.tlv_head.specs.HeaderFields.{new_header}
 use Rattle.tlv_head.specs.ReadHeader.{BeginsWithFields}
+use Rattle.tlv_open.specs.declared.extent.Extent.{Extent}
 use Rattle.tlv_open.specs.Private.Adds.{IsKept, IsPlain, SaysSound}
 use Rattle.tlv_open.specs.Private.Elements.{SaysElement, is_elements_end, place_at}
 use Rattle.tlv_open.specs.Private.Finds.{AddsAll, FoundStrings, found_of, list_of, spot_held}
@@ -11,7 +12,7 @@ use Rattle.tlv_open.proofs.ElementLemmas.Extents.{says-definite, says-indefinite
 use Rattle.tlv_open.proofs.ElementLemmas.Extents.{says-unended}
 use Rattle.tlv_open.proofs.ElementLemmas.FirstElement.{first-too_deep, first-too_long, no_header-none}
 use Rattle.tlv_open.proofs.ElementLemmas.Held.{HoldsSome, holds-if, holds-nothing, holds-too_deep}
-use Rattle.tlv_open.proofs.ElementLemmas.OneHeader.{adds-at, begins-nonzero, header-there}
+use Rattle.tlv_open.proofs.ElementLemmas.OneHeader.{adds-at, begins-nonzero, header-there, some-octets}
 use Rattle.tlv_open.proofs.FinderLemmas.NothingFound.{nothing_found}
 use Rattle.tlv_open.proofs.FinderLemmas.FirstFound.{adds-ended_holder, adds-holder, adds-open_holder, adds-primitive}
 use Rattle.tlv_open.proofs.FinderLemmas.FirstFound.{adds-too_deep, adds-unended_holder, adds-unfinished}
@@ -117,83 +118,87 @@ add_strings-loop-at-preserved t c =
     record { within = after.within; adds = after.adds; far = after.far; kept = after.kept }
 
 pub add_strings-returns-in-None-2-clause-adds : goal.add_strings-returns-in-None-2-clause-adds
-add_strings-returns-in-None-2-clause-adds t c =
-    adds-ended c.args.spot.now c.args.offset c.args.end_octets c.args.octets.now _ _ c.loop-at.at
-    c.loop-at-test.true c.if-octets-at-ne0.false c.if-end_octets.true c.loop-at.invariant.adds
-
-pub add_strings-returns-in-None-2-clause-sound : goal.add_strings-returns-in-None-2-clause-sound
-add_strings-returns-in-None-2-clause-sound t c =
-    let end : is_elements_end true (drop c.loop-at.at c.args.octets.now) ≡ c.is_elements_end-sound.result =
-    sym (c.is_elements_end-sound.ensures ∙ ap (is_elements_end true) (tail-all c.args.octets.now c.loop-at.at)) in
-    subst
-    (λ (k : Bool). SaysSound c.args.spot.now c.args.offset c.args.end_octets c.args.octets.now
-    (record { size = c.loop-at.at; sound = c.loop-at.sound && k }))
-    end
-    (says-ended c.args.spot.now c.args.offset c.args.end_octets c.args.octets.now c.loop-at.at c.loop-at.sound
-    c.loop-at-test.true c.if-octets-at-ne0.false c.if-end_octets.true c.loop-at.invariant.far)
+add_strings-returns-in-None-2-clause-adds t c = record {
+  adds =
+      adds-ended c.args.spot.now c.args.offset c.args.end_octets c.args.octets.now _ _ c.loop-at.at
+      c.loop-at-test.true c.if-octets-at-ne0.false c.if-end_octets.true c.loop-at.invariant.adds;
+  sound =
+      let end : is_elements_end true (drop c.loop-at.at c.args.octets.now) ≡ c.is_elements_end-sound.result =
+      sym (c.is_elements_end-sound.ensures ∙ ap (is_elements_end true) (tail-all c.args.octets.now c.loop-at.at)) in
+      subst
+      (λ (k : Bool). SaysSound c.args.spot.now c.args.offset c.args.end_octets c.args.octets.now
+      (record { size = c.loop-at.at; sound = c.loop-at.sound && k }))
+      end
+      (says-ended c.args.spot.now c.args.offset c.args.end_octets c.args.octets.now c.loop-at.at c.loop-at.sound
+      c.loop-at-test.true c.if-octets-at-ne0.false c.if-end_octets.true c.loop-at.invariant.far);
+  kept = c.loop-at.invariant.kept;
+  within = search rules;
+}
 
 pub add_strings-returns-clause-adds : goal.add_strings-returns-clause-adds
-add_strings-returns-clause-adds t c =
-    adds-done c.args.spot.now c.args.offset c.args.end_octets c.args.octets.now _ _ c.loop-at.at
-    c.loop-at-test.false c.loop-at.invariant.adds
+add_strings-returns-clause-adds t c = record {
+  adds =
+      adds-done c.args.spot.now c.args.offset c.args.end_octets c.args.octets.now _ _ c.loop-at.at
+      c.loop-at-test.false c.loop-at.invariant.adds;
+  sound =
+      says-done c.args.spot.now c.args.offset c.args.end_octets c.args.octets.now c.loop-at.at c.loop-at.sound
+      c.loop-at-test.false c.loop-at.invariant.far;
+  kept = c.loop-at.invariant.kept;
+  within = search rules;
+}
 
-pub add_strings-returns-clause-sound : goal.add_strings-returns-clause-sound
-add_strings-returns-clause-sound t c =
-    says-done c.args.spot.now c.args.offset c.args.end_octets c.args.octets.now c.loop-at.at c.loop-at.sound
-    c.loop-at-test.false c.loop-at.invariant.far
+pub add_after_long-returns-in-None : goal.add_after_long-returns-in-None
+add_after_long-returns-in-None t c = record {
+  adds =
+      adds-all_octets c.args.spot.now c.args.offset c.args.end_octets c.args.octets.now (found_of c.args.found.now)
+      (found_of c.args.found.now) c.unended.result c.unended.ensures
+      (λ p f rest r. record {
+        found = nothing_found;
+        added = sym (both-nothing (found_of c.args.found.now));
+        finds =
+            finds-header _ p f c.args.spot.now.depth c.args.offset c.args.end_octets c.args.octets.now rest r
+            c.requires.begun c.in-None.ensures;
+      });
+  sound =
+      says-unsound (place_at c.args.offset c.args.spot.now.depth) c.args.spot.now.likely c.args.octets.now
+      c.unended.result c.unended.ensures
+      (no_header-none (place_at c.args.offset c.args.spot.now.depth) c.args.spot.now.likely c.args.octets.now
+      c.in-None.ensures);
+  kept = kept-all (found_of c.args.found.now);
+  some = omega (arith, some-octets c.args.octets.now c.requires.begun, ap (λ (e : Extent). e.size) c.unended.ensures);
+  within = search rules;
+}
 
-pub add_after_long-returns-in-None-clause-adds : goal.add_after_long-returns-in-None-clause-adds
-add_after_long-returns-in-None-clause-adds t c =
-    adds-all_octets c.args.spot.now c.args.offset c.args.end_octets c.args.octets.now (found_of c.args.found.now)
-    (found_of c.args.found.now) c.unended.result c.unended.ensures
-    (λ p f rest r. record {
-      found = nothing_found;
-      added = sym (both-nothing (found_of c.args.found.now));
-      finds =
-          finds-header _ p f c.args.spot.now.depth c.args.offset c.args.end_octets c.args.octets.now rest r
-          c.requires.begun c.in-None.ensures;
-    })
-
-pub add_after_long-returns-in-None-clause-sound : goal.add_after_long-returns-in-None-clause-sound
-add_after_long-returns-in-None-clause-sound t c =
-    says-unsound (place_at c.args.offset c.args.spot.now.depth) c.args.spot.now.likely c.args.octets.now
-    c.unended.result c.unended.ensures
-    (no_header-none (place_at c.args.offset c.args.spot.now.depth) c.args.spot.now.likely c.args.octets.now
-    c.in-None.ensures)
-
-pub add_after_long-returns-in-None-clause-kept : goal.add_after_long-returns-in-None-clause-kept
-add_after_long-returns-in-None-clause-kept t c = kept-all (found_of c.args.found.now)
-
-pub add_with-returns-then-length-octets-clause-adds : goal.add_with-returns-then-length-octets-clause-adds
-add_with-returns-then-length-octets-clause-adds t c =
-    adds-all_octets c.args.spot.now c.args.offset c.args.end_octets c.args.octets.now (found_of c.args.found.now)
-    (found_of c.args.found.now) c.unended.result c.unended.ensures
-    (adds-unfinished c.args.octets.now c.args.offset c.args.fields.now c.args.count c.requires.begins
-    c.args.spot.now (found_of c.args.found.now) c.if-fields.false
-    (omega (
-      arith,
-      c.if-length-octets.true,
-      c.announced_length-length.ensures,
-      length-drop c.args.count c.args.octets.now,
-    ))
-    c.args.end_octets)
-
-pub add_with-returns-then-length-octets-clause-sound : goal.add_with-returns-then-length-octets-clause-sound
-add_with-returns-then-length-octets-clause-sound t c =
-    says-unsound (place_at c.args.offset c.args.spot.now.depth) c.args.spot.now.likely c.args.octets.now
-    c.unended.result c.unended.ensures
-    (says-lacking c.args.octets.now c.args.offset c.args.spot.now.depth c.args.spot.now.likely c.args.fields.now
-    c.args.count
-    c.requires.begins c.if-fields.false
-    (omega (
-      arith,
-      c.if-length-octets.true,
-      c.announced_length-length.ensures,
-      length-drop c.args.count c.args.octets.now,
-    )))
-
-pub add_with-returns-then-length-octets-clause-kept : goal.add_with-returns-then-length-octets-clause-kept
-add_with-returns-then-length-octets-clause-kept t c = kept-all (found_of c.args.found.now)
+pub add_with-returns-then-length-octets : goal.add_with-returns-then-length-octets
+add_with-returns-then-length-octets t c = record {
+  adds =
+      adds-all_octets c.args.spot.now c.args.offset c.args.end_octets c.args.octets.now (found_of c.args.found.now)
+      (found_of c.args.found.now) c.unended.result c.unended.ensures
+      (adds-unfinished c.args.octets.now c.args.offset c.args.fields.now c.args.count c.requires.begins
+      c.args.spot.now (found_of c.args.found.now) c.if-fields.false
+      (omega (
+        arith,
+        c.if-length-octets.true,
+        c.announced_length-length.ensures,
+        length-drop c.args.count c.args.octets.now,
+      ))
+      c.args.end_octets);
+  sound =
+      says-unsound (place_at c.args.offset c.args.spot.now.depth) c.args.spot.now.likely c.args.octets.now
+      c.unended.result c.unended.ensures
+      (says-lacking c.args.octets.now c.args.offset c.args.spot.now.depth c.args.spot.now.likely c.args.fields.now
+      c.args.count
+      c.requires.begins c.if-fields.false
+      (omega (
+        arith,
+        c.if-length-octets.true,
+        c.announced_length-length.ensures,
+        length-drop c.args.count c.args.octets.now,
+      )));
+  kept = kept-all (found_of c.args.found.now);
+  some = search rules;
+  within = search rules;
+}
 
 pub add_with-is_likely_if-sound-requires : goal.add_with-is_likely_if-sound-requires
 add_with-is_likely_if-sound-requires t c =
@@ -202,207 +207,214 @@ add_with-is_likely_if-sound-requires t c =
     (omega (arith, c.if-length-octets.false, length-drop c.args.count c.args.octets.now))
     (omega (arith, c.if-length-octets.false, c.requires.begins.within))
 
-pub add_with-returns-then-not-is_octet_or_bit_string-clause-adds :
-    goal.add_with-returns-then-not-is_octet_or_bit_string-clause-adds
-add_with-returns-then-not-is_octet_or_bit_string-clause-adds t c =
-    adds-primitive c.args.octets.now c.args.offset c.args.fields.now c.args.count c.requires.begins
-    c.args.spot.now (found_of c.args.found.now) (found_of c.args.found.now) c.announced_length-length.result
-    (c.args.spot.now.in_extension
-    && is_elements_end c.args.end_octets (drop (c.args.count + c.announced_length-length.result) c.args.octets.now))
-    c.args.end_octets c.if-fields.false c.announced_length-length.ensures
-    (omega (arith, c.if-length-octets.false, length-drop c.args.count c.args.octets.now))
-    refl
-    (adds-no_octets c.args.spot.now
-    (c.args.spot.now.in_extension
-    && is_elements_end c.args.end_octets (drop (c.args.count + c.announced_length-length.result) c.args.octets.now))
-    (new_header c.args.fields.now (take c.args.count c.args.octets.now))
-    (take c.announced_length-length.result (drop c.args.count c.args.octets.now))
-    (found_of c.args.found.now)
-    (no-inner (new_header c.args.fields.now (take c.args.count c.args.octets.now))
-    (take c.announced_length-length.result (drop c.args.count c.args.octets.now))
-    (sym (c.is_octet_or_bit_string.ensures (take c.args.count c.args.octets.now))
-    ∙ c.if-not-is_octet_or_bit_string.true)))
+pub add_with-returns-then-not-is_octet_or_bit_string : goal.add_with-returns-then-not-is_octet_or_bit_string
+add_with-returns-then-not-is_octet_or_bit_string t c = record {
+  adds =
+      adds-primitive c.args.octets.now c.args.offset c.args.fields.now c.args.count c.requires.begins
+      c.args.spot.now (found_of c.args.found.now) (found_of c.args.found.now) c.announced_length-length.result
+      (c.args.spot.now.in_extension
+      && is_elements_end c.args.end_octets (drop (c.args.count + c.announced_length-length.result) c.args.octets.now))
+      c.args.end_octets c.if-fields.false c.announced_length-length.ensures
+      (omega (arith, c.if-length-octets.false, length-drop c.args.count c.args.octets.now))
+      refl
+      (adds-no_octets c.args.spot.now
+      (c.args.spot.now.in_extension
+      && is_elements_end c.args.end_octets (drop (c.args.count + c.announced_length-length.result) c.args.octets.now))
+      (new_header c.args.fields.now (take c.args.count c.args.octets.now))
+      (take c.announced_length-length.result (drop c.args.count c.args.octets.now))
+      (found_of c.args.found.now)
+      (no-inner (new_header c.args.fields.now (take c.args.count c.args.octets.now))
+      (take c.announced_length-length.result (drop c.args.count c.args.octets.now))
+      (sym (c.is_octet_or_bit_string.ensures (take c.args.count c.args.octets.now))
+      ∙ c.if-not-is_octet_or_bit_string.true)));
+  sound =
+      says-alone c.args.octets.now c.args.offset c.args.spot.now.depth c.args.spot.now.likely c.args.fields.now
+      c.args.count
+      c.announced_length-length.result c.is_likely_if-sound.result c.requires.begins c.if-fields.false
+      c.announced_length-length.ensures
+      (omega (arith, c.if-length-octets.false, length-drop c.args.count c.args.octets.now))
+      (omega (arith, c.if-length-octets.false, c.requires.begins.within)) c.is_likely_if-sound.ensures.unasked
+      c.is_likely_if-sound.ensures.asked;
+  kept = kept-all (found_of c.args.found.now);
+  some = search rules;
+  within = search rules;
+}
 
-pub add_with-returns-then-not-is_octet_or_bit_string-clause-sound :
-    goal.add_with-returns-then-not-is_octet_or_bit_string-clause-sound
-add_with-returns-then-not-is_octet_or_bit_string-clause-sound t c =
-    says-alone c.args.octets.now c.args.offset c.args.spot.now.depth c.args.spot.now.likely c.args.fields.now
-    c.args.count
-    c.announced_length-length.result c.is_likely_if-sound.result c.requires.begins c.if-fields.false
-    c.announced_length-length.ensures
-    (omega (arith, c.if-length-octets.false, length-drop c.args.count c.args.octets.now))
-    (omega (arith, c.if-length-octets.false, c.requires.begins.within)) c.is_likely_if-sound.ensures.unasked
-    c.is_likely_if-sound.ensures.asked
+pub add_with-returns : goal.add_with-returns
+add_with-returns t c = record {
+  adds =
+      adds-primitive c.args.octets.now c.args.offset c.args.fields.now c.args.count c.requires.begins
+      c.args.spot.now (found_of c.args.found.now) (found_of c.add_string.new.found) c.announced_length-length.result
+      c.is_value_before-is_value.result c.args.end_octets c.if-fields.false c.announced_length-length.ensures
+      (omega (arith, c.if-length-octets.false, length-drop c.args.count c.args.octets.now))
+      (c.is_value_before-is_value.ensures
+      ∙ ap (λ (o : List ℕ). c.args.spot.now.in_extension && is_elements_end c.args.end_octets o)
+      (tail-all c.args.octets.now (c.args.count + c.announced_length-length.result)))
+      (primitive-at c.args.spot.now c.is_value_before-is_value.result c.args.fields.now c.args.octets.now c.args.count
+      c.announced_length-length.result (found_of c.args.found.now) (found_of c.add_string.new.found)
+      (c.in_ok-add_string.ensures.adds c.args.fields.now c.args.count
+      (begins-taken c.args.octets.now c.args.offset c.args.fields.now c.args.count c.announced_length-length.result
+      c.requires.begins (omega (arith, c.if-length-octets.false, c.requires.begins.within)))
+      c.if-fields.false));
+  sound =
+      says-alone c.args.octets.now c.args.offset c.args.spot.now.depth c.args.spot.now.likely c.args.fields.now
+      c.args.count
+      c.announced_length-length.result c.is_likely_if-sound.result c.requires.begins c.if-fields.false
+      c.announced_length-length.ensures
+      (omega (arith, c.if-length-octets.false, length-drop c.args.count c.args.octets.now))
+      (omega (arith, c.if-length-octets.false, c.requires.begins.within)) c.is_likely_if-sound.ensures.unasked
+      c.is_likely_if-sound.ensures.asked;
+  kept = c.in_ok-add_string.ensures.kept;
+  some = search rules;
+  within = search rules;
+}
 
-pub add_with-returns-then-not-is_octet_or_bit_string-clause-kept :
-    goal.add_with-returns-then-not-is_octet_or_bit_string-clause-kept
-add_with-returns-then-not-is_octet_or_bit_string-clause-kept t c = kept-all (found_of c.args.found.now)
+pub add_in_holder-returns-then-spot-ge-DEPTH_LIMIT : goal.add_in_holder-returns-then-spot-ge-DEPTH_LIMIT
+add_in_holder-returns-then-spot-ge-DEPTH_LIMIT t c = record {
+  adds =
+      adds-all_octets c.args.spot.now c.args.offset c.args.end_octets c.args.octets.now (found_of c.args.found.now)
+      (found_of c.args.found.now) c.unended.result c.unended.ensures
+      (adds-too_deep c.args.octets.now c.args.offset c.args.fields.now c.args.count c.requires.begins
+      c.args.spot.now (found_of c.args.found.now) (length c.args.octets.now) c.requires.constructed
+      c.if-spot-ge-DEPTH_LIMIT.true c.args.end_octets);
+  sound =
+      says-unsound (place_at c.args.offset c.args.spot.now.depth) c.args.spot.now.likely c.args.octets.now
+      c.unended.result c.unended.ensures
+      (first-too_deep c.args.octets.now c.args.offset c.args.spot.now.depth c.args.spot.now.likely c.args.fields.now
+      c.args.count
+      c.requires.begins c.requires.constructed c.if-spot-ge-DEPTH_LIMIT.true);
+  kept = kept-all (found_of c.args.found.now);
+  some = search rules;
+  within = search rules;
+}
 
-pub add_with-returns-clause-adds : goal.add_with-returns-clause-adds
-add_with-returns-clause-adds t c =
-    adds-primitive c.args.octets.now c.args.offset c.args.fields.now c.args.count c.requires.begins
-    c.args.spot.now (found_of c.args.found.now) (found_of c.add_string.new.found) c.announced_length-length.result
-    c.is_value_before-is_value.result c.args.end_octets c.if-fields.false c.announced_length-length.ensures
-    (omega (arith, c.if-length-octets.false, length-drop c.args.count c.args.octets.now))
-    (c.is_value_before-is_value.ensures
-    ∙ ap (λ (o : List ℕ). c.args.spot.now.in_extension && is_elements_end c.args.end_octets o)
-    (tail-all c.args.octets.now (c.args.count + c.announced_length-length.result)))
-    (primitive-at c.args.spot.now c.is_value_before-is_value.result c.args.fields.now c.args.octets.now c.args.count
-    c.announced_length-length.result (found_of c.args.found.now) (found_of c.add_string.new.found)
-    (c.in_ok-add_string.ensures.adds c.args.fields.now c.args.count
-    (begins-taken c.args.octets.now c.args.offset c.args.fields.now c.args.count c.announced_length-length.result
-    c.requires.begins (omega (arith, c.if-length-octets.false, c.requires.begins.within)))
-    c.if-fields.false))
+pub add_in_holder-returns-then-length-rest : goal.add_in_holder-returns-then-length-rest
+add_in_holder-returns-then-length-rest t c = record {
+  adds =
+      adds-all_octets c.args.spot.now c.args.offset c.args.end_octets c.args.octets.now (found_of c.args.found.now)
+      (found_of c.add_all_strings.new.found) c.unended-then-length-rest.result c.unended-then-length-rest.ensures
+      (adds-open_holder c.args.octets.now c.args.offset c.args.fields.now c.args.count c.requires.begins
+      c.args.spot.now (found_of c.args.found.now) (found_of c.add_all_strings.new.found) c.in-Definite.length
+      _ c.inside_lacking.result c.requires.constructed c.in-Definite.is
+      (omega (arith, c.if-length-rest.true, ap length (tail-all c.args.octets.now c.args.count)))
+      (c.inside_lacking.ensures.inner (take c.args.count c.args.octets.now))
+      (adds-all-at _ _ _ _ _ _ _ _ _ refl (tail-all c.args.octets.now c.args.count) c.in_ok-add_all_strings.ensures.adds)
+      c.args.end_octets);
+  sound =
+      says-unsound (place_at c.args.offset c.args.spot.now.depth) c.args.spot.now.likely c.args.octets.now
+      c.unended-then-length-rest.result c.unended-then-length-rest.ensures
+      (first-too_long c.args.octets.now c.args.offset c.args.spot.now.depth c.args.spot.now.likely c.args.fields.now
+      c.args.count
+      c.requires.begins c.in-Definite.length c.in-Definite.is
+      (omega (arith, c.if-length-rest.true, ap length (tail-all c.args.octets.now c.args.count))));
+  kept = c.in_ok-add_all_strings.ensures.kept;
+  some = search rules;
+  within = search rules;
+}
 
-pub add_with-returns-clause-sound : goal.add_with-returns-clause-sound
-add_with-returns-clause-sound t c =
-    says-alone c.args.octets.now c.args.offset c.args.spot.now.depth c.args.spot.now.likely c.args.fields.now
-    c.args.count
-    c.announced_length-length.result c.is_likely_if-sound.result c.requires.begins c.if-fields.false
-    c.announced_length-length.ensures
-    (omega (arith, c.if-length-octets.false, length-drop c.args.count c.args.octets.now))
-    (omega (arith, c.if-length-octets.false, c.requires.begins.within)) c.is_likely_if-sound.ensures.unasked
-    c.is_likely_if-sound.ensures.asked
+pub add_in_holder-returns : goal.add_in_holder-returns
+add_in_holder-returns t c = record {
+  adds =
+      rw (tail-all c.args.octets.now c.args.count)
+      (adds-holder c.args.octets.now c.args.offset c.args.fields.now c.args.count c.requires.begins
+      c.args.spot.now (found_of c.args.found.now) (found_of c.add_all_strings-2.new.found) c.in-Definite.length
+      _ c.inside-inner.result c.requires.constructed c.in-Definite.is
+      (omega (arith, c.if-length-rest.false, ap length (tail-all c.args.octets.now c.args.count)))
+      (rw (tail-all c.args.octets.now c.args.count)
+      at (c.inside-inner.ensures.inner (take c.args.count c.args.octets.now)))
+      (adds-all-at _ _ _ _ _ _ _ _ _ refl (ap (take c.in-Definite.length) (tail-all c.args.octets.now c.args.count))
+      c.in_ok-sound.ensures.adds)
+      c.args.end_octets);
+  sound =
+      subst
+      (λ (o : List ℕ). SaysElement (place_at c.args.offset c.args.spot.now.depth) c.args.spot.now.likely c.args.octets.now
+      (record { size = c.args.count + length (take c.in-Definite.length o); sound = c.in_ok-sound.sound }))
+      (sym (tail-all c.args.octets.now c.args.count))
+      (says-definite c.args.octets.now c.args.offset c.args.spot.now.depth c.args.spot.now.likely c.args.fields.now
+      c.args.count
+      c.requires.begins c.in-Definite.length _ c.in_ok-sound.sound
+      c.requires.constructed c.in-Definite.is
+      (omega (arith, c.if-length-rest.false, ap length (tail-all c.args.octets.now c.args.count)))
+      c.if-spot-ge-DEPTH_LIMIT.false
+      (says-inside c.inside-inner.result (c.args.offset + c.args.count) (c.args.spot.now.depth + 1) false false
+      (take c.in-Definite.length (drop c.args.count c.args.octets.now)) _ c.inside-inner.ensures.depth
+      c.inside-inner.ensures.unasked.0 c.inside-inner.ensures.unasked.1
+      (subst
+      (λ (o : List ℕ). SaysSound c.inside-inner.result (c.args.offset + c.args.count) false (take c.in-Definite.length o)
+      (record { size = length (take c.in-Definite.length o); sound = c.in_ok-sound.sound }))
+      (tail-all c.args.octets.now c.args.count) c.in_ok-sound.ensures.sound)));
+  kept = c.in_ok-sound.ensures.kept;
+  some = search rules;
+  within = search rules;
+}
 
-pub add_in_holder-returns-then-spot-ge-DEPTH_LIMIT-clause-adds :
-    goal.add_in_holder-returns-then-spot-ge-DEPTH_LIMIT-clause-adds
-add_in_holder-returns-then-spot-ge-DEPTH_LIMIT-clause-adds t c =
-    adds-all_octets c.args.spot.now c.args.offset c.args.end_octets c.args.octets.now (found_of c.args.found.now)
-    (found_of c.args.found.now) c.unended.result c.unended.ensures
-    (adds-too_deep c.args.octets.now c.args.offset c.args.fields.now c.args.count c.requires.begins
-    c.args.spot.now (found_of c.args.found.now) (length c.args.octets.now) c.requires.constructed
-    c.if-spot-ge-DEPTH_LIMIT.true c.args.end_octets)
+pub add_in_indefinite-returns-then-is_elements_end : goal.add_in_indefinite-returns-then-is_elements_end
+add_in_indefinite-returns-then-is_elements_end t c = record {
+  adds =
+      adds-ended_holder c.args.octets.now c.args.offset c.args.fields.now c.args.count c.requires.begins
+      c.args.spot.now (found_of c.args.found.now) (found_of c.add_ended_strings.new.found) c.in_ok-extent.extent.size
+      c.inside-inner.result
+      (indefinite-constructed c.args.fields.now.constructed c.args.fields.now.size c.requires.indefinite
+      c.requires.begins.begins.valid.allowed)
+      c.requires.indefinite
+      (rw (tail-all c.args.octets.now c.args.count)
+      at (c.inside-inner.ensures.inner (take c.args.count c.args.octets.now)))
+      (adds-all-at _ _ _ _ _ _ _ _ _ refl (tail-all c.args.octets.now c.args.count) c.in_ok-extent.ensures.adds)
+      (sym (c.is_elements_end.ensures
+      ∙ ap (is_elements_end true) (tail-of_tail c.args.octets.now c.args.count c.in_ok-extent.extent.size))
+      ∙ c.if-is_elements_end.true)
+      c.args.end_octets;
+  sound =
+      says-indefinite c.args.octets.now c.args.offset c.args.spot.now.depth c.args.spot.now.likely c.args.fields.now
+      c.args.count c.requires.begins c.in_ok-extent.extent.size c.in_ok-extent.extent.sound c.requires.indefinite
+      c.requires.shallow
+      (says-inside c.inside-inner.result (c.args.offset + c.args.count) (c.args.spot.now.depth + 1) false true
+      (drop c.args.count c.args.octets.now) c.in_ok-extent.extent c.inside-inner.ensures.depth
+      c.inside-inner.ensures.unasked.0 c.inside-inner.ensures.unasked.1
+      (subst
+      (λ (o : List ℕ). SaysSound c.inside-inner.result (c.args.offset + c.args.count) true o c.in_ok-extent.extent)
+      (tail-all c.args.octets.now c.args.count) c.in_ok-extent.ensures.sound));
+  kept = c.in_ok-extent.ensures.kept;
+  some = search rules;
+  within = search rules;
+}
 
-pub add_in_holder-returns-then-spot-ge-DEPTH_LIMIT-clause-sound :
-    goal.add_in_holder-returns-then-spot-ge-DEPTH_LIMIT-clause-sound
-add_in_holder-returns-then-spot-ge-DEPTH_LIMIT-clause-sound t c =
-    says-unsound (place_at c.args.offset c.args.spot.now.depth) c.args.spot.now.likely c.args.octets.now
-    c.unended.result c.unended.ensures
-    (first-too_deep c.args.octets.now c.args.offset c.args.spot.now.depth c.args.spot.now.likely c.args.fields.now
-    c.args.count
-    c.requires.begins c.requires.constructed c.if-spot-ge-DEPTH_LIMIT.true)
-
-pub add_in_holder-returns-then-spot-ge-DEPTH_LIMIT-clause-kept :
-    goal.add_in_holder-returns-then-spot-ge-DEPTH_LIMIT-clause-kept
-add_in_holder-returns-then-spot-ge-DEPTH_LIMIT-clause-kept t c = kept-all (found_of c.args.found.now)
-
-pub add_in_holder-returns-then-length-rest-clause-adds : goal.add_in_holder-returns-then-length-rest-clause-adds
-add_in_holder-returns-then-length-rest-clause-adds t c =
-    adds-all_octets c.args.spot.now c.args.offset c.args.end_octets c.args.octets.now (found_of c.args.found.now)
-    (found_of c.add_all_strings.new.found) c.unended-then-length-rest.result c.unended-then-length-rest.ensures
-    (adds-open_holder c.args.octets.now c.args.offset c.args.fields.now c.args.count c.requires.begins
-    c.args.spot.now (found_of c.args.found.now) (found_of c.add_all_strings.new.found) c.in-Definite.length
-    _ c.inside_lacking.result c.requires.constructed c.in-Definite.is
-    (omega (arith, c.if-length-rest.true, ap length (tail-all c.args.octets.now c.args.count)))
-    (c.inside_lacking.ensures.inner (take c.args.count c.args.octets.now))
-    (adds-all-at _ _ _ _ _ _ _ _ _ refl (tail-all c.args.octets.now c.args.count) c.in_ok-add_all_strings.ensures.adds)
-    c.args.end_octets)
-
-pub add_in_holder-returns-then-length-rest-clause-sound : goal.add_in_holder-returns-then-length-rest-clause-sound
-add_in_holder-returns-then-length-rest-clause-sound t c =
-    says-unsound (place_at c.args.offset c.args.spot.now.depth) c.args.spot.now.likely c.args.octets.now
-    c.unended-then-length-rest.result c.unended-then-length-rest.ensures
-    (first-too_long c.args.octets.now c.args.offset c.args.spot.now.depth c.args.spot.now.likely c.args.fields.now
-    c.args.count
-    c.requires.begins c.in-Definite.length c.in-Definite.is
-    (omega (arith, c.if-length-rest.true, ap length (tail-all c.args.octets.now c.args.count))))
-
-pub add_in_holder-returns-clause-adds : goal.add_in_holder-returns-clause-adds
-add_in_holder-returns-clause-adds t c =
-    rw (tail-all c.args.octets.now c.args.count)
-    (adds-holder c.args.octets.now c.args.offset c.args.fields.now c.args.count c.requires.begins
-    c.args.spot.now (found_of c.args.found.now) (found_of c.add_all_strings-2.new.found) c.in-Definite.length
-    _ c.inside-inner.result c.requires.constructed c.in-Definite.is
-    (omega (arith, c.if-length-rest.false, ap length (tail-all c.args.octets.now c.args.count)))
-    (rw (tail-all c.args.octets.now c.args.count)
-    at (c.inside-inner.ensures.inner (take c.args.count c.args.octets.now)))
-    (adds-all-at _ _ _ _ _ _ _ _ _ refl (ap (take c.in-Definite.length) (tail-all c.args.octets.now c.args.count))
-    c.in_ok-sound.ensures.adds)
-    c.args.end_octets)
-
-pub add_in_holder-returns-clause-sound : goal.add_in_holder-returns-clause-sound
-add_in_holder-returns-clause-sound t c =
-    subst
-    (λ (o : List ℕ). SaysElement (place_at c.args.offset c.args.spot.now.depth) c.args.spot.now.likely c.args.octets.now
-    (record { size = c.args.count + length (take c.in-Definite.length o); sound = c.in_ok-sound.sound }))
-    (sym (tail-all c.args.octets.now c.args.count))
-    (says-definite c.args.octets.now c.args.offset c.args.spot.now.depth c.args.spot.now.likely c.args.fields.now
-    c.args.count
-    c.requires.begins c.in-Definite.length _ c.in_ok-sound.sound
-    c.requires.constructed c.in-Definite.is
-    (omega (arith, c.if-length-rest.false, ap length (tail-all c.args.octets.now c.args.count)))
-    c.if-spot-ge-DEPTH_LIMIT.false
-    (says-inside c.inside-inner.result (c.args.offset + c.args.count) (c.args.spot.now.depth + 1) false false
-    (take c.in-Definite.length (drop c.args.count c.args.octets.now)) _ c.inside-inner.ensures.depth
-    c.inside-inner.ensures.unasked.0 c.inside-inner.ensures.unasked.1
-    (subst
-    (λ (o : List ℕ). SaysSound c.inside-inner.result (c.args.offset + c.args.count) false (take c.in-Definite.length o)
-    (record { size = length (take c.in-Definite.length o); sound = c.in_ok-sound.sound }))
-    (tail-all c.args.octets.now c.args.count) c.in_ok-sound.ensures.sound)))
-
-pub add_in_indefinite-returns-then-is_elements_end-clause-adds :
-    goal.add_in_indefinite-returns-then-is_elements_end-clause-adds
-add_in_indefinite-returns-then-is_elements_end-clause-adds t c =
-    adds-ended_holder c.args.octets.now c.args.offset c.args.fields.now c.args.count c.requires.begins
-    c.args.spot.now (found_of c.args.found.now) (found_of c.add_ended_strings.new.found) c.in_ok-extent.extent.size
-    c.inside-inner.result
-    (indefinite-constructed c.args.fields.now.constructed c.args.fields.now.size c.requires.indefinite
-    c.requires.begins.begins.valid.allowed)
-    c.requires.indefinite
-    (rw (tail-all c.args.octets.now c.args.count)
-    at (c.inside-inner.ensures.inner (take c.args.count c.args.octets.now)))
-    (adds-all-at _ _ _ _ _ _ _ _ _ refl (tail-all c.args.octets.now c.args.count) c.in_ok-extent.ensures.adds)
-    (sym (c.is_elements_end.ensures
-    ∙ ap (is_elements_end true) (tail-of_tail c.args.octets.now c.args.count c.in_ok-extent.extent.size))
-    ∙ c.if-is_elements_end.true)
-    c.args.end_octets
-
-pub add_in_indefinite-returns-then-is_elements_end-clause-sound :
-    goal.add_in_indefinite-returns-then-is_elements_end-clause-sound
-add_in_indefinite-returns-then-is_elements_end-clause-sound t c =
-    says-indefinite c.args.octets.now c.args.offset c.args.spot.now.depth c.args.spot.now.likely c.args.fields.now
-    c.args.count c.requires.begins c.in_ok-extent.extent.size c.in_ok-extent.extent.sound c.requires.indefinite
-    c.requires.shallow
-    (says-inside c.inside-inner.result (c.args.offset + c.args.count) (c.args.spot.now.depth + 1) false true
-    (drop c.args.count c.args.octets.now) c.in_ok-extent.extent c.inside-inner.ensures.depth
-    c.inside-inner.ensures.unasked.0 c.inside-inner.ensures.unasked.1
-    (subst
-    (λ (o : List ℕ). SaysSound c.inside-inner.result (c.args.offset + c.args.count) true o c.in_ok-extent.extent)
-    (tail-all c.args.octets.now c.args.count) c.in_ok-extent.ensures.sound))
-
-pub add_in_indefinite-returns-clause-adds : goal.add_in_indefinite-returns-clause-adds
-add_in_indefinite-returns-clause-adds t c =
-    adds-all_octets c.args.spot.now c.args.offset c.args.end_octets c.args.octets.now (found_of c.args.found.now)
-    (found_of c.add_ended_strings.new.found) c.unended.result c.unended.ensures
-    (adds-unended_holder c.args.octets.now c.args.offset c.args.fields.now c.args.count c.requires.begins
-    c.args.spot.now (found_of c.args.found.now) (found_of c.add_ended_strings.new.found) c.in_ok-extent.extent.size
-    c.inside-inner.result
-    (indefinite-constructed c.args.fields.now.constructed c.args.fields.now.size c.requires.indefinite
-    c.requires.begins.begins.valid.allowed)
-    c.requires.indefinite
-    (rw (tail-all c.args.octets.now c.args.count)
-    at (c.inside-inner.ensures.inner (take c.args.count c.args.octets.now)))
-    (adds-all-at _ _ _ _ _ _ _ _ _ refl (tail-all c.args.octets.now c.args.count) c.in_ok-extent.ensures.adds)
-    (sym (c.is_elements_end.ensures
-    ∙ ap (is_elements_end true) (tail-of_tail c.args.octets.now c.args.count c.in_ok-extent.extent.size))
-    ∙ c.if-is_elements_end.false)
-    c.args.end_octets)
-
-pub add_in_indefinite-returns-clause-sound : goal.add_in_indefinite-returns-clause-sound
-add_in_indefinite-returns-clause-sound t c =
-    says-unsound (place_at c.args.offset c.args.spot.now.depth) c.args.spot.now.likely c.args.octets.now
-    c.unended.result c.unended.ensures
-    (says-unended c.args.octets.now c.args.offset c.args.spot.now.depth c.args.spot.now.likely c.args.fields.now
-    c.args.count c.requires.begins c.in_ok-extent.extent.size c.in_ok-extent.extent.sound c.requires.indefinite
-    (sym (c.is_elements_end.ensures
-    ∙ ap (is_elements_end true) (tail-of_tail c.args.octets.now c.args.count c.in_ok-extent.extent.size))
-    ∙ c.if-is_elements_end.false)
-    (says-inside c.inside-inner.result (c.args.offset + c.args.count) (c.args.spot.now.depth + 1) false true
-    (drop c.args.count c.args.octets.now) c.in_ok-extent.extent c.inside-inner.ensures.depth
-    c.inside-inner.ensures.unasked.0 c.inside-inner.ensures.unasked.1
-    (subst
-    (λ (o : List ℕ). SaysSound c.inside-inner.result (c.args.offset + c.args.count) true o c.in_ok-extent.extent)
-    (tail-all c.args.octets.now c.args.count) c.in_ok-extent.ensures.sound)))
+pub add_in_indefinite-returns : goal.add_in_indefinite-returns
+add_in_indefinite-returns t c = record {
+  adds =
+      adds-all_octets c.args.spot.now c.args.offset c.args.end_octets c.args.octets.now (found_of c.args.found.now)
+      (found_of c.add_ended_strings.new.found) c.unended.result c.unended.ensures
+      (adds-unended_holder c.args.octets.now c.args.offset c.args.fields.now c.args.count c.requires.begins
+      c.args.spot.now (found_of c.args.found.now) (found_of c.add_ended_strings.new.found) c.in_ok-extent.extent.size
+      c.inside-inner.result
+      (indefinite-constructed c.args.fields.now.constructed c.args.fields.now.size c.requires.indefinite
+      c.requires.begins.begins.valid.allowed)
+      c.requires.indefinite
+      (rw (tail-all c.args.octets.now c.args.count)
+      at (c.inside-inner.ensures.inner (take c.args.count c.args.octets.now)))
+      (adds-all-at _ _ _ _ _ _ _ _ _ refl (tail-all c.args.octets.now c.args.count) c.in_ok-extent.ensures.adds)
+      (sym (c.is_elements_end.ensures
+      ∙ ap (is_elements_end true) (tail-of_tail c.args.octets.now c.args.count c.in_ok-extent.extent.size))
+      ∙ c.if-is_elements_end.false)
+      c.args.end_octets);
+  sound =
+      says-unsound (place_at c.args.offset c.args.spot.now.depth) c.args.spot.now.likely c.args.octets.now
+      c.unended.result c.unended.ensures
+      (says-unended c.args.octets.now c.args.offset c.args.spot.now.depth c.args.spot.now.likely c.args.fields.now
+      c.args.count c.requires.begins c.in_ok-extent.extent.size c.in_ok-extent.extent.sound c.requires.indefinite
+      (sym (c.is_elements_end.ensures
+      ∙ ap (is_elements_end true) (tail-of_tail c.args.octets.now c.args.count c.in_ok-extent.extent.size))
+      ∙ c.if-is_elements_end.false)
+      (says-inside c.inside-inner.result (c.args.offset + c.args.count) (c.args.spot.now.depth + 1) false true
+      (drop c.args.count c.args.octets.now) c.in_ok-extent.extent c.inside-inner.ensures.depth
+      c.inside-inner.ensures.unasked.0 c.inside-inner.ensures.unasked.1
+      (subst
+      (λ (o : List ℕ). SaysSound c.inside-inner.result (c.args.offset + c.args.count) true o c.in_ok-extent.extent)
+      (tail-all c.args.octets.now c.args.count) c.in_ok-extent.ensures.sound)));
+  kept = c.in_ok-extent.ensures.kept;
+  some = search rules;
+  within = search rules;
+}
 
 pub add_string-returns-then-not-spot-clause-adds : goal.add_string-returns-then-not-spot-clause-adds
 add_string-returns-then-not-spot-clause-adds t c = λ g m b p.
