@@ -298,7 +298,8 @@ add_in_holder-returns-then-length-rest t c = record {
       _ c.inside_lacking.result c.requires.constructed c.in-Definite.is
       (omega (arith, c.if-length-rest.true, ap length (tail-all c.args.octets.now c.args.count)))
       (c.inside_lacking.ensures.inner (take c.args.count c.args.octets.now))
-      (adds-all-at _ _ _ _ _ _ _ _ _ refl (tail-all c.args.octets.now c.args.count) c.in_ok-add_all_strings.ensures.adds)
+      (adds-all-at _ _ _ _ _ _ _ _ _ refl (tail-all c.args.octets.now c.args.count)
+      c.in_ok-add_all_strings.ensures.adds)
       c.args.end_octets);
   sound =
       says-unsound (place_at c.args.offset c.args.spot.now.depth) c.args.spot.now.likely c.args.octets.now
@@ -327,7 +328,8 @@ add_in_holder-returns t c = record {
       c.args.end_octets);
   sound =
       subst
-      (λ (o : List ℕ). SaysElement (place_at c.args.offset c.args.spot.now.depth) c.args.spot.now.likely c.args.octets.now
+      (λ (o : List ℕ).
+      SaysElement (place_at c.args.offset c.args.spot.now.depth) c.args.spot.now.likely c.args.octets.now
       (record { size = c.args.count + length (take c.in-Definite.length o); sound = c.in_ok-sound.sound }))
       (sym (tail-all c.args.octets.now c.args.count))
       (says-definite c.args.octets.now c.args.offset c.args.spot.now.depth c.args.spot.now.likely c.args.fields.now
@@ -340,7 +342,8 @@ add_in_holder-returns t c = record {
       (take c.in-Definite.length (drop c.args.count c.args.octets.now)) _ c.inside-inner.ensures.depth
       c.inside-inner.ensures.unasked.0 c.inside-inner.ensures.unasked.1
       (subst
-      (λ (o : List ℕ). SaysSound c.inside-inner.result (c.args.offset + c.args.count) false (take c.in-Definite.length o)
+      (λ (o : List ℕ).
+      SaysSound c.inside-inner.result (c.args.offset + c.args.count) false (take c.in-Definite.length o)
       (record { size = length (take c.in-Definite.length o); sound = c.in_ok-sound.sound }))
       (tail-all c.args.octets.now c.args.count) c.in_ok-sound.ensures.sound)));
   kept = c.in_ok-sound.ensures.kept;
