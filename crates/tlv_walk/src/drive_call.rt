@@ -55,8 +55,9 @@ pub fn drive_up_to<S: Source, F: Follow, D: Drain>(
         (drive_states follower.new (S.state source.new) (D.state drain.new)) result }
 {
     let mut room = [0; ROOM];
-    let mut walker = Walker::new(framing);
+    // Made before the walker, its room is cleared once and not twice.
     let mut out = Out::new(drain);
+    let mut walker = Walker::new(framing);
     'turns: loop {
         match turn_with(&mut walker, follower, source, &mut out, &mut room, limit)? {
             Turn::Again => {}
