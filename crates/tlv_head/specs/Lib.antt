@@ -5,6 +5,8 @@ pub mod Header
 pub mod StoredHeader
 pub mod HeaderFields
 pub mod Fault
+pub mod TypeTable
+pub mod Kind
 pub mod Tag
 pub mod Refusal
 pub mod HeadReaderState

@@ -6,13 +6,17 @@ mod fault;
 mod head_reader;
 mod header;
 mod header_at_once;
+mod kind;
 pub mod laws;
 mod next_octet;
 mod tag;
+mod type_table;
 pub mod universal;
 
 pub use fault::{Fault, FaultCode};
 pub use head_reader::{Head, HeadReader};
 pub use header::{Class, Header, HeaderFields, Size, spell_indefinite};
 pub use header_at_once::{read_header, read_short};
-pub use tag::{tag_text, type_name, type_name_block};
+pub use kind::{Kind, kind_of};
+pub use tag::{tag_text, type_name};
+pub use type_table::{Encodings, UniversalType, encodings_of, type_at};

@@ -5,10 +5,10 @@ use Rattle.tlv_head.specs.Header.{HeaderValue}
 use Rattle.tlv_head.specs.declared.header.Class.TheVariants.{Universal, Context}
 use Rattle.tlv_head.specs.declared.header.Size.TheVariants.{Definite}
 use Rattle.tlv_value.specs.declared.finding.Finding.TheVariants.{B08, B11, B12, B15, B19, S02, S03, S04}
-use Rattle.tlv_value.specs.declared.kind.Kind.TheVariants.{Octets, Integer}
+use Rattle.tlv_head.specs.declared.kind.Kind.TheVariants.{Octets, Integer}
 use Rattle.tlv_value.specs.Arcs.{arcs_of, subidentifiers}
 use Rattle.tlv_value.specs.Checks.{all_contents_findings}
-use Rattle.tlv_value.specs.Kind.{kind_of}
+use Rattle.tlv_head.specs.Kind.{kind_of}
 use Rattle.tlv_value.specs.Number.{decimal_of}
 use Rattle.tlv_value.specs.Rows.{rows_of}
 use Rattle.tlv_value.specs.Times.{canonical_generalized_time_form, canonical_utc_time_form, generalized_time_form}

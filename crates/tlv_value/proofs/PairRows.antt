@@ -6,7 +6,7 @@ use Rattle.hex.specs.Hex.{encode_with}
 use Rattle.tlv_head.specs.declared.header.Class.TheVariants.{Context}
 use Rattle.tlv_head.specs.declared.header.Size.TheVariants.{Definite}
 use Rattle.tlv_head.specs.Header.{HeaderValue}
-use Rattle.tlv_value.specs.declared.kind.Kind.TheVariants.{Integer, Text}
+use Rattle.tlv_head.specs.declared.kind.Kind.TheVariants.{Integer, Text}
 use Rattle.tlv_value.specs.declared.layout.Layout.{Layout}
 use Rattle.tlv_value.specs.ValueLines.{open_lines_with, row_lines, whole_lines, whole_lines_with}
 use Rattle.tlv_value.specs.Value.{no_names, octets_value, row_text}

@@ -10,5 +10,4 @@ pub mod RowLines
 pub mod Rests
 pub mod RowTextLengths
 pub mod Texts
-pub mod TypeKinds
 pub mod UnitSteps

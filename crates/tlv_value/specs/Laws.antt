@@ -2,7 +2,7 @@
 use Rattle.std.specs.Prelude.{◌≡◌, ℕ, Bool, List, [], ◌++◌}
 use Rattle.tlv_head.specs.Header.{HasAllContents, HeaderValue}
 use Rattle.tlv_io.specs.Cuts.{IsCut}
-use Rattle.tlv_value.specs.declared.kind.Kind.{Kind}
+use Rattle.tlv_head.specs.declared.kind.Kind.{Kind}
 use Rattle.tlv_value.specs.declared.layout.Layout.{Layout}
 use Rattle.tlv_value.specs.RowSizes.{character_length, row_size}
 use Rattle.tlv_value.specs.Rows.{rows_of}

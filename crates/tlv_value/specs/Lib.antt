@@ -1,4 +1,3 @@
-pub mod Kind
 pub mod Finding
 pub mod Bits
 pub mod Number

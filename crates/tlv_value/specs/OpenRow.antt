@@ -1,7 +1,7 @@
 -- What holds of the row of contents that a `ValueText` and a `ValueCheck` keep between pieces.
 use Rattle.std.specs.Prelude.{ℕ, ◌<◌, List, length}
 use Rattle.tlv_io.specs.Cuts.{SplitsNone}
-use Rattle.tlv_value.specs.declared.kind.Kind.{Kind}
+use Rattle.tlv_head.specs.declared.kind.Kind.{Kind}
 use Rattle.tlv_value.specs.RowSizes.{character_length, row_size}
 
 -- the row has fewer octets than a row has room for, and splits none that are to be kept in one row

@@ -1,9 +1,9 @@
 -- By what the octets of long contents are cut into rows: `IsCut` of tlv_io says which rows are then a cut.
 use Rattle.std.specs.Prelude.{ℕ, if◌then◌else◌}
 use Rattle.tlv_io.specs.Cuts.{utf8_length}
-use Rattle.tlv_value.specs.declared.kind.Kind.{Kind}
-use Rattle.tlv_value.specs.declared.kind.Kind.TheVariants.{Utf8}
-use Rattle.tlv_value.specs.Kind.{is_text}
+use Rattle.tlv_head.specs.declared.kind.Kind.{Kind}
+use Rattle.tlv_head.specs.declared.kind.Kind.TheVariants.{Utf8}
+use Rattle.tlv_head.specs.Kind.{is_text}
 
 -- how many octets a row has room for
 abbrev pub row_size : Kind → ℕ

@@ -2,9 +2,9 @@
 use Rattle.std.specs.Prelude.{ℕ, Bool, eqb, if◌then◌else◌, List, [], ◌∷◌, ◌++◌, length}
 use Rattle.tlv_io.specs.Cuts.{RowsOf}
 use Rattle.tlv_io.proofs.CutOf.{cut_of_characters, cut_of_octets}
-use Rattle.tlv_value.specs.declared.kind.Kind.{Kind}
-use Rattle.tlv_value.specs.declared.kind.Kind.TheVariants.{Utf8}
-use Rattle.tlv_value.specs.Kind.{is_text}
+use Rattle.tlv_head.specs.declared.kind.Kind.{Kind}
+use Rattle.tlv_head.specs.declared.kind.Kind.TheVariants.{Utf8}
+use Rattle.tlv_head.specs.Kind.{is_text}
 use Rattle.tlv_value.specs.RowSizes.{character_length, row_size}
 
 -- a cut of any octets, as the type says. That there is one is a lemma: so these two names are from `proofs`, and a

@@ -1,8 +1,10 @@
--- Which universal types are strings, times, always primitive or always constructed: X.690 8.
-use Rattle.std.specs.Prelude.{ℕ, Bool, ◌&&◌, ◌||◌, not, ◌==◌, eqb, nat_le, if◌then◌else◌, List, [], ◌∷◌, ◌++◌}
+-- What a tag says of an element, by the table of the universal types.
+use Rattle.std.specs.Prelude.{ℕ, Bool, ◌&&◌, ◌||◌, not, ◌==◌, eqb, if◌then◌else◌, List, [], ◌∷◌, ◌++◌}
 use Rattle.std.specs.List.{list_any}
+use Rattle.std.specs.Option.{is_some}
 use Rattle.tlv_head.specs.UniversalTypes as universal
 use Rattle.tlv_head.specs.Header.{HeaderValue, is_universal}
+use Rattle.tlv_head.specs.TypeTable.{are_constructed, are_primitive, are_segmented, has_encodings, type_at}
 
 -- the tag is that of this type
 abbrev pub is_a : ℕ → HeaderValue → Bool
@@ -11,10 +13,6 @@ is_a number h = is_universal h.class && h.number == number
 -- the number is that of one of these types
 abbrev pub is_number_of : List ℕ → ℕ → Bool
 is_number_of types number = list_any (eqb number) types
-
--- the tag is that of one of these types
-abbrev pub is_one_of : List ℕ → HeaderValue → Bool
-is_one_of types h = is_universal h.class && is_number_of types h.number
 
 -- the universal number of the type; of another class that of OCTET STRING, on whose contents nothing is found
 abbrev pub type_number : HeaderValue → ℕ
@@ -46,50 +44,17 @@ character_types =
 abbrev pub time_types : List ℕ
 time_types = universal.utc_time ∷ universal.generalized_time ∷ []
 
--- 8.2.1, 8.3.1, 8.4, 8.5.1, 8.8.1, 8.19.1, 8.20.1: types whose encodings are primitive
-abbrev pub primitive_types : List ℕ
-primitive_types =
-    universal.boolean
-    ∷ universal.integer
-    ∷ universal.null
-    ∷ universal.object_identifier
-    ∷ universal.real
-    ∷ universal.enumerated
-    ∷ universal.relative_oid
-    ∷ []
-
+-- its encodings are primitive alone
 abbrev pub is_always_primitive : HeaderValue → Bool
-is_always_primitive h = is_one_of primitive_types h
+is_always_primitive h = is_universal h.class && has_encodings are_primitive h.number
 
--- 8.9.1, 8.11.1, 8.17, 8.18, 8.24: types whose encodings are constructed
-abbrev pub constructed_types : List ℕ
-constructed_types =
-    universal.external
-    ∷ universal.embedded_pdv
-    ∷ universal.sequence
-    ∷ universal.set
-    ∷ universal.character_string
-    ∷ []
-
+-- its encodings are constructed alone
 abbrev pub is_always_constructed : HeaderValue → Bool
-is_always_constructed h = is_one_of constructed_types h
+is_always_constructed h = is_universal h.class && has_encodings are_constructed h.number
 
--- the strings whose numbers are not from NumericString to UniversalString
-abbrev pub other_string_types : List ℕ
-other_string_types =
-    universal.bit_string
-    ∷ universal.octet_string
-    ∷ universal.object_descriptor
-    ∷ universal.utf8_string
-    ∷ universal.bmp_string
-    ∷ []
-
--- 8.6.1, 8.7.1, 8.23, 8.25: strings, whose encodings are primitive or constructed: some by name, and all from
--- NumericString to UniversalString, the times among them
+-- a string, the times among them
 abbrev pub is_string : HeaderValue → Bool
-is_string h =
-    is_one_of other_string_types h
-    || (is_universal h.class && nat_le universal.numeric_string h.number && nat_le h.number universal.universal_string)
+is_string h = is_universal h.class && has_encodings are_segmented h.number
 
 -- 8.1.2.5: the element is primitive, as a string that holds encodings is
 abbrev pub is_primitive : HeaderValue → Bool
@@ -101,7 +66,7 @@ has_segments h = h.constructed && is_string h
 
 -- no universal type has the number
 abbrev pub is_unassigned_number : ℕ → Bool
-is_unassigned_number number = number == 0 || number == 15 || nat_le 37 number
+is_unassigned_number number = not (is_some (type_at number))
 
 -- the tag is universal, and no type has its number
 abbrev pub is_unassigned : HeaderValue → Bool

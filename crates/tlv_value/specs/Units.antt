@@ -4,8 +4,8 @@ use Rattle.std.specs.Prelude.{if◌then◌else◌, List, [], ◌∷◌, ◌++◌
 use Rattle.std.specs.Str.{is_utf8}
 use Rattle.hex.specs.Hex.{encode_lower}
 use Rattle.tlv_io.specs.Cuts.{utf8_length}
-use Rattle.tlv_value.specs.declared.kind.Kind.{Kind}
-use Rattle.tlv_value.specs.declared.kind.Kind.TheVariants.{Utf8, Ucs2, Ucs4}
+use Rattle.tlv_head.specs.declared.kind.Kind.{Kind}
+use Rattle.tlv_head.specs.declared.kind.Kind.TheVariants.{Utf8, Ucs2, Ucs4}
 
 -- 22 is the quotation mark, 5c the reverse solidus
 abbrev pub printable_text : ℕ → List ℕ

@@ -7,12 +7,12 @@ use Rattle.std.specs.List.{join_by, list_all}
 use Rattle.std.specs.Option.{option_map_or}
 use Rattle.hex.specs.Hex.{encode_lower}
 pub use Rattle.tlv_io.specs.LineTexts.{spaced_pairs}
-use Rattle.tlv_value.specs.declared.kind.Kind.{Kind}
-use Rattle.tlv_value.specs.declared.kind.Kind.TheVariants.{Boolean, Integer, Bits, Object, Octets, Relative}
+use Rattle.tlv_head.specs.declared.kind.Kind.{Kind}
+use Rattle.tlv_head.specs.declared.kind.Kind.TheVariants.{Boolean, Integer, Bits, Object, Octets, Relative}
 use Rattle.tlv_value.specs.Arcs.{dotted_of}
 use Rattle.tlv_value.specs.Bits.{bits_of}
 use Rattle.tlv_value.specs.RowSizes.{row_size}
-use Rattle.tlv_value.specs.Kind.{is_text}
+use Rattle.tlv_head.specs.Kind.{is_text}
 use Rattle.tlv_value.specs.Number.{twos_complement}
 use Rattle.tlv_value.specs.Rows.{known_rows, rows_of}
 use Rattle.tlv_value.specs.Units.{is_printable, quoted_text}

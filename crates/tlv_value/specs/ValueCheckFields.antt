@@ -1,7 +1,7 @@
 -- What the fields of a `ValueCheck` say.
 use Rattle.std.specs.Prelude.{◌<◌, ◌≤◌, ◌∷◌, [], take}
 use Rattle.tlv_value.specs.declared.value_check.ValueCheck.TheInside.{Inside}
-use Rattle.tlv_value.specs.declared.kind.Kind.TheVariants.{Utf8}
+use Rattle.tlv_head.specs.declared.kind.Kind.TheVariants.{Utf8}
 use Rattle.tlv_value.specs.ValueCheckState.{ValueCheckState}
 use Rattle.tlv_value.specs.OpenRow.{IsOpenRow}
 

@@ -5,7 +5,7 @@ use Rattle.std.specs.Prelude.{◌∷◌, ◌++◌, length, take}
 use Rattle.std.specs.Str.{is_utf8}
 use Rattle.tlv_head.specs.UniversalTypes as universal
 use Rattle.tlv_head.specs.Header.{HeaderValue, announced_length}
-use Rattle.tlv_value.specs.declared.kind.Kind.TheVariants.{Utf8}
+use Rattle.tlv_head.specs.declared.kind.Kind.TheVariants.{Utf8}
 use Rattle.tlv_value.specs.declared.finding.Finding.{Finding}
 use Rattle.tlv_value.specs.Checks.{ContentsFacts, allows_octet, are_whole_characters, findings_by, is_padded_after}
 use Rattle.tlv_value.specs.Checks.{last_octet, type_conditions}

@@ -4,10 +4,10 @@ use Rattle.std.specs.Prelude.{ℕ, ◌+◌, ◌&&◌, Bool, true, false, if◌th
 use Rattle.tlv_head.specs.declared.header.Class.{Class}
 use Rattle.tlv_head.specs.Header.{HeaderValue, announced_length}
 use Rattle.tlv_head.specs.Tag.{tag_text}
-use Rattle.tlv_value.specs.declared.kind.Kind.{Kind}
-use Rattle.tlv_value.specs.declared.kind.Kind.TheVariants.{Bits}
+use Rattle.tlv_head.specs.declared.kind.Kind.{Kind}
+use Rattle.tlv_head.specs.declared.kind.Kind.TheVariants.{Bits}
 use Rattle.tlv_value.specs.declared.layout.Layout.{Layout}
-use Rattle.tlv_value.specs.Kind.{kind_of}
+use Rattle.tlv_head.specs.Kind.{kind_of}
 use Rattle.tlv_value.specs.Layout.{columns, line_margin, row_line}
 use Rattle.tlv_value.specs.Value.{NameOf, Value, is_long, long_value, row_text, whole_value}
 

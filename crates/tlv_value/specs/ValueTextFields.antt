@@ -1,6 +1,6 @@
 -- What the fields of a `ValueText` say.
 use Rattle.std.specs.Prelude.{◌≡◌, ◌+◌, ◌≤◌, true, false, length, []}
-use Rattle.tlv_value.specs.declared.kind.Kind.TheVariants.{Bits}
+use Rattle.tlv_head.specs.declared.kind.Kind.TheVariants.{Bits}
 use Rattle.tlv_value.specs.declared.value_text.ValueText.TheInside.{Inside}
 use Rattle.tlv_value.specs.OpenRow.{IsOpenRow}
 use Rattle.tlv_value.specs.ValueTextState.{ValueTextState, is_long_primitive}

@@ -5,7 +5,6 @@
 mod decimal;
 mod dotted_texts;
 mod finding;
-mod kind;
 pub mod laws;
 mod layout;
 mod line_starts;

@@ -9,7 +9,7 @@ ghost use Rattle.tlv_value.specs.Value.{most_on_line};
 ghost use Rattle.tlv_value.specs.ValueTextState.{is_long_primitive, long_value_line, new_primitive, primitive_line};
 ghost use Rattle.tlv_value.specs.ValueTextState.{primitive_lines};
 
-use crate::kind::{Kind, kind_of};
+use tlv_head::{Kind, kind_of};
 use crate::line_starts::begin_element;
 use crate::row_sizes::row_size;
 use crate::value::{write_long_bits, write_long_value, write_undotted};

@@ -1,7 +1,7 @@
 //! How the rows of a value are written.
 
 use crate::Layout;
-use crate::kind::Kind;
+use tlv_head::Kind;
 
 /// How the rows of a value are written.
 #[derive(Clone, Copy)]

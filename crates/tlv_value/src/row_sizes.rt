@@ -4,7 +4,7 @@ ghost use Rattle.tlv_value.specs.RowSizes.{row_size};
 ghost use Rattle.tlv_io.specs.Cuts.{utf8_length};
 ghost use Rattle.tlv_value.specs.Private.Room.{HaveRoom, has_room};
 
-use crate::kind::Kind;
+use tlv_head::Kind;
 
 /// How many octets a row has room for.
 pub(crate) fn row_size(kind: Kind) -> usize

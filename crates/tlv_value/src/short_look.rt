@@ -4,7 +4,8 @@ ghost use Rattle.tlv_head.specs.UniversalTypes.{bit_string, boolean};
 ghost use Rattle.tlv_value.specs.Checks.{all_contents_findings, is_padded_after, is_padded_integer, last_octet};
 ghost use Rattle.tlv_value.specs.Checks.{type_findings};
 ghost use Rattle.tlv_value.specs.Private.TimeFindings.{generalized_time_findings, utc_time_findings};
-ghost use Rattle.tlv_value.specs.Types.{constructed_types, has_primitives, is_number_of};
+ghost use Rattle.tlv_head.specs.TypeTable.{are_constructed, has_encodings};
+ghost use Rattle.tlv_value.specs.Types.{has_primitives};
 ghost use Rattle.tlv_value.specs.Types.{is_unassigned_number};
 
 use crate::time::{general_canonical, utc_canonical};
@@ -28,7 +29,7 @@ pub fn is_clear(header: &Header, contents: &[u8]) -> bool
 fn is_type_clear(number: u64, contents: &[u8]) -> bool
     ensures contents { IsTrue result → type_findings number contents.now ≡ [] }
     ensures form { IsTrue result
-        → (is_unassigned_number number || is_number_of constructed_types number) ≡ false }
+        → (is_unassigned_number number || has_encodings are_constructed number) ≡ false }
 {
     match number {
         universal::BOOLEAN => is_canonical_boolean(contents),

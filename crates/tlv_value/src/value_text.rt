@@ -9,7 +9,7 @@ ghost use Rattle.tlv_value.specs.ValueTextState.{begin_lines, contents_lines, en
 ghost use Rattle.tlv_value.specs.ValueTextState.{new_value_text, new_value_text_of, new_value_text_with};
 ghost use Rattle.tlv_value.specs.ValueTextState.{value_text_after, value_text_for};
 
-use crate::kind::Kind;
+use tlv_head::Kind;
 use crate::primitive::Primitive;
 use crate::row_form::RowForm;
 use crate::value_lines::{put_last, put_rows};

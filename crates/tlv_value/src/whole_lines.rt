@@ -10,7 +10,7 @@ ghost use Rattle.tlv_value.specs.Value.{row_octets};
 ghost use Rattle.tlv_value.specs.ValueLines.{row_lines, whole_lines, whole_lines_with};
 ghost use Rattle.tlv_value.specs.ValueTextState.{is_long_primitive, long_value_line, new_value_text_of};
 
-use crate::kind::Kind;
+use tlv_head::Kind;
 use crate::primitive::Primitive;
 use crate::value_lines::put_pair_rows;
 use crate::{Layout, NameTable, ValueText};

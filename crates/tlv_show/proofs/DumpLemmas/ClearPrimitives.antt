@@ -6,8 +6,7 @@ use Rattle.std.specs.List.{filter}
 use Rattle.tlv_head.specs.Header.{HasAllContents, HeaderValue}
 use Rattle.tlv_value.specs.declared.finding.Finding.{Finding}
 use Rattle.tlv_value.specs.Checks.{all_contents_findings}
-use Rattle.tlv_value.specs.Types.{constructed_types, has_primitives, is_one_of, is_string, is_unassigned}
-use Rattle.tlv_value.specs.Types.{primitive_types}
+use Rattle.tlv_value.specs.Types.{has_primitives, is_always_constructed, is_always_primitive, is_string, is_unassigned}
 use Rattle.tlv_walk.specs.declared.follow.Go.TheVariants as go
 use Rattle.tlv_io.specs.declared.out.Out.{Out}
 use Rattle.tlv_io.specs.Device.{DrainState}
@@ -36,12 +35,12 @@ use Rattle.tlv_show.proofs.FindingLemmas.FramesAfter.{outside}
 
 pub usual_primitive : (h : HeaderValue) → h.constructed ≡ false → has_primitives h ≡ true → IsUsual h
 usual_primitive h primitive primitives =
-    let form : (is_unassigned h || is_one_of constructed_types h) ≡ false = not-true _ primitives in
+    let form : (is_unassigned h || is_always_constructed h) ≡ false = not-true _ primitives in
     record {
       assigned = search (rules, form);
-      primitive_if_always = ap (λ (b : Bool). b && is_one_of primitive_types h) primitive;
+      primitive_if_always = ap (λ (b : Bool). b && is_always_primitive h) primitive;
       constructed_if_always =
-          ap (λ (b : Bool). not b && is_one_of constructed_types h) primitive ∙ search (rules, form);
+          ap (λ (b : Bool). not b && is_always_constructed h) primitive ∙ search (rules, form);
       no_segments = ap (λ (b : Bool). b && is_string h) primitive;
     }
 

@@ -8,7 +8,7 @@ use Rattle.std.proofs.lemmas.Bool.Decides.{nat_tests}
 use Rattle.tlv_value.specs.Types.{is_number_of, object_types}
 use Rattle.tlv_value.specs.ValueCheckState.{ValueCheckState, notes_each, with_each_noted}
 use Rattle.tlv_value.specs.Checks.{allows_octet, is_padded_after, last_octet}
-use Rattle.tlv_value.specs.declared.kind.Kind.TheVariants.{Utf8}
+use Rattle.tlv_head.specs.declared.kind.Kind.TheVariants.{Utf8}
 use Rattle.tlv_value.specs.Rows.{full_rows, open_row}
 use Rattle.tlv_value.proofs.CheckLemmas.Noting.{all-other}
 

@@ -13,7 +13,7 @@ use Rattle.tlv_value.specs.Types.{character_types, is_number_of}
 use Rattle.tlv_value.specs.ValueCheckState.{facts_in, is_allowed, new_value_check_of, notes_each}
 use Rattle.tlv_value.specs.ValueCheckState.{with_each_noted, with_octets_noted}
 use Rattle.tlv_value.specs.Rows.{full_rows, open_row}
-use Rattle.tlv_value.specs.declared.kind.Kind.TheVariants.{Utf8}
+use Rattle.tlv_head.specs.declared.kind.Kind.TheVariants.{Utf8}
 use Rattle.std.specs.Str.{is_utf8}
 use Rattle.tlv_value.proofs.CheckLemmas.EachNoted.{nothing-noted}
 use Rattle.tlv_value.proofs.CheckLemmas.Utf8ByRow.{rows-formed_at}

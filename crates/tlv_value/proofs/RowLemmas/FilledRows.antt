@@ -3,8 +3,8 @@ use Rattle.std.proofs.Common.{◌≡◌, [], ◌++◌, refl}
 use Rattle.std.specs.Prelude.{List, ℕ}
 use Rattle.tlv_io.specs.Cuts.{last_rows}
 use Rattle.tlv_io.proofs.CutOf.{row_begun_by, rows_filled_by}
-use Rattle.tlv_value.specs.declared.kind.Kind.{Kind}
-use Rattle.tlv_value.specs.declared.kind.Kind.TheVariants.{Utf8}
+use Rattle.tlv_head.specs.declared.kind.Kind.{Kind}
+use Rattle.tlv_head.specs.declared.kind.Kind.TheVariants.{Utf8}
 use Rattle.tlv_value.specs.RowSizes.{character_length, row_size}
 use Rattle.tlv_value.specs.Rows.{rows_of}
 

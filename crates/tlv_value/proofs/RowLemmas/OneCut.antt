@@ -11,7 +11,7 @@ use Rattle.std.specs.List.{concat}
 use Rattle.std.proofs.lemmas.List.Elements.{All-head, All-tail}
 use Rattle.tlv_io.specs.Cuts.{AreFull, IsFull, IsRow, last_rows}
 use Rattle.tlv_io.proofs.CutOf.{nil-or}
-use Rattle.tlv_value.specs.declared.kind.Kind.{Kind}
+use Rattle.tlv_head.specs.declared.kind.Kind.{Kind}
 use Rattle.tlv_value.specs.RowSizes.{character_length, row_size}
 use Rattle.tlv_value.specs.Laws.{RowsHaveOneCut}
 use Rattle.tlv_value.specs.OpenRow.{IsOpenRow}

@@ -6,7 +6,7 @@ use Rattle.std.proofs.Math.ListN.{length-drop}
 use Rattle.std.proofs.Math.Seq.{drop-append-add}
 use Rattle.std.proofs.lemmas.Bool.Decides.{nat_tests}
 use Rattle.std.proofs.lemmas.List.{take_all}
-use Rattle.tlv_value.specs.declared.kind.Kind.TheVariants.{Octets}
+use Rattle.tlv_head.specs.declared.kind.Kind.TheVariants.{Octets}
 use Rattle.tlv_value.specs.declared.layout.Layout.{Layout}
 use Rattle.tlv_value.specs.Arcs.{dotted_of}
 use Rattle.tlv_value.specs.Private.ObjectLines.{object_lines, octets_lines}

@@ -4,12 +4,12 @@ use Rattle.std.proofs.Common.{arith, append_assoc, append-nil, length-append}
 use Rattle.std.specs.Prelude.{◌&&◌, nat_le, if◌then◌else◌}
 use Rattle.tlv_head.specs.Header.{HasAllContents, HeaderValue, announced_length as size_of}
 use Rattle.tlv_io.specs.Cuts.{last_rows}
-use Rattle.tlv_value.specs.declared.kind.Kind.{Kind}
-use Rattle.tlv_value.specs.declared.kind.Kind.TheVariants.{Octets, Boolean, Integer, Bits, Object, Relative, Text, Utf8}
-use Rattle.tlv_value.specs.declared.kind.Kind.TheVariants.{Ucs2, Ucs4}
+use Rattle.tlv_head.specs.declared.kind.Kind.{Kind}
+use Rattle.tlv_head.specs.declared.kind.Kind.TheVariants.{Octets, Boolean, Integer, Bits, Object, Relative, Text, Utf8}
+use Rattle.tlv_head.specs.declared.kind.Kind.TheVariants.{Ucs2, Ucs4}
 use Rattle.tlv_value.specs.declared.layout.Layout.{Layout}
 use Rattle.tlv_value.specs.declared.primitive.Primitive.{Primitive}
-use Rattle.tlv_value.specs.Kind.{kind_of}
+use Rattle.tlv_head.specs.Kind.{kind_of}
 use Rattle.tlv_value.specs.Laws.{LinesBegin, LinesEnd, LinesGoOn, PiecesJoin}
 use Rattle.tlv_value.specs.Rows.{full_rows, full_rows_in, open_row, open_row_in, rows_of}
 use Rattle.tlv_value.specs.Private.PrimitiveLines.{lines_in_steps}

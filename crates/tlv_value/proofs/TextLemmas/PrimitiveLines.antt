@@ -3,9 +3,9 @@ use Rattle.std.proofs.Common.{◌≡◌, ℕ, ◌+◌, ◌≤◌, Bool, true, fa
 use Rattle.std.proofs.Common.{arith, append_assoc, append-nil}
 use Rattle.std.specs.Prelude.{nat_le, if◌then◌else◌}
 use Rattle.std.proofs.lemmas.Bool.Decides.{nat_tests}
-use Rattle.tlv_value.specs.declared.kind.Kind.{Kind}
-use Rattle.tlv_value.specs.declared.kind.Kind.TheVariants.{Octets, Boolean, Integer, Bits, Object, Relative, Text, Utf8}
-use Rattle.tlv_value.specs.declared.kind.Kind.TheVariants.{Ucs2, Ucs4}
+use Rattle.tlv_head.specs.declared.kind.Kind.{Kind}
+use Rattle.tlv_head.specs.declared.kind.Kind.TheVariants.{Octets, Boolean, Integer, Bits, Object, Relative, Text, Utf8}
+use Rattle.tlv_head.specs.declared.kind.Kind.TheVariants.{Ucs2, Ucs4}
 use Rattle.tlv_value.specs.declared.layout.Layout.{Layout}
 use Rattle.tlv_value.specs.Layout.{row_line}
 use Rattle.tlv_value.specs.Private.ObjectLines.{object_lines}

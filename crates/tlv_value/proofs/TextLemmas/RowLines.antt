@@ -1,7 +1,7 @@
 -- Rows of octets, and their lines, one after another.
 use Rattle.std.proofs.Common.{◌≡◌, ℕ, ◌+◌, Bool, ◌++◌, ◌∷◌, [], List, length, arith, refl, sym, ap, ◌∙◌, append_assoc}
 use Rattle.tlv_io.specs.Cuts.{last_rows}
-use Rattle.tlv_value.specs.declared.kind.Kind.{Kind}
+use Rattle.tlv_head.specs.declared.kind.Kind.{Kind}
 use Rattle.tlv_value.specs.declared.layout.Layout.{Layout}
 use Rattle.tlv_value.specs.Layout.{row_line}
 use Rattle.tlv_value.specs.Rows.{full_rows, open_row, rows_of}

@@ -7,9 +7,9 @@ use Rattle.std.proofs.lemmas.List.Folds.{list_all-append}
 use Rattle.std.specs.Prelude.{◌&&◌, flat_map}
 use Rattle.std.specs.List.{list_all}
 use Rattle.std.specs.Str.{is_utf8}
-use Rattle.tlv_value.specs.declared.kind.Kind.{Kind}
-use Rattle.tlv_value.specs.declared.kind.Kind.TheVariants.{Octets, Boolean, Integer, Bits, Object, Relative, Text, Utf8}
-use Rattle.tlv_value.specs.declared.kind.Kind.TheVariants.{Ucs2, Ucs4}
+use Rattle.tlv_head.specs.declared.kind.Kind.{Kind}
+use Rattle.tlv_head.specs.declared.kind.Kind.TheVariants.{Octets, Boolean, Integer, Bits, Object, Relative, Text, Utf8}
+use Rattle.tlv_head.specs.declared.kind.Kind.TheVariants.{Ucs2, Ucs4}
 use Rattle.tlv_value.specs.Private.UnescapedCharacters.{has_ascii_octets, is_unescaped}
 use Rattle.tlv_io.specs.Cuts.{utf8_length}
 use Rattle.tlv_value.specs.Units.{octet_text, unit_size, unit_text, units}

@@ -1,6 +1,6 @@
 -- The lines of an object identifier of at most 64 octets, after what its element's line begins with.
 use Rattle.std.specs.Prelude.{ℕ, Bool, List, [], ◌∷◌, ◌++◌}
-use Rattle.tlv_value.specs.declared.kind.Kind.TheVariants.{Octets}
+use Rattle.tlv_head.specs.declared.kind.Kind.TheVariants.{Octets}
 use Rattle.tlv_value.specs.declared.layout.Layout.{Layout}
 use Rattle.tlv_value.specs.ValueLines.{row_lines}
 use Rattle.tlv_value.specs.Value.{NameOf, Value, object_value, octets_value}

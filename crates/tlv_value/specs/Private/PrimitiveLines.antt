@@ -1,6 +1,6 @@
 -- The lines of a primitive, by what its header says of it.
 use Rattle.std.specs.Prelude.{ℕ, List, [], ◌∷◌, ◌++◌}
-use Rattle.tlv_value.specs.declared.kind.Kind.TheVariants.{Bits}
+use Rattle.tlv_head.specs.declared.kind.Kind.TheVariants.{Bits}
 use Rattle.tlv_value.specs.declared.primitive.Primitive.{Primitive}
 use Rattle.tlv_value.specs.Value.{NameOf, long_text}
 use Rattle.tlv_value.specs.ValueLines.{element_prefix}

@@ -1,6 +1,6 @@
 -- What has room in a row.
 use Rattle.std.specs.Prelude.{◌≡◌, ℕ, ◌+◌, ◌<◌, Bool, true, nat_le, List, slice_index}
-use Rattle.tlv_value.specs.declared.kind.Kind.{Kind}
+use Rattle.tlv_head.specs.declared.kind.Kind.{Kind}
 use Rattle.tlv_value.specs.RowSizes.{character_length, row_size}
 
 -- after so many octets of a row there is room for the octet x, and for those that are to be kept in one row with it

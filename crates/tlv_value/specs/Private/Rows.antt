@@ -1,6 +1,6 @@
 -- Where a row is, and the lines of rows of pairs of digits.
 use Rattle.std.specs.Prelude.{ℕ, ◌+◌, ◌*◌, Bool, if◌then◌else◌, List, flat_map}
-use Rattle.tlv_value.specs.declared.kind.Kind.TheVariants.{Octets}
+use Rattle.tlv_head.specs.declared.kind.Kind.TheVariants.{Octets}
 use Rattle.tlv_value.specs.declared.layout.Layout.{Layout}
 use Rattle.tlv_value.specs.Layout.{inner_line}
 use Rattle.tlv_value.specs.Value.{row_text}

@@ -1,7 +1,7 @@
 -- The text of a value on its element's line, if an object identifier is shown in hexadecimal.
 use Rattle.std.specs.Prelude.{ℕ, Bool, List}
-use Rattle.tlv_value.specs.declared.kind.Kind.{Kind}
-use Rattle.tlv_value.specs.declared.kind.Kind.TheVariants.{Object, Octets, Relative}
+use Rattle.tlv_head.specs.declared.kind.Kind.{Kind}
+use Rattle.tlv_head.specs.declared.kind.Kind.TheVariants.{Object, Octets, Relative}
 use Rattle.tlv_value.specs.Value.{no_names, pairs_with_text, short_value, spaced_pairs}
 
 -- pairs of digits after spaces, with text beside them or without it

@@ -2,8 +2,8 @@
 use Rattle.std.specs.Prelude.{◌≡◌, ℕ, ◌<◌, ◌≤◌, Bool, true, false, ◌&&◌, ◌||◌, not, eqb, List, ◌++◌, drop, length}
 use Rattle.std.specs.Prelude.{flat_map, slice_index}
 use Rattle.tlv_io.specs.LineTexts.{AddsIfRoom}
-use Rattle.tlv_value.specs.declared.kind.Kind.{Kind}
-use Rattle.tlv_value.specs.declared.kind.Kind.TheVariants.{Text, Utf8}
+use Rattle.tlv_head.specs.declared.kind.Kind.{Kind}
+use Rattle.tlv_head.specs.declared.kind.Kind.TheVariants.{Text, Utf8}
 use Rattle.tlv_value.specs.Units.{is_printable, unit_text, units}
 
 -- a printable character of ASCII that is neither the quotation mark nor the reverse solidus

@@ -6,7 +6,7 @@ ghost use Rattle.tlv_value.specs.OpenRow.{IsOpenRow};
 ghost use Rattle.tlv_value.specs.Rows.{full_rows, open_row};
 
 use super::both;
-use crate::kind::Kind;
+use tlv_head::Kind;
 use crate::row_sizes::fitting_length;
 use arrayvec::ArrayVec;
 

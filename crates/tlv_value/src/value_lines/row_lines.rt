@@ -13,7 +13,7 @@ ghost use Rattle.tlv_value.specs.Value.{row_text};
 ghost use Rattle.tlv_value.specs.ValueLines.{row_lines};
 
 use crate::Layout;
-use crate::kind::Kind;
+use tlv_head::Kind;
 use crate::line_starts::row_indent;
 use crate::pairs::write_full_row;
 use crate::row_form::RowForm;

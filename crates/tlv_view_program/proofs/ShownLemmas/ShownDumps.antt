@@ -21,7 +21,7 @@ use Rattle.tlv_walk.specs.Forest.{Holder, NoMore, OpenBitString, OpenEndOctets, 
 use Rattle.tlv_walk.specs.Forest.{PaddingOctet, Primitive}
 use Rattle.tlv_walk.specs.Reading.{AreOctets}
 use Rattle.tlv_value.specs.declared.finding.Finding.{Finding}
-use Rattle.tlv_value.specs.declared.kind.Kind.{Kind}
+use Rattle.tlv_head.specs.declared.kind.Kind.{Kind}
 use Rattle.tlv_value.specs.declared.layout.Layout.{Layout}
 use Rattle.tlv_value.specs.Finding.{finding_code, finding_text}
 use Rattle.tlv_value.specs.Layout.{blank_columns, columns, inner_line, line, line_margin, margin, row_by_limit}

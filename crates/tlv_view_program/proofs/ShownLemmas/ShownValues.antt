@@ -8,11 +8,11 @@ use Rattle.std.specs.List.{All, concat, list_all}
 use Rattle.std.proofs.lemmas.Bool.{and_parts, cases_Bool}
 use Rattle.std.proofs.lemmas.List.Elements.{All-append, All-cons, All-head, All-nil, All-push, All-tail, All-take}
 use Rattle.tlv_walk.specs.Reading.{AreOctets}
-use Rattle.tlv_value.specs.declared.kind.Kind.{Kind}
-use Rattle.tlv_value.specs.declared.kind.Kind.TheVariants as kind
+use Rattle.tlv_head.specs.declared.kind.Kind.{Kind}
+use Rattle.tlv_head.specs.declared.kind.Kind.TheVariants as kind
 use Rattle.tlv_value.specs.Arcs.{arcs_of, dotted_arcs, is_finished, subidentifiers}
 use Rattle.tlv_value.specs.Bits.{bits_of, last_bits}
-use Rattle.tlv_value.specs.Kind.{is_text}
+use Rattle.tlv_head.specs.Kind.{is_text}
 use Rattle.tlv_value.specs.Number.{twos_complement}
 use Rattle.tlv_value.specs.RowSizes.{row_size}
 use Rattle.tlv_value.specs.Rows.{cut_of_contents, full_rows_in, known_rows, rows_of}

@@ -3,14 +3,14 @@ use Rattle.std.proofs.Common.{◌≡◌, inl, inr, ℕ, zero, suc, ◌-◌, ◌<
 use Rattle.std.proofs.Common.{eqb, List, [], ◌∷◌, take, drop, refl, arith}
 use Rattle.std.specs.Prelude.{◌==◌, codes, decimal, slice_index}
 use Rattle.std.specs.Fmt.{digit_glyph, digits, digits_onto}
-use Rattle.std.specs.List.{list_all}
-use Rattle.std.specs.Map.{lookup}
-use Rattle.std.specs.Option.{unwrap_or}
+use Rattle.std.specs.List.{find, list_all}
+use Rattle.std.specs.Option.{option_map, unwrap_or}
 use Rattle.std.proofs.lemmas.Bool.{cases_Bool}
 use Rattle.std.proofs.lemmas.List.Elements.{All-drop, All-head, All-tail, All-take}
 use Rattle.std.proofs.lemmas.List.Folds.{list_all-append, list_all_at}
 use Rattle.hex.specs.Hex.{encode_with, lower_digits}
-use Rattle.tlv_head.specs.Tag.{bracketed_tag, tag_text, universal_names}
+use Rattle.tlv_head.specs.Tag.{bracketed_tag, tag_text}
+use Rattle.tlv_head.specs.TypeTable.{TypeRow, type_table}
 use Rattle.tlv_head.specs.declared.header.Class.{Class}
 use Rattle.tlv_head.specs.declared.header.Class.TheVariants.{Universal, Application, Context, Private}
 use Rattle.tlv_head.specs.declared.header.Size.{Size}
@@ -86,18 +86,18 @@ octets_in_words-shown n = elim (cases_Bool (eqb n 1)) [
   | inr many ↦ rw many (simp (list_all-append, decimal-shown))
 ]
 
--- a name out of a list of names, or else another text
-name-shown : (p : ℕ → Bool) (names : List (ℕ × List ℕ)) (other : List ℕ)
-    → list_all (λ n. list_all is_shown_octet n.1) names ≡ true → AreShown other
-    → AreShown (unwrap_or (lookup p names) other)
+-- the name of a row out of some rows, or else another text
+name-shown : (p : TypeRow → Bool) (rows : List TypeRow) (other : List ℕ)
+    → list_all (λ t. list_all is_shown_octet t.name) rows ≡ true → AreShown other
+    → AreShown (unwrap_or (option_map (λ t. t.name) (find p rows)) other)
 name-shown p [] other all shown = shown
-name-shown p (n ∷ names) other all shown = elim (cases_Bool (p n.0)) [
+name-shown p (t ∷ rows) other all shown = elim (cases_Bool (p t)) [
   | inl found ↦
-      rw found (and-left (list_all is_shown_octet n.1) (list_all (λ m. list_all is_shown_octet m.1) names) all)
+      rw found (and-left (list_all is_shown_octet t.name) (list_all (λ m. list_all is_shown_octet m.name) rows) all)
   | inr missing ↦
       rw missing
-      (name-shown p names other
-      (and-right (list_all is_shown_octet n.1) (list_all (λ m. list_all is_shown_octet m.1) names) all) shown)
+      (name-shown p rows other
+      (and-right (list_all is_shown_octet t.name) (list_all (λ m. list_all is_shown_octet m.name) rows) all) shown)
 ]
   where
     and-left : (a b : Bool) → (a && b) ≡ true → a ≡ true
@@ -110,7 +110,7 @@ name-shown p (n ∷ names) other all shown = elim (cases_Bool (p n.0)) [
 
 tag-shown : (class : Class) (number : ℕ) → AreShown (tag_text class number)
 tag-shown Universal number =
-    name-shown (eqb number) universal_names (bracketed_tag (codes "UNIVERSAL ") number) refl
+    name-shown (λ t. eqb number t.number) type_table (bracketed_tag (codes "UNIVERSAL ") number) refl
     (simp (list_all-append, decimal-shown))
 tag-shown Application number = simp (list_all-append, decimal-shown)
 tag-shown Context number = simp (list_all-append, decimal-shown)
