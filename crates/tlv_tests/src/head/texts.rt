@@ -2,7 +2,7 @@
 use super::octets::OFFSET;
 use crate::expect::expect_eq;
 use std::process::Abort;
-use tlv_head::{Class, Fault, FaultCode, tag_text, type_name};
+use tlv_head::{Class, Encodings, Fault, FaultCode, encodings_of, tag_text, type_name};
 
 /// The texts of the universal tags, by their numbers.
 static UNIVERSAL: [&str; 38] = [
@@ -45,6 +45,10 @@ static UNIVERSAL: [&str; 38] = [
     "RELATIVE-OID-IRI",
     "[UNIVERSAL 37]",
 ];
+
+/// Which encodings the universal types have, by their numbers: `p` primitive ones, `c` constructed ones, `s` those of a
+/// string, `u` any. `-` is no type.
+static ENCODINGS: [u8; 38] = *b"-ppssppscppcspu-ccssssssssssscsuuuuuu-";
 
 /// Tags by class and number, and their texts.
 static TAGS: [(Class, u64, &str); 6] = [
@@ -152,5 +156,27 @@ fn expect_fault(rt: &impl Abort, code: FaultCode, name: &str, text: &str) {
 fn faults_have_texts(rt: HostRuntime) {
     for (code, name, text) in &FAULTS {
         expect_fault(&rt, *code, name, text);
+    }
+}
+
+/// The letter of encodings.
+fn letter_of(encodings: Option<Encodings>) -> u8 {
+    match encodings {
+        Some(Encodings::Primitive) => b'p',
+        Some(Encodings::Constructed) => b'c',
+        Some(Encodings::Segmented) => b's',
+        Some(Encodings::Unjudged) => b'u',
+        None => b'-',
+    }
+}
+
+#[test]
+fn types_have_encodings(rt: HostRuntime) {
+    for number in 0..ENCODINGS.len() {
+        expect_eq(
+            &rt,
+            letter_of(encodings_of(number as u64)),
+            ENCODINGS[number],
+        );
     }
 }
