@@ -81,5 +81,5 @@ are_segmented Segmented = true
 are_segmented _ = false
 
 -- the row of a type, by what the code has of it
-abbrev pub row_of : ℕ → UniversalType → TypeRow
-row_of number t = row number (take t.name_length t.name.now) t.encodings t.kind
+abbrev pub type_row_of : ℕ → UniversalType → TypeRow
+type_row_of number t = row number (take t.name_length t.name.now) t.encodings t.kind

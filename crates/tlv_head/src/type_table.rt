@@ -1,7 +1,7 @@
 //! The table of the universal types.
 ghost use Rattle.std.specs.Prelude.{◌≡◌, ◌≤◌, IfSome};
 ghost use Rattle.std.specs.Option.{option_map};
-ghost use Rattle.tlv_head.specs.TypeTable.{row_of, type_at};
+ghost use Rattle.tlv_head.specs.TypeTable.{type_row_of, type_at};
 
 use crate::{Kind, universal};
 
@@ -34,7 +34,7 @@ pub struct UniversalType {
 /// The universal type with this number (X.680, table 1). `None` if the number is not that of a type.
 #[inline(always)]
 pub fn type_at(number: u64) -> Option<UniversalType>
-    ensures row { option_map (row_of number) result ≡ type_at number }
+    ensures row { option_map (type_row_of number) result ≡ type_at number }
     ensures short { IfSome result (λ t. t.name_length ≤ 17) }
 {
     use Encodings::{Constructed, Primitive, Segmented, Unjudged};
