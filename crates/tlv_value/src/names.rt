@@ -15,6 +15,7 @@ pub use fault::NamesFault;
 use reading::read_in;
 use std::alloc::{Allocator, Global};
 use std::marker::Model;
+use std::str;
 use table::Table;
 use tlv_io::Source;
 
@@ -70,12 +71,16 @@ impl<A: Allocator> Names<A> {
     pub fn get(&self, dotted: &[u8]) -> Option<&[u8]>
         ensures { option_copied result ≡ finite.get self.now dotted.now }
     {
-        match &self.table {
+        let Some(table) = &self.table else {
+            return None;
+        };
+        let Ok(text) = str::from_utf8(dotted) else {
+            // Keys are UTF-8, so this text is none of them.
+            return None;
+        };
+        match table.get(text) {
             None => None,
-            Some(table) => match table.get(dotted) {
-                None => None,
-                Some(name) => Some(name.as_slice()),
-            },
+            Some(name) => Some(name.as_slice()),
         }
     }
 }

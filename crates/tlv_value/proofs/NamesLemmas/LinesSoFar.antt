@@ -1,7 +1,7 @@
 -- How far a names file is read.
 use Rattle.std.proofs.Common.{◌≡◌, ℕ, ◌+◌, ◌<◌, ◌==◌, true, false, List, [], ◌∷◌, ◌++◌, length, map, take, drop, refl}
 use Rattle.std.proofs.Common.{sym, ap, subst, ◌∙◌, arith, append_assoc, append-nil, length-append}
-use Rattle.std.specs.Prelude.{Some, None, Result, Ok, Err, is_some, nat_le, Vec}
+use Rattle.std.specs.Prelude.{Some, None, Result, Ok, Err, is_some, nat_le, String, Vec, string_bytes}
 use Rattle.std.specs.List.{position_or_len}
 use Rattle.std.specs.Option.{option_map_or}
 use Rattle.std.specs.Result.{IsErrOf}
@@ -51,11 +51,11 @@ judgement-refused above below line fault h = rw h refl
 start-at : (octets : List ℕ) (es : List Entry) → es ≡ [] → LinesSoFar octets octets 0 es
 start-at octets es e = record { above = []; same = refl; count = refl; table = ap table_with e; size = ap length e }
 
-pub lines-start : {Z S : Type 0} (octets : List ℕ) (m : HashMap (Vec ℕ Z) (Vec ℕ Z) S) → m.entries ≡ []
+pub lines-start : {Z S : Type 0} (octets : List ℕ) (m : HashMap (String Z) (Vec ℕ Z) S) → m.entries ≡ []
     → LinesSoFar octets octets 0 (texts_in m)
 lines-start {Z} octets m e =
     start-at octets (texts_in m)
-    (ap (λ (es : List (Vec ℕ Z × Vec ℕ Z)). map {B = Entry} (λ e. (e.0.items, e.1.items)) es) e)
+    (ap (λ (es : List (String Z × Vec ℕ Z)). map {B = Entry} (λ e. (string_bytes e.0, e.1.items)) es) e)
 
 pub lines-all : (octets rest : List ℕ) (number : ℕ) (es : List Entry) → LinesSoFar octets rest number es → length rest
     ≡ 0
@@ -127,7 +127,7 @@ same-fault a b e = cc
 
 -- the line is refused
 pub line-refused_table : {Z S : Type 0} (T : Type 0) (octets rest below : List ℕ) (number : ℕ)
-    (old new : HashMap (Vec ℕ Z) (Vec ℕ Z) S) (fault : NamesFault) (line : NamesLine)
+    (old new : HashMap (String Z) (Vec ℕ Z) S) (fault : NamesFault) (line : NamesLine)
     (s : LinesSoFar octets rest number (texts_in old))
     → map names_line (file_lines rest) ≡ line ∷ map names_line (file_lines below)
     → AddsLine {T = T} (number + 1) line (texts_in old) (texts_in new) (Err fault)

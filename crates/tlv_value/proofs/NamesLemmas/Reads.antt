@@ -1,7 +1,7 @@
 -- Octets read one piece after another.
 use Rattle.std.proofs.Common.{◌≡◌, inl, inr, ℕ, ◌+◌, ◌-◌, ◌<◌, ◌≤◌, List, [], ◌++◌, length, take, refl, sym, ap, ◌∙◌}
 use Rattle.std.proofs.Common.{subst, arith, append-nil, length-append}
-use Rattle.std.specs.Prelude.{Option, Some, None, Vec, Result, Ok, Err}
+use Rattle.std.specs.Prelude.{Option, Some, None, String, Vec, Result, Ok, Err}
 use Rattle.std.specs.Io.KnownBytes.{Consumes, Keeps}
 use Rattle.std.proofs.lemmas.List.{length-take-le}
 use Rattle.tlv_io.specs.declared.source.ReadFault.{ReadFault}
@@ -121,7 +121,7 @@ result-is_whole_file : {Z : Type 0} (new : SourceState) (octets : List ℕ) (v :
 result-is_whole_file new octets v r x n = record { ends = x.1; result_is = ap names_of x.0 ∙ n }
 
 pub reads-from_table : {Y Z S : Type 0} (old new : SourceState) (v : Vec ℕ Y)
-    (result : Result (HashMap (Vec ℕ Z) (Vec ℕ Z) S) NamesFault)
+    (result : Result (HashMap (String Z) (Vec ℕ Z) S) NamesFault)
     → Gives old new (Ok v) → IsTableOf v.items result → ReadsFrom old new (result_in result)
 reads-from_table old new v (Ok m) x n = record {
   pieces = x.pieces;

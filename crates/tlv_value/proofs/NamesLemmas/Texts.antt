@@ -133,7 +133,7 @@ pub some_digit : (arc : List ℕ) → is_arc arc ≡ true → 0 < length arc
 some_digit [] h = absurd (cc)
 some_digit (d ∷ ds) h = omega arith
 
-arc-parts : (arc : List ℕ) → is_arc arc ≡ true
+pub arc-parts : (arc : List ℕ) → is_arc arc ≡ true
     → (list_all is_ascii_digit arc ≡ true) × (((length arc == 1) || not (slice_index arc 0 == 48)) ≡ true)
 arc-parts arc h =
     let outer =
@@ -141,7 +141,7 @@ arc-parts arc h =
     ((length arc == 1) || not (slice_index arc 0 == 48)) h in
     ((and_parts (not (length arc == 0)) (list_all is_ascii_digit arc) outer.0).1, outer.1)
 
-digit-between : (x : ℕ) → is_ascii_digit x ≡ true → (48 ≤ x) × (x ≤ 57)
+pub digit-between : (x : ℕ) → is_ascii_digit x ≡ true → (48 ≤ x) × (x ≤ 57)
 digit-between x h = let both = and_parts (nat_le 48 x) (nat_le x 57) h in (leb-true 48 x both.0, leb-true x 57 both.1)
 
 record LongArc (d e : ℕ) : Type 0 where

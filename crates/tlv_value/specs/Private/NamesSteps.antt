@@ -1,6 +1,6 @@
 -- What the steps of reading a names file return.
 use Rattle.std.specs.Prelude.{◌≡◌, ℕ, ◌+◌, ◌<◌, ◌≤◌, true, false, List, length, Option, Some, None, Result}
-use Rattle.std.specs.Prelude.{Ok, Err, Vec}
+use Rattle.std.specs.Prelude.{Ok, Err, String, Vec}
 use Rattle.std.specs.Option.{option_map}
 use Rattle.std.specs.Result.{IsOk, IsErrOf}
 use Rattle.std.specs.FinMap as finite
@@ -51,14 +51,14 @@ AddsLine number long_line old new result = IsErrOf result TooLarge
 
 -- the octets come to this table or refusal; memory may be refused at any time
 abbrev pub IsTableOf : {Z S : Type 0}
-    → List ℕ → Result (HashMap (Vec ℕ Z) (Vec ℕ Z) S) NamesFault → Type 0
+    → List ℕ → Result (HashMap (String Z) (Vec ℕ Z) S) NamesFault → Type 0
 IsTableOf octets (Ok table) = names_of octets ≡ Ok (table_in table)
 IsTableOf octets (Err ReadFailed) = ⊥
 IsTableOf octets (Err Memory) = Unit {0}
 IsTableOf octets (Err fault) = names_of octets ≡ Err fault
 
 abbrev pub result_in : {Z S : Type 0}
-    → Result (HashMap (Vec ℕ Z) (Vec ℕ Z) S) NamesFault → Result NamesValue NamesFault
+    → Result (HashMap (String Z) (Vec ℕ Z) S) NamesFault → Result NamesValue NamesFault
 result_in (Ok m) = Ok (table_in m)
 result_in (Err fault) = Err fault
 

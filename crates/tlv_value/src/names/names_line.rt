@@ -9,6 +9,7 @@ ghost use Rattle.tlv_value.specs.Private.NamesSteps.{entry_or_refusal, texts_of}
 use super::NamesFault;
 use super::arcs::is_dotted;
 use crate::pairs::are_printable;
+use std::str;
 
 /// The most octets of a line.
 const LINE_LIMIT: usize = 400;
@@ -17,7 +18,7 @@ const LINE_LIMIT: usize = 400;
 pub(super) fn entry_or_refusal<'a>(
     line: &'a [u8],
     number: u32,
-) -> Result<Option<(&'a [u8], &'a [u8])>, NamesFault>
+) -> Result<Option<(&'a str, &'a [u8])>, NamesFault>
     ensures { texts_of result ≡ entry_or_refusal number (names_line line.now) }
 {
     if line.len() > LINE_LIMIT {
@@ -36,6 +37,10 @@ pub(super) fn entry_or_refusal<'a>(
     if !is_name(name) {
         return Err(NamesFault::BadName(number));
     }
+    let Ok(dotted) = str::from_utf8(dotted) else {
+        // Digits and dots are UTF-8.
+        unreachable!();
+    };
     Ok(Some((dotted, name)))
 }
 

@@ -12,7 +12,7 @@ use std::collections::HashMap;
 use std::hash::{BuildHasherDefault, FoldHasher};
 
 /// From dotted texts to names.
-pub(super) type Table<A> = HashMap<Vec<u8, A>, Vec<u8, A>, BuildHasherDefault<FoldHasher>, A>;
+pub(super) type Table<A> = HashMap<String<A>, Vec<u8, A>, BuildHasherDefault<FoldHasher>, A>;
 
 /// The most entries of a table.
 const ENTRY_LIMIT: usize = 65_536;
@@ -55,7 +55,7 @@ fn add_line<A: Allocator + Copy>(
 fn add<A: Allocator + Copy>(
     alloc: A,
     table: &mut Table<A>,
-    dotted: &[u8],
+    dotted: &str,
     name: &[u8],
     number: u32,
 ) -> Result<(), NamesFault>
@@ -67,7 +67,7 @@ fn add<A: Allocator + Copy>(
     if table.len() >= ENTRY_LIMIT {
         return Err(NamesFault::TooLarge);
     }
-    let Ok(key) = Vec::from_slice(alloc, dotted) else {
+    let Ok(key) = String::from_str(alloc, dotted) else {
         return Err(NamesFault::Memory);
     };
     let Ok(value) = Vec::from_slice(alloc, name) else {

@@ -20,8 +20,8 @@ returns-in-Ok-insert g c = (
   among-texts c.args.dotted.now c.args.table.now c.contains_key.result c.contains_key.ensures ∙ c.if-contains_key.false,
   omega (arith, length-texts c.args.table.now, c.len.ensures.len),
   put-entry c.in-Ok.key c.in-Ok-from_slice.value c.args.table.now c.insert.new.self c.args.dotted.now c.args.name.now
-      c.in-Ok-insert.ensures.updates c.in-Ok.ensures.items c.in-Ok-from_slice.ensures.items,
+      c.in-Ok-insert.ensures.updates c.in-Ok.ensures.ok c.in-Ok-from_slice.ensures.items,
   one-longer c.in-Ok.key c.args.table.now c.insert.new.self c.args.dotted.now c.in-Ok-insert.field-0
-      c.contains_key.result c.in-Ok-insert.ensures.old c.in-Ok-insert.ensures.len c.in-Ok.ensures.items
+      c.contains_key.result c.in-Ok-insert.ensures.old c.in-Ok-insert.ensures.len c.in-Ok.ensures.ok
       c.contains_key.ensures c.if-contains_key.false,
 )
