@@ -6,7 +6,7 @@ use Rattle.tlv_head.specs.Header.{HeaderValue}
 use Rattle.tlv_value.specs.Types.{has_segments}
 use Rattle.tlv_show.specs.declared.holder_frame.HolderFrame.{HolderFrame}
 use Rattle.tlv_show.specs.declared.holder_frame.KeptFrame.{KeptFrame}
-use Rattle.tlv_show.specs.NestingState.{NestingState, frame_after, frame_of, frame_under}
+use Rattle.tlv_show.specs.NestingState.{NestingState, depth_in, frame_after, frame_of, frame_under}
 use Rattle.tlv_show.specs.NestingState.{nesting_around, nesting_close_step, nesting_open_step, surroundings_in}
 use Rattle.tlv_show.specs.NestingState.{top_frame}
 use Rattle.tlv_show.specs.Private.Nesting.{HasFramesInStrings, HaveRisingFloors, TakesBack, all_frames, frames_with}
@@ -42,6 +42,12 @@ one_each w floor depth outer inside others =
     let e = length-outside w (depth - floor) (all_frames floor outer) in
     let r = length-others floor outer others in
     omega (arith, e, r, inside)
+
+-- past the limit nothing more is kept
+pub open-full : (n : NestingState) (h : HeaderValue) → 128 ≤ depth_in n → n ≡ nesting_open_step n h
+open-full n h full =
+    let no_room : nat_lt (depth_in n) 128 ≡ false = grind arith in
+    rw no_room refl
 
 pub fewer-kept : (floor : ℕ) (outer : List KeptFrame) → HaveRisingFloors floor outer → length outer ≤ floor
 fewer-kept floor [] none = omega arith

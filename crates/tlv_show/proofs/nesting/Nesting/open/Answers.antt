@@ -1,5 +1,6 @@
-use Rattle.std.proofs.Common.{◌∙◌, sym, arith}
-use Rattle.tlv_show.proofs.FindingLemmas.KeptFrames.{opens-frame, fewer-kept}
+use Rattle.std.proofs.Common.{◌∙◌, ◌≤◌, ◌-◌, length, sym, arith}
+use Rattle.tlv_show.proofs.FindingLemmas.KeptFrames.{fewer-kept, one_each, open-full, opens-frame}
+use Rattle.tlv_show.specs.Private.Nesting.{all_frames, outer_frames}
 use Rattle.tlv_show.proofs.nesting.Nesting.open.Goals as goal
 
 pub push-requires : goal.push-requires
@@ -12,3 +13,12 @@ returns c =
     rw (← c.self.view_is, c.frame_of-self-inside.ensures, c.push.ensures)
     (opens-frame n.frame n.floor n.depth n.outer known.within known.innermost known.rising c.args.header.now
     (omega arith) (sym c.has_frame.ensures ∙ c.if-not-has_frame.false))
+
+pub returns-then-self : goal.returns-then-self
+returns-then-self c =
+    let n = c.self.inside in
+    let known = c.self.invariant in
+    let e = one_each n.frame n.floor n.depth n.outer known.within known.rising in
+    let full : 128 ≤ length (outer_frames n.frame (n.depth - n.floor) (all_frames n.floor n.outer)) =
+    omega (arith, e, c.if-self-eq128.true) in
+    rw (← c.self.view_is) (open-full _ c.args.header.now full)

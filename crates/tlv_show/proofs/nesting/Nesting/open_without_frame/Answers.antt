@@ -1,7 +1,8 @@
-use Rattle.std.proofs.Common.{◌≡◌, ◌∙◌, Bool, false, ◌||◌, sym, ap}
+use Rattle.std.proofs.Common.{◌≡◌, ◌≤◌, ◌-◌, ◌∙◌, Bool, false, ◌||◌, length, sym, ap, arith}
 use Rattle.tlv_value.specs.Types.{has_segments}
 use Rattle.tlv_show.specs.NestingState.{NestingState}
-use Rattle.tlv_show.proofs.FindingLemmas.KeptFrames.{opens-without_frame}
+use Rattle.tlv_show.specs.Private.Nesting.{all_frames, outer_frames}
+use Rattle.tlv_show.proofs.FindingLemmas.KeptFrames.{one_each, open-full, opens-without_frame}
 use Rattle.tlv_show.proofs.nesting.Nesting.open_without_frame.Goals as goal
 
 pub returns-then-self-lt128 : goal.returns-then-self-lt128
@@ -15,3 +16,12 @@ returns-then-self-lt128 c =
     rw (← c.self.view_is)
     (opens-without_frame n.frame n.floor n.depth n.outer known.within known.innermost known.rising c.args.header.now
     c.if-self-lt128.true none)
+
+pub returns-else-self-lt128 : goal.returns-else-self-lt128
+returns-else-self-lt128 c =
+    let n = c.self.inside in
+    let known = c.self.invariant in
+    let e = one_each n.frame n.floor n.depth n.outer known.within known.rising in
+    let full : 128 ≤ length (outer_frames n.frame (n.depth - n.floor) (all_frames n.floor n.outer)) =
+    omega (arith, e, c.if-self-lt128.false) in
+    rw (← c.self.view_is) (open-full _ c.args.header.now full)
