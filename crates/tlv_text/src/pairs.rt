@@ -27,6 +27,7 @@ pub fn decode_pairs(alloc: Global, text: &[u8]) -> Result<Decoded, AllocError>
             [x, y, more @ ..] if let Some(octet) = octet_of(*x, *y) => {
                 octets.push(octet)?;
                 rest = more;
+                take_four_separated(&mut rest, &mut octets)?;
                 take_separated(&mut rest, &mut octets)?;
             }
             _ => {
@@ -48,6 +49,31 @@ fn take_four_pairs(text: &mut &[u8], octets: &mut Vec<u8>) -> Result<(), AllocEr
 {
     let mut rest = *text;
     while let [a, b, c, d, e, f, g, h, more @ ..] = rest
+        && let Some(first) = octet_of(*a, *b)
+        && let Some(second) = octet_of(*c, *d)
+        && let Some(third) = octet_of(*e, *f)
+        && let Some(fourth) = octet_of(*g, *h)
+    {
+        octets.extend_from_slice(&[first, second, third, fourth])?;
+        rest = more;
+    }
+    *text = rest;
+    Ok(())
+}
+
+/// Takes pairs that come after one character between pairs each, with that character, four at a time, and adds their
+/// octets.
+fn take_four_separated(text: &mut &[u8], octets: &mut Vec<u8>) -> Result<(), AllocError>
+    ensures read { OnOk result (octets_then octets.old.items (pairs_read text.old.now)
+        ≡ octets_then octets.new.items (pairs_read text.new.now)) }
+    ensures less { length text.new.now ≤ length text.old.now }
+{
+    let mut rest = *text;
+    while let [i, a, b, j, c, d, k, e, f, l, g, h, more @ ..] = rest
+        && is_between_pairs(*i)
+        && is_between_pairs(*j)
+        && is_between_pairs(*k)
+        && is_between_pairs(*l)
         && let Some(first) = octet_of(*a, *b)
         && let Some(second) = octet_of(*c, *d)
         && let Some(third) = octet_of(*e, *f)

@@ -68,6 +68,7 @@ pub(super) fn split_line(text: &[u8]) -> (&[u8], &[u8])
 }
 
 /// What a line is.
+#[inline(always)]
 pub(super) fn line_of(radix: Radix, line: &[u8]) -> DumpLine<'_>
     ensures { dump_kind_of result ≡ line_kind radix line.now }
 {
@@ -95,6 +96,7 @@ fn without_return(line: &[u8]) -> &[u8]
 }
 
 /// What a line is, from its first character on that is no blank.
+#[inline(always)]
 fn kind_from(radix: Radix, text: &[u8]) -> DumpLine<'_>
     ensures { dump_kind_of result ≡ kind_from radix text.now }
 {
