@@ -1,11 +1,9 @@
 -- Line feeds of a text and of its parts.
-use Rattle.std.proofs.Common.{◌≡◌, ℕ, zero, suc, ◌+◌, ◌-◌, ◌==◌, ◌<◌, ◌≤◌, Bool, true, false, List, [], ◌∷◌, ◌++◌}
-use Rattle.std.proofs.Common.{◌∙◌, arith, drop, length, slice_index, take, refl, ap, sym, Some, None}
+use Rattle.std.proofs.Common.{◌≡◌, ℕ, ◌+◌, ◌-◌, ◌==◌, ◌≤◌, Bool, true, false, List, [], ◌∷◌, ◌++◌}
+use Rattle.std.proofs.Common.{◌∙◌, arith, drop, length, take, refl, ap, sym}
 use Rattle.std.specs.Prelude.{if◌then◌else◌}
-use Rattle.std.proofs.lemmas.Bool.{false_from_ne_true}
+use Rattle.std.proofs.lemmas.List.{take-append-drop}
 use Rattle.std.proofs.Math.Seq.{take-add}
-use Rattle.memchr.specs.Find.{IsFirstByte, is_byte}
-use Rattle.tlv_text.proofs.Slices.{from-on, slice_from}
 use Rattle.tlv_text.specs.Blocks.{line_at, line_feeds}
 
 -- how many line feeds a character is
@@ -29,40 +27,10 @@ pub line_feeds-le : (xs : List ℕ) → line_feeds xs ≤ length xs
 line_feeds-le [] = omega arith
 line_feeds-le (x ∷ xs) = omega (arith, feeds-few (x == 10) (line_feeds xs) (length xs) (line_feeds-le xs))
 
--- no character before this place is a line feed
-abbrev NoFeed : List ℕ → ℕ → Type 0
-NoFeed text n = (k : ℕ) → k < n → is_byte 10 (slice_index text k) ≡ false
-
-no-feed-before : (text : List ℕ) (n : ℕ) → IsFirstByte (is_byte 10) text (Some n) → NoFeed text n
-no-feed-before text n f k less =
-    false_from_ne_true (is_byte 10 (slice_index text k)) (f.0.before k (omega arith) less)
-
-none-counted : (text : List ℕ) → NoFeed text (length text) → line_feeds text ≡ 0
-none-counted [] none = refl
-none-counted (x ∷ text) none =
-    rw (none 0 (omega arith)) (none-counted text (λ k less. none (suc k) (omega (arith, less))))
-
-first-counted : (text : List ℕ) (n : ℕ) → n < length text → NoFeed text n → is_byte 10 (slice_index text n) ≡ true
-    → line_feeds text ≡ 1 + line_feeds (drop (suc n) text)
-first-counted [] n less none here = absurd (omega arith)
-first-counted (x ∷ text) zero less none here = rw here refl
-first-counted (x ∷ text) (suc n) less none here =
-    rw (none 0 (omega arith))
-    (first-counted text n (omega (arith, less)) (λ k lt. none (suc k) (omega (arith, lt))) here)
-
--- a text without a line feed
-pub no-feeds : (text : List ℕ) → IsFirstByte (is_byte 10) text None → line_feeds text ≡ 0
-no-feeds text f =
-    none-counted text (λ k less. false_from_ne_true (is_byte 10 (slice_index text k)) (f k (omega arith) less))
-
--- the first line feed is counted before what comes after it
-pub feed-counted : (text : List ℕ) (n : ℕ) → IsFirstByte (is_byte 10) text (Some n)
-    → line_feeds text ≡ 1 + line_feeds (slice_from (n + 1) text)
-feed-counted text n f =
-    let next : suc n ≡ n + 1 = omega arith in
-    first-counted text n f.0.high (no-feed-before text n f) f.1
-    ∙ ap (λ (rest : List ℕ). 1 + line_feeds rest)
-    (ap (λ (k : ℕ). drop k text) next ∙ sym (from-on (n + 1) text))
+-- those of a text's front and of its back
+pub line_feeds-parts : (n : ℕ) (text : List ℕ) → line_feeds text ≡ line_feeds (take n text) + line_feeds (drop n text)
+line_feeds-parts n text =
+    ap line_feeds (sym (take-append-drop n text)) ∙ line_feeds-append (take n text) (drop n text)
 
 -- from one place to another, the line feeds between them are added
 pub line-further : (text : List ℕ) (from place : ℕ) → from ≤ place

@@ -1,6 +1,6 @@
 -- What is read of pairs of digits, one after another.
 use Rattle.std.proofs.Common.{◌≡◌, ℕ, ◌≤◌, ◌&&◌, Bool, true, false, List, [], ◌∷◌, ◌++◌, length, refl, ap, sym, ◌∙◌}
-use Rattle.std.proofs.Common.{arith, rules, Option, Some, None, slice_index}
+use Rattle.std.proofs.Common.{arith, drop, rules, zero, suc, ◌+◌, Option, Some, None, slice_index}
 use Rattle.std.proofs.lemmas.Bool.{and_parts}
 use Rattle.std.specs.Prelude.{if◌then◌else◌, unwrap_or}
 use Rattle.hex.specs.Hex.{is_hex_digit}
@@ -55,18 +55,19 @@ four-read all octets (a ∷ b ∷ c ∷ d ∷ e ∷ f ∷ g ∷ h ∷ more) firs
     ∙ ap (λ (t : List ℕ). octets_then (octets ++ first ∷ second ∷ third ∷ fourth ∷ []) (pairs_read t))
     (sym (from-on 8 (a ∷ b ∷ c ∷ d ∷ e ∷ f ∷ g ∷ h ∷ more)))
 
--- a pair behind a character between pairs is read after other octets
-pub separated-read : (all : TextRead) (octets text : List ℕ) (octet : ℕ) → 3 ≤ length text
-    → is_between_pairs (slice_index text 0) ≡ true
-    → Some octet ≡ octet_of (slice_index text 1) (slice_index text 2)
-    → all ≡ octets_then octets (pairs_read text)
-    → all ≡ octets_then (octets ++ octet ∷ []) (pairs_read (slice_from 3 text))
-separated-read all octets [] _ three _ _ i = absurd (omega arith)
-separated-read all octets (a ∷ []) _ three _ _ i = absurd (omega arith)
-separated-read all octets (a ∷ b ∷ []) _ three _ _ i = absurd (omega arith)
-separated-read all octets (between ∷ x ∷ y ∷ more) octet three passed p i =
+-- behind so many characters, a pair behind a character between pairs is read after other octets
+pub separated-at : (all : TextRead) (octets text : List ℕ) (k octet : ℕ) → k + 3 ≤ length text
+    → is_between_pairs (slice_index text k) ≡ true
+    → Some octet ≡ octet_of (slice_index text (suc k)) (slice_index text (suc (suc k)))
+    → all ≡ octets_then octets (pairs_read (drop k text))
+    → all ≡ octets_then (octets ++ octet ∷ []) (pairs_read (drop (suc (suc (suc k))) text))
+separated-at all octets [] k _ three _ _ i = absurd (omega arith)
+separated-at all octets (a ∷ []) zero _ three _ _ i = absurd (omega arith)
+separated-at all octets (a ∷ b ∷ []) zero _ three _ _ i = absurd (omega arith)
+separated-at all octets (between ∷ x ∷ y ∷ more) zero octet three passed p i =
     let behind : pairs_read (between ∷ x ∷ y ∷ more) ≡ pairs_read (x ∷ y ∷ more) = rw passed refl in
     i
     ∙ ap (octets_then octets) (behind ∙ pair-first x y octet more p)
     ∙ octets-and_more octets (octet ∷ []) (pairs_read more)
-    ∙ ap (λ (t : List ℕ). octets_then (octets ++ octet ∷ []) (pairs_read t)) (sym (from-on 3 (between ∷ x ∷ y ∷ more)))
+separated-at all octets (x ∷ text) (suc k) octet three passed p i =
+    separated-at all octets text k octet (omega arith) passed p i

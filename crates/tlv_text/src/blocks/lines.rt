@@ -4,7 +4,9 @@ ghost use Rattle.tlv_text.specs.Blocks.{line_feeds, state_at_place};
 ghost use Rattle.tlv_text.specs.Private.BlockSteps.{IsLineIn, IsRefusedWithin};
 
 use crate::BlockState;
-use memchr::memchr;
+
+/// The characters of a part whose line feeds are counted in an octet: fewer than 256, in whole vectors of 32.
+const PART: usize = 224;
 
 /// A place in a text.
 #[derive(Clone, Copy)]
@@ -32,16 +34,32 @@ pub(super) fn line_from(text: &[u8], from: LinePlace, place: usize) -> LinePlace
     }
 }
 
-/// How many line feeds a text has.
+/// How many line feeds a text has, counted part by part.
 fn line_feeds(text: &[u8]) -> usize
     ensures value { result ≡ line_feeds text.now }
     ensures within { result ≤ length text.now }
 {
     let mut count = 0;
     let mut rest = text;
-    while let Some(place) = memchr(b'\n', rest) {
-        count += 1;
-        rest = &rest[place + 1..];
+    while rest.len() > PART {
+        let (part, more) = rest.split_at(PART);
+        count += usize::from(few_line_feeds(part));
+        rest = more;
+    }
+    count + usize::from(few_line_feeds(rest))
+}
+
+/// How many line feeds a short text has. An octet holds the number, so that many characters are compared and counted at
+/// a time, which costs less than a search for each line feed.
+fn few_line_feeds(text: &[u8]) -> u8
+    requires { length text.now ≤ 224 }
+    ensures { result ≡ line_feeds text.now }
+{
+    let mut count = 0;
+    for character in text {
+        if *character == b'\n' {
+            count += 1;
+        }
     }
     count
 }

@@ -1,6 +1,6 @@
 //! Lines of a hex dump.
 ghost use Rattle.std.specs.List.{list_all};
-ghost use Rattle.std.specs.Prelude.{◌≡◌, ◌<◌, ◌≤◌, ◌∷◌, length, option_map, true};
+ghost use Rattle.std.specs.Prelude.{◌≡◌, ◌<◌, ◌≤◌, ◌∷◌, None, false, length, option_map, true};
 ghost use Rattle.hex.specs.Hex.{is_hex_digit};
 ghost use Rattle.tlv_text.specs.DumpLines.{after_blanks, after_prefix, base, ends_offset, is_dump_blank, is_digit_of};
 ghost use Rattle.tlv_text.specs.DumpLines.{kind_from, line_kind, dump_lines, offset_read, row_at, new_text_line};
@@ -68,6 +68,7 @@ pub(super) fn split_line(text: &[u8]) -> (&[u8], &[u8])
 }
 
 /// What a line is.
+#[inline(always)]
 pub(super) fn line_of(radix: Radix, line: &[u8]) -> DumpLine<'_>
     ensures { dump_kind_of result ≡ line_kind radix line.now }
 {
@@ -95,6 +96,7 @@ fn without_return(line: &[u8]) -> &[u8]
 }
 
 /// What a line is, from its first character on that is no blank.
+#[inline(always)]
 fn kind_from(radix: Radix, text: &[u8]) -> DumpLine<'_>
     ensures { dump_kind_of result ≡ kind_from radix text.now }
 {
@@ -109,9 +111,13 @@ fn kind_from(radix: Radix, text: &[u8]) -> DumpLine<'_>
 }
 
 /// The row that begins with its offset here, if it is one.
+#[inline(always)]
 fn row_at(radix: Radix, text: &[u8]) -> Option<RowLine<'_>>
     ensures { option_map row_seen result ≡ row_at radix text.now }
 {
+    if !has_third_digit(radix, text) {
+        return None;
+    }
     let digits = after_prefix(text);
     if !begins_offset(radix, digits) {
         return None;
@@ -122,6 +128,18 @@ fn row_at(radix: Radix, text: &[u8]) -> Option<RowLine<'_>>
         offset: offset.number,
         rest: offset.rest,
     })
+}
+
+/// Whether the third character is a digit, as in each row, with `0x` before its offset or without. In lines of pairs
+/// with spaces between them it is none, and they need not be looked at further.
+#[inline(always)]
+fn has_third_digit(radix: Radix, text: &[u8]) -> bool
+    ensures { result ≡ false → None ≡ row_at radix text.now }
+{
+    match text {
+        [_, _, x, ..] => is_digit_of(radix, *x),
+        _ => false,
+    }
 }
 
 /// Whether a text begins with an offset: 4 to 16 digits, and what may follow them.

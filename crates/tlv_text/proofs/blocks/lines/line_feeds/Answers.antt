@@ -1,22 +1,35 @@
-use Rattle.std.proofs.Common.{ℕ, ◌+◌, ◌-◌, arith, length}
-use Rattle.std.proofs.lemmas.List.{length-drop, length-take}
-use Rattle.tlv_text.proofs.LineLemmas.{feed-counted, no-feeds}
+use Rattle.std.proofs.Common.{ap, arith}
+use Rattle.tlv_text.proofs.LineLemmas.{line_feeds-le, line_feeds-parts}
+use Rattle.tlv_text.specs.Blocks.{line_feeds}
 use Rattle.tlv_text.proofs.blocks.lines.line_feeds.Goals as goal
 
-pub loop-place-preserved : goal.loop-place-preserved
-loop-place-preserved c =
-    let i = c.loop-place.invariant in
-    record {
-      feeds = omega (arith, i.feeds, feed-counted c.loop-place.rest.now c.in-Some.place c.in-Some.ensures);
-      within = omega (
-        arith,
-        i.within,
-        c.in-Some.ensures.0.high,
-        length-take {A = ℕ} (length c.loop-place.rest.now - (c.in-Some.place + 1)),
-        length-drop {A = ℕ} (c.in-Some.place + 1) c.loop-place.rest.now,
-      );
-    }
+pub overflow_add-count : goal.overflow_add-count
+overflow_add-count c =
+    let front = ap line_feeds c.split_at.ensures.front in
+    let parts = line_feeds-parts 224 c.loop-rest.rest.now in
+    let counted = c.few_line_feeds.ensures in
+    omega (
+      arith,
+      c.loop-rest.invariant,
+      line_feeds-le c.args.text.now,
+      parts,
+      front,
+      counted,
+      c.from-count.ensures,
+    )
 
-pub returns-clause-value : goal.returns-clause-value
-returns-clause-value c =
-    omega (arith, c.loop-place.invariant.feeds, no-feeds c.loop-place.rest.now c.in_default.ensures)
+pub loop-rest-preserved : goal.loop-rest-preserved
+loop-rest-preserved c =
+    let front = ap line_feeds c.split_at.ensures.front in
+    let back = ap line_feeds c.split_at.ensures.back in
+    let parts = line_feeds-parts 224 c.loop-rest.rest.now in
+    let counted = c.few_line_feeds.ensures in
+    omega (arith, c.loop-rest.invariant, parts, front, back, counted, c.from-count.ensures)
+
+pub overflow_add-result : goal.overflow_add-result
+overflow_add-result c =
+    omega (arith, c.loop-rest.invariant, line_feeds-le c.args.text.now, c.few_line_feeds-2.ensures, c.from.ensures)
+
+pub returns-clause-within : goal.returns-clause-within
+returns-clause-within c =
+    omega (arith, c.loop-rest.invariant, line_feeds-le c.args.text.now, c.few_line_feeds-2.ensures, c.from.ensures)

@@ -1,0 +1,23 @@
+use Rattle.std.proofs.Common.{◌≡◌, ◌∷◌, [], ◌++◌, append_assoc, arith, rules, sym, ◌∙◌}
+use Rattle.tlv_text.proofs.PairReadLemmas.{separated-at}
+use Rattle.tlv_text.proofs.Slices.{from-on}
+use Rattle.tlv_text.proofs.pairs.take_four_separated.Goals as goal
+
+pub loop-rest-preserved : goal.loop-rest-preserved
+loop-rest-preserved c =
+    let i = c.loop-rest.invariant in
+    let text = c.loop-rest.rest.now in
+    let size = c.in-len12-up.len_at_least in
+    let added : c.extend_from_slice.new.self.items
+    ≡ c.loop-rest.octets.items
+    ++ c.in-Some.first ∷ c.in-Some-octet_of.second ∷ c.in-Some-octet_of-2.third ∷ c.in-Some-octet_of-3.fourth ∷ [] =
+    search rules in
+    let one = separated-at _ _ text 0 _ (omega (arith, size))
+    (sym c.is_between_pairs.ensures ∙ c.if-is_between_pairs.true) c.in-Some.ensures i.read in
+    let two = separated-at _ _ text 3 _ (omega (arith, size))
+    (sym c.is_between_pairs-in-loop-rest.ensures ∙ c.if-is_between_pairs-2.true) c.in-Some-octet_of.ensures one in
+    let three = separated-at _ _ text 6 _ (omega (arith, size))
+    (sym c.is_between_pairs-in-loop-rest-2.ensures ∙ c.if-is_between_pairs-3.true) c.in-Some-octet_of-2.ensures two in
+    let four = separated-at _ _ text 9 _ size
+    (sym c.is_between_pairs-in-loop-rest-3.ensures ∙ c.if-is_between_pairs-4.true) c.in-Some-octet_of-3.ensures three in
+    record { read = rw (added, from-on 12 text) (simp append_assoc (simp append_assoc at four)); less = search rules }
