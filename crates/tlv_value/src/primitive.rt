@@ -9,13 +9,12 @@ ghost use Rattle.tlv_value.specs.Value.{most_on_line};
 ghost use Rattle.tlv_value.specs.ValueTextState.{is_long_primitive, long_value_line, new_primitive, primitive_line};
 ghost use Rattle.tlv_value.specs.ValueTextState.{primitive_lines};
 
-use tlv_head::{Kind, kind_of};
 use crate::line_starts::begin_element;
 use crate::row_sizes::row_size;
 use crate::value::{write_long_bits, write_long_value, write_undotted};
 use crate::value_lines::{put_object, put_relative};
 use crate::{Layout, NameTable};
-use tlv_head::{Class, Header};
+use tlv_head::{Class, Header, Kind, kind_of};
 use tlv_io::{Drain, HeldOctets, Out, WriteFault};
 
 /// What a header says of a primitive, and how its lines are laid out.

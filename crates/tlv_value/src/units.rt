@@ -8,8 +8,8 @@ ghost use Rattle.tlv_value.specs.Units.{escaped_number, escaped_octet, is_printa
 ghost use Rattle.tlv_value.specs.Units.{printable_text, unit_size, unit_text, units, utf8_number};
 ghost use Rattle.tlv_value.specs.Units.{without_zeros};
 
-use tlv_head::Kind;
 use crate::row_sizes::utf8_length;
+use tlv_head::Kind;
 use tlv_io::HeldOctets;
 
 /// As many octets as a row of characters has at most.

@@ -10,9 +10,9 @@ ghost use Rattle.tlv_value.specs.Value.{is_long, is_readable, long_text, most_on
 ghost use Rattle.tlv_value.specs.Value.{row_text, used_digits};
 
 use crate::decimal::{decimal_of, short_decimal_of};
-use tlv_head::Kind;
 use crate::pairs::{write_pairs, write_row_pairs};
 use crate::units::write_characters;
+use tlv_head::Kind;
 use tlv_io::HeldOctets;
 
 /// A space, a sign, and spaces up to 32 octets.

@@ -9,14 +9,13 @@ ghost use Rattle.tlv_value.specs.ValueTextState.{begin_lines, contents_lines, en
 ghost use Rattle.tlv_value.specs.ValueTextState.{new_value_text, new_value_text_of, new_value_text_with};
 ghost use Rattle.tlv_value.specs.ValueTextState.{value_text_after, value_text_for};
 
-use tlv_head::Kind;
 use crate::primitive::Primitive;
 use crate::row_form::RowForm;
 use crate::value_lines::{put_last, put_rows};
 use crate::{Layout, NameTable};
 use arrayvec::ArrayVec;
 use std::marker::Model;
-use tlv_head::{Class, Header};
+use tlv_head::{Class, Header, Kind};
 use tlv_io::{Drain, Out, WriteFault};
 
 /// Begins the first row of a long BIT STRING: with the first contents octet, if that cannot be read.

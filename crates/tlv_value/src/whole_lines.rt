@@ -10,11 +10,10 @@ ghost use Rattle.tlv_value.specs.Value.{row_octets};
 ghost use Rattle.tlv_value.specs.ValueLines.{row_lines, whole_lines, whole_lines_with};
 ghost use Rattle.tlv_value.specs.ValueTextState.{is_long_primitive, long_value_line, new_value_text_of};
 
-use tlv_head::Kind;
 use crate::primitive::Primitive;
 use crate::value_lines::put_pair_rows;
 use crate::{Layout, NameTable, ValueText};
-use tlv_head::Header;
+use tlv_head::{Header, Kind};
 use tlv_io::{Drain, Out, WriteFault};
 
 /// Puts the lines of a primitive of which all contents are at hand: as a [`ValueText`] does with its header, its

@@ -6,9 +6,9 @@ ghost use Rattle.tlv_value.specs.OpenRow.{IsOpenRow};
 ghost use Rattle.tlv_value.specs.Rows.{full_rows, open_row};
 
 use super::both;
-use tlv_head::Kind;
 use crate::row_sizes::fitting_length;
 use arrayvec::ArrayVec;
+use tlv_head::Kind;
 
 /// Takes octets after the row that has begun. Returns whether the rows that are then full are well-formed.
 pub(super) fn take_rows(row: &mut ArrayVec<u8, 64>, octets: &[u8]) -> bool

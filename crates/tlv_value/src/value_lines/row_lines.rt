@@ -13,13 +13,13 @@ ghost use Rattle.tlv_value.specs.Value.{row_text};
 ghost use Rattle.tlv_value.specs.ValueLines.{row_lines};
 
 use crate::Layout;
-use tlv_head::Kind;
 use crate::line_starts::row_indent;
 use crate::pairs::write_full_row;
 use crate::row_form::RowForm;
 use crate::row_sizes::{fitting_length, row_size};
 use crate::value::write_row;
 use arrayvec::ArrayVec;
+use tlv_head::Kind;
 use tlv_io::{Drain, HeldOctets, Out, WriteFault};
 
 /// Puts rows of all of the octets.

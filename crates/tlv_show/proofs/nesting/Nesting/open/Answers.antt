@@ -20,5 +20,5 @@ returns-then-self c =
     let known = c.self.invariant in
     let e = one_each n.frame n.floor n.depth n.outer known.within known.rising in
     let full : 128 ≤ length (outer_frames n.frame (n.depth - n.floor) (all_frames n.floor n.outer)) =
-    omega (arith, e, c.if-self-eq128.true) in
+    omega (arith, e, c.if-self.true) in
     rw (← c.self.view_is) (open-full _ c.args.header.now full)
