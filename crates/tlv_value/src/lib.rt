@@ -12,6 +12,7 @@ mod name_table;
 mod names;
 mod pairs;
 mod primitive;
+mod quick_kind;
 mod row_form;
 mod row_sizes;
 mod short_look;

@@ -10,11 +10,12 @@ ghost use Rattle.tlv_value.specs.ValueTextState.{is_long_primitive, long_value_l
 ghost use Rattle.tlv_value.specs.ValueTextState.{primitive_lines};
 
 use crate::line_starts::begin_element;
+use crate::quick_kind::quick_kind;
 use crate::row_sizes::row_size;
 use crate::value::{write_long_bits, write_long_value, write_undotted};
 use crate::value_lines::{put_object, put_relative};
 use crate::{Layout, NameTable};
-use tlv_head::{Class, Header, Kind, kind_of};
+use tlv_head::{Class, Header, Kind};
 use tlv_io::{Drain, HeldOctets, Out, WriteFault};
 
 /// What a header says of a primitive, and how its lines are laid out.
@@ -42,7 +43,7 @@ impl Primitive {
             class: header.class,
             number: header.number,
             size: header.size.announced_length(),
-            kind: kind_of(header.class, header.number),
+            kind: quick_kind(header.class, header.number),
             layout,
             with_text,
         }
