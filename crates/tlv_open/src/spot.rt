@@ -12,7 +12,7 @@ ghost use Rattle.tlv_walk.specs.Forest.{Forest};
 ghost use Rattle.tlv_walk.specs.Place.{Place};
 
 use crate::elements::{header_at, is_elements_end, quick_header_at};
-use tlv_head::{Class, Encodings, HeaderFields, Size, encodings_of, universal};
+use tlv_head::{Class, HeaderFields, Size, universal};
 
 /// Where elements are that are read by themselves.
 #[derive(Clone, Copy)]
@@ -109,7 +109,14 @@ fn is_string(fields: &HeaderFields) -> bool
     ensures { (header : List ℕ) → result ≡ is_string (new_header fields.now header) }
 {
     matches!(fields.class, Class::Universal)
-        && matches!(encodings_of(fields.number), Some(Encodings::Segmented))
+        && matches!(
+            fields.number,
+            universal::BIT_STRING
+                | universal::OCTET_STRING
+                | universal::OBJECT_DESCRIPTOR
+                | universal::UTF8_STRING
+                | universal::NUMERIC_STRING..=universal::UNIVERSAL_STRING | universal::BMP_STRING
+        )
 }
 
 /// Whether the octets, those that follow the header of an element, are one primitive and its end, and nothing else.

@@ -1,4 +1,5 @@
-//! What a header says of its element.
+//! What a header says of its element. The functions on types have lists of their own, which are those of the table of
+//! types: a look at the table in each place where a header is asked would make these too large to be inlined.
 ghost use Rattle.std.specs.Prelude.{◌≡◌};
 ghost use Rattle.tlv_head.specs.Header.{announced_length, is_universal};
 ghost use Rattle.tlv_head.specs.UniversalTypes.{bit_string};
@@ -7,7 +8,7 @@ ghost use Rattle.tlv_value.specs.Types.{is_string, is_unassigned};
 ghost use Rattle.tlv_walk.specs.Place.{is_indefinite};
 ghost use Rattle.tlv_show.specs.Conditions.{has_high_form, has_long_form, is_length_padded, segment_type};
 
-use tlv_head::{Class, Encodings, Header, Size, encodings_of, universal};
+use tlv_head::{Class, Header, Size, universal};
 
 /// Whether the tag is in the high form (8.1.2.4).
 #[inline(always)]
@@ -60,7 +61,10 @@ pub(crate) fn is_universal(header: &Header) -> bool
 pub(crate) fn is_unassigned(header: &Header) -> bool
     ensures { result ≡ is_unassigned header.now }
 {
-    is_universal(header) && encodings_of(header.number).is_none()
+    is_universal(header)
+        && (header.number == 0
+            || header.number == 15
+            || header.number > universal::RELATIVE_OID_IRI)
 }
 
 /// Whether the encodings of the type are primitive.
@@ -68,7 +72,17 @@ pub(crate) fn is_unassigned(header: &Header) -> bool
 pub(crate) fn is_always_primitive(header: &Header) -> bool
     ensures { result ≡ is_always_primitive header.now }
 {
-    is_universal(header) && matches!(encodings_of(header.number), Some(Encodings::Primitive))
+    is_universal(header)
+        && matches!(
+            header.number,
+            universal::BOOLEAN
+                | universal::INTEGER
+                | universal::NULL
+                | universal::OBJECT_IDENTIFIER
+                | universal::REAL
+                | universal::ENUMERATED
+                | universal::RELATIVE_OID
+        )
 }
 
 /// Whether the encodings of the type are constructed.
@@ -76,7 +90,15 @@ pub(crate) fn is_always_primitive(header: &Header) -> bool
 pub(crate) fn is_always_constructed(header: &Header) -> bool
     ensures { result ≡ is_always_constructed header.now }
 {
-    is_universal(header) && matches!(encodings_of(header.number), Some(Encodings::Constructed))
+    is_universal(header)
+        && matches!(
+            header.number,
+            universal::EXTERNAL
+                | universal::EMBEDDED_PDV
+                | universal::SEQUENCE
+                | universal::SET
+                | universal::CHARACTER_STRING
+        )
 }
 
 /// Whether the type is that of a string, with the strings of characters and the two times.
@@ -84,7 +106,16 @@ pub(crate) fn is_always_constructed(header: &Header) -> bool
 pub(crate) fn is_string(header: &Header) -> bool
     ensures { result ≡ is_string header.now }
 {
-    is_universal(header) && matches!(encodings_of(header.number), Some(Encodings::Segmented))
+    is_universal(header)
+        && matches!(
+            header.number,
+            universal::BIT_STRING
+                | universal::OCTET_STRING
+                | universal::OBJECT_DESCRIPTOR
+                | universal::UTF8_STRING
+                | universal::BMP_STRING
+                | universal::NUMERIC_STRING..=universal::UNIVERSAL_STRING
+        )
 }
 
 /// Whether it is a constructed string, so that what it holds are segments.
