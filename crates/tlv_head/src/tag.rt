@@ -1,9 +1,9 @@
 //! The texts of tags.
-ghost use Rattle.std.specs.Prelude.{◌≡◌, ◌≤◌, IfSome, length};
-ghost use Rattle.std.specs.Option.{option_copied};
+ghost use Rattle.std.specs.Prelude.{◌≡◌, ◌≤◌, IfSome, length, take};
+ghost use Rattle.std.specs.Option.{option_copied, option_map};
 ghost use Rattle.tlv_head.specs.Tag.{tag_text, type_name};
 
-use crate::{Class, type_at};
+use crate::{Class, universal};
 use arrayvec::ArrayVec;
 use itoa::Buffer;
 
@@ -13,9 +13,56 @@ pub fn type_name(number: u64) -> Option<&'static [u8]>
     ensures name { option_copied result ≡ type_name number }
     ensures short { IfSome result (λ name. length name.now ≤ 17) }
 {
-    let found = type_at(number)?;
-    let name = found.name;
-    Some(&name[..found.name_length])
+    let (name, size) = type_name_block(number)?;
+    Some(&name[..size])
+}
+
+/// A block that begins with the name of a universal type and has spaces after it, so that the name can be copied at
+/// once, and how many octets the name has.
+/// `None` if the number is not that of a type.
+#[inline(always)]
+pub fn type_name_block(number: u64) -> Option<(&'static [u8; 32], usize)>
+    ensures name { option_map (λ (block, size). take size block.now) result ≡ type_name number }
+    ensures within { IfSome result (λ (block, size). size ≤ 17) }
+{
+    Some(match number {
+        universal::BOOLEAN => (b"BOOLEAN                         ", 7),
+        universal::INTEGER => (b"INTEGER                         ", 7),
+        universal::BIT_STRING => (b"BIT STRING                      ", 10),
+        universal::OCTET_STRING => (b"OCTET STRING                    ", 12),
+        universal::NULL => (b"NULL                            ", 4),
+        universal::OBJECT_IDENTIFIER => (b"OBJECT IDENTIFIER               ", 17),
+        universal::OBJECT_DESCRIPTOR => (b"ObjectDescriptor                ", 16),
+        universal::EXTERNAL => (b"EXTERNAL                        ", 8),
+        universal::REAL => (b"REAL                            ", 4),
+        universal::ENUMERATED => (b"ENUMERATED                      ", 10),
+        universal::EMBEDDED_PDV => (b"EMBEDDED PDV                    ", 12),
+        universal::UTF8_STRING => (b"UTF8String                      ", 10),
+        universal::RELATIVE_OID => (b"RELATIVE-OID                    ", 12),
+        universal::TIME => (b"TIME                            ", 4),
+        universal::SEQUENCE => (b"SEQUENCE                        ", 8),
+        universal::SET => (b"SET                             ", 3),
+        universal::NUMERIC_STRING => (b"NumericString                   ", 13),
+        universal::PRINTABLE_STRING => (b"PrintableString                 ", 15),
+        universal::TELETEX_STRING => (b"TeletexString                   ", 13),
+        universal::VIDEOTEX_STRING => (b"VideotexString                  ", 14),
+        universal::IA5_STRING => (b"IA5String                       ", 9),
+        universal::UTC_TIME => (b"UTCTime                         ", 7),
+        universal::GENERALIZED_TIME => (b"GeneralizedTime                 ", 15),
+        universal::GRAPHIC_STRING => (b"GraphicString                   ", 13),
+        universal::VISIBLE_STRING => (b"VisibleString                   ", 13),
+        universal::GENERAL_STRING => (b"GeneralString                   ", 13),
+        universal::UNIVERSAL_STRING => (b"UniversalString                 ", 15),
+        universal::CHARACTER_STRING => (b"CHARACTER STRING                ", 16),
+        universal::BMP_STRING => (b"BMPString                       ", 9),
+        universal::DATE => (b"DATE                            ", 4),
+        universal::TIME_OF_DAY => (b"TIME-OF-DAY                     ", 11),
+        universal::DATE_TIME => (b"DATE-TIME                       ", 9),
+        universal::DURATION => (b"DURATION                        ", 8),
+        universal::OID_IRI => (b"OID-IRI                         ", 7),
+        universal::RELATIVE_OID_IRI => (b"RELATIVE-OID-IRI                ", 16),
+        _ => return None,
+    })
 }
 
 /// The text of a tag, in ASCII: the name of a universal type, as `INTEGER`; otherwise the class and

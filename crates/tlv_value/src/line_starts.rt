@@ -8,7 +8,7 @@ ghost use Rattle.tlv_value.specs.Private.Rows.{row_indent};
 ghost use Rattle.tlv_value.specs.ValueLines.{element_prefix};
 
 use crate::Layout;
-use tlv_head::{Class, type_at};
+use tlv_head::{Class, type_name_block};
 use tlv_io::HeldOctets;
 
 /// Begins a line with its first columns (an offset and a number of contents octets), unless `layout.pure` leaves
@@ -111,8 +111,8 @@ fn write_universal(held: &mut HeldOctets, number: u64)
     requires { HasRoomFor held.old 40 }
     ensures { AddsAtMost 40 held.old held.new (tag_text Class.Universal number) }
 {
-    match type_at(number) {
-        Some(found) => held.add_prefix(found.name, found.name_length),
+    match type_name_block(number) {
+        Some((name, size)) => held.add_prefix(name, size),
         None => write_bracketed(held, b"[UNIVERSAL                      ", 11, number),
     }
 }
