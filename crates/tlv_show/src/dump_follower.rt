@@ -157,8 +157,8 @@ impl<N: FiniteNames> Dump<'_, N> {
         self.lines.open(header, word, out)
     }
 
-    /// A string that holds encodings begins.
-    #[inline(always)]
+    /// A string that holds encodings begins. It is apart: with it [`Dump::put_lines`] would be too large to be inlined.
+    #[inline(never)]
     fn open_wrapper<D: Drain>(
         &mut self,
         header: &Header,
