@@ -1,5 +1,5 @@
 -- The table of the universal types: X.680, table 1, with what X.690 says of each.
-use Rattle.std.specs.Prelude.{ℕ, eqb, Bool, true, false, List, [], ◌∷◌, codes, take, Option}
+use Rattle.std.specs.Prelude.{ℕ, eqb, Bool, true, false, List, [], ◌∷◌, codes, Option}
 use Rattle.std.specs.List.{find}
 use Rattle.std.specs.Option.{option_map_or}
 use Rattle.tlv_head.specs.UniversalTypes as universal
@@ -8,7 +8,6 @@ use Rattle.tlv_head.specs.declared.kind.Kind.TheVariants.{Octets, Boolean, Integ
 use Rattle.tlv_head.specs.declared.kind.Kind.TheVariants.{Text, Utf8, Ucs2, Ucs4}
 use Rattle.tlv_head.specs.declared.type_table.Encodings.{Encodings}
 use Rattle.tlv_head.specs.declared.type_table.Encodings.TheVariants.{Primitive, Constructed, Segmented, Unjudged}
-use Rattle.tlv_head.specs.declared.type_table.UniversalType.{UniversalType}
 
 -- a row: a type
 pub record TypeRow : Type 0 where
@@ -79,7 +78,3 @@ are_constructed _ = false
 abbrev pub are_segmented : Encodings → Bool
 are_segmented Segmented = true
 are_segmented _ = false
-
--- the row of a type, by what the code has of it
-abbrev pub type_row_of : ℕ → UniversalType → TypeRow
-type_row_of number t = row number (take t.name_length t.name.now) t.encodings t.kind

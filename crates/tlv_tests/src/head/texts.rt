@@ -2,7 +2,9 @@
 use super::octets::OFFSET;
 use crate::expect::expect_eq;
 use std::process::Abort;
-use tlv_head::{Class, Encodings, Fault, FaultCode, encodings_of, tag_text, type_name};
+use tlv_head::{
+    Class, Encodings, Fault, FaultCode, Kind, encodings_of, kind_of, tag_text, type_at, type_name,
+};
 
 /// The texts of the universal tags, by their numbers.
 static UNIVERSAL: [&str; 38] = [
@@ -49,6 +51,11 @@ static UNIVERSAL: [&str; 38] = [
 /// Which encodings the universal types have, by their numbers: `p` primitive ones, `c` constructed ones, `s` those of a
 /// string, `u` any. `-` is no type.
 static ENCODINGS: [u8; 38] = *b"-ppssppscppcspu-ccssssssssssscsuuuuuu-";
+
+/// How the contents of the universal types are shown, by their numbers: `b` as a boolean, `i` an integer, `n` bits,
+/// `o` an object identifier, `r` a relative one, `t` text, `8` text in UTF-8, `2` and `4` text of characters of that
+/// many octets, and `h` in hexadecimal.
+static KINDS: [u8; 38] = *b"hbinhhothhih8rhhhhtttttttttt4h2hhhhhhh";
 
 /// Tags by class and number, and their texts.
 static TAGS: [(Class, u64, &str); 6] = [
@@ -179,4 +186,41 @@ fn types_have_encodings(rt: HostRuntime) {
             ENCODINGS[number],
         );
     }
+}
+
+/// The letter of a kind.
+fn letter_of_kind(kind: Kind) -> u8 {
+    match kind {
+        Kind::Octets => b'h',
+        Kind::Boolean => b'b',
+        Kind::Integer => b'i',
+        Kind::Bits => b'n',
+        Kind::Object => b'o',
+        Kind::Relative => b'r',
+        Kind::Text => b't',
+        Kind::Utf8 => b'8',
+        Kind::Ucs2 => b'2',
+        Kind::Ucs4 => b'4',
+    }
+}
+
+#[test]
+fn types_have_kinds(rt: HostRuntime) {
+    for number in 0..KINDS.len() {
+        let kind = kind_of(Class::Universal, number as u64);
+        expect_eq(&rt, letter_of_kind(kind), KINDS[number]);
+        let tagged = kind_of(Class::Context, number as u64);
+        expect_eq(&rt, letter_of_kind(tagged), b'h');
+    }
+}
+
+#[test]
+fn types_have_rows(rt: HostRuntime) {
+    let found = type_at(12);
+    expect_eq(&rt, found.is_some(), true);
+    if let Some(found) = found {
+        expect_eq(&rt, letter_of(Some(found.encodings)), b's');
+        expect_eq(&rt, letter_of_kind(found.kind), b'8');
+    }
+    expect_eq(&rt, type_at(15).is_none(), true);
 }
