@@ -15,7 +15,7 @@ use crate::finding_lines::put_findings;
 use crate::lines::Lines;
 use crate::{FiniteNames, Options};
 use std::marker::Model;
-use tlv_head::Header;
+use tlv_head::{Header, HeaderFields};
 use tlv_value::{Layout, Names};
 use tlv_walk::{Drain, Event, Follow, Go, Out, WriteFault};
 
@@ -107,6 +107,17 @@ impl<N: FiniteNames> Follow for Dump<'_, N> {
         }
         self.lines.whole(header, contents, out)?;
         Ok(true)
+    }
+
+    #[inline(always)]
+    fn enter<D: Drain>(
+        &mut self,
+        fields: &HeaderFields,
+        octets: &[u8],
+        out: &mut Out<'_, D>,
+    ) -> Result<Go, WriteFault> {
+        self.open(&Header::new(fields, octets), b" wraps {", out)?;
+        Ok(Go::On)
     }
 }
 

@@ -1,7 +1,7 @@
 //! What follows a walk.
 ghost use Rattle.std.specs.Prelude.{◌≡◌, true};
 ghost use Rattle.tlv_head.specs.HeaderFields.{IsHeaderSized, new_header};
-ghost use Rattle.tlv_walk.specs.Events.{Bytes, EventValue, Open, Pad, event_value_of};
+ghost use Rattle.tlv_walk.specs.Events.{Bytes, Enter, EventValue, Open, Pad, event_value_of};
 ghost use Rattle.tlv_walk.specs.Follow.{Effect, GoesOn, IgnoresEmpty, IsWholeElement, Joins, whole_effect};
 ghost use Rattle.tlv_walk.specs.HasEffect.{HasEffectOrNone, ReturnsEffect};
 
@@ -75,6 +75,26 @@ pub trait Follow {
             out.old out.new self.new result }
     {
         self.on(&Event::Open(Header::new(fields, octets)), out)
+    }
+
+    /// Follows the header of a string that holds encodings, given by its fields and its octets, as [`Follow::on`]
+    /// follows [`Event::Enter`] with that header.
+    ///
+    /// # Errors
+    ///
+    /// As for [`Follow::on`].
+    #[inline(always)]
+    fn enter<D: Drain>(
+        &mut self,
+        fields: &HeaderFields,
+        octets: &[u8],
+        out: &mut Out<'_, D>,
+    ) -> Result<Go, WriteFault>
+        requires { IsHeaderSized fields.now octets.now }
+        ensures { ReturnsEffect D.state (next self.old (Enter (new_header fields.now octets.now)))
+            out.old out.new self.new result }
+    {
+        self.on(&Event::Enter(Header::new(fields, octets)), out)
     }
 
     // Contents in two parts are followed as in one, and no octets as no event; after contents more

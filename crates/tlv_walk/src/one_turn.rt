@@ -265,7 +265,7 @@ fn follow_string<F: Follow, D: Drain>(
         return Ok(Some(go));
     }
     if let Some((fields, octets)) = walker.wrapper(piece) {
-        let go = follower.on(&Event::Enter(Header::new(&fields, octets)), out)?;
+        let go = follower.enter(&fields, octets, out)?;
         return Ok(Some(go));
     }
     Ok(None)
