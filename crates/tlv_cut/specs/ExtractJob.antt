@@ -6,7 +6,7 @@ use Rattle.tlv_cut.specs.declared.extract_call.Cut.{Cut}
 use Rattle.tlv_cut.specs.ExtractText.{extract_text, has_element_at, has_whole_element_at}
 use Rattle.tlv_head.specs.InputLimit.{input_limit}
 
--- write the element at the offset, or its contents alone. After its end nothing more is wanted
+-- write the element at the offset, or only its contents. After its end nothing more is wanted
 abbrev pub extract_job : ℕ → Bool → Framing → Job Cut
 extract_job offset contents_only framing = record {
   framing = framing;

@@ -11,10 +11,10 @@ use Rattle.tlv_walk.specs.LongerInputs.{ForLongerInputs}
 use Rattle.tlv_cut.specs.ExtractText.{extract_text, has_element_at, has_whole_element_at}
 use Rattle.tlv_cut.specs.ExtractStep.{ExtractState, extract_step, has_found, new_extract}
 
--- what is written of the element at the offset n are octets of the input b, from that offset on: a header, contents
+-- what is written for the element at the offset n are octets of the input b, from that offset on: a header, contents
 -- and, if the element is whole and its length is indefinite, end-of-contents octets
 pub record IsInInput (b : List ℕ) (n : ℕ) (f : Forest) : Type 0 where
-  -- the octets before the element, and those after what is written of it
+  -- the octets before the element, and the octets after what is written for it
   pub before : List ℕ
   pub after : List ℕ
   pub octets_are : before ++ (extract_text n false f ++ after) ≡ b
@@ -36,32 +36,32 @@ abbrev pub ExtractTextGoesOn : Type 0
 ExtractTextGoesOn = ForLongerInputs (λ f g. (n : ℕ) (contents_only : Bool)
     → IsPrefixOf (extract_text n contents_only f) (extract_text n contents_only g))
 
--- an element that is found is found whatever follows
+-- an element that is found stays found, whatever follows
 abbrev pub FoundElementsStay : Type 0
 FoundElementsStay = ForLongerInputs (λ f g. (n : ℕ)
     → has_element_at n f ≡ true → has_element_at n g ≡ true)
 
--- of the element at the offset n the same is found and written in both
+-- for the element at the offset n, the same is found and written in both
 pub record AreExtractedAlike (n : ℕ) (f g : Forest) : Type 0 where
   pub found : has_element_at n g ≡ has_element_at n f
   pub whole : has_whole_element_at n g ≡ has_whole_element_at n f
   pub text : (contents_only : Bool)
       → extract_text n contents_only g ≡ extract_text n contents_only f
 
--- if an element is whole, nothing that follows changes what is found and written of it
+-- if an element is whole, nothing that follows changes what is found and written for it
 abbrev pub WholeElementsStay : Type 0
 WholeElementsStay = ForLongerInputs (λ f g. (n : ℕ)
     → has_whole_element_at n f ≡ true → AreExtractedAlike n f g)
 
--- what was put is what `extract` writes. It was enough if the element is whole, and the element was
--- found if it is there
+-- what was put is what `extract` writes. The follower has enough if the element is whole, and has found the element
+-- if it is there
 pub record MakesExtract (n : ℕ) (contents_only : Bool) (f : Forest) (x : Effect ExtractState)
     : Type 0 where
   pub put : x.put ≡ extract_text n contents_only f
   pub goes : x.goes ≡ go_of (has_whole_element_at n f)
   pub found : has_found x.state ≡ has_element_at n f
 
--- of the events of a reading an `Extract` makes what `extract` writes
+-- from the events of a reading, an `Extract` writes what `extract` writes
 abbrev pub ExtractMakesItsText : Type 0
 ExtractMakesItsText = (framing : Framing) (b : List ℕ) (f : Forest) → IsReading framing b f
     → (n : ℕ) (contents_only : Bool)
@@ -75,7 +75,7 @@ is_end_event (Close offset) = true
 is_end_event Leave = true
 is_end_event _ = false
 
--- an `Extract` has enough at the end of an element alone, whatever it followed before
+-- an `Extract` has enough only at the end of an element, whatever it followed before
 abbrev pub EnoughComesAtEnds : Type 0
 EnoughComesAtEnds = (s : ExtractState) (e : EventValue)
     → (extract_step s e).goes ≡ Enough → is_end_event e ≡ true

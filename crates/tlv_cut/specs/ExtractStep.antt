@@ -1,4 +1,4 @@
--- What an `Extract` makes of events.
+-- The effect of events on an `Extract`.
 use Rattle.std.specs.Prelude.{ℕ, ◌+◌, ◌==◌, min, suc, zero, Bool, true, false, if◌then◌else◌}
 use Rattle.std.specs.Prelude.{List, [], ◌∷◌, Some, None}
 use Rattle.tlv_head.specs.Header.{HeaderValue, octets_of}
@@ -11,11 +11,11 @@ use Rattle.tlv_cut.specs.declared.extract_follower.Position.TheVariants.{Before,
 
 -- what contracts see of an `Extract`
 pub record ExtractState : Type 0 where
-  -- the offset of the element that is wanted
+  -- the offset of the wanted element
   pub offset : ℕ
-  -- its contents alone are wanted
+  -- only its contents are wanted
   pub contents_only : Bool
-  -- where the walk is, seen from that element
+  -- where the walk is, relative to the wanted element
   pub position : Position
 
 -- an `Extract` that has followed no event
@@ -23,7 +23,7 @@ abbrev pub new_extract : ℕ → Bool → ExtractState
 new_extract offset contents_only =
     record { offset = offset; contents_only = contents_only; position = Before }
 
--- the header of the element wanted has come whole
+-- the header of the wanted element is complete
 abbrev pub has_found : ExtractState → Bool
 has_found s = by_position s.position
   where
@@ -32,18 +32,18 @@ has_found s = by_position s.position
     by_position (Within count) = true
     by_position After = true
 
--- of octets around the contents of the element wanted, those that are put: none if its contents
--- alone are wanted
+-- the octets that are put, out of octets around the contents of the wanted element: none if only its contents are
+-- wanted
 abbrev pub outer_octets : Bool → List ℕ → List ℕ
 outer_octets contents_only octets = if contents_only then [] else octets
 
--- these octets are put, and the walk is at this position
+-- the effect that puts these octets and moves the walk to this position
 abbrev pub extract_step_to : ExtractState → Position → List ℕ → Go → Effect ExtractState
 extract_step_to s position octets goes =
     record { state = record s { position = position }; put = octets; goes = goes }
 
--- an element begins at this offset, with these octets for its header: the one wanted, one that it holds, or
--- another. The count of those that are open in it stops at 255
+-- an element begins at this offset, with these octets for its header: the wanted element, one that it holds, or
+-- another. The count of open elements inside the wanted one stops at 255
 abbrev pub extract_begin_step_at : ExtractState → ℕ → List ℕ → Effect ExtractState
 extract_begin_step_at s offset octets = by_position s.position
   where
@@ -59,7 +59,7 @@ extract_begin_step_at s offset octets = by_position s.position
 abbrev pub extract_begin_step : ExtractState → HeaderValue → Effect ExtractState
 extract_begin_step s h = extract_begin_step_at s h.offset (octets_of h)
 
--- of octets that come at this position, those of the element wanted
+-- the octets of the wanted element, out of octets that come at this position
 abbrev pub wanted_octets : Position → List ℕ → List ℕ
 wanted_octets Before octets = []
 wanted_octets (Within count) octets = octets

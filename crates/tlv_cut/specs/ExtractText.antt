@@ -1,4 +1,4 @@
--- What `extract` writes: an element, or its contents.
+-- What `extract` writes: an element, or only its contents.
 use Rattle.std.specs.Prelude.{ℕ, Bool, false, ◌==◌, if◌then◌else◌, List, [], ◌++◌}
 use Rattle.std.specs.Prelude.{Option, Some, None}
 use Rattle.std.specs.Option.{is_some, option_map_or, option_or}
@@ -7,8 +7,8 @@ use Rattle.tlv_walk.specs.Forest.{Forest, NoMore, PaddingOctet, Primitive, Holde
 use Rattle.tlv_walk.specs.Forest.{OpenBitString}
 use Rattle.tlv_walk.specs.Forest.{end_octets, is_whole, lead, opening}
 
--- the element whose header begins at the offset n, by itself, if its header is whole. No two
--- elements begin at one offset
+-- the element whose header begins at the offset n, by itself, if its header is complete. No two elements begin at one
+-- offset
 abbrev pub element_at : ℕ → Forest → Option Forest
 element_at n (PaddingOctet rest) = element_at n rest
 element_at n (Primitive h c rest) =
@@ -42,9 +42,8 @@ octets_so_far (OpenHolder h children) = opening h ++ octets_so_far children
 octets_so_far (OpenBitString h) = octets_of h
 octets_so_far _ = []
 
--- 8.1.1.1: the contents octets so far of one element: neither its identifier and length octets nor
--- its end-of-contents octets. The first contents octet of a BIT STRING that holds encodings is one
--- of them
+-- 8.1.1.1: the contents octets so far of one element, without its identifier, length and end-of-contents octets. They
+-- include the first contents octet of a BIT STRING that holds encodings
 abbrev pub contents_so_far : Forest → List ℕ
 contents_so_far (Primitive h c _) = c
 contents_so_far (Holder h children _) = lead h ++ octets_so_far children
@@ -52,10 +51,10 @@ contents_so_far (OpenPrimitive h c) = c
 contents_so_far (OpenHolder h children) = lead h ++ octets_so_far children
 contents_so_far _ = []
 
--- what is written of an element
+-- what is written for an element
 abbrev pub element_text : Bool → Forest → List ℕ
 element_text contents_only e = if contents_only then contents_so_far e else octets_so_far e
 
--- what `extract` writes: the element at the offset n, or its contents alone. Without one, nothing
+-- what `extract` writes: the element at the offset n, or only its contents. Nothing if there is no such element
 abbrev pub extract_text : ℕ → Bool → Forest → List ℕ
 extract_text n contents_only f = option_map_or (element_text contents_only) (element_at n f) []

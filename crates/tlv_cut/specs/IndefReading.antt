@@ -1,4 +1,4 @@
--- What the octets that `indef` writes are read as.
+-- How the octets that `indef` writes are read.
 use Rattle.std.specs.Prelude.{◌≡◌, ℕ, ◌+◌, Bool, List, length}
 use Rattle.tlv_walk.specs.Forest.{Forest, NoMore, PaddingOctet, Primitive, Holder, OpenPrimitive, OpenHolder}
 use Rattle.tlv_walk.specs.Forest.{OpenBitString}
@@ -7,7 +7,7 @@ use Rattle.tlv_walk.specs.Reading.{IsReading}
 use Rattle.tlv_cut.specs.IndefJob.{indef_framing}
 use Rattle.tlv_cut.specs.IndefText.{indef_text, with_indefinite_lengths}
 
--- the same elements from the offset n on: each begins where what is before it ends
+-- the same elements from the offset n on: each begins where the one before it ends
 abbrev pub with_offsets_from : ℕ → Forest → Forest
 with_offsets_from n NoMore = NoMore
 with_offsets_from n (PaddingOctet rest) = PaddingOctet (with_offsets_from (n + 1) rest)
@@ -24,7 +24,7 @@ with_offsets_from n (OpenBitString h) = OpenBitString (record h { offset = n })
 with_offsets_from n (OpenHeader octets) = OpenHeader octets
 with_offsets_from n OpenEndOctets = OpenEndOctets
 
--- the same elements with indefinite lengths, at the offsets that they have in what is written
+-- the same elements with indefinite lengths, at their offsets in what is written
 abbrev pub indef_reading : Forest → Forest
 indef_reading f = with_offsets_from 0 (with_indefinite_lengths f)
 

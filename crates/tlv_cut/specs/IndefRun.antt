@@ -1,4 +1,4 @@
--- What a call of `indef` comes to.
+-- The result of a call of `indef`.
 use Rattle.std.specs.Prelude.{◌≡◌, Bool, Result, Ok}
 use Rattle.tlv_walk.specs.declared.ending.Ending.{Ending}
 use Rattle.tlv_walk.specs.declared.ending.Ending.TheVariants.{Done}

@@ -1,4 +1,4 @@
--- What an `Indef` makes of events.
+-- The effect of events on an `Indef`.
 use Rattle.std.specs.Prelude.{ℕ, if◌then◌else◌, List, [], ◌∷◌}
 use Rattle.tlv_head.specs.Header.{spell_indefinite, octets_of}
 use Rattle.tlv_walk.specs.Events.{Begin, Bytes, Close, End, Enter, EventValue, Leave, Open, Pad, Unused}
@@ -11,8 +11,7 @@ pub record IndefState : Type 0 where
 abbrev pub new_indef : IndefState
 new_indef = record {}
 
--- the octets that it puts for an event. The header of a primitive stays as it is, whichever event
--- comes with it
+-- the octets that it puts for an event. The header of a primitive is put unchanged, whichever event it comes with
 abbrev pub indef_event_text : EventValue → List ℕ
 indef_event_text (Open h) = if h.constructed then spell_indefinite h else octets_of h
 indef_event_text (Begin h) = octets_of h

@@ -8,29 +8,29 @@ use tlv_walk::{DeviceFault, Drain, Ending, Framing, Source, drive};
 /// What [`extract`] returns.
 #[derive(Clone, Copy, Debug, PartialEq, Eq)]
 pub struct Cut {
-    /// `Done` if the element has ended, whatever follows it. Otherwise the ending of the input.
+    /// `Done` if the element has ended, whatever follows it; otherwise the ending of the input.
     pub ending: Ending,
-    /// Whether the header of the element came whole.
+    /// Whether the element's header is complete.
     pub found: bool,
 }
 
-/// Writes one element of an input as it is, or its contents octets alone (X.690, 8.1.1.1).
+/// Writes one element of an input unchanged, or only its contents octets (X.690, 8.1.1.1).
 ///
-/// It is the element whose first identifier octet is at `offset`, in octets from the start of the
-/// input. If no element begins there, nothing is written. `framing` says which strings are read as
-/// encodings, and whether there may be padding.
+/// The element is the one whose first identifier octet is at `offset`, in octets from the start of the input. If no
+/// element begins there, nothing is written. `framing` says which strings are read as encodings, and whether padding
+/// is allowed.
 ///
 /// Returns whether the element was found, and the ending ([`Cut`]).
 ///
-/// The octets of an element that does not end are written too. Those of an unfinished header are not,
-/// nor is the first of the end-of-contents octets without the second. Nothing more is read once the
-/// element has ended.
+/// The octets of an element that does not end are written too. The octets of an unfinished header are not written,
+/// nor is the first of the end-of-contents octets without the second. Nothing more is read once the element has
+/// ended.
 ///
 /// # Errors
 ///
-/// - `ReadFailed` exactly if a read failed, and `WriteFailed` exactly if a write failed.
-/// - `InputTooLong` if the source gave more than 2^40 octets, and among the first 2^40 there is
-///   neither an octet that is refused nor the end of the element.
+/// - `ReadFailed` if and only if a read failed, and `WriteFailed` if and only if a write failed.
+/// - `InputTooLong` if the source gave more than 2^40 octets, and the first 2^40 contain neither a refused octet nor
+///   the end of the element.
 pub fn extract<S: Source, D: Drain>(
     source: &mut S,
     drain: &mut D,

@@ -9,18 +9,18 @@ use std::marker::Model;
 use tlv_head::{Header, HeaderFields};
 use tlv_walk::{Drain, Event, Follow, Go, Out, WriteFault};
 
-/// Where the walk is, seen from the element that is wanted.
+/// Where the walk is, relative to the wanted element.
 #[derive(Clone, Copy)]
 enum Position {
-    /// That element has not begun.
+    /// The wanted element has not begun.
     Before,
-    /// In that element, and in so many of the elements that it holds. The count stops at 255.
+    /// Inside the wanted element, and inside this many of the elements that it holds. The count stops at 255.
     Within(u8),
-    /// That element has ended.
+    /// The wanted element has ended.
     After,
 }
 
-/// A follower that writes the octets of one element, or its contents octets alone, as they come.
+/// A follower that writes the octets of one element, or only its contents octets, as they come.
 ///
 /// It has enough when the element ends.
 #[derive(Drop)]
@@ -43,8 +43,8 @@ impl Model for Extract {
 }
 
 impl Extract {
-    /// Returns a follower for the element whose first identifier octet is at `offset`, in octets
-    /// from the start of the input. With `contents_only` it writes the contents octets alone.
+    /// Returns a follower for the element whose first identifier octet is at `offset`, in octets from the start of
+    /// the input. With `contents_only` it writes only the contents octets.
     pub fn new(offset: u64, contents_only: bool) -> Extract
         ensures { result ≡ new_extract offset contents_only }
     {
@@ -55,15 +55,15 @@ impl Extract {
         }
     }
 
-    /// Returns whether the header of the element has come whole.
+    /// Returns whether the header of the element is complete.
     pub fn has_found(&self) -> bool
         ensures { result ≡ has_found self.now }
     {
         !matches!(self.position, Position::Before)
     }
 
-    /// An element begins at this offset, with these octets for its header: the one wanted, one that it holds, or
-    /// another.
+    /// Handles the beginning of an element at this offset, with these octets for its header: the wanted element, one
+    /// that it holds, or another.
     fn begin<D: Drain>(
         &mut self,
         offset: u64,
@@ -89,7 +89,7 @@ impl Extract {
         Ok(Go::On)
     }
 
-    /// Contents octets come.
+    /// Handles contents octets.
     fn contents<D: Drain>(&self, octets: &[u8], out: &mut Out<'_, D>) -> Result<Go, WriteFault>
         ensures { ReturnsEffect D.state (extract_contents_step self.now octets.now)
             out.old out.new self.now result }
@@ -98,7 +98,7 @@ impl Extract {
         Ok(Go::On)
     }
 
-    /// Puts these contents octets if they come inside the element wanted.
+    /// Puts these contents octets if they are inside the wanted element.
     fn put_contents<D: Drain>(&self, octets: &[u8], out: &mut Out<'_, D>) -> Result<(), WriteFault>
         ensures { Puts D.state out.old out.new
             (extract_contents_step self.now octets.now).put result }
@@ -109,7 +109,7 @@ impl Extract {
         }
     }
 
-    /// An element ends, with these end-of-contents octets.
+    /// Handles the end of an element, with these end-of-contents octets.
     fn end<D: Drain>(&mut self, octets: &[u8], out: &mut Out<'_, D>) -> Result<Go, WriteFault>
         ensures { ReturnsEffect D.state (extract_end_step self.old octets.now)
             out.old out.new self.new result }
@@ -173,13 +173,13 @@ impl Follow for Extract {
         out: &mut Out<'_, D>,
     ) -> Result<bool, WriteFault> {
         match self.position {
-            // The element wanted goes to `on`, which has enough at its end.
+            // The wanted element goes to `on`, which has enough at its end.
             Position::Before => Ok(header.offset != self.offset),
             Position::Within(count) if count < 255 => {
                 out.put(octets)?;
                 Ok(true)
             }
-            // At 255 the count would not go up before it goes down, so this goes to `on` too.
+            // At 255 the count would not rise before it falls, so this goes to `on` too.
             Position::Within(_) => Ok(false),
             Position::After => Ok(true),
         }

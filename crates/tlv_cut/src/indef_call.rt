@@ -8,21 +8,19 @@ use tlv_walk::{DeviceFault, Drain, Ending, Framing, Inside, Source, drive};
 /// Writes the encodings that the source gives, with the indefinite form of the length in each
 /// constructed element (X.690, 8.1.3.6). Returns the ending of the input.
 ///
-/// It reads up to the end of the input, or to the first octet that is refused. If the input ends in
-/// a fault, no end-of-contents octets are written for the elements that are still open. The octets of
-/// an unfinished header are not written either, nor is the first of the end-of-contents octets without
-/// the second.
+/// It reads up to the end of the input, or to the first refused octet. If the input ends in a fault, no
+/// end-of-contents octets are written for the elements that are still open. Nor are the octets of an unfinished
+/// header written, nor the first of the end-of-contents octets without the second.
 ///
-/// If the ending is `Done`, what was written is read, with the same `padding`, as the same elements with
-/// indefinite lengths. Its ending is `Done` too, and of it `indef` writes the same octets again.
+/// If the ending is `Done`, what was written is read, with the same `padding`, as the same elements with indefinite
+/// lengths. Its ending is `Done` too, and `indef` writes the same octets for it again.
 ///
-/// With `padding`, there may be padding, which is written as it is.
+/// With `padding`, padding is allowed and is written unchanged.
 ///
 /// # Errors
 ///
-/// - `ReadFailed` exactly if a read failed, and `WriteFailed` exactly if a write failed.
-/// - `InputTooLong` if the source gave more than 2^40 octets, and none of the first 2^40 is
-///   refused.
+/// - `ReadFailed` if and only if a read failed, and `WriteFailed` if and only if a write failed.
+/// - `InputTooLong` if the source gave more than 2^40 octets, and none of the first 2^40 is refused.
 pub fn indef<S: Source, D: Drain>(
     source: &mut S,
     drain: &mut D,

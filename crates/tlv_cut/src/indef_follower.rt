@@ -8,12 +8,12 @@ use std::marker::Model;
 use tlv_head::{Header, HeaderFields, spell_indefinite};
 use tlv_walk::{Drain, Event, Follow, Go, Out, WriteFault};
 
-/// A follower that writes the octets of a walk, with the indefinite form of the length in each
-/// constructed element (X.690, 8.1.3.6): its identifier octets, the octet `80`, what it holds, and
-/// the octets `00 00` when it ends. Primitives and padding are written as they are.
+/// A follower that writes the octets of a walk, with the indefinite form of the length in each constructed element
+/// (X.690, 8.1.3.6): its identifier octets, the octet `80`, what it holds, and the octets `00 00` when it ends.
+/// Primitives and padding are written unchanged.
 ///
-/// It is made for walks in which no string is read as encodings. Such a string is a primitive: its
-/// header is written as it is, although what it holds may become longer.
+/// It is made for walks in which no string is read as encodings. Such a string is a primitive: its header is written
+/// unchanged, although what it holds may become longer.
 #[derive(Clone, Copy, Debug)]
 pub struct Indef;
 
@@ -24,12 +24,12 @@ impl Model for Indef {
 
     ghost view = { λ i. new_indef };
 
-    // A `Copy` struct with a model has to say how its fields follow from the value.
+    // A `Copy` struct with a model must say how its fields follow from the value.
     ghost inverse = { λ s. record {} };
 }
 
 impl Indef {
-    /// Returns a follower that writes indefinite lengths. All are equal, since it keeps nothing.
+    /// Returns a follower that writes indefinite lengths. All such followers are equal, since they keep nothing.
     pub fn new() -> Indef
         ensures { result ≡ new_indef }
     {
@@ -79,15 +79,15 @@ impl Follow for Indef {
         octets: &[u8],
         out: &mut Out<'_, D>,
     ) -> Result<Go, WriteFault> {
-        // The octets of `spell_indefinite`, but in two puts, so that no array is filled and copied.
+        // The octets of `spell_indefinite`, put in two steps, so that no array is filled and copied.
         out.put(&octets[..usize::from(fields.id_len)])?;
         out.put(&[0x80])?;
         Ok(Go::On)
     }
 }
 
-/// Puts the octets of an event. The header of a constructed element has the indefinite form, and
-/// its end has end-of-contents octets. All else is put as it is.
+/// Puts the octets of an event. The header of a constructed element has the indefinite form, and its end has
+/// end-of-contents octets. All other octets are put unchanged.
 #[inline(always)]
 fn put_event<D: Drain>(event: &Event<'_>, out: &mut Out<'_, D>) -> Result<(), WriteFault>
     ensures { Puts D.state out.old out.new (indef_event_text (event_value_of event.now)) result }

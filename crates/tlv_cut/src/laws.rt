@@ -16,35 +16,34 @@ ghost use Rattle.tlv_cut.specs.IndefLaws.{
   IndefTextObeysGrammar,
 };
 
-/// What `extract` writes of an element are octets of the input as they are, from the element's
-/// offset on: its header, its contents and, if it is whole and its length is indefinite, its
-/// end-of-contents octets.
+/// What `extract` writes for an element are octets of the input, unchanged and from the element's offset on: its
+/// header, its contents and, if it is whole and its length is indefinite, its end-of-contents octets.
 pub fn extract_text_is_in_the_input()
     ensures { ExtractTextIsInTheInput }
 {}
 
-/// What `extract` writes for a longer input begins with what it writes for the shorter.
+/// What `extract` writes for a longer input begins with what it writes for the shorter input.
 pub fn extract_text_goes_on()
     ensures { ExtractTextGoesOn }
 {}
 
-/// An element whose header is whole is found in every longer input.
+/// An element whose header is complete is found in every longer input.
 pub fn found_elements_stay()
     ensures { FoundElementsStay }
 {}
 
-/// Nothing after a whole element counts: the same is written for every longer input.
+/// Nothing after a whole element matters: `extract` writes the same for every longer input.
 pub fn whole_elements_stay()
     ensures { WholeElementsStay }
 {}
 
-/// An `Extract` that follows the events of a reading writes what `extract` is to write. It has
-/// enough exactly if the element is whole.
+/// An `Extract` that follows the events of a reading writes what `extract` is to write. It has enough if and only if
+/// the element is whole.
 pub fn extract_makes_its_text()
     ensures { ExtractMakesItsText }
 {}
 
-/// An `Extract` has enough at the end of an element alone, whatever it followed before.
+/// An `Extract` has enough only at the end of an element, whatever it followed before.
 pub fn enough_comes_at_ends()
     ensures { EnoughComesAtEnds }
 {}
@@ -55,24 +54,24 @@ pub fn indef_makes_its_text()
     ensures { IndefMakesItsText }
 {}
 
-/// What `indef` writes for a longer input begins with what it writes for the shorter.
+/// What `indef` writes for a longer input begins with what it writes for the shorter input.
 pub fn indef_text_goes_on()
     ensures { IndefTextGoesOn }
 {}
 
-/// What `indef` writes are the octets of the same elements with indefinite lengths, and these obey
-/// the grammar.
+/// What `indef` writes are the octets of the same elements with indefinite lengths, and these elements obey the
+/// grammar.
 pub fn indef_text_obeys_grammar()
     ensures { IndefTextObeysGrammar }
 {}
 
-/// What `indef` writes is read as the same elements with indefinite lengths, and for these `indef`
-/// writes the same octets again.
+/// What `indef` writes is read as the same elements with indefinite lengths, and for these elements `indef` writes
+/// the same octets again.
 pub fn indef_text_is_read_back()
     ensures { IndefTextIsReadBack }
 {}
 
-/// If an input ends without a fault, so does what `indef` writes for it.
+/// If an input ends without a fault, what `indef` writes for it also ends without a fault.
 pub fn indef_text_is_done()
     ensures { IndefTextIsDone }
 {}

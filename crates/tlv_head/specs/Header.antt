@@ -1,4 +1,4 @@
--- Identifier and length octets of an element: X.690 8.1.2 and 8.1.3.
+-- The identifier and length octets of an element: X.690 8.1.2 and 8.1.3.
 use Rattle.std.specs.Prelude.{◌≡◌, ◌≢◌, ◌⊎◌, ℕ, ◌+◌, ◌*◌, ◌^◌, ◌<◌, ◌≤◌, Bool, true, not, ◌&&◌, ◌||◌, eqb}
 use Rattle.std.specs.Prelude.{if◌then◌else◌, List, [], ◌∷◌, ◌++◌, length, slice_index, map, All, Option, Some, None}
 use Rattle.std.specs.Option.{is_some, unwrap_or}
@@ -20,7 +20,7 @@ class_bits Private = 3
 abbrev pub identifier_octet : Class → Bool → ℕ → ℕ
 identifier_octet class constructed low = 64 * class_bits class + (if constructed then 32 else 0) + low
 
--- 8.1.2.4.2 b), 8.1.3.5: the number that digits make, the most significant first
+-- 8.1.2.4.2 b), 8.1.3.5: the number that digits represent, the most significant first
 abbrev pub value_of : ℕ → List ℕ → ℕ
 value_of base [] = 0
 value_of base (d ∷ ds) = d * base ^ length ds + value_of base ds
@@ -65,8 +65,8 @@ abbrev pub IsLength : Size → List ℕ → Type 0
 IsLength (Definite n) octets = ((n < 128) × (octets ≡ n ∷ [])) ⊎ IsLongForm n octets
 IsLength Indefinite octets = octets ≡ 128 ∷ []
 
--- what contracts see of a `Header`: what its octets say, where its first octet is, and whether the
--- offset is one of those that the user named
+-- what contracts see of a `Header`: the meaning of its octets, the offset of its first octet, and whether the user
+-- named that offset
 pub record HeaderValue : Type 0 where
   pub offset : ℕ
   pub named : Bool
@@ -81,11 +81,11 @@ pub record HeaderValue : Type 0 where
 abbrev pub octets_of : HeaderValue → List ℕ
 octets_of h = h.identifier ++ h.lengths
 
--- 8.1.2.4.2: the first subsequent identifier octet, which is the second of all, or 0 if there is none
+-- 8.1.2.4.2: the first subsequent identifier octet, which is the second identifier octet, or 0 if there is none
 abbrev pub second_identifier_octet : HeaderValue → ℕ
 second_identifier_octet h = slice_index h.identifier 1
 
--- 8.1.3.5: the first subsequent length octet, which is the second of all, or 0 if there is none
+-- 8.1.3.5: the first subsequent length octet, which is the second length octet, or 0 if there is none
 abbrev pub second_length_octet : HeaderValue → ℕ
 second_length_octet h = slice_index h.lengths 1
 
@@ -98,17 +98,17 @@ definite_length Indefinite = None
 abbrev pub AllowsSize : Bool → Size → Type 0
 AllowsSize constructed size = (constructed || is_some (definite_length size)) ≡ true
 
--- 8.1.2, 8.1.3: the fields are those that the octets say
+-- 8.1.2, 8.1.3: the octets say these fields
 pub record IsHeader (h : HeaderValue) : Type 0 where
   pub identifier : IsIdentifier h.class h.constructed h.number h.identifier
   pub lengths : IsLength h.size h.lengths
   pub allowed : AllowsSize h.constructed h.size
 
--- 8.1.3.3: how many contents octets are announced
+-- 8.1.3.3: the number of contents octets that the header announces
 abbrev pub announced_length : Size → ℕ
 announced_length size = unwrap_or (definite_length size) 0
 
--- 8.1.3.3: the contents octets are as many as the header announces
+-- 8.1.3.3: the number of contents octets is the number that the header announces
 abbrev pub HasAllContents : HeaderValue → List ℕ → Type 0
 HasAllContents h contents = announced_length h.size ≡ length contents
 
@@ -123,7 +123,7 @@ is_wrapper named class constructed number size =
     named && not constructed && is_universal class
     && (eqb number universal.octet_string || (eqb number universal.bit_string && not (eqb (announced_length size) 0)))
 
--- what a header says, without its octets
+-- the meaning of a header, without its octets
 abbrev pub fields_of : HeaderValue → HeaderFields
 fields_of h = record {
   offset = h.offset;
@@ -139,7 +139,7 @@ fields_of h = record {
 abbrev pub fields_wrap : HeaderFields → Bool
 fields_wrap f = is_wrapper f.named f.class f.constructed f.number f.size
 
--- 8.1.2.5: the contents of an element with these fields are encodings: it is constructed, or wraps them
+-- 8.1.2.5: an element with these fields holds encodings: it is constructed, or a string that holds encodings
 abbrev pub fields_hold : HeaderFields → Bool
 fields_hold f = f.constructed || fields_wrap f
 
@@ -147,10 +147,10 @@ fields_hold f = f.constructed || fields_wrap f
 abbrev pub wraps : HeaderValue → Bool
 wraps h = fields_wrap (fields_of h)
 
--- the contents of the element with this header are encodings
+-- the element with this header holds encodings
 abbrev pub holds : HeaderValue → Bool
 holds h = fields_hold (fields_of h)
 
--- 8.1.3.6: identifier octets, and the indefinite form
+-- 8.1.3.6: the identifier octets, and the indefinite form
 abbrev pub spell_indefinite : HeaderValue → List ℕ
 spell_indefinite h = h.identifier ++ 128 ∷ []

@@ -16,7 +16,7 @@ new_header f octets = record {
   lengths = drop f.id_len octets;
 }
 
--- the octets have room in a `Header`: there are at most 137, and the identifier has at most ten of them, and not all.
+-- the octets fit into a `Header`: there are at most 137, and at most ten of them, and not all, are the identifier.
 -- They need not say the fields
 pub record IsHeaderSized (f : HeaderFields) (octets : List ℕ) : Type 0 where
   pub identifier : f.id_len < length octets

@@ -1,4 +1,4 @@
--- What a `HeadReader` carries of the octets so far.
+-- What a `HeadReader` keeps about the octets so far.
 use Rattle.std.specs.Prelude.{◌≡◌, ℕ, ◌+◌, ◌^◌, ◌-◌, ◌<◌, ◌≤◌, Bool, true, false, List, [], length}
 use Rattle.tlv_head.specs.Header.{IsIdentifier, value_of}
 use Rattle.tlv_head.specs.Refusal.{IsLengthPrefix, IsNumberPrefix}
@@ -27,10 +27,10 @@ pub record CarriesLength (id : IdentifierFields) (n left : ℕ) (octets : List �
   pub count : id.id_len ≡ length prefix.identifier_octets
   pub short : length prefix.identifier_octets ≤ 10
   pub value : n ≡ value_of 256 prefix.digits
-  -- so that the length is below 2^40 if the octets left are 00
+  -- so the length is below 2^40 if the octets still to come are 00
   pub small : n < 256 ^ (5 - left)
 
--- the octets so far are this part of a header, and its fields are what they say; of a whole header none are kept
+-- the octets so far are this part of a header, and say its fields; a whole header keeps no octets
 abbrev pub Carries : Part → List ℕ → Type 0
 Carries Start octets = octets ≡ []
 Carries (Number id) octets = CarriesNumber id octets
@@ -43,7 +43,7 @@ abbrev pub is_whole_header : Part → Bool
 is_whole_header Whole = true
 is_whole_header _ = false
 
--- what the fields of a reader say
+-- the meaning of the fields of a reader
 abbrev pub head_reader_state_of : Inside → HeadReaderState
 head_reader_state_of r = record {
   offset = r.offset;

@@ -1,4 +1,4 @@
--- How many octets an input may have.
+-- The limit on the octets of an input.
 use Rattle.std.specs.Prelude.{ℕ, ◌^◌}
 
 -- the most octets that an input may have, and so the largest offset

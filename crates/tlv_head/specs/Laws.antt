@@ -10,23 +10,24 @@ use Rattle.tlv_head.specs.ReadHeader.{BeginsWithFields}
 use Rattle.tlv_head.specs.Refusal.{CannotBecomeHeader, BeginsWith, BeginsWithNoHeader, IsHeaderPrefix, IsRefusedOctet}
 use Rattle.tlv_head.specs.ShortestHeaders.{HaveOneTagAndForm, IsShortest}
 
--- two headers with which an input begins at one offset are the same, and so is what follows them
+-- two headers with which an input begins at one offset are the same, and the same octets follow them
 abbrev pub OctetsBeginOneHeader : Type 0
 OctetsBeginOneHeader =
     (input : List ℕ) (offset : ℕ) (named : Bool) (h g : HeaderValue)
     → (p : BeginsWith input offset named h) → (q : BeginsWith input offset named g)
     → (h ≡ g) × (p.rest ≡ q.rest)
 
--- no header's octets can be made another header by adding one or more
+-- no header's octets become another header when octets are added
 abbrev pub HeadersAreNoPrefixes : Type 0
 HeadersAreNoPrefixes = (h : HeaderValue) → IsHeader h → IsHeaderPrefix (octets_of h) → ⊥
 
--- if an octet is refused with F06 to F09, no header begins with the octets up to it, that one included
+-- if an octet is refused with F06 to F09, no header begins with the octets up to and including it
 abbrev pub RefusalsAreFinal : Type 0
 RefusalsAreFinal = (code : FaultCode) (octets : List ℕ) (x : ℕ) → IsRefusedOctet octets x code
     → CannotBecomeHeader (octets ++ x ∷ [])
 
--- if an octet is refused with F06 to F09, no input that begins with the octets up to it begins with a header
+-- if an octet is refused with F06 to F09, no input that begins with the octets up to and including it begins with a
+-- header
 abbrev pub RefusedInputsBeginWithNone : Type 0
 RefusedInputsBeginWithNone =
     (code : FaultCode) (octets : List ℕ) (x : ℕ) (more : List ℕ) → IsRefusedOctet octets x code
@@ -40,8 +41,8 @@ AreHeaderOctets octets = (h : HeaderValue) × IsHeader h × (octets_of h ≡ oct
 abbrev pub IsRefusedWithSomeCode : List ℕ → ℕ → Type 0
 IsRefusedWithSomeCode octets x = (code : FaultCode) × IsRefusedOctet octets x code
 
--- after a prefix of a header an octet makes a longer prefix or a header, or is refused; so does a first octet other
--- than 00
+-- an octet after a prefix of a header makes a longer prefix or a header, or is refused; the same holds for a first
+-- octet other than 00
 abbrev pub OctetsGoOnOrAreRefused : Type 0
 OctetsGoOnOrAreRefused =
     (octets : List ℕ) (x : ℕ) → x < 256 → (octets ≡ []) ⊎ IsHeaderPrefix octets → (octets ≡ [] → x ≢ 0)
@@ -53,7 +54,7 @@ PushesReturnOneHead =
     (old new other : HeadReaderState) (x : ℕ) (room : Option ℕ) (depth : ℕ) (a b : Head)
     → Pushes old x room depth new a → Pushes old x room depth other b → a ≡ b
 
--- what `read_header` returns is determined by the octets, their offset, and whether that is named
+-- what `read_header` returns is determined by the octets, their offset, and whether the offset is named
 abbrev pub ReadHeaderReturnsOneHeader : Type 0
 ReadHeaderReturnsOneHeader =
     (octets : List ℕ) (offset : ℕ) (named : Bool) (f g : HeaderFields) (m n : ℕ)
@@ -67,16 +68,16 @@ ShortestHeadersAreOne =
     → HaveOneTagAndForm h g → h.size ≡ g.size → IsShortest h → IsShortest g
     → (h.identifier ≡ g.identifier) × (h.lengths ≡ g.lengths)
 
--- if a header is as short as 8.1.2 and 10.1 say, no other of its tag, form and size has fewer identifier octets or
--- fewer length octets
+-- if a header is as short as 8.1.2 and 10.1 say, no other header of its tag, form and size has fewer identifier
+-- octets or fewer length octets
 abbrev pub NoHeaderIsShorter : Type 0
 NoHeaderIsShorter =
     (h g : HeaderValue) → IsHeader h → IsHeader g
     → HaveOneTagAndForm h g → h.size ≡ g.size → IsShortest h
     → (length h.identifier ≤ length g.identifier) × (length h.lengths ≤ length g.lengths)
 
--- each header but that of the universal primitive 0, whose low form would be 00, can be spelled as short as 8.1.2 and
--- 10.1 say
+-- each header can be spelled as short as 8.1.2 and 10.1 say, except the header of the universal primitive 0, whose
+-- low form would be 00
 abbrev pub HeadersHaveAShortest : Type 0
 HeadersHaveAShortest =
     (h : HeaderValue) → IsHeader h → identifier_octet h.class h.constructed h.number ≢ 0

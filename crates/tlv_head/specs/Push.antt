@@ -10,40 +10,41 @@ use Rattle.tlv_head.specs.Header.{HeaderValue, IsHeader, holds, octets_of}
 use Rattle.tlv_head.specs.HeadReaderState.{ContentsFit, HeadReaderState, with_octet}
 use Rattle.tlv_head.specs.Refusal.{IsHeaderPrefix, IsRefusedOctet}
 
--- these octets, after those that the reader has, complete this header
+-- the reader's octets followed by these octets are this header, complete
 pub record Completes (r : HeadReaderState) (added : List ℕ) (h : HeaderValue) : Type 0 where
   pub valid : IsHeader h
   pub offset : h.offset ≡ r.offset
   pub named : h.named ≡ r.named
   pub octets_are : octets_of h ≡ r.octets ++ added
 
--- a header may be there: an element that holds others is not inside `depth_limit` such elements, and the contents
--- announced end within the bound
+-- an element with this header is allowed there: an element that holds others is not inside `depth_limit` such
+-- elements, and the announced contents end within the bound
 pub record FitsThere (h : HeaderValue) (room : Option ℕ) (depth : ℕ) : Type 0 where
   pub shallow : holds h ≡ true → depth < depth_limit
   pub contents_fit : ContentsFit h.size room
 
--- why the octet x is refused: a line for each cause. The bound is looked at before the octet
+-- why the octet x is refused, one line for each cause. The bound is checked before the octet
 pub data IsRefusedPush (r : HeadReaderState) (x : ℕ) (room : Option ℕ) (depth : ℕ) : FaultCode → Type 0 where
   -- F11, 8.1.3.3: the header does not end within the bound
   no_room : room ≡ Some 0 → IsRefusedPush r x room depth Overrun
   -- F06 to F09: no header goes on with that octet
   refused_octet : {code : FaultCode} → room ≢ Some 0 → IsRefusedOctet r.octets x code
       → IsRefusedPush r x room depth code
-  -- F10, a limit of our own: it completes the header of an element that holds others, inside `depth_limit` of them
+  -- F10, a limit of our own: x completes the header of an element that holds others, inside `depth_limit` such
+  -- elements
   too_deep : room ≢ Some 0 → (h : HeaderValue) → Completes r (x ∷ []) h → holds h ≡ true → depth_limit ≤ depth
       → IsRefusedPush r x room depth TooDeep
-  -- F11, 8.1.3.3: it completes the header of contents that end beyond the bound
+  -- F11, 8.1.3.3: x completes a header whose contents end beyond the bound
   overrun : room ≢ Some 0 → (h : HeaderValue) → Completes r (x ∷ []) h → (holds h ≡ true → depth < depth_limit)
       → (ContentsFit h.size room → ⊥) → IsRefusedPush r x room depth Overrun
 
--- what `push` returns, and the reader that it leaves: a line for each result
+-- what `push` returns, and the reader that it leaves, one line for each result
 pub data Pushes (old : HeadReaderState) (x : ℕ) (room : Option ℕ) (depth : ℕ) (new : HeadReaderState)
     : Head → Type 0 where
-  -- the octet was taken, and others are to follow
+  -- the octet was taken, and the header needs more octets
   more : room ≢ Some 0 → IsHeaderPrefix (old.octets ++ x ∷ []) → new ≡ with_octet old x
       → Pushes old x room depth new More
-  -- the octet was taken, and completes a header that may be there
+  -- the octet was taken, and completes a header whose element is allowed there
   whole : (h : HeaderValue) → Completes old (x ∷ []) h → FitsThere h room depth → new.done ≡ true
       → Pushes old x room depth new (Whole h)
   -- the octet was not taken

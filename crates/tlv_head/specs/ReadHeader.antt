@@ -5,7 +5,7 @@ use Rattle.tlv_head.specs.HeaderFields.{IsHeaderSized, new_header}
 use Rattle.tlv_head.specs.Header.{HeaderValue, IsHeader, octets_of}
 use Rattle.tlv_head.specs.Refusal.{BeginsWith}
 
--- the octets begin with the header that has these fields and so many of the octets
+-- the octets begin with the header that has these fields and `count` octets
 pub record BeginsWithFields
     (octets : List ℕ) (offset : ℕ) (is_named : Bool) (f : HeaderFields) (count : ℕ)
     : Type 0 where
@@ -13,7 +13,7 @@ pub record BeginsWithFields
   pub sized : IsHeaderSized f (take count octets)
   pub begins : BeginsWith octets offset is_named (new_header f (take count octets))
 
--- the header with these fields and so many octets has at most three identifier octets and three length octets
+-- the header with these fields and `count` octets has at most three identifier octets and three length octets
 pub record IsShortHeader (f : HeaderFields) (count : ℕ) : Type 0 where
   pub identifier : f.id_len ≤ 3
   pub lengths : count ≤ f.id_len + 3

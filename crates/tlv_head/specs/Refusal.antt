@@ -1,4 +1,4 @@
--- Prefixes of headers, and the octets that no header has after them: X.690 8.1.2 and 8.1.3.
+-- Prefixes of headers, and the octets that cannot follow them: X.690 8.1.2 and 8.1.3.
 use Rattle.std.specs.Prelude.{◌≡◌, ◌≢◌, ℕ, ◌+◌, ◌<◌, ◌≤◌, Bool, false, List, [], ◌∷◌, ◌++◌, length, All}
 use Rattle.tlv_head.specs.declared.header.Class.{Class}
 use Rattle.tlv_head.specs.declared.fault.FaultCode.{FaultCode}
@@ -6,7 +6,7 @@ use Rattle.tlv_head.specs.declared.fault.FaultCode.TheVariants.{TagTooLong, Rese
 use Rattle.tlv_head.specs.declared.fault.FaultCode.TheVariants.{LengthTooLarge}
 use Rattle.tlv_head.specs.Header.{HeaderValue, IsHeader, IsIdentifier, identifier_octet, octets_of, with_bit_8}
 
--- 8.1.2, 8.1.3: octets to which one or more others can be added to make a header
+-- 8.1.2, 8.1.3: octets that become a header when one or more octets are added
 pub record IsHeaderPrefix (octets : List ℕ) : Type 0 where
   pub header : HeaderValue
   pub more : List ℕ
@@ -36,7 +36,7 @@ pub record IsNumberPrefix (class : Class) (constructed : Bool) (octets : List �
   pub each : All (λ d. d < 128) digits
   pub octets_are : octets ≡ identifier_octet class constructed 31 ∷ with_bit_8 digits
 
--- 8.1.3.5: identifier octets, the first length octet, and digits, after which so many are still to come
+-- 8.1.3.5: identifier octets, the first length octet, and digits, with this many more digits to come
 pub record IsLengthPrefix (class : Class) (constructed : Bool) (number left : ℕ) (octets : List ℕ) : Type 0 where
   pub identifier_octets : List ℕ
   pub digits : List ℕ
@@ -46,7 +46,7 @@ pub record IsLengthPrefix (class : Class) (constructed : Bool) (number left : �
   pub within : length digits + left ≤ 126
   pub octets_are : octets ≡ identifier_octets ++ (128 + (length digits + left)) ∷ digits
 
--- why the octet x is refused after a prefix of a header, whatever its place: a line for each cause
+-- why the octet x is refused after a prefix of a header, wherever the header is, one line for each cause
 pub data IsRefusedOctet (octets : List ℕ) (x : ℕ) : FaultCode → Type 0 where
   -- F06, a limit of our own on 8.1.2.4.2: a ninth subsequent identifier octet with bit 8 set
   tag_too_long : (class : Class) (constructed : Bool) (prefix : IsNumberPrefix class constructed octets)
@@ -60,7 +60,8 @@ pub data IsRefusedOctet (octets : List ℕ) (x : ℕ) : FaultCode → Type 0 whe
   indefinite_primitive : (class : Class) (number : ℕ)
       → IsIdentifier class false number octets → x ≡ 128
       → IsRefusedOctet octets x IndefinitePrimitive
-  -- F09, a limit of our own on 8.1.3.5: a length octet after the first, other than 00, that five or more are to follow
+  -- F09, a limit of our own on 8.1.3.5: a length octet after the first, other than 00, with five or more octets to
+  -- follow
   length_too_large : (class : Class) (constructed : Bool) (number left : ℕ)
       → IsLengthPrefix class constructed number left octets → 6 ≤ left → x ≢ 0
       → IsRefusedOctet octets x LengthTooLarge

@@ -1,4 +1,4 @@
--- Identifier and length octets that are as few as they can be: X.690 8.1.2, 9.1 and 10.1.
+-- The shortest identifier and length octets: X.690 8.1.2, 9.1 and 10.1.
 use Rattle.std.specs.Prelude.{◌≡◌, ◌≢◌, ℕ, ◌%◌, ◌<◌, List, length, slice_index}
 use Rattle.tlv_head.specs.Header.{HeaderValue, IsHeader, announced_length}
 
@@ -23,7 +23,7 @@ pub record HaveOneTagAndForm (h g : HeaderValue) : Type 0 where
   pub constructed : h.constructed ≡ g.constructed
   pub number : h.number ≡ g.number
 
--- another header of that tag, form and size has fewer octets in that part
+-- another header with that tag, form and size has fewer octets in that part
 pub record HasShorter (part : HeaderValue → List ℕ) (h : HeaderValue) : Type 0 where
   pub other : HeaderValue
   pub valid : IsHeader other

@@ -1,11 +1,11 @@
--- What the fields of a `Header` say.
+-- The meaning of the fields of a `Header`.
 use Rattle.std.specs.Prelude.{◌≡◌, take, drop, length, slice_index}
 use Rattle.tlv_head.specs.HeaderFields.{IsHeaderSized, new_header}
 use Rattle.tlv_head.specs.Header.{HeaderValue, octets_of, second_identifier_octet, second_length_octet}
 use Rattle.tlv_head.specs.declared.header.Header.TheInside.{Inside}
 use Rattle.tlv_head.specs.declared.header.HeaderFields.{HeaderFields}
 
--- the header of which contracts see this, as it is stored
+-- how a header that contracts see is stored
 abbrev pub stored_header : HeaderValue → Inside
 stored_header h = record {
   offset = h.offset;
@@ -32,11 +32,11 @@ fields_in h = record {
   id_len = h.id_len;
 }
 
--- the header that contracts see, of one that is stored
+-- the header that contracts see, given a stored one
 abbrev pub header_value_of : Inside → HeaderValue
 header_value_of h = new_header (fields_in h) h.raw.items
 
--- the octets have room, and the two that are kept beside them are the second ones of the identifier and of the length
+-- the octets have room, and the two octets kept beside them are the second octets of the identifier and of the length
 abbrev pub HeaderFieldsAgree : Inside → Type 0
 HeaderFieldsAgree h =
     IsHeaderSized (fields_in h) h.raw.items

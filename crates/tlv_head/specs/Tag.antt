@@ -5,11 +5,11 @@ use Rattle.tlv_head.specs.TypeTable.{type_at}
 use Rattle.tlv_head.specs.declared.header.Class.{Class}
 use Rattle.tlv_head.specs.declared.header.Class.TheVariants.{Universal, Application, Context, Private}
 
--- the name of the type with this number, if there is one
+-- the name of the type with this number, if any
 abbrev pub type_name : ℕ → Option (List ℕ)
 type_name number = option_map (λ t. t.name) (type_at number)
 
--- a tag without a name, by its class and number
+-- the text of a tag without a name, by its class and number
 abbrev pub bracketed_tag : List ℕ → ℕ → List ℕ
 bracketed_tag class number = 91 ∷ class ++ decimal number ++ 93 ∷ []
 

@@ -1,4 +1,4 @@
--- The table of the universal types: X.680, table 1, with what X.690 says of each.
+-- The table of the universal types: X.680, table 1, with what X.690 says about each.
 use Rattle.std.specs.Prelude.{ℕ, eqb, Bool, true, false, List, [], ◌∷◌, codes, Option}
 use Rattle.std.specs.List.{find}
 use Rattle.std.specs.Option.{option_map_or}
@@ -59,11 +59,11 @@ type_table =
     ∷ row universal.relative_oid_iri (codes "RELATIVE-OID-IRI") Unjudged Octets
     ∷ []
 
--- the row with this number, if a type has it
+-- the row with this number, if any
 abbrev pub type_at : ℕ → Option TypeRow
 type_at number = find (λ t. eqb number t.number) type_table
 
--- the type with this number has such encodings
+-- the type with this number has these encodings
 abbrev pub has_encodings : (Encodings → Bool) → ℕ → Bool
 has_encodings test number = option_map_or (λ t. test t.encodings) (type_at number) false
 

@@ -7,30 +7,30 @@ pub enum FaultCode {
     Empty,
     /// F02: the input ends inside an encoding.
     Short,
-    /// F03: `00` where no end-of-contents octets may be (8.1.5).
+    /// F03: `00` where end-of-contents octets are not allowed (8.1.5).
     StrayEnd,
     /// F04: the second end-of-contents octet is not `00` (8.1.5).
     BadEnd,
-    /// F05: the enclosing length is full before the end-of-contents octets (8.1.5).
+    /// F05: the enclosing element's length is used up before the end-of-contents octets (8.1.5).
     MissingEnd,
     /// F06: more than nine octets of tag number, a limit of our own (8.1.2.4.2 has none).
     TagTooLong,
     /// F07: the first length octet is `ff` (8.1.3.5 c).
     ReservedLength,
-    /// F08: the indefinite form at a primitive (8.1.3.2 a).
+    /// F08: the indefinite form in a primitive (8.1.3.2 a).
     IndefinitePrimitive,
     /// F09: a length of 2^40 or more, a limit of our own.
     LengthTooLarge,
     /// F10: more than 128 open elements that hold others, a limit of our own.
     TooDeep,
-    /// F11: an element runs past the enclosing length (8.1.3.3).
+    /// F11: an element extends beyond the enclosing element's length (8.1.3.3).
     Overrun,
     /// F12: the first contents octet of a BIT STRING that holds encodings is not `00` (8.6.2.2).
     BadInside,
 }
 
-/// A refusal, with the offset of the octet that is refused. For [`FaultCode::Empty`] and
-/// [`FaultCode::Short`] that is the number of octets of the input.
+/// A refusal, with the offset of the refused octet. For [`FaultCode::Empty`] and [`FaultCode::Short`] the offset is
+/// the number of octets of the input.
 #[derive(Clone, Copy, PartialEq, Eq, Debug)]
 pub struct Fault {
     /// Why the input is refused.
@@ -43,7 +43,7 @@ impl FaultCode {
     ghost use Rattle.std.specs.Prelude.{◌≡◌, length};
     ghost use Rattle.tlv_head.specs.Fault.{fault_code};
 
-    /// The three characters of the code, as `F01`.
+    /// The three characters of the code, such as `F01`.
     pub fn code(self) -> &'static [u8]
         ensures code { result.now ≡ fault_code self }
         ensures size { length result.now ≡ 3 }
@@ -69,7 +69,7 @@ impl Fault {
     ghost use Rattle.std.specs.Prelude.{◌≡◌, ◌≤◌, length};
     ghost use Rattle.tlv_head.specs.Fault.{fault_text};
 
-    /// What the code says, in ASCII: at most 64 octets.
+    /// The text for the code, in ASCII: at most 64 octets.
     pub fn text(&self) -> &'static [u8]
         ensures text { result.now ≡ fault_text self.now.code }
         ensures short { length result.now ≤ 64 }

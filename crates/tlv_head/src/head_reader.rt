@@ -8,14 +8,14 @@ use crate::{Fault, FaultCode, Header, HeaderFields, Size};
 use arrayvec::ArrayVec;
 use std::marker::Model;
 
-/// What an octet makes of a header that is being read.
+/// The result of pushing an octet to a header that is being read.
 #[derive(Clone, PartialEq, Eq, Debug, Drop)]
 pub enum Head {
-    /// The octet was taken, and others are to follow.
+    /// The octet was taken, and the header needs more octets.
     More,
     /// The octet was taken, and completes this header.
     Whole(Header),
-    /// The octet was not taken. The fault has its offset.
+    /// The octet was not taken. The fault has the octet's offset.
     Refused(Fault),
 }
 
@@ -46,8 +46,8 @@ impl HeadReader {
     ghost use Rattle.tlv_head.specs.Push.{Completes, FitsThere, Pushes};
     ghost use Rattle.tlv_head.specs.HeadReaderState.{CanPush};
 
-    /// A reader of the header whose first octet is at `offset`. `named` says that the user named
-    /// this offset as that of a string which holds encodings ([`Header::wraps`]).
+    /// A reader of the header whose first octet is at `offset`. `named` says that the user named this offset as the
+    /// offset of a string that holds encodings ([`Header::wraps`]).
     pub fn new(offset: u64, named: bool) -> HeadReader
         ensures { result ≡ record { offset = offset; named = named; octets = []; done = false } }
     {
@@ -59,31 +59,30 @@ impl HeadReader {
         }
     }
 
-    /// Whether the header is whole. Then no octet may be pushed.
+    /// Whether the header is whole. No octet may be pushed after that.
     pub fn done(&self) -> bool
         ensures { result ≡ self.now.done }
     {
         matches!(self.part, Part::Whole)
     }
 
-    /// Takes the next octet. `room` is the number of octets up to the end of the innermost definite
-    /// element, this octet included (`None`: there is no such element), and `depth` the number of
-    /// open elements.
+    /// Takes the next octet. `room` is the number of octets up to the end of the innermost definite element, this
+    /// octet included (`None` if there is no such element), and `depth` is the number of open elements that hold
+    /// others.
     ///
-    /// The caller sees to it that the header is not whole yet ([`HeadReader::done`]), that its offset is at most 2^40
-    /// and `depth` at most 128, and that a first octet is not `00`, and its room not 0.
+    /// Requires that the header is not whole yet ([`HeadReader::done`]), its offset is at most 2^40, and `depth` is
+    /// at most 128. For the first octet, requires that the octet is not `00` and `room` is not 0.
     ///
-    /// [`Head::Whole`] comes exactly with the octet that completes a header whose element may be
-    /// there. [`Head::Refused`] leaves the reader as it was; the refusals are decided in this order:
-    /// Overrun if the bound is reached; TagTooLong, ReservedLength, IndefinitePrimitive and
-    /// LengthTooLarge by what the octets say; TooDeep if it completes the header of an element that
-    /// holds others, and 128 such are open; Overrun if it completes the header of contents that end
-    /// beyond the bound.
+    /// Returns [`Head::Whole`] if and only if the octet completes a header whose element is allowed here.
+    /// [`Head::Refused`] leaves the reader unchanged. The causes are checked in this order: Overrun if the bound is
+    /// reached; TagTooLong, ReservedLength, IndefinitePrimitive and LengthTooLarge by what the octets say; TooDeep if
+    /// the octet completes the header of an element that holds others, and 128 such elements are open; Overrun if the
+    /// octet completes a header whose contents end beyond the bound.
     pub fn push(&mut self, octet: u8, room: Option<u64>, depth: u8) -> Head
         requires { CanPush self.old octet room depth }
         ensures pushes { Pushes self.old octet room depth self.new result }
 
-        // Nothing else is returned for the octet that completes a header that may be there.
+        // For an octet that completes a header that is allowed here, nothing else is returned.
         ensures whole { (h : HeaderValue) → Completes self.old (octet ∷ []) h
             → FitsThere h room depth → result ≡ Head.Whole h }
     {
@@ -127,7 +126,7 @@ fn fields_hold(fields: &HeaderFields) -> bool
     fields.constructed || fields.wraps()
 }
 
-/// Whether contents of this size end within the room that the header's last octet has.
+/// Whether contents of this size end within the bound; `room` counts from the header's last octet on.
 fn contents_fit(size: Size, room: Option<u64>) -> bool
     requires { room ≢ Some 0 }
     ensures { IsTrue result ↔ ContentsFit size room }

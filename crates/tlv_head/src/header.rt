@@ -1,4 +1,4 @@
-//! An element's header: its identifier and length octets, and what they say.
+//! An element's header: its identifier and length octets, and their meaning.
 use crate::universal;
 use arrayvec::ArrayVec;
 use std::marker::Model;
@@ -16,10 +16,10 @@ pub enum Class {
     Private,
 }
 
-/// What the length octets say (8.1.3).
+/// The meaning of the length octets (8.1.3).
 #[derive(Clone, Copy, PartialEq, Eq, Debug)]
 pub enum Size {
-    /// So many contents octets follow, fewer than 2^40.
+    /// This number of contents octets follows, fewer than 2^40.
     Definite(u64),
     /// Contents follow up to the end-of-contents octets.
     Indefinite,
@@ -29,7 +29,7 @@ impl Size {
     ghost use Rattle.std.specs.Prelude.{◌≡◌};
     ghost use Rattle.tlv_head.specs.Header.{announced_length};
 
-    /// How many contents octets are announced; none in the indefinite form.
+    /// The number of contents octets that the length announces; 0 in the indefinite form.
     #[inline(always)]
     pub fn announced_length(self) -> u64
         ensures { result ≡ announced_length self }
@@ -41,10 +41,10 @@ impl Size {
     }
 }
 
-/// Identifier and length octets of an element, with what they say.
+/// The identifier and length octets of an element, with their meaning.
 #[derive(Clone, PartialEq, Eq, Debug, Drop)]
 pub struct Header {
-    /// Where the first identifier octet is, in octets from the start of the input.
+    /// The offset of the first identifier octet, in octets from the start of the input.
     pub offset: u64,
     /// The class of the tag (8.1.2.2).
     pub class: Class,
@@ -52,23 +52,23 @@ pub struct Header {
     pub constructed: bool,
     /// The number of the tag (8.1.2.2, 8.1.2.4.2).
     pub number: u64,
-    /// What the length octets say (8.1.3).
+    /// The meaning of the length octets (8.1.3).
     pub size: Size,
     pub(crate) raw: ArrayVec<u8, 137>,
-    /// How many octets are the identifier.
+    /// The number of identifier octets.
     pub id_len: u8,
     pub(crate) named: bool,
-    /// Kept beside `raw`, as the next one is, so that a look at it moves no 137 octets.
+    /// Kept beside `raw`, like the next field, so that reading it moves no 137 octets.
     pub(crate) second_identifier_octet: u8,
     pub(crate) second_length_octet: u8,
 }
 
-/// What a header says, without its octets: small, while a [`Header`] has room for 137 octets.
+/// The meaning of a header, without its octets: small, while a [`Header`] has room for 137 octets.
 #[derive(Clone, Copy, PartialEq, Eq, Debug)]
 pub struct HeaderFields {
-    /// Where the first identifier octet is, in octets from the start of the input.
+    /// The offset of the first identifier octet, in octets from the start of the input.
     pub offset: u64,
-    /// Whether the user named this offset as that of a string which holds encodings.
+    /// Whether the user named this offset as the offset of a string that holds encodings.
     pub named: bool,
     /// The class of the tag (8.1.2.2).
     pub class: Class,
@@ -76,9 +76,9 @@ pub struct HeaderFields {
     pub constructed: bool,
     /// The number of the tag (8.1.2.2, 8.1.2.4.2).
     pub number: u64,
-    /// What the length octets say (8.1.3).
+    /// The meaning of the length octets (8.1.3).
     pub size: Size,
-    /// How many octets are the identifier.
+    /// The number of identifier octets.
     pub id_len: u8,
 }
 
@@ -115,7 +115,7 @@ impl HeaderFields {
     ghost use Rattle.std.specs.Prelude.{◌≡◌};
     ghost use Rattle.tlv_head.specs.Header.{fields_wrap};
 
-    /// [`Header::wraps`], of the header with these fields.
+    /// [`Header::wraps`], for the header with these fields.
     pub fn wraps(&self) -> bool
         ensures { result ≡ fields_wrap self.now }
     {
@@ -135,8 +135,9 @@ impl Header {
     ghost use Rattle.tlv_head.specs.Header.{second_identifier_octet, second_length_octet};
     ghost use Rattle.tlv_head.specs.HeaderFields.{IsHeaderSized, new_header};
 
-    /// The header with these fields and octets: at most 137, of which at most ten, and not all, are the identifier.
-    /// That the octets say these fields is for the caller to see to, as [`read_header`](crate::read_header) does.
+    /// The header with these fields and octets. Requires at most 137 octets, of which at most ten, and not all, are
+    /// the identifier. The caller must ensure that the octets say these fields, as
+    /// [`read_header`](crate::read_header) does.
     #[inline]
     pub fn new(fields: &HeaderFields, octets: &[u8]) -> Header
         requires { IsHeaderSized fields.now octets.now }
@@ -159,9 +160,8 @@ impl Header {
         }
     }
 
-    /// The header with these fields and octets, which are moved. ([`Header::new`] reads what it keeps
-    /// of them from the slice that it is given, so that nothing need be written if nobody asks for
-    /// the octets.)
+    /// The header with these fields and octets; the octets are moved. ([`Header::new`] reads the second octets that it
+    /// keeps beside `raw` from the given slice, so that nothing need be written to `raw` if nobody asks for it.)
     pub(crate) fn with_raw(fields: &HeaderFields, raw: ArrayVec<u8, 137>) -> Header
         requires { IsHeaderSized fields.now raw.items }
         ensures { result ≡ new_header fields.now raw.items }
@@ -184,7 +184,7 @@ impl Header {
         }
     }
 
-    /// What the header says, without its octets.
+    /// The meaning of the header, without its octets.
     pub fn fields(&self) -> HeaderFields
         ensures { result ≡ fields_of self.now }
     {
@@ -199,8 +199,8 @@ impl Header {
         }
     }
 
-    /// The octets as they are: the identifier octets, of which there are [`Header::id_len`], and
-    /// then the length octets. There are at most 137.
+    /// The octets as they are, at most 137: the identifier octets, [`Header::id_len`] in number, and then the length
+    /// octets.
     pub fn raw(&self) -> &[u8]
         ensures value { result.now ≡ octets_of self.now }
         ensures short { length result.now ≤ 137 }
@@ -232,8 +232,8 @@ impl Header {
         self.second_length_octet
     }
 
-    /// Whether the contents are to be read as encodings although the element is primitive: it is an
-    /// OCTET STRING, or a BIT STRING of one or more contents octets, whose offset the user named.
+    /// Whether the contents are to be read as encodings although the element is primitive: the user named its offset,
+    /// and it is an OCTET STRING, or a BIT STRING of one or more contents octets.
     pub fn wraps(&self) -> bool
         ensures { result ≡ wraps self.now }
     {
@@ -244,7 +244,8 @@ impl Header {
 ghost use Rattle.std.specs.Prelude.{◌≡◌, ◌≤◌, drop, length, slice_index, take, true};
 ghost use Rattle.tlv_head.specs.Header.{announced_length, spell_indefinite, is_wrapper};
 
-/// The second octets of an identifier of so many octets and of the length after it, or 0 if there is none.
+/// The second octet of an identifier with `id_len` octets and the second octet of the length after it; 0 for one that
+/// does not exist.
 pub(crate) fn second_octets(id_len: u8, octets: &[u8]) -> (u8, u8)
     requires { id_len ≤ length octets.now }
     ensures identifier { result.0 ≡ slice_index (take id_len octets.now) 1 }
@@ -264,7 +265,7 @@ fn second_of(octets: &[u8]) -> u8
     }
 }
 
-/// [`Header::wraps`], of the fields that it goes by (8.6.2, 8.7.2).
+/// [`Header::wraps`], given the fields that it depends on (8.6.2, 8.7.2).
 pub(crate) fn is_wrapper(
     named: bool,
     class: Class,

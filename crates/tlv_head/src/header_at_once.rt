@@ -10,9 +10,9 @@ use crate::next_octet::{
 };
 use crate::{HeaderFields, Size};
 
-/// The header with which the octets begin, whatever follows it, and how many octets it has. `None`
-/// if they begin with none: a header is unfinished or refused, the first octet is `00`, or there is
-/// no octet. A header that is cut into pieces goes through a [`HeadReader`](crate::HeadReader).
+/// The header with which the octets begin, whatever follows it, and its number of octets. `None` if the octets begin
+/// with no header: the header is unfinished or refused, the first octet is `00`, or there is no octet. To read a
+/// header that is cut into pieces, use a [`HeadReader`](crate::HeadReader).
 #[inline]
 pub fn read_header(offset: u64, named: bool, octets: &[u8]) -> Option<(HeaderFields, usize)>
     ensures { MatchOption result (BeginsWithNoHeader octets.now)
@@ -35,9 +35,9 @@ pub fn read_header(offset: u64, named: bool, octets: &[u8]) -> Option<(HeaderFie
     None
 }
 
-/// The header with which the octets begin, and how many octets it has, if one to three of them are the identifier and
-/// one to three the length. `None` if the octets begin with no such header; [`read_header`] finds a longer one. It
-/// is apart because most headers are so short, and can be read with few instructions.
+/// The header with which the octets begin, and its number of octets, if it has one to three identifier octets and one
+/// to three length octets. `None` if the octets begin with no such header; [`read_header`] finds a longer one. It is
+/// a separate function because most headers are this short, and can be read with few instructions.
 #[inline(always)]
 pub fn read_short(offset: u64, named: bool, octets: &[u8]) -> Option<(HeaderFields, usize)>
     ensures begins { MatchOption result (BeginsWithNoShortHeader octets.now)
@@ -53,8 +53,8 @@ pub fn read_short(offset: u64, named: bool, octets: &[u8]) -> Option<(HeaderFiel
     ))
 }
 
-/// The identifier with which the octets begin, if it has at most three. `None` if they begin with no such identifier
-/// that has an octet after it.
+/// The identifier with which the octets begin, if it has at most three octets. `None` if the octets begin with no
+/// such identifier with an octet after it.
 #[inline(always)]
 fn short_identifier(octets: &[u8]) -> Option<IdentifierFields>
     ensures { MatchOption result (BeginsWithNoIdentifier octets.now)
@@ -81,8 +81,8 @@ fn short_identifier(octets: &[u8]) -> Option<IdentifierFields>
     }
 }
 
-/// The length with which the octets begin after the identifier, and how many octets it has, if they are at most three.
-/// `None` if they begin with no such length that an element of that form may have.
+/// The length with which the octets after the identifier begin, and its number of octets, if it has at most three.
+/// `None` if they begin with no such length, or with one that an element of this form cannot have.
 #[inline(always)]
 fn short_length(constructed: bool, octets: &[u8]) -> Option<(Size, usize)>
     ensures { MatchOption result (BeginsWithNoLength octets.now constructed)

@@ -7,7 +7,7 @@ use crate::{Class, type_at};
 /// How the contents of a primitive are shown.
 #[derive(Clone, Copy, Debug, PartialEq, Eq)]
 pub enum Kind {
-    /// Octets, of which nothing is known.
+    /// Octets of unknown meaning.
     Octets,
     /// 8.2.
     Boolean,

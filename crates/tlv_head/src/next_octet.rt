@@ -1,4 +1,4 @@
-//! What the octets of a header so far are, and what a further octet makes of them.
+//! The octets of a header so far, and the effect of a further octet.
 ghost use Rattle.std.specs.Prelude.{◌≡◌, ◌≢◌, ℕ, ◌/◌, List, [], ◌∷◌, false};
 ghost use Rattle.tlv_head.specs.Header.{class_bits};
 ghost use Rattle.tlv_head.specs.HeaderSoFar.{Carries, CarriesNumber, CarriesIdentifier, CarriesLength, is_whole_header};
@@ -6,39 +6,39 @@ ghost use Rattle.tlv_head.specs.Private.NextOctet.{MakesNext};
 
 use crate::{Class, FaultCode, HeaderFields, Size};
 
-/// What the identifier octets so far say, without the octets.
+/// The meaning of the identifier octets so far, without the octets.
 #[derive(Clone, Copy)]
 pub(crate) struct IdentifierFields {
     pub(crate) class: Class,
     pub(crate) constructed: bool,
     pub(crate) number: u64,
-    /// How many octets they are.
+    /// The number of identifier octets.
     pub(crate) id_len: u8,
 }
 
-/// What the octets so far are.
+/// The state of the octets so far.
 #[derive(Clone, Copy)]
 pub(crate) enum Part {
     /// No octet.
     Start,
-    /// Identifier octets in the high form (8.1.2.4), of which an octet is to follow.
+    /// Identifier octets in the high form (8.1.2.4), with at least one more to come.
     Number(IdentifierFields),
-    /// The identifier octets, all of them, and no length octet.
+    /// All the identifier octets, and no length octet.
     Identifier(IdentifierFields),
-    /// The identifier octets, the length so far (8.1.3.5), and how many of its octets are to follow.
+    /// The identifier octets, the length so far (8.1.3.5), and the number of length octets still to come.
     Length {
         identifier: IdentifierFields,
         length: u64,
         left: u8,
     },
-    /// A header, and nothing is to follow.
+    /// A whole header, with nothing more to come.
     Whole,
 }
 
-/// What an octet makes of the octets before.
+/// The result of adding an octet to the octets before.
 #[derive(Clone, Copy)]
 pub(crate) enum Next {
-    /// The octets are not yet a header, but this part of one.
+    /// The octets are not a header yet, but this part of one.
     Unfinished(Part),
     /// The octets are a header with this identifier and this size.
     Whole(IdentifierFields, Size),
@@ -169,8 +169,8 @@ fn first_length(identifier: IdentifierFields, octet: u8) -> Next
     }
 }
 
-/// A further length octet (8.1.3.5). A length of 2^40 or more is refused at the octet that makes
-/// it so, whatever follows.
+/// A further length octet (8.1.3.5). A length of 2^40 or more is refused at the octet that makes it so large,
+/// whatever follows.
 fn next_length(identifier: IdentifierFields, length: u64, left: u8, octet: u8) -> Next
     requires { (octets : List ℕ) × CarriesLength identifier length left octets }
     ensures { (octets : List ℕ) → CarriesLength identifier length left octets

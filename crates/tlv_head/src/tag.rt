@@ -7,8 +7,8 @@ use crate::{Class, universal};
 use arrayvec::ArrayVec;
 use itoa::Buffer;
 
-/// The name of a universal type (X.680, table 1), in ASCII, such as `INTEGER`: at most 17 octets. `None` if the number
-/// is not that of a type.
+/// The name of a universal type (X.680, table 1), in ASCII, such as `INTEGER`: at most 17 octets. `None` if no type
+/// has the number.
 pub fn type_name(number: u64) -> Option<&'static [u8]>
     ensures name { option_copied result ≡ type_name number }
     ensures short { IfSome result (λ name. length name.now ≤ 17) }
@@ -17,9 +17,9 @@ pub fn type_name(number: u64) -> Option<&'static [u8]>
     Some(&name[..size])
 }
 
-/// A block that begins with the name of a universal type and has spaces after it, so that the name can be copied at
-/// once, and how many octets the name has.
-/// `None` if the number is not that of a type.
+/// A block that begins with the name of a universal type, followed by spaces, so that the name can be copied at once;
+/// and the number of octets of the name.
+/// `None` if no type has the number.
 #[inline(always)]
 pub fn type_name_block(number: u64) -> Option<(&'static [u8; 32], usize)>
     ensures name { option_map (λ (block, size). take size block.now) result ≡ type_name number }
@@ -65,8 +65,8 @@ pub fn type_name_block(number: u64) -> Option<(&'static [u8; 32], usize)>
     })
 }
 
-/// The text of a tag, in ASCII: the name of a universal type, as `INTEGER`; otherwise the class and
-/// the number, as `[UNIVERSAL 15]`, `[APPLICATION 31]`, `[0]` or `[PRIVATE 7]`.
+/// The text of a tag, in ASCII: the name of a universal type, such as `INTEGER`; otherwise the class and the number,
+/// such as `[UNIVERSAL 15]`, `[APPLICATION 31]`, `[0]` or `[PRIVATE 7]`.
 pub fn tag_text(class: Class, number: u64) -> ArrayVec<u8, 40>
     ensures { result.items ≡ tag_text class number }
 {

@@ -5,7 +5,7 @@ ghost use Rattle.tlv_head.specs.TypeTable.{type_at};
 
 use crate::{Kind, universal};
 
-/// Which encodings the values of a type have.
+/// Which encodings the values of a type may have.
 #[derive(Clone, Copy, Debug, PartialEq, Eq)]
 pub enum Encodings {
     /// Primitive ones (8.2.1, 8.3.1, 8.4, 8.5.1, 8.8.1, 8.19.1, 8.20.1).
@@ -14,20 +14,20 @@ pub enum Encodings {
     Constructed,
     /// Primitive ones, and constructed ones that hold segments (8.6.1, 8.7.1, 8.23, 8.25).
     Segmented,
-    /// Any: no finding depends on them.
+    /// Any encodings: no finding depends on them.
     Unjudged,
 }
 
-/// What the table says of a universal type, besides its name.
+/// What the table says about a universal type, besides its name.
 #[derive(Clone, Copy, Debug, PartialEq, Eq)]
 pub struct UniversalType {
-    /// Which encodings its values have.
+    /// Which encodings its values may have.
     pub encodings: Encodings,
     /// How the contents of a primitive are shown.
     pub kind: Kind,
 }
 
-/// The universal type with this number (X.680, table 1). `None` if the number is not that of a type.
+/// The universal type with this number (X.680, table 1). `None` if no type has the number.
 #[inline(always)]
 pub fn type_at(number: u64) -> Option<UniversalType>
     ensures encodings { option_map (λ t. t.encodings) result ≡ option_map (λ row. row.encodings) (type_at number) }
@@ -75,7 +75,7 @@ pub fn type_at(number: u64) -> Option<UniversalType>
     })
 }
 
-/// Which encodings the universal type with this number has. `None` if the number is not that of a type.
+/// Which encodings the universal type with this number may have. `None` if no type has the number.
 #[inline(always)]
 pub fn encodings_of(number: u64) -> Option<Encodings>
     ensures { result ≡ option_map (λ t. t.encodings) (type_at number) }

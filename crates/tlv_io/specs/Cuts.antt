@@ -1,5 +1,5 @@
--- How octets are cut into rows, as a condition on rows: by how many octets a row has room for, and how many are to be
--- kept in one row, from an octet on.
+-- How octets are cut into rows, as a condition on rows. It depends on the number of octets for which a row has room,
+-- and on the number of octets to keep together from each octet on.
 use Rattle.std.specs.Prelude.{◌≡◌, ◌≢◌, ◌⊎◌, ℕ, ◌+◌, ◌<◌, ◌≤◌, if◌then◌else◌, All, List, [], ◌∷◌, length}
 use Rattle.std.specs.Prelude.{slice_index}
 use Rattle.std.specs.List.{concat}
@@ -11,18 +11,18 @@ last_rows [] = []
 last_rows (x ∷ xs) = (x ∷ xs) ∷ []
 
 module _ (size : ℕ) (wanted : ℕ → ℕ) where
-  -- from each octet of a row on, the row has room for those that are to be kept in one row
+  -- for each octet of a row, the octets to keep together from it on fit into the row
   abbrev pub SplitsNone : List ℕ → Type 0
   SplitsNone row = (i : ℕ) → i < length row → i + wanted (slice_index row i) ≤ size
 
-  -- a row has octets, no more than it has room for, and splits none that are to be kept in one row
+  -- a row has octets, no more than it has room for, and splits no octets that are to be kept together
   pub record IsRow (row : List ℕ) : Type 0 where
     pub some : row ≢ []
     pub short : length row ≤ size
     pub splits_none : SplitsNone row
 
-  -- a row before another has no room, or none for the octets that are to be kept in one row from the first octet of
-  -- the other on
+  -- a row before another row has no room left, or no room for the octets to keep together from the other row's first
+  -- octet on
   abbrev pub IsFull : List ℕ → List ℕ → Type 0
   IsFull row next = (length row ≡ size) ⊎ (size < length row + wanted (slice_index next 0))
 
@@ -31,7 +31,7 @@ module _ (size : ℕ) (wanted : ℕ → ℕ) where
   AreFull (row ∷ []) = Unit {0}
   AreFull (row ∷ next ∷ rows) = IsFull row next × AreFull (next ∷ rows)
 
-  -- the rows are a cut of the octets: they are the octets in order, each is a row, and each but the last is full
+  -- the rows are a cut of the octets: the octets in order, each row valid, and each row but the last full
   pub record IsCut (octets : List ℕ) (rows : List (List ℕ)) : Type 0 where
     pub together : concat rows ≡ octets
     pub each : All IsRow rows
@@ -42,7 +42,7 @@ module _ (size : ℕ) (wanted : ℕ → ℕ) where
     pub rows : List (List ℕ)
     pub is_cut : IsCut octets rows
 
--- RFC 3629, 4: how many octets a character of UTF-8 has that begins with this one; 1 if none does
+-- RFC 3629, 4: the number of octets of a UTF-8 character that begins with this octet; 1 if none does
 abbrev pub utf8_length : ℕ → ℕ
 utf8_length x =
     if is_in_range 0xc2 0xdf x then 2

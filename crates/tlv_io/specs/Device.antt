@@ -1,4 +1,4 @@
--- What sources and drains show of themselves, and what one call makes of that.
+-- What contracts see of sources and drains, and the effect of one call on it.
 use Rattle.std.specs.Prelude.{◌≡◌, ◌⊎◌, ◌+◌, ◌-◌, ◌^◌, ◌<◌, ◌≤◌, ℕ, List, [], ◌++◌, All, Option, Result, Ok, Err, min}
 use Rattle.std.specs.Prelude.{IfOk, length}
 use Rattle.std.specs.List.{concat}
@@ -11,25 +11,26 @@ pub data LastReadValue : Type 0 where
   gave : ℕ → LastReadValue
   failed : LastReadValue
 
--- what is kept of reads: how many there were, failed ones too, what the last of them gave, and how many failed
+-- what is kept about reads: their number, including failed ones, what the last read gave, and the number of failed
+-- reads
 pub record ReadLogState : Type 0 where
   pub reads : ℕ
   pub last : LastReadValue
   pub failures : ℕ
 
--- what a source shows of itself: the octets still to give, if it knows them, and its reads
+-- what contracts see of a source: the octets still to give, if it knows them, and its reads
 pub record SourceState : Type 0 where
   pub left : Option (List ℕ)
   pub reads : ℕ
   pub last : LastReadValue
   pub failures : ℕ
 
--- what a drain shows of itself: the octets that it took, if it knows them, and how many writes failed
+-- what contracts see of a drain: the octets that it took, if it knows them, and the number of failed writes
 pub record DrainState : Type 0 where
   pub octets : Option (List ℕ)
   pub failures : ℕ
 
--- the log of a source that was not read
+-- the log of a source that has not been read
 abbrev pub new_read_log : ReadLogState
 new_read_log = record { reads = 0; last = never; failures = 0 }
 
@@ -37,20 +38,20 @@ new_read_log = record { reads = 0; last = never; failures = 0 }
 abbrev pub source_with : Option (List ℕ) → ReadLogState → SourceState
 source_with left log = record { left = left; reads = log.reads; last = log.last; failures = log.failures }
 
--- a source with these octets, of which nothing was read
+-- a source with these octets that has not been read
 abbrev pub new_source : Option (List ℕ) → SourceState
 new_source left = source_with left new_read_log
 
--- a count to which so many are added at once; it stops at 2^64 - 1
+-- a count after `more` is added at once; it stops at 2^64 - 1
 abbrev pub count_after : ℕ → ℕ → ℕ
 count_after n more = min (n + more) (2 ^ 64 - 1)
 
--- a count after one call more
+-- a count after one more call
 abbrev pub next_count : ℕ → ℕ
 next_count n = count_after n 1
 
 module _ {T E : Type 0} where
-  -- how many calls have failed after one with this result
+  -- the number of failed calls, after a call with this result
   abbrev pub failures_after : Result T E → ℕ → ℕ
   failures_after (Ok x) old = old
   failures_after (Err e) old = next_count old
@@ -61,7 +62,7 @@ module _ {E : Type 0} where
   last_after (Ok n) = gave n
   last_after (Err e) = failed
 
-  -- one read into room that then holds these octets
+  -- one read into room that holds these octets afterwards
   pub record ReadsOnce (old new : SourceState) (result : Result ℕ E) (to : List ℕ) : Type 0 where
     pub octets : ReadConsumes old.left new.left result to
     pub within : ReadsAtMost result to
@@ -75,7 +76,7 @@ module _ {E : Type 0} where
     pub some : IfOk result (λ n. (0 < n) × (n ≤ length from))
     pub failures : new.failures ≡ failures_after result old.failures
 
--- the most octets that one of the reads of a call gives
+-- the most octets that each read of a call gives
 abbrev pub read_limit : ℕ
 read_limit = 4096
 
@@ -87,7 +88,7 @@ IsPiece octets = (0 < length octets) × (length octets ≤ read_limit)
 abbrev pub GaveLast : LastReadValue → List ℕ → Type 0
 GaveLast last octets = (last ≡ gave (length octets)) ⊎ ((last ≡ failed) × (octets ≡ []))
 
--- reads of a source, one or more: the octets that each but the last gave, and those that the last gave
+-- one or more reads of a source: the octets that each read but the last gave, and the octets that the last one gave
 pub record Pieces (old new : SourceState) : Type 0 where
   pub pieces : List (List ℕ)
   pub last : List ℕ

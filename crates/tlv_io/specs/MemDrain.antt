@@ -4,15 +4,15 @@ use Rattle.std.specs.Borrow.{MutBor}
 use Rattle.tlv_io.specs.Device.{DrainState, next_count}
 use Rattle.tlv_io.specs.declared.memory.MemDrain.{MemDrain}
 
--- what a drain over memory has taken, which is a prefix of its room; the rest of the room; how many octets one write
--- takes at most; and how many writes failed
+-- the octets that a drain over memory has taken, which are a prefix of its room; the rest of the room; the most
+-- octets that one write takes; and the number of failed writes
 pub record MemDrainState : Type 0 where
   pub taken : List ℕ
   pub rest : List ℕ
   pub most : ℕ
   pub failures : ℕ
 
--- the room that a drain over memory was lent
+-- the room that a drain over memory borrows
 abbrev pub drain_room : MemDrain → MutBor (List ℕ)
 drain_room drain = drain.room
 
@@ -24,11 +24,11 @@ mem_drain_state_of drain = record {
   failures = drain.failures;
 }
 
--- what a drain over memory shows of itself
+-- what contracts see of a drain over memory, as of any drain
 abbrev pub drain_state_of : MemDrainState → DrainState
 drain_state_of drain = record { octets = Some drain.taken; failures = drain.failures }
 
--- how many octets the next write takes of this many
+-- the number of octets that the next write takes, out of `count`
 abbrev pub write_count : MemDrainState → ℕ → ℕ
 write_count drain count = min count (min drain.most (length drain.rest))
 

@@ -1,4 +1,4 @@
--- What an `Out` shows, and what a call makes of it that puts octets to it.
+-- What contracts see of an `Out`, and the effect of a call that puts octets to it.
 use Rattle.std.specs.Prelude.{◌≡◌, ◌≢◌, ◌++◌, ℕ, List, [], Result, OnErr, OnOk}
 use Rattle.std.specs.Io.KnownBytes.{Appends}
 use Rattle.std.specs.Borrow.{MutBor}
@@ -6,16 +6,16 @@ use Rattle.tlv_io.specs.declared.out.Out.{Out}
 use Rattle.tlv_io.specs.Device.{DrainState, failures_after}
 
 module _ {D : Type 0} where
-  -- the drain that is lent
+  -- the drain that the `Out` borrows
   abbrev pub drain_of : Out D → MutBor D
   drain_of out = out.drain
 
-  -- the octets held, which the drain has still to take
+  -- the octets held, which the drain has not taken yet
   abbrev pub held_octets : Out D → List ℕ
   held_octets out = out.held
 
 module _ {T E : Type 0} where
-  -- one call that hands octets to a drain: all of them, or, if it fails, a prefix of them that is not all
+  -- one call that hands octets to a drain: all of them or, if it fails, a proper prefix of them
   pub record Sends (old new : DrainState) (octets : List ℕ) (result : Result T E) : Type 0 where
     pub sent : List ℕ
     pub left : List ℕ
@@ -25,8 +25,8 @@ module _ {T E : Type 0} where
     pub lost : OnErr result (left ≢ [])
     pub failures : new.failures ≡ failures_after result old.failures
 
-  -- a call that puts octets to an `Out`. The drain takes a prefix of what was held and then these, after what it
-  -- had; what it does not take is held. If the call fails that is lost, one octet or more
+  -- a call that puts octets to an `Out`. The drain takes a prefix of the held octets followed by these octets, after
+  -- what it had; the `Out` holds the rest. If the call fails, the rest, at least one octet, is lost
   pub record Puts {D : Type 0} (state_of : D → DrainState)
       (old new : Out D) (octets : List ℕ) (result : Result T E)
       : Type 0 where

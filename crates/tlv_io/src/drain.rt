@@ -1,4 +1,4 @@
-//! What octets are written to.
+//! Where octets are written to.
 
 ghost use Rattle.std.specs.Prelude.{◌<◌, length};
 ghost use Rattle.tlv_io.specs.Device.{DrainState, WritesOnce};
@@ -7,12 +7,12 @@ ghost use Rattle.tlv_io.specs.Device.{DrainState, WritesOnce};
 #[derive(Clone, Copy, Debug, PartialEq, Eq)]
 pub struct WriteFault;
 
-/// What octets are written to, in order. The count of failed writes stops at 2^64 - 1.
+/// A destination for octets, written in order. The count of failed writes stops at 2^64 - 1.
 pub trait Drain {
-    /// What it shows of itself: its octets and its failures.
+    /// What contracts see of it: its octets and its failures.
     ghost state: { Self → DrainState };
 
-    /// Takes a prefix of `from`, which holds at least one octet. Returns how many octets it took: one or more.
+    /// Takes a prefix of `from`, which holds at least one octet. Returns the number of octets taken: one or more.
     ///
     /// # Errors
     ///

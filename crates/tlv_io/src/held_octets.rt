@@ -9,13 +9,13 @@ mod texts;
 use std::marker::Model;
 use texts::{fill_spaces, write_spaced_pairs, write_spaced_row};
 
-/// As many octets as are held at most.
+/// The most octets that are held.
 pub(crate) const CAPACITY: usize = 4096;
 
 /// At most 4096 octets, to which texts are added in place.
 ///
-/// It is no `ArrayVec`, since one is filled with blanks when it is cleared, which an [`Out`](crate::Out) would pay for
-/// at each flush.
+/// This is not an `ArrayVec`: clearing an `ArrayVec` fills it with blanks, and an [`Out`](crate::Out) would pay for
+/// that at each flush.
 #[derive(Drop)]
 pub struct HeldOctets {
     len: usize,
@@ -53,10 +53,10 @@ impl HeldOctets {
         &self.octets[..self.len()]
     }
 
-    /// How many octets there are.
+    /// The number of octets.
     ///
-    /// The compiler does not read the invariant. The test shows it that the count is small, so that octets which are
-    /// written after the first `len` are not written over the count, and it need not be read again after each text.
+    /// The compiler cannot see the invariant. The test tells it that the count is small, so that a write after the
+    /// first `len` octets cannot overwrite the count, and the count need not be read again after each text.
     #[inline(always)]
     pub fn len(&self) -> usize
         ensures count { result ≡ length self.now }
@@ -89,8 +89,7 @@ impl HeldOctets {
         self.len = end;
     }
 
-    /// Adds the first of these octets. The caller sees to it that there is room for all, so that they can be copied at
-    /// once.
+    /// Adds the first `count` of these octets. Requires room for all of them, so that they can be copied at once.
     #[inline(always)]
     pub fn add_prefix<const N: usize>(&mut self, octets: &[u8; N], count: usize)
         requires within { count ≤ N }
@@ -102,7 +101,7 @@ impl HeldOctets {
         self.len = len + count;
     }
 
-    /// Adds octets, if there is room for them, and else nothing.
+    /// Adds octets if there is room for them; otherwise adds nothing.
     #[inline]
     pub fn add_if_room(&mut self, octets: &[u8])
         ensures added { AddsIfRoom self.old self.new octets.now }
@@ -113,7 +112,7 @@ impl HeldOctets {
         }
     }
 
-    /// Adds spaces. The caller sees to it that there is room for 32 more, so that they can be copied many at a time.
+    /// Adds spaces. Requires room for 32 more, so that spaces can be copied many at a time.
     #[inline(always)]
     pub fn spaces(&mut self, count: usize)
         requires { HasRoomFor self.old (count + 32) }
@@ -124,7 +123,7 @@ impl HeldOctets {
         self.len = len + count;
     }
 
-    /// Adds octets as pairs of digits, each after a space.
+    /// Adds octets as pairs of digits, each pair after a space.
     #[inline(always)]
     pub fn spaced_pairs(&mut self, octets: &[u8])
         requires { HasRoomFor self.old (3 * length octets.now) }
@@ -135,7 +134,7 @@ impl HeldOctets {
         self.len = len + 3 * octets.len();
     }
 
-    /// Adds 16 octets as pairs of digits, each after a space.
+    /// Adds 16 octets as pairs of digits, each pair after a space.
     #[inline(always)]
     pub fn spaced_row(&mut self, octets: &[u8; 16])
         requires { HasRoomFor self.old 48 }
@@ -146,7 +145,7 @@ impl HeldOctets {
         self.len = len + 48;
     }
 
-    /// How many octets more can be held.
+    /// The number of octets that can still be added.
     #[inline(always)]
     pub(crate) fn room(&self) -> usize
         ensures { result + length self.now ≡ held_limit }

@@ -1,5 +1,5 @@
-//! Devices that octets come from and go to, and the octets on their way: what is read in pieces,
-//! gathered by an [`Out`], and written.
+//! Devices that octets come from and go to, and the octets on their way: octets are read in pieces, gathered by an
+//! [`Out`], and written.
 #![tactic(auto)]
 
 mod drain;

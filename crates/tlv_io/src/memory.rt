@@ -8,7 +8,7 @@ use crate::drain::{Drain, WriteFault};
 use crate::source::{ReadFault, ReadLog, Source};
 use std::marker::Model;
 
-/// Octets in memory as a source, which gives them in pieces that its maker chose.
+/// Octets in memory as a source, which gives them in pieces of chosen sizes.
 #[derive(Drop)]
 pub struct MemSource<'a> {
     octets: &'a [u8],
@@ -33,8 +33,8 @@ impl<'a> Model for MemSource<'a> {
 impl<'a> MemSource<'a> {
     /// A source that gives `octets` and then ends.
     ///
-    /// Read `i`, counted from 0, gives at most `cuts[i]` octets, and after the end of `cuts` as many as there is room
-    /// for. A cut of 0 counts as 1, so a read gives none only if none are left. Read `fail_at` fails.
+    /// Read `i`, counted from 0, gives at most `cuts[i]` octets; reads after the end of `cuts` give as many as there
+    /// is room for. A cut of 0 counts as 1, so a read gives no octets only if none are left. Read `fail_at` fails.
     pub fn new(octets: &'a [u8], cuts: &'a [u64], fail_at: Option<u64>) -> MemSource<'a>
         ensures { result ≡ record {
           left = octets.now;
@@ -58,15 +58,15 @@ impl Source for MemSource<'_> {
     fn read(&mut self, to: &mut [u8]) -> Result<usize, ReadFault>
         requires { 0 < length to.old }
 
-        // What each source promises.
+        // The contract of each source.
         ensures reads { ReadsOnce (source_state_of self.old)
             (source_state_of self.new) result to.new }
 
-        // How many octets it gives, and which read fails.
+        // The number of octets that it gives, and which read fails.
         ensures count { IfOk result (λ n. n ≡ read_count self.old (length to.old)) }
         ensures fails { IsErr result ↔ (self.old.fail_at ≡ Some self.old.log.reads) }
 
-        // What stays.
+        // What stays the same.
         ensures cuts { self.new.cuts ≡ self.old.cuts }
         ensures fail_at { self.new.fail_at ≡ self.old.fail_at }
     {
@@ -82,7 +82,7 @@ impl Source for MemSource<'_> {
     }
 }
 
-/// How many of `count` octets the read with this index may give.
+/// The number of octets, at most `count`, that the read with this index may give.
 fn cut_count(cuts: &[u64], index: u64, count: usize) -> usize
     ensures { result ≡ cut_count cuts.now index count }
 {
@@ -92,7 +92,7 @@ fn cut_count(cuts: &[u64], index: u64, count: usize) -> usize
     }
 }
 
-/// Room in memory as a drain, which takes at most as many octets with a write as its maker chose.
+/// Room in memory as a drain, which takes at most a chosen number of octets with each write.
 #[derive(Drop)]
 pub struct MemDrain<'a> {
     room: &'a mut [u8],
@@ -107,7 +107,7 @@ impl<'a> MemDrain<'a> {
 
     /// A drain that fills `room` from its first octet on.
     ///
-    /// A write takes as many octets as fit, at most `most`, where 0 counts as 1. It fails if no room is left.
+    /// A write takes as many octets as fit, but at most `most`, where 0 counts as 1. It fails if no room is left.
     pub fn new(room: &'a mut [u8], most: usize) -> MemDrain<'a>
         ensures same_reference { (drain_room result).ghost_name ≡ room.entry.ghost_name }
         ensures room { (drain_room result).now ≡ room.old }
@@ -140,16 +140,16 @@ impl Drain for MemDrain<'_> {
     fn write(&mut self, from: &[u8]) -> Result<usize, WriteFault>
         requires { 0 < length from.now }
 
-        // What each drain promises.
+        // The contract of each drain.
         ensures writes { WritesOnce (drain_state_of (mem_drain_state_of self.old))
             (drain_state_of (mem_drain_state_of self.new)) result from.now }
 
-        // How many octets it takes, and when it fails.
+        // The number of octets that it takes, and when it fails.
         ensures count { IfOk result (λ n. n ≡ write_count (mem_drain_state_of self.old)
             (length from.now)) }
         ensures fails { IsErr result ↔ ((mem_drain_state_of self.old).rest ≡ []) }
 
-        // What it then has. The room is the same, and after the octets taken it is as it was.
+        // Its state after the write. The room is the same, and unchanged after the octets taken.
         ensures state { mem_drain_state_of self.new
             ≡ mem_drain_after result from.now (mem_drain_state_of self.old) }
         ensures same_reference { (drain_room self.new).ghost_name

@@ -8,23 +8,24 @@ ghost use Rattle.tlv_io.specs.Out.{Puts, Sends, held_octets, drain_of};
 use crate::drain::{Drain, WriteFault};
 use crate::held_octets::{CAPACITY, HeldOctets};
 
-/// Room for the longest line without the name of an object identifier: an element's, at level 255, with 64 octets of
-/// contents.
+/// Room for the longest line without the name of an object identifier: the line of an element at level 255, with 64
+/// octets of contents.
 const LINE: usize = 1024;
 
 /// Gathers octets, so that a drain takes many with each write.
 ///
-/// What the drain took and what is held are together what was put, in order. At a `WriteFault` the drain has a prefix
-/// of that, and the `Out` is of no further use. What is held when an `Out` is let go is lost, so call `flush` first.
+/// The octets that the drain took, followed by the octets held, are the octets that were put, in order. After a
+/// `WriteFault` the drain has a prefix of them, and the `Out` is of no further use. When an `Out` is dropped, the
+/// octets that it holds are lost, so call `flush` first.
 #[derive(Drop)]
 pub struct Out<'d, D> {
     drain: &'d mut D,
-    /// The octets that are held. A line is made at their end, after [`Out::make_room`].
+    /// The octets held. A line is made at their end, after [`Out::make_room`].
     pub held: HeldOctets,
 }
 
 impl<'d, D: Drain> Out<'d, D> {
-    /// An `Out` to this drain, which holds no octet yet.
+    /// An `Out` to this drain, which holds no octets yet.
     pub fn new(drain: &'d mut D) -> Out<'d, D>
         ensures same_reference { (drain_of result).ghost_name ≡ drain.entry.ghost_name }
         ensures drain { (drain_of result).now ≡ drain.old }
@@ -36,7 +37,7 @@ impl<'d, D: Drain> Out<'d, D> {
         }
     }
 
-    /// Makes room for a line of up to 1024 octets after those that are held.
+    /// Makes room for a line of up to 1024 octets after the octets held.
     ///
     /// # Errors
     ///
@@ -49,7 +50,7 @@ impl<'d, D: Drain> Out<'d, D> {
         self.make_room_for(LINE)
     }
 
-    /// Makes room for `count` octets, at most 4096, after those that are held.
+    /// Makes room for `count` octets, at most 4096, after the octets held.
     ///
     /// # Errors
     ///
@@ -66,11 +67,11 @@ impl<'d, D: Drain> Out<'d, D> {
         Ok(())
     }
 
-    /// Puts the octets after those that were put before: they are held, or handed to the drain.
+    /// Puts octets after the octets put before. They are held, or handed to the drain.
     ///
     /// # Errors
     ///
-    /// `WriteFault` if a write failed. The drain then has a prefix of what was put before and these octets.
+    /// `WriteFault` if a write failed. The drain then has a prefix of the octets put before and these octets.
     #[inline]
     pub fn put(&mut self, octets: &[u8]) -> Result<(), WriteFault>
         ensures puts { Puts D.state self.old self.new octets.now result }
@@ -83,7 +84,8 @@ impl<'d, D: Drain> Out<'d, D> {
         self.put_past_room(octets)
     }
 
-    /// Puts octets that leave no room, or do not fit. It is apart so that `put` stays short where it is inlined.
+    /// Puts octets that leave no room, or do not fit. This is a separate function to keep `put` short where it is
+    /// inlined.
     #[cold]
     #[inline(never)]
     fn put_past_room(&mut self, octets: &[u8]) -> Result<(), WriteFault>
@@ -93,7 +95,7 @@ impl<'d, D: Drain> Out<'d, D> {
         if octets.len() > self.held.room() {
             self.flush()?;
         }
-        // Nothing is held by now if there are so many octets, and they need not be gathered.
+        // If there are this many octets, nothing is held at this point, and they need not be gathered.
         if octets.len() >= CAPACITY {
             return send(self.drain, octets);
         }
@@ -101,11 +103,11 @@ impl<'d, D: Drain> Out<'d, D> {
         Ok(())
     }
 
-    /// Hands all octets that are held to the drain.
+    /// Hands all the octets held to the drain.
     ///
     /// # Errors
     ///
-    /// `WriteFault` if a write failed. The drain then has a prefix of what was put.
+    /// `WriteFault` if a write failed. The drain then has a prefix of the octets put.
     #[inline(never)]
     pub fn flush(&mut self) -> Result<(), WriteFault>
         ensures puts { Puts D.state self.old self.new [] result }
@@ -118,7 +120,7 @@ impl<'d, D: Drain> Out<'d, D> {
     }
 }
 
-/// Hands all of the octets to the drain, in as many writes as that needs.
+/// Hands all the octets to the drain, in as many writes as needed.
 fn send<D: Drain>(drain: &mut D, octets: &[u8]) -> Result<(), WriteFault>
     ensures { Sends (D.state drain.old) (D.state drain.new) octets.now result }
 {

@@ -1,4 +1,4 @@
-//! What octets are read from.
+//! Where octets are read from.
 
 ghost use Rattle.std.specs.Prelude.{◌≡◌, ◌<◌, length};
 ghost use Rattle.tlv_io.specs.Device.{ReadsOnce, SourceState, new_read_log};
@@ -10,12 +10,13 @@ use std::marker::Model;
 #[derive(Clone, Copy, Debug, PartialEq, Eq)]
 pub struct ReadFault;
 
-/// What octets are read from, in order and each one once. The counts of reads and of failed reads stop at 2^64 - 1.
+/// A source of octets, read in order and each one once. The counts of reads and of failed reads stop at 2^64 - 1.
 pub trait Source {
-    /// What it shows of itself: its octets, its reads and its failures.
+    /// What contracts see of it: its octets, its reads and its failures.
     ghost state: { Self → SourceState };
 
-    /// Reads octets into the first places of `to`, which has room for at least one. Returns how many; 0 is the end.
+    /// Reads octets into the first places of `to`, which has room for at least one. Returns the number read; 0 is the
+    /// end.
     ///
     /// # Errors
     ///
@@ -54,7 +55,7 @@ impl Model for ReadLog {
 }
 
 impl ReadLog {
-    /// The log of a source that was not read yet.
+    /// The log of a source that has not been read yet.
     pub(crate) fn new() -> ReadLog
         ensures { result ≡ new_read_log }
     {
@@ -65,7 +66,7 @@ impl ReadLog {
         }
     }
 
-    /// The reads so far, failed ones too.
+    /// The number of reads so far, including failed ones.
     pub(crate) fn reads(&self) -> u64
         ensures { result ≡ self.now.reads }
     {

@@ -7,7 +7,7 @@ use crate::drain::{Drain, WriteFault};
 use crate::source::{ReadFault, ReadLog, Source};
 use std::io::{Read, Write};
 
-/// A reader as a source. Each error of the reader is a failed read, one of kind `Interrupted` too.
+/// A reader as a source. Each error of the reader is a failed read, including an error of kind `Interrupted`.
 #[derive(Drop)]
 pub struct ReadSource<R> {
     reader: R,
@@ -15,8 +15,8 @@ pub struct ReadSource<R> {
 }
 
 impl<R: Read + Drop> ReadSource<R> {
-    /// A source that gives the octets that `reader` has left, of which nothing was read. If the reader knows them, so
-    /// does the source.
+    /// A source that gives the octets that `reader` has left, and has not been read. If the reader knows these
+    /// octets, so does the source.
     pub fn new(reader: R) -> ReadSource<R>
         ensures { ⟦<ReadSource<R> as Source>⟧.state result ≡ new_source (R.remaining reader) }
     {
@@ -31,7 +31,7 @@ impl<R: Read + Drop> Source for ReadSource<R> {
     ghost state = { λ source. source_with (R.remaining source.reader) source.log };
 
     fn read(&mut self, to: &mut [u8]) -> Result<usize, ReadFault> {
-        // `read` itself: the reader's other methods try again after an interruption.
+        // Calls `read` itself: the reader's other methods try again after an interruption.
         let read = self.reader.read(to).map_err(|_| ReadFault);
         self.log.count(read)
     }
@@ -45,8 +45,8 @@ pub struct WriteDrain<W> {
 }
 
 impl<W: Write + Drop> WriteDrain<W> {
-    /// A drain that writes after what `writer` holds, and at which no write failed. If the writer knows what it holds,
-    /// so does the drain.
+    /// A drain that writes after what `writer` holds, without a failed write so far. If the writer knows what it
+    /// holds, so does the drain.
     pub fn new(writer: W) -> WriteDrain<W>
         ensures { ⟦<WriteDrain<W> as Drain>⟧.state result
             ≡ record { octets = W.contents writer; failures = 0 } }

@@ -3,7 +3,7 @@ use Rattle.std.specs.Prelude.{ℕ, List, Option, None}
 use Rattle.tlv_run.specs.declared.command.Command.{Command}
 use Rattle.tlv_run.specs.declared.command.Command.TheVariants.{Check, Dump, Extract, Indef}
 
--- the name of the file to read; without one it is standard input
+-- the name of the file to read; standard input if there is none
 abbrev pub file_of : Command → Option (List ℕ)
 file_of (Dump options names file) = file
 file_of (Check rules framing file) = file

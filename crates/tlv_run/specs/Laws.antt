@@ -1,4 +1,4 @@
--- Laws of what commands make of inputs.
+-- Laws of the results of commands.
 use Rattle.std.specs.Prelude.{◌≡◌, ℕ, ◌^◌, ◌≤◌, Bool, List, ◌++◌, length, Option, ◌↔◌, ◌<◌, ◌-◌, Some, false}
 use Rattle.std.specs.Io.KnownBytes.{Appends}
 use Rattle.tlv_value.specs.Names.{NamesValue}
@@ -13,7 +13,7 @@ use Rattle.tlv_run.specs.declared.command.Command.{Command}
 use Rattle.tlv_run.specs.declared.command.Command.TheVariants.{Indef}
 use Rattle.tlv_head.specs.InputLimit.{input_limit}
 
--- an input has a result, and no other
+-- an input has exactly one result
 abbrev pub InputsHaveOneResult : Type 0
 InputsHaveOneResult =
     (command : Command) (names : NamesValue) (b : List ℕ) → AreOctets b
@@ -21,20 +21,21 @@ InputsHaveOneResult =
     × IsCommandResult command names b made
     × ((other : CommandResult) → IsCommandResult command names b other → other ≡ made)
 
--- at a fault other than F01 and F02, and if `extract` has its whole element, the result stays, whatever follows
+-- after a fault other than F01 and F02, or when `extract` has its whole element, the result stays, whatever follows
 abbrev pub SettledResultsStay : Type 0
 SettledResultsStay =
     (command : Command) (names : NamesValue) (b c : List ℕ) (made : CommandResult) → AreOctets (b ++ c)
     → (x : IsCommandResult command names b made) → IsSettled x → IsCommandResult command names (b ++ c) made
 
--- what is written of an input of at most 2^40 octets goes on from what is written of a prefix
+-- what is written for an input of at most 2^40 octets begins with what is written for a prefix of the input
 abbrev pub OutputsGoOn : Type 0
 OutputsGoOn =
     (command : Command) (names : NamesValue) (b c : List ℕ) (made more : CommandResult) → length (b ++ c) ≤ input_limit
     → IsCommandResult command names b made → IsCommandResult command names (b ++ c) more
     → IsPrefixOf made.output more.output
 
--- what `indef` wrote, read again by `indef`, is written unchanged; and if it ended without a fault it does so again
+-- when `indef` reads its own output, it writes it unchanged; and if the input ended without a fault, so does the
+-- output
 abbrev pub SecondIndefIsTheFirst : Type 0
 SecondIndefIsTheFirst =
     (padding : Bool) (file : Option (List ℕ)) (names : NamesValue) (b : List ℕ) (made again : CommandResult)
@@ -47,14 +48,14 @@ pub record HasInput (source : SourceState) (octets : List ℕ) : Type 0 where
   pub limit : length octets ≤ input_limit
   pub left_is : source.left ≡ Some octets
 
--- neither device counted a failure, and each could have counted one: the count was below its end
+-- neither device counted a failure, and each could have: its count was below the maximum
 pub record FailsNowhere (old new : DeviceStates) : Type 0 where
   pub can_count_failed_read : old.source.failures < 2 ^ 64 - 1
   pub no_failed_read : new.source.failures ≡ old.source.failures
   pub can_count_failed_write : old.drain.failures < 2 ^ 64 - 1
   pub no_failed_write : new.drain.failures ≡ old.drain.failures
 
--- what a run makes of a source that knows its octets, if neither device fails: the result of these octets
+-- the effect of a run on a source that knows its octets, if neither device fails: the result of these octets
 abbrev pub RunsAreResults : Type 0
 RunsAreResults =
     (command : Command) (names : NamesValue) (octets : List ℕ)
@@ -66,7 +67,8 @@ RunsAreResults =
     × Appends old.drain.octets new.drain.octets made.output
     × (report ≡ made.report)
 
--- if no element is asked for, or it is not whole, the status 2 says just that the input is no sound list of encodings
+-- if no element is asked for, or it is not whole, the status is 2 if and only if the input is not a sound list of
+-- encodings
 abbrev pub StatusesShowSoundness : Type 0
 StatusesShowSoundness =
     (command : Command) (names : NamesValue) (b : List ℕ) (made : CommandResult)

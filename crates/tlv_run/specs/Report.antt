@@ -16,7 +16,7 @@ use Rattle.tlv_walk.specs.declared.run.DeviceFault.{DeviceFault}
 use Rattle.tlv_walk.specs.declared.run.DeviceFault.TheVariants.{ReadFailed, WriteFailed, InputTooLong}
 use Rattle.tlv_run.specs.declared.report.Report.{Report}
 
--- the message is one line without its end, or nothing
+-- the message is one line without its line feed, or nothing
 pub record ReportValue : Type 0 where
   pub status : ℕ
   pub findings : ℕ
@@ -28,24 +28,24 @@ report_value_of report = record { status = report.status; findings = report.find
 abbrev pub report_with : ℕ → List ℕ → ReportValue
 report_with status message = record { status = status; findings = 0; message = message }
 
--- ---- what an input comes to
+-- ---- the result of an input
 
 -- the report if there is nothing to say
 abbrev pub clean_report : ReportValue
 clean_report = report_with 0 []
 
--- a fault of the encoding, by its offset, its code and its text
+-- a fault of the encoding: its offset, its code and its text
 abbrev pub fault_line : Fault → List ℕ
 fault_line fault =
     codes "fault at " ++ decimal fault.offset ++ codes ": "
     ++ fault_code fault.code ++ codes " " ++ fault_text fault.code
 
--- a fault takes precedence over what else there is to say
+-- a fault takes precedence over all else that there is to say
 abbrev pub ending_report : Ending → ReportValue → ReportValue
 ending_report (ending.Fault f) other = report_with 2 (fault_line f)
 ending_report ending.Done other = other
 
--- the first of the named offsets at which there is no string to read takes precedence over findings
+-- the first named offset at which there is no string to read takes precedence over findings
 abbrev pub unused_report : Option ℕ → ReportValue → ReportValue
 unused_report None other = other
 unused_report (Some offset) other = report_with 1 (codes "E7 no string to read at offset " ++ decimal offset)
@@ -53,7 +53,7 @@ unused_report (Some offset) other = report_with 1 (codes "E7 no string to read a
 abbrev pub findings_report : ℕ → ReportValue
 findings_report n = if n == 0 then clean_report else report_with 1 (codes "findings: " ++ decimal n)
 
--- a dump or a check: the count stays, whatever is reported
+-- a dump or a check: the report keeps the count of findings, whatever else it says
 abbrev pub outcome_report : Outcome → ReportValue
 outcome_report outcome =
     let other = unused_report outcome.unused (findings_report outcome.findings) in
@@ -80,7 +80,7 @@ device_report ReadFailed = report_with 3 (codes "E1 read failed")
 device_report WriteFailed = report_with 3 (codes "E2 write failed")
 device_report InputTooLong = report_with 3 (codes "E3 input too long")
 
--- what is reported in the end: of the input, or that a device failed or the input is too long
+-- the final report: about the input, or that a device failed or the input is too long
 abbrev pub result_report : Result ReportValue DeviceFault → ReportValue
 result_report (Ok report) = report
 result_report (Err fault) = device_report fault
@@ -106,7 +106,7 @@ names_report names.Memory = report_with 5 (codes "N6 out of memory")
 
 -- ---- how it is written
 
--- the message with its line feed, if there is one
+-- the message with its line feed; nothing if there is no message
 abbrev pub message_line : List ℕ → List ℕ
 message_line [] = []
 message_line (x ∷ xs) = (x ∷ xs) ++ 10 ∷ []

@@ -1,4 +1,4 @@
--- What a run over octets in memory comes to.
+-- The result of a run over octets in memory.
 use Rattle.std.specs.Prelude.{◌≡◌, ℕ, ◌<◌, ◌≤◌, Bool, true, false, List, length, take}
 use Rattle.tlv_walk.specs.declared.run.DeviceFault.TheVariants.{ReadFailed, WriteFailed, InputTooLong}
 use Rattle.tlv_walk.specs.Job.{Job}
@@ -14,23 +14,23 @@ pub record OctetsRunValue : Type 0 where
 abbrev pub octets_run_value_of : {room : ℕ} → OctetsRun room → OctetsRunValue
 octets_run_value_of run = record { written = run.written.items; report = report_value_of run.report }
 
--- the job, all octets, and whether after them a read fails
+-- the job, all the octets, and whether a read fails after them
 module _ (job : Job ReportValue) (octets : List ℕ) (read_fails : Bool) where
-  -- what is reported if there was room for all of the output, by what comes after the octets that are read: a line for
-  -- each cause
+  -- what is reported if there was room for all of the output, by what comes after the octets that are read, one line
+  -- for each cause
   pub data IsReport {made : CommandResult} (x : IsJobResult job (take job.limit octets) made)
       : ReportValue → Type 0 where
-    -- nothing counts that could follow
+    -- nothing that could follow matters
     at_settled_result : IsSettled x → IsReport x made.report
     -- the input ends with the octets
     at_source_end : read_fails ≡ false → length octets ≤ job.limit → IsReport x made.report
-    -- after the octets a read failed
+    -- a read failed after the octets
     read_failed : (IsSettled x → ⊥) → read_fails ≡ true → length octets ≤ job.limit
         → IsReport x (device_report ReadFailed)
-    -- the octets are too many
+    -- there are too many octets
     too_long : (IsSettled x → ⊥) → job.limit < length octets → IsReport x (device_report InputTooLong)
 
-  -- what was written, into so much room, and what is reported
+  -- what was written, into this much room, and what is reported
   pub record RunsOctets (room : ℕ) (run : OctetsRunValue) : Type 0 where
     pub made : CommandResult
     pub is_made : IsJobResult job (take job.limit octets) made

@@ -10,46 +10,46 @@ use tlv_walk::Framing;
 /// A command of the program, with its options.
 #[derive(Debug, Drop)]
 pub enum Command<'a> {
-    /// Writes each element on a line of its own.
+    /// Writes each element on its own line.
     Dump {
         /// How the input is to be read, and its dump to be written.
         options: Options<'a>,
         /// The names file, for object identifiers.
         names: Option<Text>,
-        /// The file to read; without one it is standard input.
+        /// The file to read; standard input if there is none.
         file: Option<Text>,
     },
     /// Lists what violates the rules.
     Check {
-        /// The rules by which findings are reported.
+        /// The rules that decide which findings are reported.
         rules: Rules,
         /// How the input is to be read.
         framing: Framing<'a>,
-        /// The file to read; without one it is standard input.
+        /// The file to read; standard input if there is none.
         file: Option<Text>,
     },
-    /// Writes the octets of one element, or its contents alone.
+    /// Writes the octets of one element, or only its contents.
     Extract {
-        /// Where the element's first identifier octet is, in octets from the start of the input.
+        /// The offset of the element's first identifier octet, in octets from the start of the input.
         offset: u64,
-        /// Whether the contents alone are written.
+        /// Whether only the contents are written.
         contents: bool,
         /// How the input is to be read.
         framing: Framing<'a>,
-        /// The file to read; without one it is standard input.
+        /// The file to read; standard input if there is none.
         file: Option<Text>,
     },
-    /// Writes the input with the indefinite form of each constructed length.
+    /// Writes the input with the indefinite form of the length in each constructed element.
     Indef {
-        /// Whether octets `00` may be before, between and after the encodings.
+        /// Whether octets `00` are allowed before, between and after the encodings.
         padding: bool,
-        /// The file to read; without one it is standard input.
+        /// The file to read; standard input if there is none.
         file: Option<Text>,
     },
 }
 
 impl Command<'_> {
-    /// The name of the file to read, if the command names one.
+    /// The name of the file to read, if any.
     pub fn file(&self) -> Option<&str>
         ensures { text_in result ≡ file_of self.now }
     {
@@ -61,7 +61,7 @@ impl Command<'_> {
         }
     }
 
-    /// The name of the names file, if the command names one.
+    /// The name of the names file, if any.
     pub fn names_file(&self) -> Option<&str>
         ensures { text_in result ≡ names_file_of self.now }
     {

@@ -1,4 +1,4 @@
-//! The run of each command by itself, of what the command says besides the names of files.
+//! The run of each command by itself. It takes what the command says, without the names of files.
 ghost use Rattle.tlv_cut.specs.ExtractJob.{extract_job};
 ghost use Rattle.tlv_cut.specs.IndefJob.{indef_job};
 ghost use Rattle.tlv_show.specs.CheckJob.{check_job};
@@ -28,7 +28,8 @@ pub fn run_dump<N: FiniteNames, S: Source, D: Drain>(
     run_dump_with(options, false, names, source, drain)
 }
 
-/// The same. If text is wanted, it is beside pairs of digits, as [`dump_with`](tlv_show::dump_with) has it.
+/// The same as [`run_dump`]; `with_text` asks for text beside pairs of digits, as in
+/// [`dump_with`](tlv_show::dump_with).
 pub fn run_dump_with<N: FiniteNames, S: Source, D: Drain>(
     options: &Options<'_>,
     with_text: bool,

@@ -1,4 +1,4 @@
-//! The commands of `tlvdump`, over any source and any drain: what each writes of an input, and what it reports.
+//! The commands of `tlvdump`, over any source and any drain: what each writes and reports for an input.
 #![tactic(auto)]
 
 mod command;

@@ -1,4 +1,4 @@
-//! Devices of `run_octets`: a source that fails after its octets, and a drain with room for so many octets.
+//! Devices of `run_octets`: a source that fails after its octets, and a drain with limited room.
 ghost use Rattle.std.specs.Prelude.{◌≡◌, ◌<◌, ◌≤◌, [], Some, length};
 ghost use Rattle.tlv_io.specs.Device.{new_source};
 ghost use Rattle.tlv_run.specs.Private.MemoryDevices.{failing_source_state};
@@ -51,7 +51,7 @@ impl Source for FailingSource<'_> {
     }
 }
 
-/// A drain with room for `N` octets, of which a write fails if no room is left.
+/// A drain with room for `N` octets; a write fails if no room is left.
 #[derive(Drop)]
 pub(crate) struct BoundedDrain<const N: usize> {
     octets: ArrayVec<u8, N>,

@@ -1,4 +1,4 @@
-//! How a message is written.
+//! How the message of a report is written.
 ghost use Rattle.std.specs.Prelude.{◌≡◌, ◌≤◌, length};
 ghost use Rattle.tlv_io.specs.Out.{Sends};
 ghost use Rattle.tlv_run.specs.Report.{WritesMessage, message_line};
@@ -7,8 +7,8 @@ use crate::report::Report;
 use arrayvec::ArrayVec;
 use tlv_walk::{Drain, Out, WriteFault};
 
-/// Writes the message with a line feed after it, if there is one, and returns the exit status. A failed write
-/// changes no status.
+/// Writes the message, if any, with a line feed after it, and returns the exit status. A failed write does not change
+/// the status.
 pub fn write_message<D: Drain>(report: &Report, drain: &mut D) -> u8
     ensures status { result ≡ report.now.status }
     ensures writes { WritesMessage (message_line report.now.message.items) (D.state drain.old)
@@ -19,7 +19,7 @@ pub fn write_message<D: Drain>(report: &Report, drain: &mut D) -> u8
     report.status
 }
 
-/// The message with a line feed after it, if there is one.
+/// The message with a line feed after it; nothing if there is no message.
 fn message_line(message: &[u8]) -> ArrayVec<u8, 129>
     requires { length message.now ≤ 128 }
     ensures { result.items ≡ message_line message.now }

@@ -15,18 +15,18 @@ use tlv_walk::{DeviceFault, Ending};
 /// What the program reports at its end.
 #[derive(Debug, Drop)]
 pub struct Report {
-    /// The exit status: 0 clean, 1 findings or nothing at an offset that was asked for, 2 a fault of
-    /// the encoding, 3 a device failed, the input is too long, or the file does not open, 4 the words
-    /// or the names file are refused, 5 memory was refused.
+    /// The exit status: 0 clean; 1 findings, or nothing at an offset that was asked for; 2 a fault of the encoding; 3
+    /// a device failed, the input is too long, or the file does not open; 4 the words or the names file are refused;
+    /// 5 memory was refused.
     pub status: u8,
     /// The number of findings.
     pub findings: u64,
-    /// One line of ASCII without its end, or nothing.
+    /// One line of ASCII without its line feed, or nothing.
     pub message: ArrayVec<u8, 128>,
 }
 
 impl Report {
-    /// A report with this status and this message, of at most 128 octets, and without findings.
+    /// A report with this status and this message, of at most 128 octets, and with no findings.
     pub fn with_message(status: u8, line: &[u8]) -> Report
         requires { length line.now ≤ 128 }
         ensures { report_value_of result ≡ report_with status line.now }
@@ -34,7 +34,7 @@ impl Report {
         report_with(status, message_of(line))
     }
 
-    /// A report with this status, without a message and without findings.
+    /// A report with this status, with no message and no findings.
     pub fn without_message(status: u8) -> Report
         ensures { report_value_of result ≡ report_with status [] }
     {
@@ -42,7 +42,8 @@ impl Report {
     }
 }
 
-/// The report of a dump or a check: a fault, else an offset without a string, else findings. Their count stays.
+/// The report of a dump or a check: a fault, else an offset without a string, else findings. It keeps the count of
+/// findings in each case.
 pub(crate) fn outcome_report(outcome: Outcome) -> Report
     ensures { report_value_of result ≡ outcome_report outcome }
 {
@@ -59,14 +60,14 @@ pub(crate) fn cut_report(offset: u64, cut: Cut) -> Report
     ending_report(cut.ending, found_report(offset, cut.found))
 }
 
-/// The report of an input of which nothing but its ending is said: a fault, or nothing.
+/// The report of an input if only its ending matters: a fault, or nothing.
 pub fn indef_report(ending: Ending) -> Report
     ensures { report_value_of result ≡ indef_report ending }
 {
     ending_report(ending, Report::without_message(0))
 }
 
-/// A fault, or else what there is to say of an input without one.
+/// A fault if there is one; otherwise what there is to say about an input without a fault.
 fn ending_report(ending: Ending, other: Report) -> Report
     ensures { report_value_of result ≡ ending_report ending (report_value_of other) }
 {
@@ -143,7 +144,7 @@ pub fn names_report(fault: NamesFault) -> Report
     }
 }
 
-/// A report without findings.
+/// A report with no findings.
 fn report_with(status: u8, message: ArrayVec<u8, 128>) -> Report
     ensures { report_value_of result ≡ report_with status message.items }
 {
@@ -163,7 +164,7 @@ fn message_of(line: &[u8]) -> ArrayVec<u8, 128>
     message
 }
 
-/// A text and a number after it.
+/// A text followed by a number.
 fn number_line(line: &[u8], number: u64) -> ArrayVec<u8, 128>
     requires { length line.now ≤ 64 }
     ensures text { result.items ≡ line.now ++ decimal number }

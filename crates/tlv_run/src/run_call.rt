@@ -10,9 +10,9 @@ use crate::report::Report;
 use tlv_value::Names;
 use tlv_walk::{Drain, Source};
 
-/// Runs the command over what the source gives, writes to the drain, and reports what it came to: a failed read or
-/// write, or an input of more than 2^40 octets, by its own message and the status 3, and otherwise what the encodings
-/// came to. The files that the command names are not opened here. This takes no memory.
+/// Runs the command over what the source gives, writes to the drain, and reports the result. A failed read or write,
+/// or an input of more than 2^40 octets, has its own message and the status 3; otherwise the report is about the
+/// encodings. This does not open the files that the command names, and allocates no memory.
 pub fn run<S: Source, D: Drain>(
     command: &Command<'_>,
     names: &Names,

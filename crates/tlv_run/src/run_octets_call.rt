@@ -22,9 +22,9 @@ pub struct OctetsRun<const N: usize> {
 
 /// Runs the command over `octets`, with room for `N` octets of output.
 ///
-/// `cuts` say into which pieces the octets are cut, as for `MemSource::new`; what is written and reported does not
-/// depend on them. After the octets the input ends, or, with `read_fails`, a read fails. If there is room for all of
-/// the output, it is written; else the first `N` octets of it, and the report is that of a failed write.
+/// `cuts` says into which pieces the octets are cut, as for `MemSource::new`; what is written and reported does not
+/// depend on it. After the octets the input ends or, with `read_fails`, a read fails. If there is room for all of the
+/// output, it is written; otherwise its first `N` octets are written, and the report says that a write failed.
 pub fn run_octets<const N: usize>(
     command: &Command<'_>,
     names: &Names,

@@ -24,7 +24,7 @@ impl Text {
     ///
     /// # Errors
     ///
-    /// If memory is refused.
+    /// `AllocError` if memory is refused.
     pub fn new(alloc: Global, text: &str) -> Result<Text, AllocError>
         ensures { IfOk result (λ t. t ≡ text.now) }
     {

@@ -1,4 +1,4 @@
-//! Octets in memory as a source of which no read fails.
+//! A source over octets in memory whose reads never fail.
 ghost use Rattle.std.specs.Prelude.{◌≡◌, Some};
 ghost use Rattle.tlv_io.specs.Device.{new_source};
 ghost use Rattle.tlv_run.specs.UnfailingSource.{unfailing_source_state};
@@ -6,7 +6,7 @@ ghost use Rattle.tlv_run.specs.UnfailingSource.{unfailing_source_state};
 use std::marker::Model;
 use tlv_walk::{MemSource, ReadFault, Source};
 
-/// Octets in memory as a source of which no read fails.
+/// A source over octets in memory whose reads never fail.
 #[derive(Drop)]
 pub struct UnfailingSource<'a> {
     source: MemSource<'a>,
@@ -24,7 +24,8 @@ impl<'a> Model for UnfailingSource<'a> {
 }
 
 impl<'a> UnfailingSource<'a> {
-    /// A source that gives the octets and then ends. `cuts` say into which pieces they are cut, as for `MemSource::new`.
+    /// A source that gives the octets and then ends. `cuts` says into which pieces they are cut, as for
+    /// `MemSource::new`.
     pub fn new(octets: &'a [u8], cuts: &'a [u64]) -> UnfailingSource<'a>
         ensures { unfailing_source_state result ≡ new_source (Some octets.now) }
     {

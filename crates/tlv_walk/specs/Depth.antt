@@ -1,9 +1,10 @@
--- How many elements that hold others are open.
+-- The number of open elements that hold others.
 use Rattle.std.specs.Prelude.{ℕ, ◌+◌}
 use Rattle.tlv_walk.specs.Forest.{Forest, NoMore, PaddingOctet, Primitive, Holder, OpenPrimitive, OpenHolder}
 use Rattle.tlv_walk.specs.Forest.{OpenBitString, OpenHeader, OpenEndOctets}
 
--- 8.1.4: those that have not ended, a wrapping BIT STRING before its first contents octet among them
+-- 8.1.4: the number of elements that hold others and have not ended, including a wrapping BIT STRING before its first
+-- contents octet
 abbrev pub depth_of : Forest → ℕ
 depth_of NoMore = 0
 depth_of (PaddingOctet rest) = depth_of rest

@@ -1,4 +1,4 @@
--- What a walk over all that a source gives comes to.
+-- The result of a walk over all the octets that a source gives.
 use Rattle.std.specs.Prelude.{◌≡◌, ℕ, true, false, if◌then◌else◌, List, length, Result, OnOk}
 use Rattle.tlv_walk.specs.declared.ending.Ending.{Ending}
 use Rattle.tlv_walk.specs.declared.ending.Ending.TheVariants as ending
@@ -12,12 +12,12 @@ use Rattle.tlv_walk.specs.Forest.{Forest, spelling}
 use Rattle.tlv_walk.specs.Job.{DeviceStates, Job, Runs, device_states, drain_result}
 use Rattle.tlv_walk.specs.Wrappers.{first_not_among, first_without_wrapper, entered_offsets}
 
--- the run over a forest of which all events were followed, with this ending
+-- the run over a forest whose events were all followed, with this ending
 abbrev pub run_over : Framing → Forest → Ending → Run
 run_over framing f e =
     record { ending = e; octets = length (spelling f); enough = false; unused = first_without_wrapper framing.inside f }
 
--- the run that ends after the last of these events, with which a follower had enough
+-- the run that ends after the last of these events, which was enough for the follower
 abbrev pub enough_run : Framing → List EventValue → Run
 enough_run framing es =
     record {
@@ -27,8 +27,8 @@ enough_run framing es =
       unused = first_not_among framing.inside (entered_offsets es);
     }
 
--- what takes part in a walk over all that a source gives, as it is before the walk or after it: the follower's
--- state and the devices
+-- the state of everything that a walk over a source uses, before or after the walk: the follower's state and the
+-- devices
 pub record DriveStates (S : Type 0) : Type 0 where
   pub follower : S
   pub devices : DeviceStates
@@ -38,7 +38,7 @@ abbrev pub drive_states : {S : Type 0} → S → SourceState → DrainState → 
 drive_states follower source drain = record { follower = follower; devices = device_states source drain }
 
 module _ {S : Type 0} (next : S → EventValue → Effect S) where
-  -- what a follower makes of all events of a forest
+  -- the effect of all events of a forest on the follower
   abbrev pub forest_effect : S → Forest → Effect S
   forest_effect s f = effect_of next s (events f)
 
@@ -53,7 +53,7 @@ module _ {S : Type 0} (next : S → EventValue → Effect S) where
         then enough_run framing (followed_events next s (events f)) else run_over framing f e;
   }
 
-  -- what a walk, followed from this state on, comes to, and the follower's state after it
+  -- the result of a walk, followed from this state on, and the follower's state after it
   pub record Drives (framing : Framing) (limit : ℕ) (old new : DriveStates S) (result : Result Run DeviceFault)
       : Type 0 where
     pub runs : Runs (drive_job framing limit old.follower) old.devices new.devices result

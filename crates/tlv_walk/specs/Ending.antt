@@ -1,4 +1,4 @@
--- What an input comes to.
+-- The ending of an input.
 use Rattle.std.specs.Prelude.{◌≡◌, ◌≢◌, ◌↔◌, ℕ, ◌+◌, ◌<◌, ◌≤◌, true, false, List, [], ◌∷◌, ◌++◌, length}
 use Rattle.tlv_head.specs.DepthLimit.{depth_limit}
 use Rattle.tlv_head.specs.declared.fault.Fault.{Fault}
@@ -17,13 +17,13 @@ use Rattle.tlv_walk.specs.Forest.{primitive_extent, spelling}
 use Rattle.tlv_walk.specs.Place.{Fits, IsHeaderAt, Place, place_after, place_of_children, top_place}
 use Rattle.tlv_walk.specs.Reading.{CannotBecomeSound, IsReading, IsSoundList, ReadsAll}
 
--- an open end of a forest: where it begins, and what is there: nothing between encodings (`NoMore`), or a primitive, a
--- wrapping BIT STRING, a header or end-of-contents octets that lack octets
+-- an open end of a forest: where it begins, and what is there: nothing between encodings (`NoMore`), or an incomplete
+-- primitive, wrapping BIT STRING, header or end-of-contents octets
 pub record OpenEnd : Type 0 where
   pub place : Place
   pub forest : Forest
 
--- the open end with this there
+-- the open end at this place with this forest
 abbrev pub end_at : Place → Forest → OpenEnd
 end_at p f = record { place = p; forest = f }
 
@@ -35,7 +35,7 @@ open_end p (Holder h children rest) = open_end (place_after p (extent h children
 open_end p (OpenHolder h children) = open_end (place_of_children p h) children
 open_end p end = end_at p end
 
--- why the octet x is refused at an open end: a line for each cause. The bound is looked at before the octet
+-- why the octet x is refused at an open end, one line for each cause. The bound is checked before the octet
 pub data IsRefusedAt : OpenEnd → ℕ → FaultCode → Type 0 where
   -- 8.6.2.2: a wrapping BIT STRING must begin with 00
   bad_inside : {x : ℕ} {p : Place} {h : HeaderValue} → x ≢ 0 → IsRefusedAt (end_at p (OpenBitString h)) x BadInside
@@ -48,16 +48,16 @@ pub data IsRefusedAt : OpenEnd → ℕ → FaultCode → Type 0 where
   -- F06 to F09: no header goes on with that octet
   refused_octet : {x : ℕ} {p : Place} {o : List ℕ} {code : FaultCode} → Fits p (length o + 1) → IsRefusedOctet o x code
       → IsRefusedAt (end_at p (OpenHeader o)) x code
-  -- a limit of our own: the header of an element that holds others, inside `depth_limit` of them
+  -- a limit of our own: x completes the header of an element that holds others, inside `depth_limit` such elements
   too_deep : {x : ℕ} {p : Place} {o : List ℕ} → Fits p (length o + 1) → (h : HeaderValue) → IsHeaderAt p true h
       → octets_of h ≡ o ++ x ∷ [] → depth_limit ≤ p.depth → IsRefusedAt (end_at p (OpenHeader o)) x TooDeep
-  -- 8.1.3.3: the header of contents that end beyond the bound
+  -- 8.1.3.3: x completes a header whose contents end beyond the bound
   overrun : {x : ℕ} {p : Place} {o : List ℕ} → Fits p (length o + 1) → (h : HeaderValue) → IsHeaderAt p (holds h) h
       → octets_of h ≡ o ++ x ∷ [] → (holds h ≡ true → p.depth < depth_limit)
       → (Fits p (length (octets_of h) + announced_length h.size) → ⊥) → IsRefusedAt (end_at p (OpenHeader o)) x Overrun
   -- 8.1.5: no end-of-contents octets before the bound
   no_end : {x : ℕ} {p : Place} → p.indefinite ≡ true → (Fits p 1 → ⊥) → IsRefusedAt (end_at p NoMore) x MissingEnd
-  -- 8.1.5: 00 where no end-of-contents octets can be, and no padding
+  -- 8.1.5: 00 where neither end-of-contents octets nor padding are allowed
   stray_end : {x : ℕ} {p : Place} → p.indefinite ≡ false → p.padding ≡ false → x ≡ 0
       → IsRefusedAt (end_at p NoMore) x StrayEnd
 
@@ -85,7 +85,7 @@ pub data IsEnding (framing : Framing) (b : List ℕ) : Ending → Type 0 where
       → IsRefusedAt (open_end (top_place framing) f) x code
       → IsEnding framing b (fault_ending code (length (spelling f)))
 
--- a code other than F01 and F02, which alone say that the input ends too early
+-- a code other than F01 and F02; only F01 and F02 say that the input ends too early
 abbrev pub IsFinalCode : FaultCode → Type 0
 IsFinalCode code = (code ≢ Empty) × (code ≢ Short)
 
@@ -94,8 +94,8 @@ abbrev pub IsFinalEnding : Ending → Type 0
 IsFinalEnding Done = ⊥
 IsFinalEnding (ending.Fault f) = IsFinalCode f.code
 
--- what the ending of octets shows: it is `Done` exactly if they are a sound list, and if it is a fault other than F01
--- and F02, no input that begins with them is one
+-- what the ending of octets shows: it is `Done` if and only if the octets are a sound list; and if it is a fault
+-- other than F01 and F02, no input that begins with the octets is a sound list
 pub record ShowsSoundness (framing : Framing) (b : List ℕ) (e : Ending) : Type 0 where
   pub done_is_sound : (e ≡ Done) ↔ IsSoundList framing b
   pub faults_are_right : IsFinalEnding e → CannotBecomeSound framing b

@@ -1,4 +1,4 @@
--- What a walk over elements yields, in order.
+-- The events that a walk over elements yields, in order.
 use Rattle.std.specs.Prelude.{◌≡◌, ◌≢◌, ℕ, ◌+◌, if◌then◌else◌, List, [], ◌∷◌, ◌++◌, flat_map, length, map, Option, Some}
 use Rattle.std.specs.Prelude.{None}
 use Rattle.tlv_head.specs.declared.header.Size.{Size}
@@ -9,24 +9,24 @@ use Rattle.tlv_walk.specs.declared.event.Event.TheVariants as event
 use Rattle.tlv_walk.specs.Forest.{Forest, NoMore, PaddingOctet, Primitive, Holder, OpenPrimitive, OpenHolder}
 use Rattle.tlv_walk.specs.Forest.{OpenBitString, OpenHeader, OpenEndOctets, lead, opening, spelling}
 
--- an event, apart from where its octets lie in memory
+-- an event, without where its octets lie in memory
 pub data EventValue : Type 0 where
   -- 8.1.2.5: a constructed element begins
   Open : (header : HeaderValue) → EventValue
-  -- 8.1.2.5: a primitive begins, gives contents octets, and ends
+  -- 8.1.2.5: a primitive begins, yields contents octets, and ends
   Begin : (header : HeaderValue) → EventValue
   Bytes : (octets : List ℕ) → EventValue
   End : EventValue
-  -- 8.1.5: a constructed element ends, with the offset of its end-of-contents octets, if it has them
+  -- 8.1.5: a constructed element ends, with the offset of its end-of-contents octets, if any
   Close : (offset : Option ℕ) → EventValue
-  -- 8.6.2, 8.7.2: a wrapper begins, gives the first contents octet of a BIT STRING, and ends
+  -- 8.6.2, 8.7.2: a wrapper begins, yields the first contents octet of a BIT STRING, and ends
   Enter : (header : HeaderValue) → EventValue
   Unused : EventValue
   Leave : EventValue
   -- padding
   Pad : (octets : List ℕ) → EventValue
 
--- the octets that an event is of
+-- the octets of an event
 abbrev pub event_octets : EventValue → List ℕ
 event_octets (Open h) = octets_of h
 event_octets (Begin h) = octets_of h
@@ -37,11 +37,11 @@ event_octets Unused = 0 ∷ []
 event_octets (Close (Some offset)) = 0 ∷ 0 ∷ []
 event_octets e = []
 
--- the octets that events are of
+-- the octets of a list of events
 abbrev pub octets_of_events : List EventValue → List ℕ
 octets_of_events es = flat_map event_octets es
 
--- an event of the code, as such a value
+-- an event of the code, as an `EventValue`
 abbrev pub event_value_of : Event → EventValue
 event_value_of (event.Open h) = Open h
 event_value_of (event.Begin h) = Begin h
@@ -53,7 +53,7 @@ event_value_of event.Unused = Unused
 event_value_of event.Leave = Leave
 event_value_of (event.Pad octets) = Pad octets.now
 
--- an event that is a part of contents or of padding has octets
+-- an event that is a part of contents or of padding is not empty
 abbrev pub IsNoEmptyPart : Event → Type 0
 IsNoEmptyPart (event.Open h) = Unit {0}
 IsNoEmptyPart (event.Begin h) = Unit {0}
@@ -65,12 +65,12 @@ IsNoEmptyPart event.Unused = Unit {0}
 IsNoEmptyPart event.Leave = Unit {0}
 IsNoEmptyPart (event.Pad octets) = octets.now ≢ []
 
--- 8.1.5: the offset of the end-of-contents octets, if there are any
+-- 8.1.5: the offset of the end-of-contents octets, if any
 abbrev pub end_offset : Size → ℕ → Option ℕ
 end_offset (Definite n) offset = None
 end_offset Indefinite offset = Some offset
 
--- 8.1.5: where the end-of-contents octets are of an element that holds others, if it has them
+-- 8.1.5: the offset of the end-of-contents octets of an element that holds others, if any
 abbrev pub end_octets_offset : HeaderValue → Forest → Option ℕ
 end_octets_offset h children = end_offset h.size (h.offset + length (opening h) + length (spelling children))
 
@@ -105,25 +105,25 @@ single_octets (Bytes c ∷ es) = map (λ x. Bytes (x ∷ [])) c ++ single_octets
 single_octets (Pad c ∷ es) = map (λ x. Pad (x ∷ [])) c ++ single_octets es
 single_octets (e ∷ es) = e ∷ single_octets es
 
--- contents octets, and then these events: put together with contents octets that come first
+-- contents octets, and then these events: joined with contents octets that come first
 abbrev pub with_bytes : List ℕ → List EventValue → List EventValue
 with_bytes [] es = es
 with_bytes (x ∷ b) (Bytes c ∷ es) = Bytes (x ∷ b ++ c) ∷ es
 with_bytes (x ∷ b) es = Bytes (x ∷ b) ∷ es
 
--- padding, and then these events: put together with padding that comes first
+-- padding, and then these events: joined with padding that comes first
 abbrev pub with_pad : List ℕ → List EventValue → List EventValue
 with_pad [] es = es
 with_pad (x ∷ b) (Pad c ∷ es) = Pad (x ∷ b ++ c) ∷ es
 with_pad (x ∷ b) es = Pad (x ∷ b) ∷ es
 
--- adjacent `Bytes`, and adjacent `Pad`s, put together, and empty ones dropped
+-- adjacent `Bytes` joined, adjacent `Pad`s joined, and empty ones dropped
 abbrev pub joined_events : List EventValue → List EventValue
 joined_events [] = []
 joined_events (Bytes b ∷ es) = with_bytes b (joined_events es)
 joined_events (Pad b ∷ es) = with_pad b (joined_events es)
 joined_events (e ∷ es) = e ∷ joined_events es
 
--- the same events, however contents and padding are cut into pieces
+-- the events are the same, however contents and padding are cut into pieces
 abbrev pub AreEqualJoined : List EventValue → List EventValue → Type 0
 AreEqualJoined xs ys = joined_events xs ≡ joined_events ys

@@ -10,11 +10,11 @@ use Rattle.tlv_head.specs.Header.{HeaderValue, definite_length, octets_of}
 pub data Forest : Type 0 where
   -- no more
   NoMore : Forest
-  -- an octet 00 of padding: at the top, before, between or after encodings
+  -- an octet 00 of padding: at the top level, before, between or after encodings
   PaddingOctet : (rest : Forest) → Forest
   -- a primitive with all its contents octets
   Primitive : (header : HeaderValue) (contents : List ℕ) (rest : Forest) → Forest
-  -- an element that holds others and has ended: constructed, or a wrapper
+  -- an element that holds others and has ended: a constructed element or a wrapper
   Holder : (header : HeaderValue) (children rest : Forest) → Forest
   -- a primitive with fewer contents octets than its length
   OpenPrimitive : (header : HeaderValue) (contents : List ℕ) → Forest
@@ -27,19 +27,19 @@ pub data Forest : Type 0 where
   -- the first of the end-of-contents octets
   OpenEndOctets : Forest
 
--- 8.6.2.2: contents octets before what is held, by whether the element is constructed, and is a BIT STRING
+-- 8.6.2.2: the contents octets before the held elements, by whether the element is constructed, and is a BIT STRING
 abbrev pub lead_by : Bool → Bool → List ℕ
 lead_by constructed bit_string = if constructed then [] else (if bit_string then 0 ∷ [] else [])
 
--- the contents octets of a wrapper before what it holds: in a BIT STRING 00, no bit unused
+-- the contents octets of a wrapper before the elements that it holds: 00 in a BIT STRING, no unused bits
 abbrev pub lead : HeaderValue → List ℕ
 lead h = lead_by h.constructed (eqb h.number universal.bit_string)
 
--- 8.1.1.1: what comes before the elements that an element holds
+-- 8.1.1.1: the octets of an element before the elements that it holds
 abbrev pub opening : HeaderValue → List ℕ
 opening h = octets_of h ++ lead h
 
--- 8.1.5: what ends the contents
+-- 8.1.5: the octets that end the contents
 abbrev pub end_octets : Size → List ℕ
 end_octets size = if is_some (definite_length size) then [] else 0 ∷ 0 ∷ []
 
@@ -55,11 +55,11 @@ spelling (OpenBitString h) = octets_of h
 spelling (OpenHeader octets) = octets
 spelling OpenEndOctets = 0 ∷ []
 
--- 8.1.4: the number of contents octets so far of an element that holds others
+-- 8.1.4: the number of contents octets so far in an element that holds others
 abbrev pub contents_length : HeaderValue → Forest → ℕ
 contents_length h children = length (lead h) + length (spelling children)
 
--- 8.1.1.1: the number of octets of a primitive that has these contents octets
+-- 8.1.1.1: the number of octets of a primitive with these contents octets
 abbrev pub primitive_extent : HeaderValue → List ℕ → ℕ
 primitive_extent h contents = length (octets_of h) + length contents
 
@@ -75,7 +75,7 @@ is_whole (Primitive h c rest) = is_whole rest
 is_whole (Holder h children rest) = is_whole rest
 is_whole end = false
 
--- an octet of an element is there
+-- at least one octet of an element is there
 abbrev pub has_element : Forest → Bool
 has_element NoMore = false
 has_element (PaddingOctet rest) = has_element rest

@@ -1,4 +1,4 @@
--- What a walker has read, also after it refused an octet.
+-- What a walker has read, including after it refused an octet.
 use Rattle.std.specs.Prelude.{◌≡◌, ℕ, List, [], ◌∷◌, ◌++◌, length}
 use Rattle.tlv_head.specs.declared.fault.Fault.{Fault}
 use Rattle.tlv_walk.specs.declared.ending.Ending.TheVariants as ending
@@ -13,8 +13,8 @@ use Rattle.tlv_walk.specs.Forest.{Forest, spelling}
 use Rattle.tlv_walk.specs.Reading.{CannotBecomeSound, IsReading}
 use Rattle.tlv_walk.specs.Wrappers.{first_without_wrapper}
 
--- after p the octet is refused: the events yielded are those of the reading, which spells p, and reading and
--- ending are the same whatever follows that octet. No false alarm: no input that begins so is a sound list
+-- the octet after p is refused: the yielded events are the events of the reading, which spells p, and the reading and
+-- the ending are the same whatever follows that octet. No false alarm: no input that begins so is a sound list
 pub record IsRefusedAfter (framing : Framing) (p : List ℕ) (octet : ℕ) (yielded : List EventValue) (f : Fault)
     : Type 0 where
   pub reading : Forest
@@ -25,8 +25,8 @@ pub record IsRefusedAfter (framing : Framing) (p : List ℕ) (octet : ℕ) (yiel
   pub ends : (c : List ℕ) → IsEnding framing (p ++ octet ∷ c) (ending.Fault f)
   pub never_sound : CannotBecomeSound framing (p ++ octet ∷ [])
 
--- what a walker stands for that refused an octet: the octets before it, and the events yielded, which are all of their
--- reading
+-- what a walker that refused an octet stands for: the octets before it, and the yielded events, which are all events
+-- of the reading of these octets
 pub record StandsRefused (w : WalkerState) (b : List ℕ) (octet : ℕ) (yielded : List EventValue) (f : Fault)
     : Type 0 where
   pub refused : IsRefusedAfter w.framing b octet yielded f
@@ -35,8 +35,8 @@ pub record StandsRefused (w : WalkerState) (b : List ℕ) (octet : ℕ) (yielded
   pub depth : length w.stack ≡ depth_of refused.reading
   pub unused : unused_offset w ≡ first_without_wrapper w.framing.inside refused.reading
 
--- what a walker has read: the octets that it took, and their reading. Once it refused an octet, these are the octets
--- before that one
+-- what a walker has read: the octets that it took, and their reading. If it refused an octet, these are the octets
+-- before the refused one
 pub data HasRead (w : WalkerState) (b : List ℕ) (reading : Forest) : Type 0 where
   took : (yielded : List EventValue) (stands : Stands w b yielded) → stands.has_events.reading ≡ reading
       → HasRead w b reading
@@ -56,11 +56,11 @@ pub record RefusesAt (w : WalkerState) (octets : List ℕ) (yielded : List Event
   pub stands : StandsRefused w taken octet yielded f
 
 -- a walker that walked over these octets to their end and yielded these events: it stands for all the octets, or for
--- those before the octet that it refused
+-- the octets before the one that it refused
 pub data StandsAtEnd (w : WalkerState) (octets : List ℕ) (yielded : List EventValue) : Type 0 where
   took_all : Stands w octets yielded → IsIdle w → StandsAtEnd w octets yielded
   refused_one : (f : Fault) → RefusesAt w octets yielded f → StandsAtEnd w octets yielded
 
--- P holds of the input, whichever it is, that the walker walked over to the end
+-- P holds of any input that the walker can have walked over to the end
 abbrev pub IfAtEnd : WalkerState → (List ℕ → Type 0) → Type 0
 IfAtEnd w P = (octets : List ℕ) (yielded : List EventValue) → StandsAtEnd w octets yielded → P octets

@@ -12,6 +12,6 @@ are_rising least (n ∷ ns) = nat_le least n && (nat_le n input_limit && are_ris
 abbrev pub can_name : List ℕ → Bool
 can_name offsets = nat_le (length offsets) 16 && are_rising 0 offsets
 
--- the offset is one of those
+-- the offset is one of these offsets
 abbrev pub is_among : ℕ → List ℕ → Bool
 is_among n offsets = list_any (λ offset. eqb offset n) offsets

@@ -1,4 +1,4 @@
--- What a job over all that a source gives comes to.
+-- The result of a job over all the octets that a source gives.
 use Rattle.std.specs.Prelude.{◌≡◌, ℕ, ◌<◌, ◌≤◌, Bool, true, false, List, length, take, Result, Ok, Err, ⊤}
 use Rattle.std.specs.List.{concat}
 use Rattle.std.specs.Io.KnownBytes.{IsAtEnd}
@@ -13,7 +13,7 @@ use Rattle.tlv_walk.specs.Forest.{Forest}
 use Rattle.tlv_io.specs.Out.{Sends}
 use Rattle.tlv_walk.specs.Reading.{IsPrefixOf, IsReading, ReadsAll}
 
--- the devices of a run, as they are before it or after it: what the source and the drain show of themselves
+-- the state of the devices of a run, before or after it, as the source and the drain show it
 pub record DeviceStates : Type 0 where
   pub source : SourceState
   pub drain : DrainState
@@ -22,36 +22,36 @@ pub record DeviceStates : Type 0 where
 abbrev pub device_states : SourceState → DrainState → DeviceStates
 device_states source drain = record { source = source; drain = drain }
 
--- what is wanted of an input, said of its reading
+-- what is wanted of an input, defined on its reading
 pub record Job (A : Type 0) : Type 0 where
-  -- how it is read, and how many of its octets are read at most
+  -- how the input is read, and the most octets that are read
   pub framing : Framing
   pub limit : ℕ
-  -- what is written of elements
+  -- what is written for elements
   pub text : Forest → List ℕ
   -- nothing more is wanted, whatever follows
   pub is_enough : Forest → Bool
-  -- what is returned of elements and the ending
+  -- what is returned for elements and the ending
   pub result : Forest → Ending → A
 
 module _ {A : Type 0} where
-  -- what a result says of the source alone: that a read failed, or nothing
+  -- the part of a result that concerns the source alone: that a read failed, or nothing
   abbrev pub source_result : Result A DeviceFault → Result ⊤ DeviceFault
   source_result (Err ReadFailed) = Err ReadFailed
   source_result result = Ok tt
 
-  -- what a result says of the drain alone: that a write failed, or nothing
+  -- the part of a result that concerns the drain alone: that a write failed, or nothing
   abbrev pub drain_result : Result A DeviceFault → Result ⊤ DeviceFault
   drain_result (Err WriteFailed) = Err WriteFailed
   drain_result result = Ok tt
 
--- the ending: Done if there was enough, otherwise what the octets come to
+-- the ending: `Done` if there was enough, otherwise the ending of the octets
 abbrev pub EndsWith : Framing → List ℕ → Bool → Ending → Type 0
 EndsWith framing octets true e = e ≡ ending.Done
 EndsWith framing octets false e = IsEnding framing octets e
 
 module _ {A : Type 0} (job : Job A) where
-  -- of the octets that were given, those that are read as encodings: no more than the limit
+  -- the given octets that are read as encodings: no more than the limit
   abbrev pub octets_read : List ℕ → List ℕ
   octets_read given = take job.limit given
 
@@ -64,8 +64,8 @@ module _ {A : Type 0} (job : Job A) where
     pub not_enough : job.is_enough f ≡ false
     pub ends : HasEnding job.framing octets e
 
-  -- for the octets that were given and the reading of those up to the limit: what is returned, a line for each reason
-  -- to stop
+  -- what is returned for the given octets and the reading of the octets up to the limit: one line for each reason to
+  -- stop
   pub data ComesTo (given : List ℕ) (f : Forest) (new : SourceState) : Result A DeviceFault → Type 0 where
     -- there was enough
     at_enough : job.is_enough f ≡ true → ComesTo given f new (Ok (job.result f ending.Done))
@@ -78,10 +78,10 @@ module _ {A : Type 0} (job : Job A) where
     -- a device failed
     read_failed : new.last ≡ failed → ComesTo given f new (Err ReadFailed)
     write_failed : ComesTo given f new (Err WriteFailed)
-    -- the source gave more octets than the limit, and those up to it were no reason to stop
+    -- the source gave more octets than the limit, and the octets up to the limit gave no reason to stop
     too_long : job.limit < length given → WantMore (octets_read given) → ComesTo given f new (Err InputTooLong)
 
-  -- a source was read until there was a reason to stop (`ComesTo`), and what the job writes of the octets up to the
+  -- a source was read until there was a reason to stop (`ComesTo`), and what the job writes for the octets up to the
   -- limit was sent to a drain: all of it, or a prefix if a write failed
   pub record Runs (old new : DeviceStates) (result : Result A DeviceFault) : Type 0 where
     pub pieces : Pieces old.source new.source
@@ -89,11 +89,12 @@ module _ {A : Type 0} (job : Job A) where
     -- before the last read there was no reason to stop
     pub wants_more : WantMore (concat pieces.pieces)
     pub within : length (concat pieces.pieces) ≤ job.limit
-    -- no more octets are read as encodings than the limit
+    -- no more octets than the limit are read as encodings
     pub reading : Forest
     pub is_reading : IsReading job.framing (octets_read (octets_given pieces)) reading
     pub sends : Sends old.drain new.drain (job.text reading) (drain_result result)
-    -- what is written of the octets before the last read was sent whole before it, also if a write then failed: so a
-    -- read is made only after all that the octets before it come to was written, and none after a failed write
+    -- what is written for the octets before the last read was sent completely before that read, even if a write
+    -- failed later: so a read is made only after everything for the octets before it was written, and no read is made
+    -- after a failed write
     pub sent_before : result ≡ Err WriteFailed → IsPrefixOf (job.text wants_more.0) sends.sent
     pub comes : ComesTo (octets_given pieces) reading new.source result

@@ -17,16 +17,16 @@ abbrev pub PrefixesObeyGrammar : Type 0
 PrefixesObeyGrammar = (p : Place) (f : Forest) (s : List ℕ) → ObeysGrammar p f → IsPrefixOf s (spelling f)
     → (g : Forest) × ObeysGrammar p g × (spelling g ≡ s)
 
--- forests at one place that obey the grammar and have one spelling are one forest, offsets included
+-- forests that begin at one place, obey the grammar and have one spelling are one forest, including offsets
 abbrev pub SpellingsAreExact : Type 0
 SpellingsAreExact = (p : Place) (f g : Forest) → ObeysGrammar p f → ObeysGrammar p g → spelling f ≡ spelling g → f ≡ g
 
--- octets have a reading, and no other
+-- octets have exactly one reading
 abbrev pub OctetsHaveOneReading : Type 0
 OctetsHaveOneReading = (framing : Framing) (b : List ℕ) → AreOctets b
     → (f : Forest) × IsReading framing b f × ((g : Forest) → IsReading framing b g → g ≡ f)
 
--- octets have an ending, and no other
+-- octets have exactly one ending
 abbrev pub OctetsHaveOneEnding : Type 0
 OctetsHaveOneEnding = (framing : Framing) (b : List ℕ) → AreOctets b
     → (e : Ending) × IsEnding framing b e × ((d : Ending) → IsEnding framing b d → d ≡ e)
@@ -37,29 +37,29 @@ FaultsAreFinal = (framing : Framing) (b c : List ℕ) (code : FaultCode) (offset
     → IsEnding framing b (fault_ending code offset) → IsReading framing b f
     → IsEnding framing (b ++ c) (fault_ending code offset) × IsReading framing (b ++ c) f
 
--- whatever follows an input with a fault other than F01 and F02, the whole is no sound list
+-- whatever follows an input with a fault other than F01 and F02, the whole is not a sound list
 abbrev pub FaultsAreRight : Type 0
 FaultsAreRight = (framing : Framing) (b : List ℕ) (code : FaultCode) (offset : ℕ) → IsFinalCode code
     → IsEnding framing b (fault_ending code offset) → CannotBecomeSound framing b
 
--- the inputs whose ending is Done are the sound lists
+-- the inputs whose ending is `Done` are the sound lists
 abbrev pub DoneIsSound : Type 0
 DoneIsSound = (framing : Framing) (b : List ℕ) → IsEnding framing b Done ↔ IsSoundList framing b
 
--- the events of a longer input are, joined, those of the shorter and then others
+-- the events of a longer input are, joined, the events of the shorter input followed by others
 abbrev pub EventsGoOn : Type 0
 EventsGoOn = ForLongerInputs (λ f g. (others : List EventValue) × AreEqualJoined (events g) (events f ++ others))
 
--- events are equal joined exactly if they are equal with contents and padding in single octets
+-- events are equal joined if and only if they are equal with contents and padding in single octets
 abbrev pub JoinedIsApart : Type 0
 JoinedIsApart = (xs ys : List EventValue) → AreEqualJoined xs ys ↔ (single_octets xs ≡ single_octets ys)
 
--- elements are sound exactly if they obey the grammar and nothing is open
+-- elements are sound if and only if they obey the grammar and nothing is open
 abbrev pub SoundIsWhole : Type 0
 SoundIsWhole = (framing : Framing) (f : Forest)
     → IsSound (top_place framing) f ↔ (ObeysGrammar (top_place framing) f × (is_whole f ≡ true))
 
--- of events that are equal joined a follower makes the same
+-- events that are equal joined have the same effect on a follower
 abbrev pub PiecesDoNotShow : {S : Type 0} → (S → EventValue → Effect S) → Type 0
 PiecesDoNotShow {S} next = (s : S) (xs ys : List EventValue) → AreEqualJoined xs ys
     → effect_of next s xs ≡ effect_of next s ys

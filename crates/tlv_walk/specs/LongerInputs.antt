@@ -4,7 +4,7 @@ use Rattle.tlv_walk.specs.declared.framing.Framing.{Framing}
 use Rattle.tlv_walk.specs.Forest.{Forest}
 use Rattle.tlv_walk.specs.Reading.{IsReading}
 
--- this holds between what an input is read as and what any longer input is read as
+-- this relation holds between the reading of an input and the reading of any longer input
 abbrev pub ForLongerInputs : (Forest → Forest → Type 0) → Type 0
 ForLongerInputs P = (framing : Framing) (b c : List ℕ) (f g : Forest)
     → IsReading framing b f → IsReading framing (b ++ c) g → P f g

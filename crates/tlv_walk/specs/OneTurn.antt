@@ -1,4 +1,4 @@
--- What one read of a source, followed, comes to.
+-- The result of one read of a source and the following of its octets.
 use Rattle.std.specs.Prelude.{◌≡◌, ◌≢◌, ℕ, ◌<◌, ◌≤◌, List, [], ◌++◌, length, take, Result, Ok, Err, ⊤}
 use Rattle.std.specs.Io.KnownBytes.{Consumes, IsAtEnd}
 use Rattle.tlv_head.specs.InputLimit.{input_limit}
@@ -23,35 +23,35 @@ use Rattle.tlv_walk.specs.Reading.{AreOctets, IsPrefixOf}
 use Rattle.tlv_walk.specs.HasRead.{StandsAtEnd}
 use Rattle.tlv_walk.specs.Stands.{IsReady, HasEvents, IfStands, IsIdle, Stands}
 
--- the octets that the last read gave, by what the array into which it was made then holds
+-- the octets that the last read gave, as the array holds them after the read
 abbrev pub last_octets : LastReadValue → List ℕ → List ℕ
 last_octets never room = []
 last_octets (gave n) room = take n room
 last_octets failed room = []
 
--- the last read gave octets, or none at the end, and no more than so many
+-- the last read gave at most this number of octets, none at the end
 abbrev pub LastReadGaveUpTo : ℕ → LastReadValue → Type 0
 LastReadGaveUpTo most never = ⊥
 LastReadGaveUpTo most (gave n) = n ≤ most
 LastReadGaveUpTo most failed = ⊥
 
--- what the read of a turn gave, by the result of the turn: no more than so many octets
+-- what the read of a turn gave, by the result of the turn: at most this number of octets
 abbrev pub LastReadWas : ℕ → Result Turn DeviceFault → LastReadValue → Type 0
 LastReadWas most (Ok turn) last = LastReadGaveUpTo most last
 LastReadWas most (Err ReadFailed) last = last ≡ failed
 LastReadWas most (Err WriteFailed) last = LastReadGaveUpTo most last
 LastReadWas most (Err InputTooLong) last = LastReadGaveUpTo most last
 
--- what a turn requires of the walker, the array into which it reads and the number of octets that are read at most
+-- what a turn requires of the walker, of the array for the read and of the limit on octets
 pub record CanTurn (walker : WalkerState) (room : List ℕ) (limit : ℕ) : Type 0 where
-  -- the array has at least one octet, and no more than `read_limit`
+  -- the array has at least one octet, and at most `read_limit`
   pub some : 0 < length room
   pub short : length room ≤ read_limit
   pub valid : limit ≤ input_limit
   pub within : walker.offset ≤ limit
   pub ready : IsReady walker
 
--- what takes part in a turn, as it is before the turn or after it: the walker, the follower's state and the devices
+-- the state of everything that a turn uses, before or after it: the walker, the follower's state and the devices
 pub record TurnStates (S : Type 0) : Type 0 where
   pub walker : WalkerState
   pub follower : S
@@ -62,13 +62,13 @@ abbrev pub turn_states : {S : Type 0} → WalkerState → S → SourceState → 
 turn_states walker follower source drain =
     record { walker = walker; follower = follower; devices = device_states source drain }
 
--- of the octets that were taken before the turn and those that were given in it, those that are followed: no more than
--- the limit
+-- the octets that are followed, out of the octets taken before the turn and the octets given in it: no more than the
+-- limit
 abbrev pub octets_followed : ℕ → List ℕ → List ℕ → List ℕ
 octets_followed limit taken given = take limit (taken ++ given)
 
 module _ {S : Type 0} (next : S → EventValue → Effect S) (old new : TurnStates S) where
-  -- one read, after which the array into which it was made is this, and writes
+  -- one read, which leaves the array like this, and writes
   pub record CallsDevices (room : List ℕ) (result : Result Turn DeviceFault) : Type 0 where
     pub octets : Consumes old.devices.source.left new.devices.source.left (last_octets new.devices.source.last room)
     pub reads : new.devices.source.reads ≡ next_count old.devices.source.reads
@@ -77,17 +77,17 @@ module _ {S : Type 0} (next : S → EventValue → Effect S) (old new : TurnStat
     pub failed_reads : new.devices.source.failures ≡ failures_after (source_result result) old.devices.source.failures
     pub failed_writes : new.devices.drain.failures ≡ failures_after (drain_result result) old.devices.drain.failures
 
-  -- walker and follower are as they were
+  -- the walker and the follower are unchanged
   pub record HasNotMoved : Type 0 where
     pub walker : new.walker ≡ old.walker
     pub follower : new.follower ≡ old.follower
 
-  -- what is made of these events was handed to the drain, with this result
+  -- the octets that the follower puts for these events were handed to the drain, with this result
   abbrev pub SendsMade : List EventValue → Result ⊤ DeviceFault → Type 0
   SendsMade more result = Sends old.devices.drain new.devices.drain (effect_of next old.follower more).put result
 
-  -- more events were followed, so that all these are yielded, and what was made of them was handed to the drain. The
-  -- framing stays
+  -- more events were followed, which makes these all the yielded events, and the octets that the follower puts for
+  -- them were handed to the drain. The framing stays the same
   pub record FollowsMore (yielded all : List EventValue) (goes : Go) : Type 0 where
     pub more : List EventValue
     pub all_is : yielded ++ more ≡ all
@@ -95,7 +95,7 @@ module _ {S : Type 0} (next : S → EventValue → Effect S) (old new : TurnStat
     pub put : SendsMade more (Ok tt)
     pub framing : new.walker.framing ≡ old.walker.framing
 
-  -- here `octets` are those that are followed (`octets_followed`); `yielded` are the events yielded before the turn
+  -- here `octets` are the followed octets (`octets_followed`), and `yielded` are the events yielded before the turn
 
   -- all events of the octets were followed, the walker stands for them, and no event waits
   pub record StandsAfter (octets : List ℕ) (yielded : List EventValue) : Type 0 where
@@ -104,7 +104,7 @@ module _ {S : Type 0} (next : S → EventValue → Effect S) (old new : TurnStat
     pub stands : Stands new.walker octets all
     pub idle : IsIdle new.walker
 
-  -- all events of the octets were followed, and the run is that over their reading, with their ending
+  -- all events of the octets were followed, and the run is the run over their reading, with their ending
   pub record EndsIn (octets : List ℕ) (yielded : List EventValue) (run : Run) : Type 0 where
     pub all : List EventValue
     pub follows : FollowsMore yielded all go.On
@@ -113,8 +113,8 @@ module _ {S : Type 0} (next : S → EventValue → Effect S) (old new : TurnStat
     pub run_is : run ≡ run_over old.walker.framing has_events.reading run.ending
     pub stands : StandsAtEnd new.walker octets all
 
-  -- the follower had enough with the last of the events that it followed, after which the octets may have others; the
-  -- walker stands for the octets of those that were followed, and the run is that over them
+  -- the follower had enough at the last event that it followed, and the octets may have further events; the walker
+  -- stands for the octets of the followed events, and the run is the run over these events
   pub record HasEnoughIn (octets : List ℕ) (yielded : List EventValue) (run : Run) : Type 0 where
     pub all : List EventValue
     pub follows : FollowsMore yielded all go.Enough
@@ -124,7 +124,7 @@ module _ {S : Type 0} (next : S → EventValue → Effect S) (old new : TurnStat
     pub stands : Stands new.walker (octets_of_events all) all
     pub run_is : run ≡ enough_run old.walker.framing all
 
-  -- the drain failed at a prefix of what is made of all events of the octets
+  -- the drain took a prefix of what the follower puts for all events of the octets, and failed
   pub record WriteFailsIn (octets : List ℕ) (yielded : List EventValue) : Type 0 where
     pub more : List EventValue
     pub put : SendsMade more (Err WriteFailed)
@@ -135,8 +135,8 @@ module _ {S : Type 0} (next : S → EventValue → Effect S) (old new : TurnStat
     pub same : HasNotMoved
     pub put : SendsMade [] (Ok tt)
 
-  -- a turn before which the walker stands for octets that it took, of which these events were yielded, and whose read
-  -- gave others. Of all these octets no more than the limit are followed
+  -- a turn before which the walker stands for the octets that it took, which yielded these events; the read of the
+  -- turn gave other octets. Of all these octets no more than the limit are followed
   module _ (limit : ℕ) (taken : List ℕ) (yielded : List EventValue) (given : List ℕ) where
     -- the octets are within the limit, and others may follow them
     pub record WalksOn : Type 0 where
@@ -144,7 +144,7 @@ module _ {S : Type 0} (next : S → EventValue → Effect S) (old new : TurnStat
       pub within : length (taken ++ given) ≤ limit
       pub stands : StandsAfter (taken ++ given) yielded
 
-    -- why a walk ends: a line for each cause
+    -- why a walk ends, one line for each cause
     pub data WalkEnds (run : Run) : Type 0 where
       -- the follower had enough
       at_enough : HasEnoughIn (octets_followed limit taken given) yielded run → WalkEnds run
@@ -153,12 +153,12 @@ module _ {S : Type 0} (next : S → EventValue → Effect S) (old new : TurnStat
       -- the input has ended
       at_input_end : EndsIn (octets_followed limit taken given) yielded run → given ≡ [] → WalkEnds run
 
-    -- the octets are more than the limit
+    -- there are more octets than the limit
     pub record ExceedsLimit : Type 0 where
       pub beyond : limit < length (taken ++ given)
       pub stands : StandsAfter (octets_followed limit taken given) yielded
 
-    -- what a turn comes to, by its result
+    -- the outcome of a turn, by its result
     abbrev pub TurnsTo : Result Turn DeviceFault → Type 0
     TurnsTo (Ok Again) = WalksOn
     TurnsTo (Ok (Ended run)) = WalkEnds run
@@ -166,7 +166,7 @@ module _ {S : Type 0} (next : S → EventValue → Effect S) (old new : TurnStat
     TurnsTo (Err WriteFailed) = WriteFailsIn (octets_followed limit taken given) yielded
     TurnsTo (Err InputTooLong) = ExceedsLimit
 
-  -- the walker took octets, in all no more than the limit, and is ready for the next one
+  -- the walker took octets, in all at most the limit, and is ready for the next one
   pub record HasMovedWithin (limit : ℕ) : Type 0 where
     pub moved : old.walker.offset < new.walker.offset
     pub within : new.walker.offset ≤ limit
@@ -178,8 +178,8 @@ module _ {S : Type 0} (next : S → EventValue → Effect S) (old new : TurnStat
     pub ready : IsReady new.walker
 
   -- how a walk can go on after a turn. If more is to be read, the walker is ready for the next octet; after a failed
-  -- read nothing has changed. If there were more octets than the limit, the walker is at it, and ready for the next
-  -- octet; but the octets beyond it were read from the source, and are lost
+  -- read nothing has changed. If there were more octets than the limit, the walker is at the limit and ready for the
+  -- next octet; but the octets beyond the limit were read from the source, and are lost
   abbrev pub CanGoOn : ℕ → Result Turn DeviceFault → Type 0
   CanGoOn limit (Ok Again) = HasMovedWithin limit
   CanGoOn limit (Ok (Ended run)) = ⊤
@@ -187,13 +187,13 @@ module _ {S : Type 0} (next : S → EventValue → Effect S) (old new : TurnStat
   CanGoOn limit (Err WriteFailed) = ⊤
   CanGoOn limit (Err InputTooLong) = IsAtLimit limit
 
-  -- what a turn does: it makes one read, and what that gave is followed and flushed. `room` is what the array into
-  -- which it was made holds after the turn
+  -- what a turn does: it makes one read, and follows and flushes the octets given. `room` is the content of the array
+  -- for the read, after the turn
   pub record FollowsOneRead (limit : ℕ) (room : List ℕ) (result : Result Turn DeviceFault) : Type 0 where
     -- what the devices did
     pub calls : CallsDevices room result
     pub are_octets : AreOctets room
-    -- what was made of the octets that the read gave, if the walker stands for those before them
+    -- the effect of the octets that the read gave, if the walker stands for the octets before them
     pub turned : IfStands old.walker
         (λ taken yielded. TurnsTo limit taken yielded (last_octets new.devices.source.last room) result)
     pub goes_on : CanGoOn limit result

@@ -9,17 +9,17 @@ pub data PhaseValue : Type 0 where
   Between : PhaseValue
   -- a header that has begun
   InHeader : (reader : HeadReaderState) → PhaseValue
-  -- a primitive's contents, of which so many octets are to follow
+  -- a primitive's contents, with this many octets still to come
   InPrimitive : (left : ℕ) → PhaseValue
-  -- a wrapping BIT STRING, whose first contents octet is to follow
+  -- a wrapping BIT STRING, whose first contents octet is still to come
   InBitString : PhaseValue
   -- the end of an indefinite element, whose first 00 has come
   InEndOctets : PhaseValue
   -- nothing: an octet was refused
   Refused : (fault : Fault) → PhaseValue
 
--- a phase in which each octet taken belongs to an event that was yielded: no header has begun, no end-of-contents
--- octets, and no octet was refused
+-- a phase in which each octet taken belongs to a yielded event: neither a header nor end-of-contents octets have
+-- begun, and no octet was refused
 abbrev pub IsAfterEvent : PhaseValue → Type 0
 IsAfterEvent Between = Unit {0}
 IsAfterEvent (InHeader r) = ⊥

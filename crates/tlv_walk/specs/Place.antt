@@ -1,4 +1,4 @@
--- Where elements may be, and what may be open there: X.690 8.1.3, 8.1.4 and 8.1.5.
+-- Where elements are allowed, and what may be open there: X.690 8.1.3, 8.1.4 and 8.1.5.
 use Rattle.std.specs.Prelude.{◌≡◌, ◌≢◌, ℕ, ◌+◌, ◌<◌, ◌≤◌, Bool, true, false, List, [], ◌∷◌, length, Option}
 use Rattle.std.specs.Prelude.{Some, None, IfSome}
 use Rattle.std.specs.Option.{is_none, option_map_or}
@@ -17,7 +17,7 @@ use Rattle.tlv_walk.specs.Forest.{is_whole, lead, opening, primitive_extent}
 pub record Place : Type 0 where
   -- the offset of its first octet
   pub offset : ℕ
-  -- how many elements that hold others are open there
+  -- the number of open elements that hold others there
   pub depth : ℕ
   -- the end of the innermost definite element that holds it
   pub bound : Option ℕ
@@ -39,7 +39,7 @@ top_place framing = record {
   inside = framing.inside;
 }
 
--- n octets on
+-- the place n octets later
 abbrev pub place_after : Place → ℕ → Place
 place_after p n = record p { offset = p.offset + n }
 
@@ -47,12 +47,13 @@ place_after p n = record p { offset = p.offset + n }
 abbrev pub is_indefinite : Size → Bool
 is_indefinite size = is_none (definite_length size)
 
--- 8.1.3.3: the end of contents that begin at the offset `start`, if their length is definite, or else the bound outside
+-- 8.1.3.3: the end of contents that begin at the offset `start`, if their length is definite; otherwise the bound
+-- outside
 abbrev pub bound_in : Size → ℕ → Option ℕ → Option ℕ
 bound_in size start outside = option_map_or (λ n. Some (start + n)) (definite_length size) outside
 
--- 8.1.4: the place of the elements inside an element with this header: if its length is definite, the end of its
--- contents is the bound
+-- 8.1.4: the place of the elements inside an element with this header: the bound is the end of its contents, if its
+-- length is definite
 abbrev pub place_of_children : Place → HeaderValue → Place
 place_of_children p h = record p {
   offset = p.offset + length (opening h);
@@ -70,30 +71,30 @@ IsWithin bound offset = IfSome bound (λ b. offset ≤ b)
 abbrev pub Fits : Place → ℕ → Type 0
 Fits p n = IsWithin p.bound (p.offset + n)
 
--- 8.1.2, 8.1.3: a header is there, of an element that holds others or of one that does not
+-- 8.1.2, 8.1.3: the header of an element is there; `holding` says whether the element holds others
 pub record IsHeaderAt (p : Place) (holding : Bool) (h : HeaderValue) : Type 0 where
   pub valid : IsHeader h
   pub offset : h.offset ≡ p.offset
   pub named : h.named ≡ is_among p.offset p.inside
   pub form : holds h ≡ holding
 
--- 8.1.4: an element is there; by a limit of our own, if it holds others, inside fewer than `depth_limit` of that kind;
--- and n octets of it end within the bound
+-- 8.1.4: an element is there, and n octets of it end within the bound; if it holds others, it is inside fewer than
+-- `depth_limit` such elements, a limit of our own
 pub record IsElementAt (p : Place) (holding : Bool) (h : HeaderValue) (n : ℕ) : Type 0 where
   pub header : IsHeaderAt p holding h
   pub shallow : holding ≡ true → p.depth < depth_limit
   pub fits : Fits p n
 
--- 8.1.3.3: the same of its header and all the contents octets that are announced
+-- 8.1.3.3: the same for its header and all the contents octets that it announces
 abbrev pub IsAnnouncedAt : Place → Bool → HeaderValue → Type 0
 IsAnnouncedAt p holding h = IsElementAt p holding h (length (octets_of h) + announced_length h.size)
 
--- 8.1.3.3: a definite length is that of the contents, of an element with this header that holds these others
+-- 8.1.3.3: a definite length is the length of the contents, for an element with this header that holds these elements
 abbrev pub HasItsLength : HeaderValue → Forest → Type 0
 HasItsLength h children = IfSome (definite_length h.size) (λ n. contents_length h children ≡ n)
 
--- a forest that obeys the grammar, and may be open at its end: each element in it obeys it, and no octet and no
--- announced end lies beyond the bound
+-- a forest that obeys the grammar, and may be open at its end: each element in it obeys the grammar, and no octet and
+-- no announced end lies beyond the bound
 abbrev pub ObeysGrammar : Place → Forest → Type 0
 ObeysGrammar p NoMore = Unit {0}
 -- padding
@@ -103,20 +104,20 @@ ObeysGrammar p (PaddingOctet rest) =
 ObeysGrammar p (Primitive h c rest) =
     (IsElementAt p false h (primitive_extent h c) × (h.size ≡ Definite (length c)))
     × ObeysGrammar (place_after p (primitive_extent h c)) rest
--- 8.1.4, 8.1.5: an element that holds others and has ended. 8.1.3.3: a definite length is that of the contents
+-- 8.1.4, 8.1.5: an element that holds others and has ended. 8.1.3.3: a definite length is the length of the contents
 ObeysGrammar p (Holder h children rest) =
     (IsElementAt p true h (extent h children) × (is_whole children ≡ true)
     × HasItsLength h children)
     × ObeysGrammar (place_of_children p h) children × ObeysGrammar (place_after p (extent h children)) rest
 -- 8.1.4: a primitive that lacks contents octets
 ObeysGrammar p (OpenPrimitive h c) = IsAnnouncedAt p false h × (length c < announced_length h.size)
--- 8.1.4: an element that holds others and has not ended: if what it holds is whole, and the length is
--- definite, contents octets are lacking
+-- 8.1.4: an element that holds others and has not ended: if all the elements that it holds are whole, and its length
+-- is definite, contents octets are missing
 ObeysGrammar p (OpenHolder h children) =
     (IsAnnouncedAt p true h
     × (is_whole children ≡ true → IfSome (definite_length h.size) (λ n. contents_length h children < n)))
     × ObeysGrammar (place_of_children p h) children
--- 8.6.2.2: a wrapping BIT STRING of which the header alone is there
+-- 8.6.2.2: a wrapping BIT STRING with only its header there
 ObeysGrammar p (OpenBitString h) = IsAnnouncedAt p true h × (lead h ≡ 0 ∷ [])
 -- a prefix of a header, or the first of the end-of-contents octets, inside the bound
 ObeysGrammar p (OpenHeader octets) = (octets ≢ []) × IsHeaderPrefix octets × Fits p (length octets)

@@ -1,4 +1,4 @@
--- What an input is read as, and which inputs are sound.
+-- The reading of an input, and which inputs are sound.
 use Rattle.std.specs.Prelude.{◌≡◌, ℕ, ◌<◌, ◌≤◌, true, false, List, ◌++◌, All, length}
 use Rattle.tlv_head.specs.DepthLimit.{depth_limit}
 use Rattle.tlv_head.specs.declared.header.Size.TheVariants.{Definite}
@@ -16,8 +16,8 @@ AreOctets b = All (λ x. x < 256) b
 abbrev pub IsPrefixOf : List ℕ → List ℕ → Type 0
 IsPrefixOf p b = (rest : List ℕ) × (p ++ rest ≡ b)
 
--- the reading of an input: a forest that obeys the grammar and spells a prefix of it, the longest prefix that any such
--- forest spells
+-- the reading of an input: a forest that obeys the grammar and spells a prefix of it, the longest prefix that any
+-- such forest spells
 pub record IsReading (framing : Framing) (b : List ℕ) (f : Forest) : Type 0 where
   pub obeys_grammar : ObeysGrammar (top_place framing) f
   pub is_prefix : IsPrefixOf (spelling f) b
@@ -28,8 +28,8 @@ pub record IsReading (framing : Framing) (b : List ℕ) (f : Forest) : Type 0 wh
 abbrev pub ReadsAll : Framing → List ℕ → Forest → Type 0
 ReadsAll framing b f = IsReading framing b f × (spelling f ≡ b)
 
--- 8.1.1 to 8.1.5: nothing is open, each definite length is that of the contents, and each element that holds others is
--- inside fewer than `depth_limit` of that kind; padding is at the top alone
+-- 8.1.1 to 8.1.5: nothing is open, each definite length is the length of the contents, and each element that holds
+-- others is inside fewer than `depth_limit` such elements; padding is at the top level only
 abbrev pub IsSound : Place → Forest → Type 0
 IsSound p NoMore = Unit {0}
 IsSound p (PaddingOctet rest) = (p.padding ≡ true) × IsSound (place_after p 1) rest
@@ -41,7 +41,7 @@ IsSound p (Holder h children rest) =
     × IsSound (place_of_children p h) children × IsSound (place_after p (extent h children)) rest
 IsSound p end = ⊥
 
--- the octets of one or more sound elements, with padding if the framing has it
+-- the octets of one or more sound elements, with padding if the framing allows it
 pub record IsSoundList (framing : Framing) (b : List ℕ) : Type 0 where
   pub forest : Forest
   pub sound : IsSound (top_place framing) forest

@@ -6,7 +6,7 @@ use Rattle.tlv_walk.specs.Place.{IsWithin}
 pub record FrameValue : Type 0 where
   -- where its contents end, if its length is definite
   pub end : Option ℕ
-  -- the end of the innermost definite element: of this one, or of the nearest around it
+  -- the end of the innermost definite element, which is this one or the nearest around it
   pub bound : Option ℕ
   -- it is a wrapper: a string that holds encodings
   pub wrapper : Bool
@@ -26,7 +26,7 @@ abbrev pub IsInWrapper : List FrameValue → Type 0
 IsInWrapper [] = ⊥
 IsInWrapper (f ∷ fs) = f.wrapper ≡ true
 
--- an element's bound is where it ends, within the bound around it, or else that bound
+-- an element's bound is its own end, within the bound around it; without an end, it is the bound around it
 abbrev pub HasBoundIn : Option ℕ → FrameValue → Type 0
 HasBoundIn outer f = by_end f.end
   where

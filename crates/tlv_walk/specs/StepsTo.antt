@@ -1,4 +1,4 @@
--- What one step of a walker comes to.
+-- The result of one step of a walker.
 use Rattle.std.specs.Prelude.{◌≡◌, ◌⊎◌, ℕ, ◌+◌, List, [], ◌∷◌, ◌++◌, length}
 use Rattle.tlv_head.specs.declared.fault.Fault.{Fault}
 use Rattle.tlv_walk.specs.declared.event.Event.{Event}
@@ -10,7 +10,7 @@ use Rattle.tlv_walk.specs.WalkerState.{HasNotRefused, HasYieldedEvent, WalkerSta
 use Rattle.tlv_walk.specs.Stands.{IfStands, IsReady, Stands, StandsForMore}
 use Rattle.tlv_walk.specs.HasRead.{StandsRefused}
 
--- a walker that had refused no octet took octets with which a piece begins, or none, and yielded these events
+-- a walker that had refused no octet took octets from the start of a piece, or none, and yielded these events
 pub record TakesOctets (old new : WalkerState) (piece rest : List ℕ) (more : List EventValue) : Type 0 where
   pub not_refused : HasNotRefused old
   pub taken : List ℕ
@@ -19,7 +19,7 @@ pub record TakesOctets (old new : WalkerState) (piece rest : List ℕ) (more : L
   pub offset : new.offset ≡ old.offset + length taken
   pub events : new.events ≡ old.events + length more
 
--- one event: the walker stands for the octets taken and for one event more
+-- one event: the walker stands for the octets taken and for one more event
 pub record YieldsNext (old new : WalkerState) (piece rest : List ℕ) (e : Event) : Type 0 where
   pub takes : TakesOctets old new piece rest (event_value_of e ∷ [])
   pub stands : StandsForMore old new takes.taken (event_value_of e ∷ [])
@@ -34,7 +34,7 @@ pub record UsesUpPiece (old new : WalkerState) (piece rest : List ℕ) : Type 0 
   pub stands : IfStands old (λ b yielded. Stands new (b ++ piece) yielded)
   pub ready : IsReady new
 
--- no event, and the octet after those that were taken is refused; what is open stays open
+-- no event, and the octet after the octets taken is refused; what is open stays open
 pub record RefusesNext (old new : WalkerState) (piece rest : List ℕ) (f : Fault) : Type 0 where
   pub takes : TakesOctets old new piece rest []
   pub octet : ℕ
@@ -51,7 +51,7 @@ pub record RefusesAgain (old new : WalkerState) (piece rest : List ℕ) (f : Fau
   pub same : new ≡ old
   pub all_left : rest ≡ piece
 
--- what a step makes of a walker and of a piece, by what it returns
+-- the effect of a step on a walker and a piece, by what the step returns
 abbrev pub StepsTo : WalkerState → WalkerState → List ℕ → List ℕ → Step → Type 0
 StepsTo old new piece rest (step.Event e) = YieldsNext old new piece rest e
 StepsTo old new piece rest step.NeedMore = UsesUpPiece old new piece rest

@@ -1,4 +1,4 @@
--- What the fields of a `Walker` say.
+-- The meaning of the fields of a `Walker`.
 use Rattle.tlv_head.specs.HeadReaderState.{HeadReaderState}
 use Rattle.tlv_walk.specs.WalkerState.{WalkerState}
 use Rattle.tlv_walk.specs.Phase.{PhaseValue, Between, InHeader, InPrimitive, InBitString, InEndOctets, Refused}
@@ -6,7 +6,7 @@ use Rattle.tlv_walk.specs.declared.walker.Phase.{Phase}
 use Rattle.tlv_walk.specs.declared.walker.Phase.TheVariants as kept
 use Rattle.tlv_walk.specs.declared.walker.Walker.TheInside.{Inside}
 
--- the reader is that of the header that has begun, if one has
+-- the reader is the reader of the header that has begun, if any
 abbrev pub phase_of : Phase → HeadReaderState → PhaseValue
 phase_of kept.Between reader = Between
 phase_of kept.InHeader reader = InHeader reader

@@ -17,13 +17,13 @@ pub record WalkerState : Type 0 where
   pub stack : List FrameValue
   -- what the next octet belongs to
   pub phase : PhaseValue
-  -- how many octets were taken, and how many events yielded
+  -- the number of octets taken, and the number of events yielded
   pub offset : ℕ
   pub events : ℕ
   pub framing : Framing
   -- an octet of an element came
   pub has_element : Bool
-  -- how many of the named offsets, from the first on, are those of wrappers
+  -- the number of named offsets, from the first on, that are offsets of wrappers
   pub wrapper_count : ℕ
 
 -- a walker that has taken nothing
@@ -38,17 +38,17 @@ new_walker framing = record {
   wrapper_count = 0;
 }
 
--- a header's octets so far end at the offset
+-- the octets of a header so far end at the offset
 pub record IsInHeader (r : HeadReaderState) (offset : ℕ) : Type 0 where
   pub unfinished : r.done ≡ false
   pub some : r.octets ≢ []
   pub end : r.offset + length r.octets ≡ offset
 
--- the least number of octets of which so many events can be yielded and these elements be open: one for each
+-- the least number of octets from which this many events can be yielded while these elements are open: one for each
 abbrev pub least_octets : ℕ → List FrameValue → ℕ
 least_octets events stack = events + length stack
 
--- by phase, how many more octets were taken than events yielded, at least: one for each open element, those of a header
+-- by phase, the least excess of octets taken over events yielded: one for each open element, the octets of a header
 -- that has begun, and a first 00. And what is open ends within the bound
 abbrev pub CountsFitPhase : PhaseValue → List FrameValue → ℕ → ℕ → Type 0
 CountsFitPhase Between stack offset events = least_octets events stack ≤ offset
@@ -61,7 +61,7 @@ CountsFitPhase InBitString stack offset events =
 CountsFitPhase InEndOctets stack offset events = IsInIndefinite stack × (least_octets events stack + 1 ≤ offset)
 CountsFitPhase (Refused fault) stack offset events = least_octets events stack ≤ offset
 
--- what always holds of a walker's state
+-- the invariant of a walker's state
 pub record IsWalkerState (w : WalkerState) : Type 0 where
   pub nested : IsNested w.stack
   pub within : IsWithin (bound_of w.stack) w.offset
@@ -71,11 +71,11 @@ pub record IsWalkerState (w : WalkerState) : Type 0 where
   pub rising : are_rising 0 w.framing.inside ≡ true
   pub wrapper_count : w.wrapper_count ≤ length w.framing.inside
 
--- the octets of a piece are not too many: with those that were taken, at most 2^40
+-- the octets of a piece are not too many: together with the octets taken, at most 2^40
 abbrev pub IsWithinInputLimit : WalkerState → List ℕ → Type 0
 IsWithinInputLimit w piece = w.offset + length piece ≤ input_limit
 
--- what holds after an event: no more events were yielded than octets taken, and each of these belongs to an event
+-- what holds after an event: no more events were yielded than octets taken, and each octet taken belongs to an event
 pub record HasYieldedEvent (w : WalkerState) : Type 0 where
   pub within : w.events ≤ w.offset
   pub after_event : IsAfterEvent w.phase
@@ -88,6 +88,6 @@ HasNotRefused w = (f : Fault) → w.phase ≢ Refused f
 abbrev pub IfRefused : WalkerState → (Fault → Type 0) → Type 0
 IfRefused w P = (f : Fault) → w.phase ≡ Refused f → P f
 
--- the first of the named offsets that is not known to be a wrapper's
+-- the first named offset that is not known to be a wrapper's
 abbrev pub unused_offset : WalkerState → Option ℕ
 unused_offset w = slice_get w.framing.inside w.wrapper_count

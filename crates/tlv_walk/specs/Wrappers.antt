@@ -1,4 +1,4 @@
--- Which of the named offsets are those of strings that hold encodings.
+-- Which of the named offsets are offsets of strings that hold encodings.
 use Rattle.std.specs.Prelude.{ℕ, Bool, not, if◌then◌else◌, List, [], ◌∷◌, ◌++◌, Option}
 use Rattle.std.specs.List.{find}
 use Rattle.tlv_head.specs.Header.{HeaderValue}
@@ -6,11 +6,11 @@ use Rattle.tlv_walk.specs.Events.{Enter, EventValue}
 use Rattle.tlv_walk.specs.Forest.{Forest, PaddingOctet, Primitive, Holder, OpenHolder, OpenBitString}
 use Rattle.tlv_walk.specs.Inside.{is_among}
 
--- the offset of an element that holds others, or none if it is no wrapper: by whether it is constructed
+-- the offset of an element that holds others, or none if it is not a wrapper: by whether it is constructed
 abbrev pub wrapper_offset_by : Bool → ℕ → List ℕ
 wrapper_offset_by constructed offset = if constructed then [] else offset ∷ []
 
--- the offset of an element that holds others, or none if it is no wrapper: by its header
+-- the offset of an element that holds others, or none if it is not a wrapper: by its header
 abbrev pub wrapper_offset : HeaderValue → List ℕ
 wrapper_offset h = wrapper_offset_by h.constructed h.offset
 
@@ -23,11 +23,11 @@ wrapper_offsets (OpenHolder h children) = wrapper_offset h ++ wrapper_offsets ch
 wrapper_offsets (OpenBitString h) = wrapper_offset h
 wrapper_offsets end = []
 
--- the first offset of the list that is not among the others
+-- the first offset of the list that is not in the other list
 abbrev pub first_not_among : List ℕ → List ℕ → Option ℕ
 first_not_among ns others = find (λ n. not (is_among n others)) ns
 
--- the first named offset that is no wrapper's
+-- the first named offset that is not a wrapper's
 abbrev pub first_without_wrapper : List ℕ → Forest → Option ℕ
 first_without_wrapper inside f = first_not_among inside (wrapper_offsets f)
 

@@ -4,13 +4,13 @@ ghost use Rattle.tlv_head.specs.InputLimit.{input_limit};
 ghost use Rattle.tlv_walk.specs.Inside.{are_rising, is_among};
 ghost use Rattle.tlv_walk.specs.Private.Cursor.{IsCursorAt, no_offset_mark};
 
-/// Where a walk is among the named offsets. They rise, and so do the offsets of headers: over a whole walk a cursor
-/// goes over the list once, and most headers cost one comparison.
+/// Where a walk is among the named offsets. Both the named offsets and the offsets of headers rise, so over a whole
+/// walk a cursor goes over the list once, and most headers cost one comparison.
 #[derive(Clone, Copy)]
 pub(crate) struct Cursor {
-    /// How many of the named offsets, from the first on, are before where the walk is.
+    /// The number of named offsets, from the first on, that are before the walk's offset.
     passed: usize,
-    /// The named offset after those, or `u64::MAX` if there is none.
+    /// The next named offset, or `u64::MAX` if there is none.
     next: u64,
 }
 
@@ -25,8 +25,7 @@ impl Cursor {
         }
     }
 
-    /// Whether the offset where the walk is now is one of the named ones. Each header asks this, and mostly there are
-    /// none.
+    /// Whether the walk's current offset is a named one. Each header asks this, and usually no offset is named.
     #[inline(always)]
     pub fn is_at(&mut self, inside: &[u64], offset: u64) -> bool
         requires rising { are_rising 0 inside.now ≡ true }
@@ -41,8 +40,8 @@ impl Cursor {
         self.next == offset
     }
 
-    /// Whether the offset where the walk is now may be one of the named ones, if the cursor is not moved: `false` only
-    /// if it is none. For speed it is asked first whether there are any.
+    /// Whether the walk's current offset may be a named one, without moving the cursor: `false` only if it is not
+    /// one. For speed, this first checks whether any offset is named.
     #[inline(always)]
     #[tactic(auto, using(crate::proofs::CursorLemmas::before_next))]
     pub fn may_be_at(&self, inside: &[u64], offset: u64) -> bool
@@ -54,8 +53,8 @@ impl Cursor {
         !inside.is_empty() && self.next <= offset
     }
 
-    /// Moves on to the first named offset that is not before this one. It is a function of its own, so that the loop is
-    /// not in the functions that ask where the cursor is.
+    /// Moves on to the first named offset that is not before this one. A separate function keeps the loop out of the
+    /// functions that ask where the cursor is.
     #[inline(never)]
     pub fn move_to(&mut self, inside: &[u64], offset: u64)
         requires { IsCursorAt inside.now self.old offset }
@@ -76,7 +75,7 @@ pub(crate) fn offset_at(inside: &[u64], index: usize) -> Option<u64>
     inside.get(index).copied()
 }
 
-/// The offset after so many, or `u64::MAX` if there is none.
+/// The offset at the index `passed`, or `u64::MAX` if there is none.
 fn next_after(inside: &[u64], passed: usize) -> u64
     ensures { result ≡ get_or inside.now passed no_offset_mark }
 {

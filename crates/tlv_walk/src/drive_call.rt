@@ -1,4 +1,4 @@
-//! A walk over all that a source gives.
+//! A walk over all the octets that a source gives.
 ghost use Rattle.std.specs.Prelude.{◌≤◌};
 ghost use Rattle.tlv_walk.specs.DriveJob.{Drives, drive_states};
 ghost use Rattle.tlv_head.specs.InputLimit.{input_limit};
@@ -6,7 +6,7 @@ ghost use Rattle.tlv_head.specs.InputLimit.{input_limit};
 use crate::one_turn::turn_with;
 use crate::{DeviceFault, Drain, Follow, Framing, INPUT_LIMIT, Out, Run, Source, Turn, Walker};
 
-/// How many octets each read may give.
+/// The most octets that a read may give.
 const ROOM: usize = 4096;
 
 /// [`drive_up_to`], with the limit of 2^40 octets.
@@ -27,21 +27,21 @@ pub fn drive<S: Source, F: Follow, D: Drain>(
     drive_up_to(source, follower, drain, INPUT_LIMIT, framing)
 }
 
-/// Reads the source until it ends, an octet is refused or the follower has enough, and lets the
-/// follower follow what is read. Makes no read after that, and at most `limit` + 1 reads in all.
-/// `limit` is a number of octets, at most 2^40.
+/// Reads the source until it ends, an octet is refused or the follower has enough, and lets the follower follow the
+/// octets read. Makes no read after that, and at most `limit` + 1 reads in all. Requires `limit`, a number of octets,
+/// to be at most 2^40.
 ///
-/// Returns the ending, how many octets were walked over, whether the follower had enough, and the
-/// first offset named in vain ([`Run`]).
+/// Returns the ending, the number of octets walked over, whether the follower had enough, and the first named offset
+/// that was not used ([`Run`]).
 ///
-/// If the follower never has enough, the ending is `Done` exactly if the octets read are a sound list of
-/// encodings, and if an octet is refused, no input that begins with them is one.
+/// If the follower never has enough, the ending is `Done` if and only if the octets read are a sound list of
+/// encodings; and if an octet is refused, no input that begins with the octets read is a sound list.
 ///
 /// # Errors
 ///
-/// `ReadFailed` exactly if a read failed, and `WriteFailed` exactly if a write failed.
-/// `InputTooLong` if the source gave more octets than `limit`, and those up to the limit held
-/// neither a fault nor enough; they are followed and flushed.
+/// `ReadFailed` if and only if a read failed, and `WriteFailed` if and only if a write failed. `InputTooLong` if the
+/// source gave more octets than `limit`, and the octets up to the limit hold no fault and are not enough for the
+/// follower; these octets are followed and flushed.
 pub fn drive_up_to<S: Source, F: Follow, D: Drain>(
     source: &mut S,
     follower: &mut F,

@@ -1,11 +1,11 @@
-//! What an input comes to.
+//! The ending of an input.
 use tlv_head::Fault;
 
-/// What an input comes to.
+/// The ending of an input.
 #[derive(Clone, Copy, PartialEq, Eq, Debug)]
 pub enum Ending {
-    /// One or more whole encodings, and nothing open.
+    /// One or more whole encodings, and nothing is open.
     Done,
-    /// The input, or an octet of it, is refused.
+    /// The input, or one of its octets, is refused.
     Fault(Fault),
 }

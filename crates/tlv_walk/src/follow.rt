@@ -1,4 +1,4 @@
-//! What follows a walk.
+//! Followers of a walk.
 ghost use Rattle.std.specs.Prelude.{◌≡◌, true};
 ghost use Rattle.tlv_head.specs.HeaderFields.{IsHeaderSized, new_header};
 ghost use Rattle.tlv_walk.specs.Events.{Bytes, Enter, EventValue, Open, Pad, event_value_of};
@@ -11,33 +11,33 @@ use tlv_head::{Header, HeaderFields};
 /// Whether a follower wants more.
 #[derive(Clone, Copy, Debug, PartialEq, Eq)]
 pub enum Go {
-    /// More is to be read.
+    /// The follower wants more.
     On,
-    /// Nothing more is to be read.
+    /// The follower wants nothing more.
     Enough,
 }
 
-/// What follows a walk, event by event, and puts octets to an [`Out`].
+/// A follower of a walk: takes its events one by one, and puts octets to an [`Out`].
 ///
-/// `next` says what it makes of each event, and keeps six laws. They are why nothing that a follower
-/// does shows into which pieces the octets of an input were cut (`laws::pieces_do_not_show`).
+/// `next` is the effect of an event on the follower, and obeys six laws. Because of them, how an input is cut into
+/// pieces has no effect on what a follower does (`laws::pieces_do_not_show`).
 pub trait Follow {
-    /// What the follower makes of an event.
+    /// The effect of an event on the follower.
     ghost next: { Self → EventValue → Effect Self };
 
     /// Follows the next event. Returns whether it wants more.
     ///
     /// # Errors
     ///
-    /// `WriteFault` exactly if a write failed. The drain then has a prefix of what was put before
-    /// and what was to be put now.
+    /// `WriteFault` if and only if a write failed. The drain then has a prefix of the octets put before and the
+    /// octets to be put now.
     fn on<D: Drain>(&mut self, event: &Event<'_>, out: &mut Out<'_, D>) -> Result<Go, WriteFault>
         ensures { ReturnsEffect D.state (next self.old (event_value_of event.now)) out.old out.new
             self.new result };
 
-    /// Follows an element of which all octets are at hand, header and contents, as a primitive: its header, its
-    /// contents and its end, one after another. If it does, it wants more after each, and returns `true`. It need
-    /// not: if it returns `false`, it has put nothing and changed nothing, and the events come to [`Follow::on`].
+    /// Follows an element whose octets, header and contents, are all at hand, as a primitive: its header, its contents
+    /// and its end, one after another. If it does, it wants more after each, and returns `true`. It may decline: it
+    /// then returns `false`, has put nothing and changed nothing, and the events come to [`Follow::on`].
     ///
     /// # Errors
     ///
@@ -57,7 +57,7 @@ pub trait Follow {
     }
 
     /// Follows the header of a constructed element, given by its fields and its octets, as [`Follow::on`] follows
-    /// [`Event::Open`] with that header. A follower that needs no [`Header`] saves the making of one.
+    /// [`Event::Open`] with that header. A follower that needs no [`Header`] can avoid making one.
     ///
     /// # Errors
     ///
@@ -97,8 +97,8 @@ pub trait Follow {
         self.on(&Event::Enter(Header::new(fields, octets)), out)
     }
 
-    // Contents in two parts are followed as in one, and no octets as no event; after contents more
-    // is wanted. The same holds for padding.
+    // Contents in two parts are followed as the same contents in one part, and empty contents as no event. After
+    // contents, the follower wants more. The same holds for padding.
     ghost bytes_join: { Joins next Bytes };
 
     ghost bytes_empty: { IgnoresEmpty next Bytes };

@@ -5,7 +5,7 @@ ghost use Rattle.std.specs.Prelude.{◌≡◌, ◌<◌, ◌≤◌, ◌↔◌, �
 use arrayvec::ArrayVec;
 use std::marker::Model;
 
-/// A stack of frames, at most 128, in an array. Its value lists the innermost first.
+/// A stack of frames, at most 128, in an array. Its value lists the innermost frame first.
 #[derive(Drop)]
 pub struct Frames<T> {
     outermost_first: ArrayVec<T, 128>,
@@ -23,7 +23,7 @@ impl<T> Model for Frames<T> {
 }
 
 impl<T: Copy + Default> Frames<T> {
-    /// No frame.
+    /// An empty stack.
     pub fn new() -> Frames<T>
         ensures { result ≡ [] }
     {
@@ -32,7 +32,7 @@ impl<T: Copy + Default> Frames<T> {
         }
     }
 
-    /// How many there are.
+    /// The number of frames.
     #[inline(always)]
     pub fn len(&self) -> usize
         ensures count { result ≡ length self.now }
@@ -41,7 +41,7 @@ impl<T: Copy + Default> Frames<T> {
         self.outermost_first.len()
     }
 
-    /// Whether there is none.
+    /// Whether the stack is empty.
     #[inline(always)]
     pub fn is_empty(&self) -> bool
         ensures { IsTrue result ↔ (self.now ≡ []) }
@@ -58,7 +58,7 @@ impl<T: Copy + Default> Frames<T> {
         self.outermost_first.push(frame);
     }
 
-    /// Takes the innermost one away, and returns it. If there is none, nothing changes.
+    /// Removes the innermost frame and returns it. If there is none, nothing changes.
     #[inline(always)]
     pub fn pop(&mut self) -> Option<T>
         ensures { MatchOption result

@@ -6,20 +6,20 @@ use crate::INPUT_LIMIT;
 use arrayvec::ArrayVec;
 use std::marker::Model;
 
-/// The offsets that the user names, rising, each at most 2^40: a string there holds encodings. They
-/// are in octets from the start of the input. At most 16 are kept in an `Inside`; a longer list is
-/// the caller's, and lent.
+/// The offsets that the user names, in octets from the start of the input, rising, each at most 2^40: a string at
+/// such an offset holds encodings. An `Inside` stores at most 16 offsets; a longer list belongs to the caller and is
+/// borrowed.
 #[derive(Clone, Debug, Drop)]
 pub struct Inside<'a> {
     offsets: Offsets<'a>,
 }
 
-/// Where named offsets are kept.
+/// Where the named offsets are stored.
 #[derive(Clone, Debug, Drop)]
 enum Offsets<'a> {
-    /// Here.
+    /// In the `Inside`.
     Kept(ArrayVec<u64, 16>),
-    /// Where their caller has them.
+    /// In the caller's slice.
     Lent(&'a [u64]),
 }
 
@@ -37,7 +37,7 @@ impl<'a> Model for Inside<'a> {
     ghost invariant = { λ i. are_rising 0 (offsets_in i.offsets) ≡ true };
 }
 
-/// Two are equal if they name the same offsets, wherever these are kept.
+/// Two are equal if they name the same offsets, wherever these are stored.
 impl<'a> PartialEq for Inside<'a> {
     ghost use Rattle.std.specs.Cmp.{partial_equiv_from_equiv};
     ghost use Rattle.std.specs.Cmp.Lexicographic.{nat_list_eq_equiv, pointwise};
@@ -63,7 +63,7 @@ impl<'a> Eq for Inside<'a> {
 pub struct Framing<'a> {
     /// The named offsets.
     pub inside: Inside<'a>,
-    /// Whether padding is allowed: octets `00` at the top, before, between and after encodings.
+    /// Whether padding is allowed: octets `00` at the top level, before, between and after encodings.
     pub padding: bool,
 }
 
@@ -71,8 +71,8 @@ impl<'a> Inside<'a> {
     ghost use Rattle.std.specs.Prelude.{MatchOption, [], false, true};
     ghost use Rattle.tlv_walk.specs.Inside.{can_name};
 
-    /// The offsets, if there are at most 16, each larger than the one before and at most 2^40;
-    /// otherwise nothing. There may be none. They are copied.
+    /// An `Inside` with a copy of the offsets. Returns `None` unless there are at most 16, each larger than the one
+    /// before and at most 2^40. The list may be empty.
     pub fn new(offsets: &[u64]) -> Option<Inside<'a>>
         ensures { MatchOption result (can_name offsets.now ≡ false)
             (λ inside. (inside ≡ offsets.now) × (can_name offsets.now ≡ true)) }
@@ -87,8 +87,8 @@ impl<'a> Inside<'a> {
         })
     }
 
-    /// The offsets, however many, if each is larger than the one before and at most 2^40; otherwise
-    /// nothing. There may be none. They are not copied, so they stay lent as long as this is used.
+    /// An `Inside` that borrows the offsets, however many there are. Returns `None` unless each is larger than the
+    /// one before and at most 2^40. The list may be empty.
     pub fn lent(offsets: &'a [u64]) -> Option<Inside<'a>>
         ensures { MatchOption result (are_rising 0 offsets.now ≡ false)
             (λ inside. (inside ≡ offsets.now) × (are_rising 0 offsets.now ≡ true)) }
@@ -101,7 +101,7 @@ impl<'a> Inside<'a> {
         })
     }
 
-    /// No offset.
+    /// No named offsets.
     pub fn none() -> Inside<'a>
         ensures { result ≡ [] }
     {
@@ -110,7 +110,7 @@ impl<'a> Inside<'a> {
         }
     }
 
-    /// The offsets.
+    /// The named offsets.
     pub(crate) fn as_slice(&self) -> &[u64]
         ensures offsets { result.now ≡ self.now }
         ensures rising { are_rising 0 result.now ≡ true }

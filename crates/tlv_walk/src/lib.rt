@@ -1,5 +1,5 @@
-//! A walk over BER, CER and DER encodings (ITU-T X.690): in whatever pieces the octets come, what is
-//! yielded is what a recursive grammar of identifier, length and contents octets gives.
+//! A walk over BER, CER and DER encodings (ITU-T X.690): in whatever pieces the octets come, the walk yields what a
+//! recursive grammar of identifier, length and contents octets gives.
 #![tactic(auto)]
 
 mod cursor;

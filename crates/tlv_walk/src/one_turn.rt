@@ -1,4 +1,4 @@
-//! One read of a source, followed.
+//! One read of a source, and the following of its octets.
 ghost use Rattle.std.specs.Prelude.{◌≡◌, [], IfOk};
 ghost use Rattle.tlv_walk.specs.HasEffect.{ReturnsEffect};
 ghost use Rattle.tlv_walk.specs.Private.ResultOfPause.{IsResultOfPause, run_of};
@@ -17,10 +17,10 @@ use crate::{
 };
 use tlv_head::{Fault, Header};
 
-/// Why a piece is not followed any further.
+/// Why a piece is followed no further.
 #[derive(Clone, Copy)]
 enum Pause {
-    /// It is used up, and no event waits.
+    /// The piece is used up, and no event waits.
     UsedUp,
     /// An octet is refused.
     Fault(Fault),
@@ -28,25 +28,24 @@ enum Pause {
     Enough,
 }
 
-/// Makes one read into `room`, lets the follower follow what it gave, and flushes what that put.
+/// Makes one read into `room`, lets the follower follow the octets read, and flushes the follower's output.
 ///
-/// `room` is the array into which the read is made: it has 1 to 4096 octets. `limit` is a number of
-/// octets, at most 2^40. The caller sees to these, and to it that the walker is within the limit and has
-/// refused no octet, and that no event waits.
+/// `room` is the array for the read. Requires `room` to have 1 to 4096 octets, and `limit`, a number of octets, to be
+/// at most 2^40. Requires that the walker is within the limit and has refused no octet, and that no event waits.
 ///
-/// Returns `Again` if the octets are within the limit, hold neither a fault nor enough for the
-/// follower, and the source has not ended; `Ended` if the walk has ended. The octets that the walker
-/// took before count towards `limit`: of those that go beyond it none is walked over.
+/// Returns `Again` if the octets are within the limit, hold no fault and are not enough for the follower, and the
+/// source has not ended; returns `Ended` if the walk has ended. The octets that the walker took before count towards
+/// `limit`. No octet beyond the limit is walked over.
 ///
 /// # Errors
 ///
-/// `ReadFailed` exactly if a read failed, and `WriteFailed` exactly if a write failed.
-/// `InputTooLong` if the walker's octets and those of the read are together more than `limit`, and
-/// those up to the limit hold neither a fault nor enough; they are followed and flushed.
+/// `ReadFailed` if and only if a read failed, and `WriteFailed` if and only if a write failed. `InputTooLong` if the
+/// walker's octets and the octets of this read are together more than `limit`, and the octets up to the limit hold no
+/// fault and are not enough for the follower; these octets are followed and flushed.
 ///
-/// After `ReadFailed` walker and follower are as they were, and another turn may follow. After
-/// `InputTooLong` the walker is at the limit; the octets of this read beyond it are lost, so another
-/// turn would leave them out. After `WriteFailed` nothing is promised of walker and follower.
+/// After `ReadFailed` the walker and the follower are unchanged, and another turn may follow. After `InputTooLong`
+/// the walker is at the limit; the octets of this read beyond it are lost, so another turn would skip them. After
+/// `WriteFailed` nothing is guaranteed about the walker and the follower.
 pub fn turn<F: Follow, S: Source, D: Drain>(
     walker: &mut Walker<'_>,
     follower: &mut F,
@@ -65,8 +64,8 @@ pub fn turn<F: Follow, S: Source, D: Drain>(
     turn_with(walker, follower, source, &mut out, room, limit)
 }
 
-/// [`turn`], with an `Out` in place of a drain. It holds nothing, and holds nothing again if more is to be
-/// read. So one `Out` serves a whole run, and need not be made for each read.
+/// [`turn`], with an `Out` in place of a drain. The `Out` holds nothing before, and holds nothing again if more is to
+/// be read. So one `Out` serves a whole run, and need not be made for each read.
 pub(crate) fn turn_with<F: Follow, S: Source, D: Drain>(
     walker: &mut Walker<'_>,
     follower: &mut F,
@@ -114,7 +113,7 @@ fn result_of_pause(
     }
 }
 
-/// The run of a walker, with this ending; `enough` says whether the follower had enough.
+/// The run of a walker with this ending; `enough` says whether the follower had enough.
 fn run_of(walker: &Walker<'_>, ending: Ending, enough: bool) -> Run
     ensures { result ≡ run_of walker.now ending enough }
 {
@@ -126,7 +125,7 @@ fn run_of(walker: &Walker<'_>, ending: Ending, enough: bool) -> Run
     }
 }
 
-/// Walks over a piece, lets the follower follow each event, and hands all that it put to the drain.
+/// Walks over a piece, lets the follower follow each event, and hands the follower's output to the drain.
 fn follow_and_flush<F: Follow, D: Drain>(
     walker: &mut Walker<'_>,
     follower: &mut F,
@@ -173,7 +172,7 @@ fn follow<F: Follow, D: Drain>(
         } else if let Some(event) = walker.contents_event(&mut rest) {
             follower.on(&event, out)?
         } else {
-            // A copy is lent, so that `rest` itself stays in registers.
+            // This lends a copy, so that `rest` itself stays in registers.
             let mut left = rest;
             let go = match follow_string(walker, follower, &mut left, out)? {
                 Some(go) => go,
@@ -192,8 +191,8 @@ fn follow<F: Follow, D: Drain>(
     }
 }
 
-/// Follows a primitive with which the piece begins, at once: if its header has few octets, all of it is at hand, and
-/// the follower takes it so. Returns whether it was followed; otherwise nothing is taken.
+/// Follows the primitive with which the piece begins in one go, if its header has few octets, all of it is in the
+/// piece, and the follower accepts it so. Returns whether it was followed; otherwise takes nothing.
 #[inline(always)]
 fn follow_primitive<F: Follow, D: Drain>(
     walker: &mut Walker<'_>,
@@ -207,8 +206,8 @@ fn follow_primitive<F: Follow, D: Drain>(
         (follow_states walker.new follower.new out.new)
         piece.old.now piece.new.now result }
 {
-    // Most headers have two octets. If that is known, most branches of what is done with a primitive fall away, so they
-    // are followed by code of their own.
+    // Most headers have two octets. When that is known, most branches of the code for a primitive fall away, so such
+    // primitives have code of their own.
     if let Some(primitive) = walker.primitive(*piece, true) {
         return follow_found(walker, follower, &primitive, piece, out);
     }
@@ -218,8 +217,8 @@ fn follow_primitive<F: Follow, D: Drain>(
     Ok(false)
 }
 
-/// Follows a primitive with which, as the walker found, the piece begins, if the follower takes it at once. Returns
-/// whether it was followed; otherwise nothing is taken.
+/// Follows the primitive with which the piece begins, as the walker found, if the follower takes it in one go.
+/// Returns whether it was followed; otherwise takes nothing.
 #[inline(always)]
 fn follow_found<F: Follow, D: Drain>(
     walker: &mut Walker<'_>,
@@ -244,9 +243,9 @@ fn follow_found<F: Follow, D: Drain>(
     Ok(true)
 }
 
-/// Follows the header of a string that holds encodings, or the first contents octet of such a BIT STRING, if the piece
-/// begins with it. Returns whether the follower wants more, if it was followed; otherwise nothing is taken. It is a
-/// function of its own, so that the loop of [`follow`] stays small.
+/// Follows the header of a string that holds encodings, or the first contents octet of such a BIT STRING, if the
+/// piece begins with it. If so, returns whether the follower wants more; otherwise takes nothing. A separate function
+/// keeps the loop of [`follow`] small.
 #[inline(never)]
 fn follow_string<F: Follow, D: Drain>(
     walker: &mut Walker<'_>,
@@ -271,8 +270,8 @@ fn follow_string<F: Follow, D: Drain>(
     Ok(None)
 }
 
-/// Lets the follower follow an event. It is a function of its own for the events that seldom come, so that the follower
-/// is inlined only if speed counts.
+/// Lets the follower follow an event. A separate function for the rare events, so that the follower is inlined only
+/// where speed counts.
 #[inline(never)]
 fn follow_event<F: Follow, D: Drain>(
     follower: &mut F,

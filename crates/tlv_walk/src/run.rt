@@ -1,16 +1,16 @@
-//! What a walk over a source came to.
+//! The result of a walk over a source.
 use crate::Ending;
 use thiserror::Error;
 
 /// The most octets that an input may have: 2^40.
 pub const INPUT_LIMIT: u64 = 1 << 40;
 
-/// What a walk came to.
+/// The result of a walk.
 #[derive(Clone, Copy, Debug, PartialEq, Eq)]
 pub struct Run {
-    /// Done if the follower had enough; otherwise what the input comes to.
+    /// `Done` if the follower had enough; otherwise the ending of the input.
     pub ending: Ending,
-    /// How many octets were walked over: those before a fault, or up to the last event followed.
+    /// The number of octets walked over: the octets before a fault, or up to the last event followed.
     pub octets: u64,
     /// Whether the follower had enough.
     pub enough: bool,
@@ -19,7 +19,7 @@ pub struct Run {
     pub unused: Option<u64>,
 }
 
-/// What one read came to.
+/// The result of one read.
 #[derive(Clone, Copy, Debug, PartialEq, Eq)]
 pub enum Turn {
     /// More is to be read.
@@ -37,8 +37,8 @@ pub enum DeviceFault {
     /// A write to the drain failed.
     #[error("write failed")]
     WriteFailed,
-    /// The octets are more than the limit, and those up to it hold neither a fault nor enough for
-    /// the follower.
+    /// The source gave more octets than the limit, and the octets up to the limit hold no fault and are not enough
+    /// for the follower.
     #[error("input too long")]
     InputTooLong,
 }

@@ -1,4 +1,4 @@
-//! The open elements that hold others.
+//! The open elements that hold other elements.
 ghost use Rattle.tlv_head.specs.DepthLimit.{depth_limit};
 ghost use Rattle.std.specs.Prelude.{◌≡◌, ◌≢◌, ◌<◌, ◌≤◌, ◌↔◌, ◌∷◌, IfSome, IsTrue, None, [], length};
 ghost use Rattle.std.specs.Prelude.{drop, true};
@@ -27,21 +27,21 @@ enum FrameKind {
 /// The input, or an open element that holds others.
 #[derive(Clone, Copy, Default)]
 struct Frame {
-    /// The end of the innermost definite element: of this one, or of the nearest around it. If there is none,
-    /// `u64::MAX`.
+    /// The end of the innermost definite element, which is this one or the nearest around it; `u64::MAX` if there is
+    /// none.
     bound: u64,
     kind: FrameKind,
 }
 
 /// The open elements that hold others, at most 128.
 ///
-/// Each event asks about the innermost one, and seldom about another. So its frame is kept by itself: a look at it is
-/// one load and one comparison.
+/// Each event asks about the innermost element, and seldom about another. So its frame is kept separately: reading it
+/// costs one load and one comparison.
 #[derive(Drop)]
 pub(crate) struct Stack {
     /// The innermost open element, or the input if none is open.
     innermost: Frame,
-    /// What holds that, the input last; nothing, if it is the input itself.
+    /// What holds the innermost one, the input last; empty if the innermost one is the input.
     outer: Frames<Frame>,
 }
 
@@ -71,7 +71,7 @@ impl Stack {
         }
     }
 
-    /// How many elements that hold others are open.
+    /// The number of open elements that hold others.
     #[inline(always)]
     pub fn len(&self) -> u8
         ensures count { result ≡ length self.now }
@@ -87,9 +87,9 @@ impl Stack {
         self.outer.is_empty()
     }
 
-    /// Opens an element inside the innermost one: where its contents end, if its length is definite, and whether it
-    /// is a string that holds encodings. Such a string has a definite length, and `u64::MAX` is no end, since it
-    /// says that there is no bound.
+    /// Opens an element inside the innermost one. The arguments say where its contents end, if its length is
+    /// definite, and whether it is a string that holds encodings. Such a string has a definite length. `u64::MAX` is
+    /// not a valid end: it stands for no bound.
     #[inline(always)]
     pub fn push(&mut self, end: Option<u64>, wrapper: bool)
         requires shallow { length self.old < depth_limit }
@@ -167,8 +167,7 @@ impl Stack {
         }
     }
 
-    /// Whether contents may go up to this offset: the innermost definite element, if there is one, does not end
-    /// before it.
+    /// Whether contents may extend to this offset: the innermost definite element, if any, ends there or later.
     #[inline(always)]
     pub fn is_within(&self, end: u64) -> bool
         ensures { IsTrue result ↔ IsWithin (bound_of self.now) end }
@@ -176,7 +175,7 @@ impl Stack {
         end <= self.innermost.bound
     }
 
-    /// How many octets there are from this offset to the bound.
+    /// The number of octets from this offset to the bound.
     pub fn room_in(&self, offset: u64) -> Option<u64>
         requires { IsWithin (bound_of self.now) offset }
         ensures { result ≡ room_in self.now offset }
@@ -185,7 +184,7 @@ impl Stack {
     }
 }
 
-/// How many octets there are from an offset to a bound.
+/// The number of octets from an offset to a bound.
 pub(crate) fn room_to(bound: Option<u64>, offset: u64) -> Option<u64>
     requires { IsWithin bound offset }
     ensures { result ≡ room_to bound offset }

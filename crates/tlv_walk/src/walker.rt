@@ -22,9 +22,9 @@ enum Phase {
     Between,
     /// An unfinished header: the walker's reader has its octets.
     InHeader,
-    /// A primitive's contents, of which so many octets are to follow.
+    /// A primitive's contents, with this many octets still to come.
     InPrimitive(u64),
-    /// A BIT STRING that holds encodings, whose first contents octet is to follow.
+    /// A BIT STRING that holds encodings, whose first contents octet is still to come.
     InBitString,
     /// The end of an indefinite element, whose first `00` has come.
     InEndOctets,
@@ -38,20 +38,20 @@ enum Phase {
 pub struct Walker<'f> {
     stack: Stack,
     phase: Phase,
-    /// Of use in an unfinished header alone. It is large, so it is no part of the phase, which changes with each event.
+    /// Used only in an unfinished header. It is large, so it is not part of the phase, which changes with each event.
     reader: HeadReader,
     offset: u64,
-    /// Where the offset is among the named ones.
+    /// Where the offset is among the named offsets.
     cursor: Cursor,
     /// The named offsets.
     inside: &'f [u64],
     /// Whether padding is allowed.
     padding: bool,
-    /// Not beside the offset: LLVM would join the sums of the two into vector code, which is slower.
+    /// Kept apart from the offset: next to it, LLVM would join the two additions into vector code, which is slower.
     events: u64,
-    /// Whether an octet of an element came, and not padding alone.
+    /// Whether any octet of an element came, as opposed to padding alone.
     has_element: bool,
-    /// How many of the named offsets, from the first on, are those of strings that hold encodings.
+    /// The number of named offsets, from the first on, at which a string that holds encodings was found.
     wrapper_count: usize,
 }
 
@@ -82,7 +82,7 @@ impl<'f> Walker<'f> {
     ghost use Rattle.tlv_walk.specs.Private.Yields.{Steps};
     ghost use Rattle.tlv_head.specs.InputLimit.{input_limit};
 
-    /// A walker that has taken nothing. It keeps the framing lent.
+    /// A walker that has taken nothing. It borrows the framing.
     pub fn new(framing: &'f Framing<'_>) -> Walker<'f>
         ensures state { result ≡ new_walker framing.now }
         ensures stands { Stands result [] [] }
@@ -103,8 +103,8 @@ impl<'f> Walker<'f> {
         }
     }
 
-    /// How many elements are open that hold others: constructed ones, and strings that hold encodings.
-    /// At most 128. An element that is filled counts until its end is yielded.
+    /// The number of open elements that hold others: constructed elements, and strings that hold encodings. At most
+    /// 128. A filled element counts until its end is yielded.
     pub fn depth(&self) -> u8
         ensures value { result ≡ length self.now.stack }
         ensures within { result ≤ depth_limit }
@@ -114,7 +114,7 @@ impl<'f> Walker<'f> {
         self.stack.len()
     }
 
-    /// How many octets were taken.
+    /// The number of octets taken.
     pub fn offset(&self) -> u64
         ensures value { result ≡ self.now.offset }
         ensures within { result ≤ input_limit }
@@ -123,7 +123,7 @@ impl<'f> Walker<'f> {
         self.offset
     }
 
-    /// How many events were yielded: at most as many as octets were taken.
+    /// The number of events yielded: at most the number of octets taken.
     pub fn events(&self) -> u64
         ensures value { result ≡ self.now.events }
         ensures within { result ≤ self.now.offset }
@@ -141,7 +141,7 @@ impl<'f> Walker<'f> {
         offset_at(self.inside, self.wrapper_count)
     }
 
-    /// Whether an event is still to come that needs no further octet.
+    /// Whether an event still waits that needs no further octet.
     pub fn waiting(&self) -> bool
         ensures { (result ≡ false) ↔ IsIdle self.now }
     {
@@ -152,10 +152,9 @@ impl<'f> Walker<'f> {
         }
     }
 
-    /// What the input comes to, if it ends here. After a fault it is that fault. It is `Done` exactly if
-    /// the input is a sound list of encodings. If it is a fault other than F01 and F02, no input that
-    /// begins with the octets taken and the one refused is a sound list. The caller sees to it that no
-    /// event waits ([`Walker::waiting`]).
+    /// The ending of the input, if it ends here; after a fault, that fault. The ending is `Done` if and only if the
+    /// input is a sound list of encodings. If it is a fault other than F01 and F02, no input that begins with the
+    /// octets taken and the refused octet is a sound list. Requires that no event waits ([`Walker::waiting`]).
     pub fn finish(&self) -> Ending
         requires { IsIdle self.now }
         ensures ending { IfAtEnd self.now (λ octets. HasEnding self.now.framing octets result) }
@@ -183,7 +182,7 @@ impl<'f> Walker<'f> {
         }
     }
 
-    /// A fault at the end of the input.
+    /// The fault at the end of the input.
     fn ended_by(&self, code: FaultCode) -> Ending
         ensures { result ≡ Ending.Fault (fault_at code self.now.offset) }
     {
@@ -193,12 +192,12 @@ impl<'f> Walker<'f> {
         })
     }
 
-    /// Takes octets with which `piece` begins, up to the next event. The caller sees to it that the octets
-    /// taken and those of the piece are together at most 2^40.
+    /// Takes octets from the start of `piece`, up to the next event. Requires the octets taken before and the octets
+    /// of the piece to be together at most 2^40.
     ///
-    /// Returns `NeedMore` only if the whole piece was taken and no event waits. After a fault each step returns
-    /// the same fault and takes nothing. A fault is no false alarm: no input that begins with the octets
-    /// taken and the one refused is a sound list of encodings.
+    /// Returns `NeedMore` only if it took the whole piece and no event waits. After a fault each step returns the
+    /// same fault and takes nothing. A fault is no false alarm: no input that begins with the octets taken and the
+    /// refused octet is a sound list of encodings.
     #[inline(never)]
     pub fn step<'a>(&mut self, piece: &mut &'a [u8]) -> Step<'a>
         requires { IsWithinInputLimit self.old piece.old.now }
@@ -207,7 +206,7 @@ impl<'f> Walker<'f> {
         self.next_step(piece)
     }
 
-    /// Takes octets with which the piece begins, up to the next event, by what they belong to.
+    /// Takes octets from the start of the piece, up to the next event, according to what they belong to.
     fn next_step<'a>(&mut self, piece: &mut &'a [u8]) -> Step<'a>
         requires { IsWithinInputLimit self.old piece.old.now }
         ensures steps { Steps self.old self.new piece.old.now piece.new.now result }

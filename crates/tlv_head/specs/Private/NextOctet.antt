@@ -20,12 +20,12 @@ pub record MakesHeader (id : IdentifierFields) (size : Size) (octets : List ℕ)
   pub allowed : AllowsSize id.constructed size
   pub octets_are : octets ≡ identifier_octets ++ length_octets
 
--- octets begin with the identifier
+-- the octets begin with the identifier
 pub record BeginsWithIdentifier (octets : List ℕ) (id : IdentifierFields) : Type 0 where
   pub within : id.id_len ≤ length octets
   pub carried : CarriesIdentifier id (take id.id_len octets)
 
--- octets begin with so many length octets, which say this size, and which an element of that form may have
+-- the octets begin with `count` length octets, which say this size, and an element of this form may have this size
 pub record BeginsWithLength (octets : List ℕ) (constructed : Bool) (size : Size) (count : ℕ) : Type 0 where
   pub within : count ≤ length octets
   pub some : 1 ≤ count
@@ -33,21 +33,21 @@ pub record BeginsWithLength (octets : List ℕ) (constructed : Bool) (size : Siz
   pub lengths : IsLength size (take count octets)
   pub allowed : AllowsSize constructed size
 
--- octets begin with no identifier of at most three octets that has another octet after it
+-- the octets do not begin with an identifier of at most three octets that is followed by another octet
 abbrev pub BeginsWithNoIdentifier : List ℕ → Type 0
 BeginsWithNoIdentifier octets =
     (class : Class) (constructed : Bool) (number : ℕ) (identifier rest : List ℕ)
     → IsIdentifier class constructed number identifier → length identifier ≤ 3
     → rest ≢ [] → octets ≡ identifier ++ rest → ⊥
 
--- octets begin with no length of at most three octets that an element of that form may have
+-- the octets do not begin with a length of at most three octets that an element of this form may have
 abbrev pub BeginsWithNoLength : List ℕ → Bool → Type 0
 BeginsWithNoLength octets constructed =
     (size : Size) (lengths rest : List ℕ)
     → IsLength size lengths → AllowsSize constructed size → length lengths ≤ 3
     → octets ≡ lengths ++ rest → ⊥
 
--- what an octet makes of the octets before
+-- the result of adding an octet to the octets before
 abbrev pub MakesNext : List ℕ → ℕ → Next → Type 0
 MakesNext octets x (Unfinished part) = Carries part (octets ++ x ∷ [])
 MakesNext octets x (Whole id size) = MakesHeader id size (octets ++ x ∷ [])

@@ -17,7 +17,7 @@ impl HeldOctets {
         self.len = end;
     }
 
-    /// Adds a number, which may have more than 64 bits, in decimal.
+    /// Adds a number, possibly of more than 64 bits, in decimal.
     #[inline(always)]
     pub fn wide_number(&mut self, number: u128)
         requires { HasRoomFor self.old 40 }
@@ -40,8 +40,8 @@ impl HeldOctets {
         self.add(digits.format(number).as_bytes());
     }
 
-    /// Adds the columns that a line begins with: an offset and a number of contents octets, in decimal. They are at
-    /// most 43 octets: two numbers of 20 digits, a space, and a colon with a space.
+    /// Adds the first columns of a line: an offset and a number of contents octets, in decimal. They are at most 43
+    /// octets: two numbers of 20 digits, a space, and a colon with a space.
     #[inline(always)]
     pub fn columns(&mut self, offset: u64, size: u64)
         requires { HasRoomFor self.old 43 }
@@ -58,7 +58,7 @@ impl HeldOctets {
         self.len = start + 17;
     }
 
-    /// Adds the same columns, one after the other, so that each can be as wide as it needs.
+    /// Adds the same columns, one after the other, so that each can be as wide as needed.
     #[inline(never)]
     fn wide_columns(&mut self, offset: u64, size: u64)
         requires { HasRoomFor self.old 43 }
@@ -70,8 +70,8 @@ impl HeldOctets {
         self.add(b": ");
     }
 
-    /// Adds the columns that a line begins with: an offset, in decimal, and a word. They are at most 29 octets: 20
-    /// digits, a space, the word, and a colon with a space.
+    /// Adds the first columns of a line: an offset, in decimal, and a word. They are at most 29 octets: 20 digits, a
+    /// space, the word, and a colon with a space.
     #[inline(always)]
     pub fn word_columns(&mut self, offset: u64, word: &[u8; 6])
         requires { HasRoomFor self.old 29 }
@@ -88,7 +88,7 @@ impl HeldOctets {
         self.len = start + 17;
     }
 
-    /// Adds the same columns, one after the other, so that the offset can be as wide as it needs.
+    /// Adds the same columns, one after the other, so that the offset can be as wide as needed.
     #[inline(never)]
     fn wide_word_columns(&mut self, offset: u64, word: &[u8; 6])
         requires { HasRoomFor self.old 29 }
@@ -100,7 +100,7 @@ impl HeldOctets {
         self.add(b": ");
     }
 
-    /// Adds a number, in decimal, at the right of so many places; a longer one takes as many as it needs.
+    /// Adds a number in decimal, right-aligned in `places` places; a longer number takes as many places as it needs.
     fn right(&mut self, number: u64, places: usize)
         requires places { places ≤ 20 }
         requires room { HasRoomFor self.old 20 }
@@ -108,14 +108,14 @@ impl HeldOctets {
     {
         let start = self.len();
         let end = start + digit_count(number).max(places);
-        // As many spaces as a number has digits at most; what stands after the end does not count.
+        // A number has at most 20 digits, so 20 spaces are enough; what stands after the end does not count.
         self.octets[start..start + 20].copy_from_slice(&[b' '; 20]);
         let _ = write_digits(number, &mut self.octets, end);
         self.len = end;
     }
 }
 
-/// How many digits a number has.
+/// The number of digits of a number.
 #[inline(always)]
 fn digit_count(number: u64) -> usize
     ensures { result ≡ length (decimal number) }

@@ -1,4 +1,4 @@
-//! Texts that are written over the first of some octets.
+//! Texts that overwrite the first octets of a slice.
 ghost use Rattle.std.specs.Prelude.{◌+◌, ◌*◌, ◌≤◌, length};
 ghost use Rattle.tlv_io.specs.LineTexts.{spaced_pairs, spaces};
 ghost use Rattle.tlv_io.specs.Private.WritesOver.{WritesOver};
@@ -28,7 +28,7 @@ fn fill_more_spaces(to: &mut [u8], count: usize)
     }
 }
 
-/// Writes octets as pairs of digits, each after a space.
+/// Writes octets as pairs of digits, each pair after a space.
 #[inline(always)]
 pub(super) fn write_spaced_pairs(octets: &[u8], to: &mut [u8])
     requires { 3 * length octets.now ≤ length to.old }
@@ -40,7 +40,7 @@ pub(super) fn write_spaced_pairs(octets: &[u8], to: &mut [u8])
     }
 }
 
-/// Writes 16 octets as pairs of digits, each after a space. The spaces are there first, copied at once.
+/// Writes 16 octets as pairs of digits, each pair after a space. All the spaces are copied first, at once.
 #[inline(always)]
 pub(super) fn write_spaced_row(octets: &[u8; 16], to: &mut [u8])
     requires { 48 ≤ length to.old }

@@ -1,4 +1,4 @@
--- What a follower comes to that follows a walker over a piece.
+-- The result of following a walker over a piece.
 use Rattle.std.specs.Prelude.{◌≡◌, ℕ, ◌+◌, Bool, true, false, List, [], ◌∷◌, ◌++◌, Option, Some, None, length}
 use Rattle.std.specs.Prelude.{Result, Ok, Err, OnOk}
 use Rattle.tlv_head.specs.declared.fault.Fault.{Fault}
@@ -25,14 +25,14 @@ use Rattle.tlv_walk.specs.HasEffect.{ReturnsEffect}
 use Rattle.tlv_walk.specs.HasRead.{StandsRefused}
 use Rattle.tlv_walk.specs.FollowsEvents.{FollowsEvents}
 
--- what was walked over: a prefix of a piece, and the events yielded of it
+-- what was walked over: a prefix of a piece, and the events yielded for it
 pub record WalksOver (old new : WalkerState) (piece rest : List ℕ) (more : List EventValue) : Type 0 where
   pub taken : List ℕ
   pub piece_is : piece ≡ taken ++ rest
   pub framing : new.framing ≡ old.framing
   pub stands : StandsForMore old new taken more
 
--- an octet was refused after those that were walked over
+-- the octet after the octets walked over was refused
 pub record WalksToFault (old new : WalkerState) (piece : List ℕ) (more : List EventValue) (f : Fault)
     (b : List ℕ) (yielded : List EventValue) : Type 0 where
   pub taken : List ℕ
@@ -42,13 +42,13 @@ pub record WalksToFault (old new : WalkerState) (piece : List ℕ) (more : List 
   pub framing : new.framing ≡ old.framing
   pub stands : StandsRefused new (b ++ taken) octet (yielded ++ more) f
 
--- the octets yield these events, joined, and then others
+-- the octets yield these events, joined, followed by others
 abbrev pub BeginEventsOf : Framing → List ℕ → List EventValue → Type 0
 BeginEventsOf framing octets yielded = (f : Forest) → IsReading framing octets f
     → (others : List EventValue) × AreEqualJoined (yielded ++ others) (events f)
 
--- what takes part in following a piece, as it is before that or after it: the walker, the follower's state, and the
--- `Out` to which it puts
+-- the state of everything that following a piece uses, before or after it: the walker, the follower's state, and the
+-- `Out` to which the follower puts octets
 pub record FollowStates (S D : Type 0) : Type 0 where
   pub walker : WalkerState
   pub follower : S
@@ -58,7 +58,7 @@ pub record FollowStates (S D : Type 0) : Type 0 where
 abbrev pub follow_states : {S D : Type 0} → WalkerState → S → Out D → FollowStates S D
 follow_states walker follower out = record { walker = walker; follower = follower; out = out }
 
--- here `more` are the events that the walker yielded of a piece, and the follower followed
+-- here `more` are the events that the walker yielded for a piece and the follower followed
 
 module _ {S D : Type 0} (next : S → EventValue → Effect S) (old new : FollowStates S D) where
   -- a prefix of a piece was walked over, its events were followed, and the rest is left
@@ -77,25 +77,25 @@ module _ {S D : Type 0} (next : S → EventValue → Effect S) (old new : Follow
     pub made : FollowsEvents next old.follower new.follower more go.On
     pub walked : IfStands old.walker (WalksToFault old.walker new.walker piece more f)
 
-  -- a piece was followed up to an event with which the follower had enough
+  -- a piece was followed up to an event that is enough for the follower
   pub record FollowsToEnough (piece : List ℕ) (more : List EventValue) : Type 0 where
     pub rest : List ℕ
     pub follows : Follows piece rest more go.Enough
     pub after_event : IsAfterEvent new.walker.phase
 
-  -- the drain failed at what is put at one of these events; the piece yields them, and then others
+  -- the drain failed at the octets put for one of these events; the piece yields them, followed by others
   pub record WriteFailsAt (piece : List ℕ) (more : List EventValue) : Type 0 where
     pub yields : IfStands old.walker
         (λ b yielded. BeginEventsOf old.walker.framing (b ++ piece) (yielded ++ more))
 
-  -- how far a piece was followed: a line for each reason to stop
+  -- how far a piece was followed, one line for each reason to stop
   abbrev pub Pauses : List ℕ → List EventValue → Result Pause WriteFault → Type 0
   Pauses piece more (Ok pause.UsedUp) = FollowsAll piece more
   Pauses piece more (Ok (pause.Fault f)) = FollowsToFault piece more f
   Pauses piece more (Ok pause.Enough) = FollowsToEnough piece more
   Pauses piece more (Err e) = WriteFailsAt piece more
 
-  -- a prefix of a piece was followed, which has one event or more, and more is wanted
+  -- a prefix of a piece with one or more events was followed, and more is wanted
   pub record TakesPrefix (piece rest : List ℕ) (more : List EventValue) : Type 0 where
     pub follows : Follows piece rest more go.On
     pub passes : Passes old.walker new.walker piece rest
@@ -107,7 +107,7 @@ module _ {S D : Type 0} (next : S → EventValue → Effect S) (old new : Follow
     pub all_left : rest ≡ piece
     pub no_event : more ≡ []
 
-  -- by whether a prefix of a piece was followed
+  -- the result, by whether a prefix of a piece was followed
   abbrev pub TakesPrefixOrNone : List ℕ → List ℕ → List EventValue → Result Bool WriteFault → Type 0
   TakesPrefixOrNone piece rest more (Ok true) = TakesPrefix piece rest more
   TakesPrefixOrNone piece rest more (Ok false) = TakesNone piece rest more
@@ -115,15 +115,14 @@ module _ {S D : Type 0} (next : S → EventValue → Effect S) (old new : Follow
 
 module _ {S D : Type 0} (next : S → EventValue → Effect S) (state_of : D → DrainState)
     (old new : FollowStates S D) where
-  -- a piece was followed, and what is made of its events was put. `Puts` says of the `Out` that it lends the same
+  -- a piece was followed, and the effect of its events was put. `Puts` says that the `Out` still lends the same
   -- drain, and how many writes failed
   pub record FollowsPiece (piece : List ℕ) (result : Result Pause WriteFault) : Type 0 where
     pub more : List EventValue
     pub pauses : Pauses next old new piece more result
     pub puts : Puts state_of old.out new.out (effect_of next old.follower more).put result
 
-  -- a piece was followed, and what is made of its events was handed to the drain: if all of it was, the `Out` holds
-  -- nothing
+  -- a piece was followed, and the octets of the effect were handed to the drain: if all were, the `Out` holds nothing
   pub record FollowsAndFlushes (piece : List ℕ) (result : Result Pause WriteFault) : Type 0 where
     pub are_octets : AreOctets piece
     pub more : List EventValue
@@ -133,13 +132,13 @@ module _ {S D : Type 0} (next : S → EventValue → Effect S) (state_of : D →
     pub same_reference : (drain_of new.out).ghost_name ≡ (drain_of old.out).ghost_name
     pub empty : OnOk result (held_octets new.out ≡ [])
 
-  -- a prefix of a piece was followed, and what is made of its events was put; or nothing of it was taken
+  -- a prefix of a piece was followed, and the effect of its events was put; or nothing of the piece was taken
   pub record FollowsPrefix (piece rest : List ℕ) (result : Result Bool WriteFault) : Type 0 where
     pub more : List EventValue
     pub takes : TakesPrefixOrNone next old new piece rest more result
     pub puts : Puts state_of old.out new.out (effect_of next old.follower more).put result
 
-  -- by the event that was taken, if one was: the follower followed it, and nothing else
+  -- by the event taken, if any: the follower followed this event alone
   abbrev pub FollowsIfTaken : Option Event → Result (Option Go) WriteFault → Type 0
   FollowsIfTaken (Some e) (Ok (Some go)) =
       ReturnsEffect state_of (next old.follower (event_value_of e)) old.out new.out new.follower (Ok go)

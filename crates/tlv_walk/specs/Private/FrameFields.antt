@@ -1,4 +1,4 @@
--- What the fields of a `Stack` and of its frames say.
+-- The meaning of the fields of a `Stack` and of its frames.
 use Rattle.std.specs.Prelude.{◌≡◌, ◌≢◌, ℕ, ◌-◌, ◌^◌, Bool, true, false, eqb, if◌then◌else◌, List, [], ◌∷◌}
 use Rattle.std.specs.Prelude.{Option, Some, None}
 use Rattle.tlv_walk.specs.Stack.{FrameValue}
@@ -6,15 +6,15 @@ use Rattle.tlv_walk.specs.declared.stack.Frame.{Frame}
 use Rattle.tlv_walk.specs.declared.stack.FrameKind.{FrameKind}
 use Rattle.tlv_walk.specs.declared.stack.FrameKind.TheVariants.{Input, Definite, Indefinite, Wrapper}
 
--- the largest u64, which says that there is no bound
+-- the largest u64, which stands for no bound
 abbrev pub no_bound_mark : ℕ
 no_bound_mark = 2 ^ 64 - 1
 
--- the bound, if there is one
+-- the bound, if any
 abbrev pub bound_from : ℕ → Option ℕ
 bound_from n = if eqb n no_bound_mark then None else Some n
 
--- where the contents end, if the length is definite: such an element is itself the innermost that is definite
+-- where the contents end, if the length is definite: such an element is itself the innermost definite one
 abbrev pub end_from : FrameKind → ℕ → Option ℕ
 end_from Input n = None
 end_from Definite n = bound_from n
@@ -28,12 +28,12 @@ wraps_from Definite = false
 wraps_from Indefinite = false
 wraps_from Wrapper = true
 
--- what the fields of a frame say of its element
+-- what the fields of a frame say about its element
 abbrev pub frame_from : Frame → FrameValue
 frame_from f = record { end = end_from f.kind f.bound; bound = bound_from f.bound; wrapper = wraps_from f.kind }
 
--- the open elements, innermost first, of the innermost frame and those that hold it: all but the last, which is the
--- input
+-- the open elements, innermost first, given the innermost frame and the frames around it: all frames but the last,
+-- which is the input
 abbrev pub frames_from : Frame → List Frame → List FrameValue
 frames_from innermost [] = []
 frames_from innermost (f ∷ fs) = frame_from innermost ∷ frames_from f fs
@@ -49,7 +49,7 @@ HasEnd Definite n = n ≢ no_bound_mark
 HasEnd Indefinite n = Unit {0}
 HasEnd Wrapper n = n ≢ no_bound_mark
 
--- the input holds all the others, which are elements
+-- the last frame is the input, and all others are elements
 abbrev pub AreHolders : Frame → List Frame → Type 0
 AreHolders innermost [] = IsInput innermost
 AreHolders innermost (f ∷ fs) = HasEnd innermost.kind innermost.bound × AreHolders f fs

@@ -1,4 +1,4 @@
--- What a turn returns after a piece that was followed.
+-- What a turn returns after a followed piece.
 use Rattle.std.specs.Prelude.{◌≡◌, ℕ, ◌<◌, Bool, true, false, Result, Ok, Err}
 use Rattle.tlv_walk.specs.declared.ending.Ending.{Ending}
 use Rattle.tlv_walk.specs.declared.ending.Ending.TheVariants as ending
@@ -23,7 +23,7 @@ abbrev pub IsRunAtEnd : Run → WalkerState → Type 0
 IsRunAtEnd run w =
     (e : Ending) × (run ≡ run_of w e false) × IfAtEnd w (λ octets. IsEnding w.framing octets e)
 
--- what a turn returns after this pause of a walker, if it read so many octets, and followed so many of them
+-- what a turn returns after this pause of a walker, given the number of octets read and the number of octets followed
 abbrev pub IsResultOfPause : ℕ → ℕ → WalkerState → Pause → Result Turn DeviceFault → Type 0
 IsResultOfPause read followed w pause.Enough (Ok (Ended run)) = run ≡ run_of w ending.Done true
 IsResultOfPause read followed w (pause.Fault f) (Ok (Ended run)) = run ≡ run_of w (ending.Fault f) false

@@ -1,4 +1,4 @@
--- What the functions of a stack return, and the frame of an element by its header.
+-- What the functions of a stack return, and the frame of an element, given its header.
 use Rattle.std.specs.Prelude.{◌≡◌, ℕ, ◌-◌, Bool, not, List, [], ◌∷◌, Option, Some, None}
 use Rattle.std.specs.Option.{option_or}
 use Rattle.tlv_head.specs.declared.header.Size.{Size}
@@ -15,16 +15,16 @@ abbrev pub IsFilled : List FrameValue → ℕ → Type 0
 IsFilled [] offset = ⊥
 IsFilled (f ∷ fs) offset = f.end ≡ Some offset
 
--- the frame of an element that ends there, or is indefinite, inside those that are open
+-- the frame of an element that ends there, or is indefinite, inside the open elements
 abbrev pub frame_inside : List FrameValue → Option ℕ → Bool → FrameValue
 frame_inside stack end wrapper = record { end = end; bound = option_or end (bound_of stack); wrapper = wrapper }
 
--- how many octets there are from an offset to a bound
+-- the number of octets from an offset to a bound
 abbrev pub room_to : Option ℕ → ℕ → Option ℕ
 room_to None offset = None
 room_to (Some b) offset = Some (b - offset)
 
--- how many octets there are from an offset to the end of the innermost definite element
+-- the number of octets from an offset to the end of the innermost definite element
 abbrev pub room_in : List FrameValue → ℕ → Option ℕ
 room_in stack offset = room_to (bound_of stack) offset
 

@@ -60,32 +60,32 @@ HasBegunHeader (Refused fault) = ⊥
 abbrev pub HasOpenPrimitive : PhaseValue → Type 0
 HasOpenPrimitive phase = (left : ℕ) × (phase ≡ InPrimitive left)
 
--- if a primitive is open, more of its contents are to follow, and the piece has none of them
+-- if a primitive is open, more of its contents are to come, and the piece has none of them
 abbrev pub HasNoContents : WalkerState → List ℕ → Type 0
 HasNoContents w piece = (left : ℕ) → w.phase ≡ InPrimitive left → (0 < left) × (piece ≡ [])
 
--- the piece begins where a header begins or goes on
+-- the piece begins where a header begins or continues
 abbrev pub CanRead : WalkerState → List ℕ → Type 0
 CanRead w piece = CanBegin w piece ⊎ (HasBegunHeader w.phase × (piece ≢ []))
 
--- the walker is after the octets that the reader has; if those are none, a header begins with the piece
+-- the walker is after the reader's octets; if there are none, a header begins with the piece
 pub record CanReadOn (w : WalkerState) (r : HeadReaderState) (piece : List ℕ) : Type 0 where
   pub unfinished : r.done ≡ false
   pub end : r.offset + length r.octets ≡ w.offset
   pub counted : least_octets w.events w.stack ≤ r.offset
   pub first : (r.octets ≢ []) ⊎ CanBegin w piece
 
--- as many octets were taken as left the piece
+-- the offset grew by the number of octets that left the piece
 abbrev pub CountsOctets : WalkerState → WalkerState → List ℕ → List ℕ → Type 0
 CountsOctets old new piece rest = new.offset + length rest ≡ old.offset + length piece
 
--- as many octets were taken as left the piece, and one event was yielded
+-- the offset grew by the number of octets that left the piece, and one event was yielded
 pub record CountsOne (old new : WalkerState) (piece rest : List ℕ) : Type 0 where
   pub counts : CountsOctets old new piece rest
   pub events : new.events ≡ old.events + 1
   pub has_yielded : HasYieldedEvent new
 
--- all octets were taken, and no event was yielded nor waits
+-- all octets were taken, no event was yielded, and none waits
 pub record TakesAll (old new : WalkerState) (piece rest : List ℕ) : Type 0 where
   pub counts : new.offset ≡ old.offset + length piece
   pub none_left : rest ≡ []
@@ -101,20 +101,20 @@ pub record Refuses (old new : WalkerState) (piece rest : List ℕ) (fault : Faul
   pub wrapper_count : new.wrapper_count ≡ old.wrapper_count
   pub stack : new.stack ≡ old.stack
 
--- what a step makes of the offset, the count of events and the phase
+-- the effect of a step on the offset, the count of events and the phase
 abbrev pub CountsStep : WalkerState → WalkerState → List ℕ → List ℕ → Step → Type 0
 CountsStep old new piece rest (step.Event e) = CountsOne old new piece rest × IsNoEmptyPart e
 CountsStep old new piece rest step.NeedMore = TakesAll old new piece rest
 CountsStep old new piece rest (step.Fault f) = Refuses old new piece rest f
 
--- what a call that may yield an event at once makes of the offset, the count of events and the phase: nothing, if it
--- yields none
+-- the effect of a call that may yield an event at once, on the offset, the count of events and the phase: no change
+-- if it yields none
 abbrev pub CountsAtOnce : WalkerState → WalkerState → List ℕ → List ℕ → Option Event → Type 0
 CountsAtOnce old new piece rest (Some e) = CountsOne old new piece rest × IsNoEmptyPart e
 CountsAtOnce old new piece rest None = (new ≡ old) × (rest ≡ piece)
 
--- a header that may be there: not too deep, within the bound and the limit, and before it as many octets as events and
--- open elements, at least. It ends no earlier than where the walker is
+-- a header that is allowed there: not too deep, within the bound and the limit, and with at least as many octets
+-- before it as events and open elements. It does not end before the walker's offset
 pub record CanTakeHeader (w : WalkerState) (h : HeaderValue) : Type 0 where
   pub valid : IsHeader h
   pub end : w.offset ≤ h.offset + length (octets_of h)
@@ -127,11 +127,11 @@ pub record CanTakeHeader (w : WalkerState) (h : HeaderValue) : Type 0 where
 abbrev pub after_header : WalkerState → PhaseValue → ℕ → WalkerState
 after_header w phase offset = record w { phase = phase; offset = offset; events = w.events + 1; has_element = true }
 
--- the open elements with the one more that has this header, whose contents begin at the offset
+-- the open elements together with the element that has this header and whose contents begin at the offset
 abbrev pub stack_with : List FrameValue → HeaderFields → ℕ → List FrameValue
 stack_with stack f offset = frame_with offset (bound_of stack) f.size f.constructed ∷ stack
 
--- what a walker becomes that takes a header
+-- the walker after it takes a header
 abbrev pub TakesHeader : WalkerState → WalkerState → HeaderFields → ℕ → HeaderKind → Type 0
 TakesHeader old new f offset kind.Primitive =
     (fields_hold f ≡ false)
@@ -149,7 +149,7 @@ TakesHeader old new f offset kind.Wrapper =
       wrapper_count = next_wrapper_count old.framing.inside old.wrapper_count f.offset;
     })
 
--- a primitive that is not named, with all of which a piece begins, and that may be there
+-- a primitive that is not named, is allowed there, and is completely in the piece, at its start
 pub record CanPass (w : WalkerState) (piece : List ℕ) (p : WholePrimitive) : Type 0 where
   pub phase : w.phase ≡ Between
   pub unnamed : is_among w.offset w.framing.inside ≡ false
@@ -163,11 +163,11 @@ pub record CanPass (w : WalkerState) (piece : List ℕ) (p : WholePrimitive) : T
 abbrev pub header_at : WholePrimitive → List ℕ → HeaderValue
 header_at p piece = new_header p.fields (take p.header_length piece)
 
--- the event of a constructed header that was taken, if one was
+-- the event of the constructed header that was taken, if any
 abbrev pub open_event_if_taken : Option (HeaderFields × Bor (List ℕ)) → Option Event
 open_event_if_taken found = option_map (λ f. event.Open (new_header f.0 f.1.now)) found
 
--- the event of the header of a wrapper that was taken, if one was
+-- the event of the wrapper's header that was taken, if any
 abbrev pub enter_event_if_taken : Option (HeaderFields × Bor (List ℕ)) → Option Event
 enter_event_if_taken found = option_map (λ f. event.Enter (new_header f.0 f.1.now)) found
 
@@ -176,7 +176,7 @@ abbrev pub end_event : HolderEnd → Event
 end_event (end.Close offset) = event.Close offset
 end_event end.Leave = event.Leave
 
--- the event of such an end that was taken, if one was
+-- the event of the end that was taken, if any
 abbrev pub end_event_if_taken : Option HolderEnd → Option Event
 end_event_if_taken found = option_map end_event found
 

@@ -15,7 +15,7 @@ use Rattle.tlv_walk.specs.Wrappers.{entered_offsets}
 use Rattle.tlv_walk.specs.Stands.{IsIdle}
 use Rattle.tlv_walk.specs.StepsTo.{RefusesAgain}
 
--- from whatever zipper the walker had, it came to one that has these octets and these events in addition
+-- whatever zipper the walker had, it now has one with these additional octets and events
 pub record Continues (old new : WalkerState) (taken : List ℕ) (more : List EventValue) : Type 0 where
   pub framing : new.framing ≡ old.framing
   pub wrapper_count : new.wrapper_count
@@ -39,8 +39,8 @@ pub record EndsElement (old new : WalkerState) (e : Event) : Type 0 where
   pub has_octets : IsNoEmptyPart e
   pub yields : Continues old new [] (event_value_of e ∷ [])
 
--- after the octets b, of which these events were yielded, an octet is refused, whatever follows it: a walker has a
--- zipper of these octets and events, and no event waits
+-- after the octets b, which yielded these events, an octet is refused, whatever follows it: a walker has a zipper of
+-- these octets and events, and no event waits
 pub record RefusesWithZipper (old : WalkerState) (b : List ℕ) (octet : ℕ) (yielded : List EventValue) (f : Fault)
     : Type 0 where
   pub walker : WalkerState
@@ -52,7 +52,7 @@ pub record RefusesWithZipper (old : WalkerState) (b : List ℕ) (octet : ℕ) (y
   pub framing : walker.framing ≡ old.framing
   pub stack : walker.stack ≡ old.stack
 
--- the octet after those that were taken is refused
+-- the octet after the octets taken is refused
 pub record RefusesOctet (old : WalkerState) (piece rest : List ℕ) (f : Fault) : Type 0 where
   pub taken : List ℕ
   pub octet : ℕ
@@ -71,7 +71,7 @@ abbrev pub YieldsAtOnce : WalkerState → WalkerState → List ℕ → List ℕ 
 YieldsAtOnce old new piece rest (Some e) = YieldsEvent old new piece rest (event_value_of e)
 YieldsAtOnce old new piece rest None = Unit {0}
 
--- what a call that may yield an event at once makes of the walker, and what it yields
+-- the effect of a call that may yield an event at once on the walker, and what the call yields
 pub record StepsAtOnce (old new : WalkerState) (piece rest : List ℕ) (result : Option Event) : Type 0 where
   pub counts : CountsAtOnce old new piece rest result
   pub yields : YieldsAtOnce old new piece rest result
@@ -82,7 +82,7 @@ YieldsStep old new piece rest (step.Event e) = YieldsEvent old new piece rest (e
 YieldsStep old new piece rest step.NeedMore = Continues old new piece []
 YieldsStep old new piece rest (step.Fault f) = YieldsFault old new piece rest f
 
--- what a step makes of the walker, and what it yields
+-- the effect of a step on the walker, and what the step yields
 pub record Steps (old new : WalkerState) (piece rest : List ℕ) (result : Step) : Type 0 where
   pub counts : CountsStep old new piece rest result
   pub yields : YieldsStep old new piece rest result

@@ -24,7 +24,7 @@ pub record Layer : Type 0 where
 -- what is open after the whole elements of the innermost open element
 pub data Tail : Type 0 where
   NoTail : Tail
-  -- contents octets so far, which may be all: the end is then still to be yielded
+  -- contents octets so far; they may be all, and then the end is still to be yielded
   PrimitiveTail : (header : HeaderValue) (contents : List ℕ) → Tail
   -- a wrapping BIT STRING without its first contents octet
   BitStringTail : (header : HeaderValue) → Tail
@@ -53,19 +53,19 @@ place_in framing (l ∷ ls) = place_of_children (place_past (place_in framing ls
 abbrev pub place_of : Framing → Zipper → Place
 place_of framing s = place_past (place_in framing s.layers) s.here
 
--- whole elements are there, and nothing is open
+-- elements that are whole, at this place, and with nothing open
 pub record AreWhole (p : Place) (f : Forest) : Type 0 where
   pub obeys_grammar : ObeysGrammar p f
   pub whole : is_whole f ≡ true
 
--- each layer's elements are whole, and its header may be after them
+-- each layer's elements are whole, and its header is allowed after them
 abbrev pub AreLayers : Framing → List Layer → Type 0
 AreLayers framing [] = Unit {0}
 AreLayers framing (l ∷ ls) =
     AreLayers framing ls × AreWhole (place_in framing ls) l.before
     × IsAnnouncedAt (place_past (place_in framing ls) l.before) true l.header
 
--- 8.1.3.3: a primitive of which so many contents octets are still to come
+-- 8.1.3.3: a primitive with this many contents octets still to come
 pub record IsContents (p : Place) (h : HeaderValue) (c : List ℕ) (left : ℕ) : Type 0 where
   pub header : IsHeaderAt p false h
   pub size : h.size ≡ Definite (length c + left)
@@ -81,7 +81,7 @@ frames_of framing [] = []
 frames_of framing (l ∷ ls) =
     frame_at (place_past (place_in framing ls) l.before) l.header ∷ frames_of framing ls
 
--- the frames of a zipper: a wrapping BIT STRING has one before its first contents octet
+-- the frames of a zipper: a wrapping BIT STRING has a frame even before its first contents octet
 abbrev pub stack_of : Framing → List Layer → Place → Tail → List FrameValue
 stack_of framing ls p NoTail = frames_of framing ls
 stack_of framing ls p (PrimitiveTail h c) = frames_of framing ls
@@ -89,7 +89,7 @@ stack_of framing ls p (BitStringTail h) = frame_at p h ∷ frames_of framing ls
 stack_of framing ls p (HeaderTail octets) = frames_of framing ls
 stack_of framing ls p EndOctetsTail = frames_of framing ls
 
--- the phase of a walker is what is open there
+-- the phase of a walker matches what is open there
 abbrev pub IsPhaseOf : PhaseValue → Tail → Place → Type 0
 IsPhaseOf Between NoTail p = Unit {0}
 IsPhaseOf (InHeader r) (HeaderTail octets) p =
@@ -117,12 +117,12 @@ spelling_of_tail EndOctetsTail = 0 ∷ []
 abbrev pub spelling_of_zipper : Zipper → List ℕ
 spelling_of_zipper s = spelling_of_layers s.layers ++ (spelling s.here ++ spelling_of_tail s.tail)
 
--- the events before those of the elements in the innermost open element
+-- the events before the events of the elements in the innermost open element
 abbrev pub events_of_layers : List Layer → List EventValue
 events_of_layers [] = []
 events_of_layers (l ∷ ls) = events_of_layers ls ++ (events l.before ++ opening_events l.header)
 
--- the events of what is open after the whole elements: of a primitive not yet the end
+-- the events of what is open after the whole elements: for a primitive, its end is not included yet
 abbrev pub events_of_tail : Tail → List EventValue
 events_of_tail NoTail = []
 events_of_tail (PrimitiveTail h c) = Begin h ∷ Bytes c ∷ []
@@ -130,11 +130,11 @@ events_of_tail (BitStringTail h) = Enter h ∷ []
 events_of_tail (HeaderTail octets) = []
 events_of_tail EndOctetsTail = []
 
--- all events yielded: of a primitive and of an element that is filled, not yet the end
+-- all events yielded: the end of a primitive or of a filled element is not included yet
 abbrev pub events_of_zipper : Zipper → List EventValue
 events_of_zipper s = events_of_layers s.layers ++ (events s.here ++ events_of_tail s.tail)
 
--- whether an octet of an element came, apart from what is open after the whole elements
+-- whether an octet of an element came, not counting what is open after the whole elements
 abbrev pub has_element_before_tail : List Layer → Forest → Bool
 has_element_before_tail [] here = has_element here
 has_element_before_tail (l ∷ ls) here = true
@@ -158,8 +158,8 @@ pub record HasZipper (w : WalkerState) (b : List ℕ) (yielded : List EventValue
   pub same_events : AreEqualJoined yielded (events_of_zipper s)
   pub element : w.has_element ≡ zipper_has_element s.layers s.here s.tail
 
--- what proofs keep of a walker that stands for these octets and events: a zipper that it has, and the wrappers that it
--- found
+-- what proofs keep about a walker that stands for these octets and events: a zipper that it has, and the wrappers
+-- that it found
 pub record HasPrivateState (w : WalkerState) (b : List ℕ) (yielded : List EventValue) : Type 0 where
   pub zipper : Zipper
   pub has_zipper : HasZipper w b yielded zipper

@@ -78,7 +78,7 @@ impl Walker<'_> {
     }
 }
 
-/// How many octets `00` there are before the first that is another.
+/// The number of octets `00` at the start.
 fn zeros(octets: &[u8]) -> usize
     ensures within { result ≤ length octets.now }
     ensures zeros { All (λ x. x ≡ 0) (take result octets.now) }

@@ -1,4 +1,4 @@
-//! How a walker takes what is between elements, and the ends of those that hold others.
+//! How a walker takes what is between elements, and the ends of elements that hold others.
 ghost use Rattle.std.specs.Prelude.{◌≡◌};
 ghost use Rattle.tlv_walk.specs.Phase.{Between, InEndOctets};
 ghost use Rattle.tlv_walk.specs.Private.Stack.{IsFilled};
@@ -58,7 +58,7 @@ impl Walker<'_> {
         Event::Close(None)
     }
 
-    /// Takes end-of-contents octets that lie whole in the piece, if they may be here.
+    /// Takes the end-of-contents octets if both are in the piece and they are allowed here.
     #[inline(always)]
     pub(super) fn take_end_octets<'a>(&mut self, piece: &mut &'a [u8]) -> Option<HolderEnd>
         requires phase { self.old.phase ≡ Between }

@@ -33,7 +33,7 @@ pub(super) enum HeaderKind {
 }
 
 impl Walker<'_> {
-    /// Begins a header or goes on with one, octet by octet.
+    /// Begins or continues a header, octet by octet.
     pub(super) fn header<'a>(&mut self, piece: &mut &'a [u8]) -> Step<'a>
         requires can { CanRead self.old piece.old.now }
         requires limit { IsWithinInputLimit self.old piece.old.now }
@@ -49,7 +49,7 @@ impl Walker<'_> {
         self.read_on(HeadReader::new(self.offset, named), piece)
     }
 
-    /// Goes on with a header, octet by octet.
+    /// Continues a header, octet by octet.
     fn read_on<'a>(&mut self, reader: HeadReader, piece: &mut &'a [u8]) -> Step<'a>
         requires phase { self.old.phase ≡ Between }
         requires can { CanReadOn self.old reader piece.old.now }
@@ -101,7 +101,8 @@ impl Walker<'_> {
         }
     }
 
-    /// Takes a header that may be here: counts its octets and the event, and opens a frame if its element holds others.
+    /// Takes a header that is allowed here: counts its octets and the event, and opens a frame if its element holds
+    /// others.
     #[inline(always)]
     pub(super) fn take_header(&mut self, fields: &HeaderFields, octets: &[u8]) -> HeaderKind
         requires phase { self.old.phase ≡ Between }
@@ -133,9 +134,8 @@ impl Walker<'_> {
         HeaderKind::Wrapper
     }
 
-    /// Counts a string that holds encodings, if its offset is the first of those named that was
-    /// not counted yet. Strings come in the order of their offsets, so an offset that is left out stays
-    /// unused.
+    /// Counts a string that holds encodings, if its offset is the first named offset not counted yet. Strings come in
+    /// the order of their offsets, so an offset that is skipped stays unused.
     #[tactic(auto, using(std::proofs::lemmas::Option::slice_get_within))]
     fn found_wrapper(&mut self, offset: u64)
         ensures { self.new
@@ -147,12 +147,12 @@ impl Walker<'_> {
         if self.unused() == Some(offset) {
             self.wrapper_count += 1;
         }
-        // The short way does not move the cursor, and is the way of most elements, also of those in the string.
+        // The short way, which most elements take, also elements inside the string, does not move the cursor.
         self.cursor.move_to(self.inside, self.offset);
     }
 
-    /// If this is `true`, an element with this header may be here: it is not too deep, and its contents
-    /// end within the bound.
+    /// Returns `true` only if an element with this header is allowed here: it is not too deep, and its contents end
+    /// within the bound.
     #[inline(always)]
     pub(super) fn fits_there(&self, fields: &HeaderFields, octets: &[u8]) -> bool
         requires offset { fields.now.offset ≡ self.now.offset }

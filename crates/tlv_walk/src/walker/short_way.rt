@@ -12,29 +12,29 @@ use super::{Phase, Walker};
 use crate::Event;
 use tlv_head::{HeaderFields, Size, read_short};
 
-/// A primitive, all of it, with which a piece begins.
+/// A whole primitive with which a piece begins.
 #[derive(Clone, Copy)]
 pub(crate) struct WholePrimitive {
     /// The fields of its header.
     pub fields: HeaderFields,
-    /// How many octets its header has.
+    /// The number of octets of its header.
     pub header_length: usize,
-    /// How many octets it has, contents and all.
+    /// The number of its octets, contents included.
     pub octet_count: usize,
 }
 
 /// The end of an element that holds others.
 #[derive(Clone, Copy)]
 pub(crate) enum HolderEnd {
-    /// Of a constructed element, with the offset of its end-of-contents octets, if it has any.
+    /// Of a constructed element, with the offset of its end-of-contents octets, if any.
     Close(Option<u64>),
     /// Of a string that holds encodings.
     Leave,
 }
 
 impl Walker<'_> {
-    /// The primitive with which these octets begin, if all of it is among them, its header has few octets, it is not
-    /// named, and it may be here. With `two_octets`, only if its header has two octets.
+    /// The primitive with which these octets begin, if they hold all of it, its header has few octets, its offset is
+    /// not named, and it is allowed here. With `two_octets`, only if its header has two octets.
     #[inline(always)]
     pub(crate) fn primitive(&self, octets: &[u8], two_octets: bool) -> Option<WholePrimitive>
         requires { IsWithinInputLimit self.now octets.now }
@@ -87,7 +87,7 @@ impl Walker<'_> {
         let (_, rest) = octets.split_at(primitive.octet_count);
         *piece = rest;
         self.offset += primitive.octet_count as u64;
-        // The header, the contents unless there are none, and the end.
+        // The events: the header, the contents if there are any, and the end.
         self.events += if primitive.header_length == primitive.octet_count {
             2
         } else {
@@ -96,8 +96,8 @@ impl Walker<'_> {
         self.has_element = true;
     }
 
-    /// Takes the header with which the piece begins, if it is a constructed one of few octets that may be here.
-    /// Otherwise nothing is taken.
+    /// Takes the header with which the piece begins, if it is a short header of a constructed element that is allowed
+    /// here; otherwise takes nothing.
     #[inline(always)]
     pub(crate) fn constructed<'a>(
         &mut self,
@@ -133,8 +133,8 @@ impl Walker<'_> {
         Some((fields, front))
     }
 
-    /// Takes the end of the innermost element, if it ends here: its contents have all come, or its end-of-contents
-    /// octets lie whole in the piece. Otherwise nothing is taken.
+    /// Takes the end of the innermost element if it ends here: its contents are complete, or both end-of-contents
+    /// octets are in the piece. Otherwise takes nothing.
     #[inline(always)]
     pub(crate) fn close<'a>(&mut self, piece: &mut &'a [u8]) -> Option<HolderEnd>
         requires { IsWithinInputLimit self.old piece.old.now }
@@ -156,8 +156,8 @@ impl Walker<'_> {
         Some(HolderEnd::Close(None))
     }
 
-    /// Takes contents of the primitive that is open, or its end. Nothing is taken if none is open, or if the next of
-    /// its contents octets is not in the piece.
+    /// Takes contents of the open primitive, or its end. Takes nothing if no primitive is open, or if its next
+    /// contents octet is not in the piece.
     #[inline(always)]
     pub(crate) fn contents_event<'a>(&mut self, piece: &mut &'a [u8]) -> Option<Event<'a>>
         requires { IsWithinInputLimit self.old piece.old.now }
@@ -177,8 +177,8 @@ impl Walker<'_> {
         Some(self.contents(left, piece))
     }
 
-    /// Takes the header with which the piece begins, if it is one of few octets of a string that holds encodings, and
-    /// may be here. Otherwise nothing is taken.
+    /// Takes the header with which the piece begins, if it is a short header of a string that holds encodings and is
+    /// allowed here; otherwise takes nothing.
     #[inline(always)]
     pub(crate) fn wrapper<'a>(&mut self, piece: &mut &'a [u8]) -> Option<(HeaderFields, &'a [u8])>
         requires { IsWithinInputLimit self.old piece.old.now }
@@ -207,7 +207,7 @@ impl Walker<'_> {
     }
 
     /// Takes the first contents octet of a BIT STRING that holds encodings, if it comes next and is `00`. Returns
-    /// whether it did; otherwise nothing is taken.
+    /// whether it did; otherwise takes nothing.
     #[inline(always)]
     pub(crate) fn no_unused_bits<'a>(&mut self, piece: &mut &'a [u8]) -> bool
         requires { IsWithinInputLimit self.old piece.old.now }
@@ -232,7 +232,7 @@ impl Walker<'_> {
     }
 }
 
-/// Whether the octets begin with a tag in the low form and a length in the short form, an octet each.
+/// Whether the octets begin with a tag in the low form and a length in the short form, one octet each.
 #[inline(always)]
 fn has_two_octets(octets: &[u8]) -> bool {
     match octets {
