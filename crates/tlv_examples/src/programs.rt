@@ -62,7 +62,7 @@ fn read_the_words_of_tlvdump_show(rt: HostRuntime) -> Result<(), Fail> {
     Ok(())
 }
 
-/// tlv_view_program: `tlvdump-show` of an OCTET STRING that holds a NULL, with no file of names.
+/// tlv_view_program: `tlvdump-show` of an OCTET STRING that holds a NULL, with no names file.
 #[test]
 fn run_tlvdump_show(rt: HostRuntime) -> Result<(), Fail> {
     let mut words = Words::new(rt.alloc());

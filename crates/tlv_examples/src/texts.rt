@@ -13,7 +13,7 @@ fn decode_hexadecimal(rt: HostRuntime) -> Result<(), Fail> {
     Ok(())
 }
 
-/// tlv_forms: an input is taken for what it is, here PEM, and its block decoded.
+/// tlv_forms: an input is recognized for what it is, here PEM, and its block decoded.
 #[test]
 fn take_a_text_for_what_it_is(rt: HostRuntime) -> Result<(), Fail> {
     let text = b"-----BEGIN X-----\nMAMCAQU=\n-----END X-----\n";

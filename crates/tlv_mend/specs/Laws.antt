@@ -9,23 +9,23 @@ use Rattle.tlv_mend.specs.declared.lengths.WrongLength.{WrongLength}
 use Rattle.tlv_mend.specs.Remedies.{AreRemedies, length_line}
 use Rattle.tlv_mend.specs.WrongLength.{IsWrongLength, length_bound, with_length}
 
--- of an input and offsets, one length is wrong, or none
+-- an input and offsets determine the wrong length, or that there is none
 abbrev pub InputsHaveOneWrongLength : Type 0
 InputsHaveOneWrongLength = (framing : Framing) (octets candidates : List ℕ) (a b : Option WrongLength)
     → IsWrongLength framing octets candidates a → IsWrongLength framing octets candidates b → a ≡ b
 
--- a header that says another length, which its length octets can say, is a header of as many octets
+-- a header with another length that its length octets can state is a header of the same number of octets
 abbrev pub OtherLengthsMakeHeaders : Type 0
 OtherLengthsMakeHeaders =
     (h : HeaderValue) (said n : ℕ) → IsHeader h → h.size ≡ Definite said → n < length_bound (length h.lengths)
     → n < 2 ^ 40
     → IsHeader (with_length h n) × (length (octets_of (with_length h n)) ≡ length (octets_of h))
 
--- what may be done of octets is said in printable ASCII, in lines
+-- the lines that say what may be done with octets are printable ASCII
 abbrev pub RemediesAreShown : Type 0
 RemediesAreShown = (padding : Bool) (octets candidates lines : List ℕ) → AreOctets octets
     → AreRemedies padding octets candidates lines → AreShown lines
 
--- so is what another length would do
+-- so is the line about another length
 abbrev pub LengthLinesAreShown : Type 0
 LengthLinesAreShown = (found : Option WrongLength) → AreShown (length_line found)

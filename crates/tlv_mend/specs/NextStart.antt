@@ -1,4 +1,4 @@
--- Where else in an input encodings begin: X.690 8.1.1.
+-- Where else encodings begin in an input: X.690 8.1.1.
 use Rattle.std.specs.Prelude.{◌≡◌, ◌⊎◌, ℕ, Bool, false, true, List, ◌++◌, length, take, drop, min, Option, None, Some}
 use Rattle.std.specs.Option.{option_map_or}
 use Rattle.std.specs.Str.TwoWay.{IsFirst}
@@ -18,27 +18,26 @@ pub record BeginsWithEncodings (octets : List ℕ) : Type 0 where
 abbrev pub EndsWithInput : HeaderValue → List ℕ → Type 0
 EndsWithInput h after = definite_length h.size ≡ Some (length after)
 
--- 8.1.4: those of the octets after this header that are contents of its element
+-- 8.1.4: the octets after this header that are contents of its element
 abbrev pub contents_among : HeaderValue → List ℕ → List ℕ
 contents_among h after = option_map_or (λ n. take n after) (definite_length h.size) after
 
--- the element with which the input begins seems to be one: it ends with the input, or is constructed and its contents
--- begin with whole encodings
+-- the first element of the input seems right: it ends with the input, or it is constructed and its contents begin with
+-- whole encodings
 pub record SeemsRight (octets : List ℕ) : Type 0 where
   pub header : HeaderValue
   pub begins : BeginsWith octets 0 false header
   pub fits : EndsWithInput header begins.rest
       ⊎ ((header.constructed ≡ true) × BeginsWithEncodings (contents_among header begins.rest))
 
--- from this offset on the input is sound, and there begins a constructed element
+-- the input is sound from this offset on, and a constructed element begins there
 pub record IsStart (padding : Bool) (octets : List ℕ) (offset : ℕ) : Type 0 where
   pub header : HeaderValue
   pub begins : BeginsWith (drop offset octets) offset false header
   pub constructed : header.constructed ≡ true
   pub sound : IsSoundList (closed_framing padding) (drop offset octets)
 
--- the offset from which on the input is sound, if the element with which it begins does not seem right: the first from
--- 1 up to 64
+-- the offset from which the input is sound, if its first element does not seem right: the first from 1 to 64
 pub record IsNextStart (padding : Bool) (octets : List ℕ) (found : Option ℕ) : Type 0 where
   pub otherwise : (SeemsRight octets → ⊥) → IsFirst (IsStart padding octets) 1 (min 65 (length octets)) found
   pub none : SeemsRight octets → found ≡ None

@@ -1,4 +1,4 @@
--- What may be done of an input that does not parse, in lines: which one change would make it sound, and what it may be.
+-- What may be done with an input that does not parse, in lines: which change would make it sound, and what it may be.
 use Rattle.std.specs.Prelude.{◌≡◌, ℕ, ◌+◌, Bool, eqb, nat_eq, if◌then◌else◌, List, [], ◌∷◌, ◌++◌}
 use Rattle.std.specs.Prelude.{Option, None, Some, codes, decimal}
 use Rattle.std.specs.List.{starts_with}
@@ -16,7 +16,7 @@ use Rattle.tlv_mend.specs.WrongLength.{IsWrongLength}
 abbrev pub octets_word : ℕ → List ℕ
 octets_word count = if eqb count 1 then codes " octet" else codes " octets"
 
--- of a header that says a wrong length, if one does
+-- the line about a header whose length is wrong, if there is one
 abbrev pub length_line : Option WrongLength → List ℕ
 length_line None = []
 length_line (Some w) =
@@ -25,7 +25,7 @@ length_line (Some w) =
 
 -- ---- a text
 
--- what a program did to the input as to a text, if it is sound once that is undone: UTF-8 is looked for first
+-- what was done to the input as if it were a text, if undoing it makes the input sound: UTF-8 is tried first
 pub data IsTextChange (padding : Bool) (octets : List ℕ) : Option TextChange → Type 0 where
   utf8 : IsSoundWithoutUtf8 padding octets → IsTextChange padding octets (Some Utf8)
   line_ends : (IsSoundWithoutUtf8 padding octets → ⊥) → IsSoundWithLfAlone padding octets
@@ -33,7 +33,7 @@ pub data IsTextChange (padding : Bool) (octets : List ℕ) : Option TextChange �
   neither : (IsSoundWithoutUtf8 padding octets → ⊥) → (IsSoundWithLfAlone padding octets → ⊥)
       → IsTextChange padding octets None
 
--- of what was done, if anything was
+-- the line about what was done, if anything was
 abbrev pub change_line : Option TextChange → List ℕ
 change_line None = []
 change_line (Some Utf8) =
@@ -44,7 +44,7 @@ change_line (Some LineEnds) =
 
 -- ---- other kinds of file
 
--- of the octets with which files of some other kinds begin
+-- the line about another kind of file, by the octets with which files of that kind begin
 abbrev pub kind_line : List ℕ → List ℕ
 kind_line octets =
     if starts_with nat_eq octets (0x50 ∷ 0x4b ∷ 0x03 ∷ 0x04 ∷ []) then
@@ -62,13 +62,13 @@ kind_line octets =
 
 -- ---- another start
 
--- what stands in front of it, and how to leave that out: `tail` counts octets from 1
+-- what stands in front of it, and how to leave it out: `tail` counts octets from 1
 unfoldable pub start_reason : List ℕ
 start_reason =
     codes " on it parses: what stands in front may be a header of the file or of the record, or damaged. "
     ++ codes "Try: tail -c +"
 
--- of the offset from which on the input is sound, if there is one
+-- the line about the offset from which the input is sound, if there is one
 abbrev pub start_line : Option ℕ → List ℕ
 start_line None = []
 start_line (Some offset) =
@@ -76,11 +76,11 @@ start_line (Some offset) =
 
 -- ---- all lines
 
--- the lines of what was changed
+-- the lines about what was changed
 abbrev pub changes_lines : Option WrongLength → Option TextChange → List ℕ
 changes_lines wrong change = length_line wrong ++ change_line change
 
--- the lines of what else an input may be
+-- the lines about what else an input may be
 abbrev pub other_lines : List ℕ → Option ℕ → List ℕ
 other_lines octets start = kind_line octets ++ start_line start
 
@@ -88,7 +88,7 @@ other_lines octets start = kind_line octets ++ start_line start
 abbrev pub remedy_lines : List ℕ → Option WrongLength → Option TextChange → Option ℕ → List ℕ
 remedy_lines octets wrong change start = changes_lines wrong change ++ other_lines octets start
 
--- the lines of an input, with the headers at these offsets as candidates
+-- the lines about an input, with the headers at these offsets as candidates
 pub record AreRemedies (padding : Bool) (octets candidates lines : List ℕ) : Type 0 where
   pub wrong : Option WrongLength
   pub is_wrong : IsWrongLength (closed_framing padding) octets candidates wrong

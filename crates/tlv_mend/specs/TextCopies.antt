@@ -1,4 +1,4 @@
--- What programs do to octets that they take for a text, and how it is undone.
+-- What programs do to octets that they take for a text, and how to undo it.
 use Rattle.std.specs.Prelude.{◌≡◌, ◌≢◌, ℕ, ◌+◌, ◌*◌, ◌-◌, Bool, false, ◌&&◌, ◌||◌, ◌==◌, nat_le, nat_lt, if◌then◌else◌}
 use Rattle.std.specs.Prelude.{List, [], ◌∷◌, Option, None, Some}
 use Rattle.std.specs.Option.{option_map}
@@ -10,12 +10,12 @@ abbrev pub begins_crlf : List ℕ → Bool
 begins_crlf (x ∷ y ∷ more) = (x == 0x0d) && (y == 0x0a)
 begins_crlf octets = false
 
--- the octets with each 0d 0a as 0a alone
+-- the octets with 0a in place of each 0d 0a
 abbrev pub with_lf_alone : List ℕ → List ℕ
 with_lf_alone [] = []
 with_lf_alone (x ∷ more) = if begins_crlf (x ∷ more) then with_lf_alone more else x ∷ with_lf_alone more
 
--- octets 0d 0a are there, and the input is sound if each is 0a alone
+-- there are octets 0d 0a, and the input is sound if each is 0a alone
 pub record IsSoundWithLfAlone (padding : Bool) (octets : List ℕ) : Type 0 where
   pub changed : with_lf_alone octets ≢ octets
   pub sound : IsSoundList (closed_framing padding) (with_lf_alone octets)

@@ -1,4 +1,4 @@
-//! Length octets that are changed in place.
+//! Length octets, changed in place.
 ghost use Rattle.std.specs.Prelude.{◌≡◌, ◌<◌, ◌≤◌, ◌-◌, ◌^◌, ◌↔◌, IsTrue, length, nat_lt, true};
 ghost use Rattle.tlv_mend.specs.Private.Lengths.{SoundWithOctets};
 ghost use Rattle.tlv_mend.specs.WrongLength.{base_256, length_bound, length_octets_saying, search_limit};
@@ -15,7 +15,7 @@ pub(crate) struct LengthPlace {
     pub(crate) end: usize,
 }
 
-/// Whether so many length octets can say this length.
+/// Whether this number of length octets can state this length.
 pub(crate) fn can_say(count: usize, would: u64) -> bool
     requires some { 0 < count }
     requires below { would < 2 ^ 41 }
@@ -28,8 +28,7 @@ pub(crate) fn can_say(count: usize, would: u64) -> bool
     }
 }
 
-/// Whether the input is sound if the length octets there say this length. The copy is changed, and then is the same
-/// again.
+/// Whether the input is sound if the length octets there state this length. Changes the copy, and then restores it.
 pub(crate) fn is_sound_with(
     octets: &[u8],
     copy: &mut [u8],
@@ -51,7 +50,7 @@ pub(crate) fn is_sound_with(
     sound
 }
 
-/// Makes length octets say another length, in the same form.
+/// Makes length octets state another length, in the same form.
 fn set_length(octets: &mut [u8], would: u64)
     requires some { 0 < length octets.old }
     requires short { length octets.old ≡ 1 → would < 128 }
@@ -64,7 +63,7 @@ fn set_length(octets: &mut [u8], would: u64)
     }
 }
 
-/// Makes octets say a number in base 256, the most significant first.
+/// Sets octets to a number in base 256, the most significant octet first.
 fn set_base_256(octets: &mut [u8], number: u64)
     ensures { octets.new ≡ base_256 (length octets.old) number }
 {

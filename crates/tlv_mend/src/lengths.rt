@@ -1,4 +1,4 @@
-//! Which one length, changed a little, would make an input sound.
+//! Which single length, changed a little, would make an input sound.
 ghost use Rattle.std.specs.Prelude.{◌≡◌, ◌<◌, ◌≤◌, ◌+◌, ◌-◌, ◌^◌, All, IfOk, List, MatchOption, drop, false};
 ghost use Rattle.std.specs.Prelude.{length, ◌∷◌, ℕ};
 ghost use Rattle.tlv_head.specs.Header.{HeaderValue};
@@ -14,25 +14,25 @@ use std::alloc::{AllocError, Global};
 use tlv_head::{Size, read_header};
 use tlv_walk::Framing;
 
-/// The most octets of an input that is searched.
+/// The greatest number of octets of an input that is searched.
 pub const SEARCH_LIMIT: usize = 1 << 20;
 
-/// A header that says a wrong length: if it said another, the input would be sound.
+/// A header whose length is wrong: with another length, the input would be sound.
 #[derive(Clone, Copy, PartialEq, Eq, Debug)]
 pub struct WrongLength {
     /// Where the header begins, in octets from the start of the input.
     pub offset: usize,
-    /// How many contents octets it says.
+    /// The number of contents octets that it states.
     pub said: u64,
-    /// How many it would have to say.
+    /// The number that it would have to state.
     pub would: u64,
 }
 
-/// Which of the headers at these offsets, in octets from the start of the input, says a wrong length: the first that
-/// could say another, at most 5 octets more or fewer, so that the input would be sound. Nearer lengths are tried first,
-/// and of two that are as near the greater. A header says another length in as many length octets as before. `None` if
-/// there is no such header, or if the input has more than [`SEARCH_LIMIT`] octets. `framing` says how the input is
-/// read: which strings hold encodings, and whether octets `00` are allowed at the top.
+/// Finds which of the headers at these offsets, in octets from the start of the input, has a wrong length: the first
+/// for which another length, at most 5 octets more or fewer, would make the input sound. Tries nearer lengths first,
+/// and of two that are equally near the greater first. The other length takes as many length octets as before. `None`
+/// if there is no such header, or if the input has more than [`SEARCH_LIMIT`] octets. `framing` says how the input is
+/// read: which strings hold encodings, and whether octets `00` are allowed at the top level.
 ///
 /// # Errors
 ///
@@ -53,7 +53,7 @@ pub fn wrong_length(
     Ok(first_wrong_length(octets, copy.as_mut_slice(), framing, candidates))
 }
 
-/// [`wrong_length`] of an input that is searched, with a copy of it that is changed, and is the same in the end.
+/// [`wrong_length`] of an input that is searched. Changes a copy of the input, and restores it in the end.
 fn first_wrong_length(
     octets: &[u8],
     copy: &mut [u8],
@@ -72,7 +72,7 @@ fn first_wrong_length(
     None
 }
 
-/// The length that the header at this offset says, and the other with which the input would be sound.
+/// The length that the header at this offset states, and the length with which the input would be sound.
 fn wrong_length_at(
     octets: &[u8],
     copy: &mut [u8],
@@ -109,7 +109,7 @@ fn wrong_length_at(
     }
 }
 
-/// The lengths at distances from 1 to 5 from this one, nearer ones first, and of two that are as near the greater.
+/// The lengths at distances from 1 to 5 from this one: nearer ones first, and of two that are equally near the greater.
 fn near_lengths(said: u64) -> ArrayVec<u64, 10>
     requires { said < 2 ^ 40 }
     ensures lengths { result.items ≡ lengths_within said 5 }
@@ -125,7 +125,7 @@ fn near_lengths(said: u64) -> ArrayVec<u64, 10>
     lengths
 }
 
-/// The first of these lengths that the length octets there can say, so that the input is sound.
+/// The first of these lengths that the length octets there can state and that makes the input sound.
 fn first_right_length(
     octets: &[u8],
     copy: &mut [u8],

@@ -1,5 +1,5 @@
-//! Which one change would make an input sound: one length, or what a program did to it as to a text (ITU-T X.690); and
-//! the lines that say so.
+//! Which single change would make an input sound (ITU-T X.690): another length, or undoing what a program did to it as
+//! to a text; and the lines that say so.
 #![tactic(auto)]
 
 pub mod laws;

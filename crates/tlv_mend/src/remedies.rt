@@ -1,4 +1,4 @@
-//! What may be done of an input that does not parse, in lines.
+//! What may be done with an input that does not parse, in lines.
 ghost use Rattle.std.specs.Prelude.{◌≡◌, ◌≤◌, IfOk, IfSome, List, OnErr, Option, length, ℕ};
 ghost use Rattle.tlv_head.specs.InputLimit.{input_limit};
 ghost use Rattle.tlv_io.specs.Out.{Puts, Sends};
@@ -19,18 +19,18 @@ use tlv_walk::{Drain, Framing, Out, WriteFault};
 /// What was found in an input.
 #[derive(Clone, Copy)]
 struct Findings {
-    /// The header that says a wrong length.
+    /// The header whose length is wrong.
     wrong: Option<WrongLength>,
-    /// What was done to the input as to a text.
+    /// What was done to the input as if it were a text.
     change: Option<TextChange>,
-    /// The offset from which on it is sound.
+    /// The offset from which the input is sound.
     start: Option<usize>,
 }
 
-/// Writes what may be done of an input that does not parse, in lines of ASCII: which one length would make it sound;
-/// what was done to it as to a text; of which other kind the file is; and from which offset on it is sound. There is a
-/// line of each if it holds, and nothing if none does. `candidates` are the offsets of headers that may say a wrong
-/// length, the nearest to the fault first. With `padding`, octets `00` are allowed at the top.
+/// Writes what may be done with an input that does not parse, in lines of ASCII: which single length would make it
+/// sound; what was done to it as if it were a text; which other kind of file it is; and from which offset it is sound.
+/// Writes a line for each that applies, and nothing if none applies. `candidates` are the offsets of headers whose
+/// length may be wrong, the nearest to the fault first. With `padding`, octets `00` are allowed at the top level.
 ///
 /// # Errors
 ///
@@ -53,9 +53,9 @@ pub fn write_remedies<D: Drain>(
     Ok(write_lines(octets, &findings, drain))
 }
 
-/// Writes the line of the one length that would make an input sound, in ASCII; nothing if none would. `candidates` are
-/// the offsets of headers that may say a wrong length, the nearest to the fault first. `framing` says how the input is
-/// read: which strings hold encodings, and whether octets `00` are allowed at the top.
+/// Writes the line about the single length that would make an input sound, in ASCII; nothing if there is none.
+/// `candidates` are the offsets of headers whose length may be wrong, the nearest to the fault first. `framing` says
+/// how the input is read: which strings hold encodings, and whether octets `00` are allowed at the top level.
 ///
 /// # Errors
 ///
@@ -77,7 +77,7 @@ pub fn write_wrong_length<D: Drain>(
     Ok(write_length_line(found, drain))
 }
 
-/// Writes the line of a wrong length.
+/// Writes the line about a wrong length.
 #[tactic(auto, using(tlv_io::proofs::Sends::sends))]
 fn write_length_line<D: Drain>(wrong: Option<WrongLength>, drain: &mut D) -> Result<(), WriteFault>
     ensures { Sends (D.state drain.old) (D.state drain.new) (length_line wrong) result }
@@ -108,7 +108,7 @@ fn findings_of(
     })
 }
 
-/// Writes the lines of what was found.
+/// Writes the lines about what was found.
 #[tactic(auto, using(tlv_io::proofs::Sends::sends))]
 fn write_lines<D: Drain>(
     octets: &[u8],
@@ -140,7 +140,7 @@ fn put_lines<D: Drain>(
     put_other_lines(octets, findings.start, out)
 }
 
-/// Puts the lines of what was changed in an input.
+/// Puts the lines about what was changed in an input.
 #[tactic(auto, using(tlv_io::proofs::Puts::puts))]
 fn put_changes<D: Drain>(
     wrong: Option<WrongLength>,
@@ -153,7 +153,7 @@ fn put_changes<D: Drain>(
     put_change_line(change, out)
 }
 
-/// Puts the lines of what else an input may be.
+/// Puts the lines about what else an input may be.
 #[tactic(auto, using(tlv_io::proofs::Puts::puts))]
 fn put_other_lines<D: Drain>(
     octets: &[u8],
@@ -167,7 +167,7 @@ fn put_other_lines<D: Drain>(
     put_start_line(start, out)
 }
 
-/// Puts the line of a wrong length.
+/// Puts the line about a wrong length.
 fn put_length_line<D: Drain>(
     wrong: Option<WrongLength>,
     out: &mut Out<'_, D>,
@@ -177,7 +177,7 @@ fn put_length_line<D: Drain>(
     out.put(length_line(wrong).as_slice())
 }
 
-/// Puts the line of what was done to a text.
+/// Puts the line about what was done to a text.
 fn put_change_line<D: Drain>(
     change: Option<TextChange>,
     out: &mut Out<'_, D>,
@@ -187,14 +187,14 @@ fn put_change_line<D: Drain>(
     out.put(change_line(change))
 }
 
-/// Puts the line of another kind of file.
+/// Puts the line about another kind of file.
 fn put_kind_line<D: Drain>(octets: &[u8], out: &mut Out<'_, D>) -> Result<(), WriteFault>
     ensures { Puts D.state out.old out.new (kind_line octets.now) result }
 {
     out.put(kind_line(octets))
 }
 
-/// Puts the line of the offset from which on an input is sound.
+/// Puts the line about the offset from which an input is sound.
 fn put_start_line<D: Drain>(start: Option<usize>, out: &mut Out<'_, D>) -> Result<(), WriteFault>
     requires { IfSome start (λ n. n ≤ 64) }
     ensures { Puts D.state out.old out.new (start_line start) result }

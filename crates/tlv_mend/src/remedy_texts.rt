@@ -1,4 +1,4 @@
-//! The texts of lines that say what may be done of an input that does not parse.
+//! The texts of lines that say what may be done with an input that does not parse.
 ghost use Rattle.std.specs.Prelude.{◌≡◌, ◌≤◌, ◌+◌, ◌++◌, IfSome, decimal, length};
 ghost use Rattle.tlv_mend.specs.Remedies.{change_line, kind_line, length_line};
 ghost use Rattle.tlv_mend.specs.Remedies.{octets_word, start_line, start_reason};
@@ -8,10 +8,10 @@ use crate::text_changes::TextChange;
 use arrayvec::ArrayVec;
 use itoa::Buffer;
 
-/// A line that is made.
+/// A line to which text is added.
 type Line = ArrayVec<u8, 256>;
 
-/// The line of a header that says a wrong length; nothing for none.
+/// The line about a header whose length is wrong; empty for `None`.
 pub(crate) fn length_line(wrong: Option<WrongLength>) -> Line
     ensures { result.items ≡ length_line wrong }
 {
@@ -40,7 +40,7 @@ fn octets_word(count: u64) -> &'static [u8]
     }
 }
 
-/// The line of what was done to a text; nothing for none.
+/// The line about what was done to a text; empty for `None`.
 pub(crate) fn change_line(change: Option<TextChange>) -> &'static [u8]
     ensures { result.now ≡ change_line change }
 {
@@ -56,7 +56,7 @@ pub(crate) fn change_line(change: Option<TextChange>) -> &'static [u8]
     }
 }
 
-/// The line of another kind of file, by the octets with which the input begins; nothing if they are no such octets.
+/// The line about another kind of file, by the first octets of the input; empty if they are of no such kind.
 pub(crate) fn kind_line(octets: &[u8]) -> &'static [u8]
     ensures { result.now ≡ kind_line octets.now }
 {
@@ -77,7 +77,7 @@ pub(crate) fn kind_line(octets: &[u8]) -> &'static [u8]
     }
 }
 
-/// The line of the offset from which on an input is sound; nothing for none.
+/// The line about the offset from which an input is sound; empty for `None`.
 pub(crate) fn start_line(start: Option<usize>) -> Line
     requires { IfSome start (λ n. n ≤ 64) }
     ensures { result.items ≡ start_line start }
@@ -93,7 +93,7 @@ pub(crate) fn start_line(start: Option<usize>) -> Line
     line
 }
 
-/// What stands in front of such an offset, and how to leave that out.
+/// What stands in front of such an offset, and how to leave it out.
 #[tactic(auto, unfolding(crate::specs::Remedies::start_reason))]
 fn start_reason() -> &'static [u8]
     ensures text { result.now ≡ start_reason }

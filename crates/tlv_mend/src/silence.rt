@@ -1,8 +1,8 @@
-//! A follower that makes nothing of a walk, and a drain that keeps nothing.
+//! A follower that ignores the events of a walk, and a drain that keeps nothing.
 use tlv_head::{Header, HeaderFields};
 use tlv_walk::{Drain, Event, Follow, Go, Out, WriteFault};
 
-/// A follower that makes nothing of a walk: what counts is the ending alone.
+/// A follower that ignores the events of a walk: only the ending counts.
 #[derive(Clone, Copy)]
 pub(crate) struct Silent;
 
@@ -54,7 +54,7 @@ impl Follow for Silent {
     }
 }
 
-/// A drain that keeps nothing of what it takes, and of which no write fails.
+/// A drain that keeps nothing of what it takes, and whose writes never fail.
 #[derive(Clone, Copy)]
 pub(crate) struct Nowhere;
 

@@ -8,8 +8,8 @@ use crate::silence::{Nowhere, Silent};
 use tlv_run::UnfailingSource;
 use tlv_walk::{Ending, Framing, Inside, drive};
 
-/// Whether the octets are one or more whole encodings, and nothing open. With `padding`, octets `00` are allowed at the
-/// top.
+/// Whether the octets are one or more whole encodings, with nothing left open. With `padding`, octets `00` are allowed
+/// at the top level.
 pub(crate) fn is_sound(octets: &[u8], padding: bool) -> bool
     requires { length octets.now ≤ input_limit }
     ensures { IsTrue result ↔ IsSoundList (closed_framing padding) octets.now }
@@ -27,7 +27,7 @@ pub(crate) fn closed_framing(padding: bool) -> Framing<'static>
     }
 }
 
-/// Whether the octets, read so, are one or more whole encodings, and nothing open.
+/// Whether the octets, read with this framing, are one or more whole encodings, with nothing left open.
 pub(crate) fn is_sound_list(octets: &[u8], framing: &Framing<'_>) -> bool
     requires { length octets.now ≤ input_limit }
     ensures { IsTrue result ↔ IsSoundList framing.now octets.now }

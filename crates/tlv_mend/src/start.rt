@@ -1,4 +1,4 @@
-//! Where else in an input encodings begin.
+//! Where else encodings begin in an input.
 ghost use Rattle.std.specs.Option.{option_map_or};
 ghost use Rattle.std.specs.Prelude.{◌≡◌, ◌≤◌, ◌+◌, ◌↔◌, IfSome, IsTrue, Some, false, length, min, take, ℕ};
 ghost use Rattle.std.specs.Str.TwoWay.{IsFirst};
@@ -19,10 +19,10 @@ use tlv_walk::Ending;
 /// The greatest offset at which encodings are looked for, in octets from the start of the input.
 const START_LIMIT: usize = 64;
 
-/// The offset from which on the input is sound, in octets from its start: the first from 1 up to 64 at which the header
-/// of a constructed element is. `None` if there is none, or if the element with which the input begins seems right: it
-/// ends with the input, or is constructed and its contents begin with whole encodings. With `padding`, octets `00` are
-/// allowed between encodings and after them.
+/// The offset from which the input is sound, in octets from its start: the first offset from 1 to 64 where this holds
+/// and a constructed element begins. `None` if there is no such offset, or if the first element of the input seems
+/// right: it ends with the input, or it is constructed and its contents begin with whole encodings. With `padding`,
+/// octets `00` are allowed between encodings and after them.
 pub fn next_start(octets: &[u8], padding: bool) -> Option<usize>
     requires { length octets.now ≤ input_limit }
     ensures { IsNextStart padding octets.now result }
@@ -34,7 +34,7 @@ pub fn next_start(octets: &[u8], padding: bool) -> Option<usize>
     }
 }
 
-/// The first offset from 1 up to 64 from which on the input is sound.
+/// The first offset from 1 to 64 from which the input is sound, and where a constructed element begins.
 fn first_start(octets: &[u8], padding: bool) -> Option<usize>
     requires { length octets.now ≤ input_limit }
     ensures { IsFirst (IsStart padding octets.now) 1 (min 65 (length octets.now)) result }
@@ -48,7 +48,7 @@ fn first_start(octets: &[u8], padding: bool) -> Option<usize>
     None
 }
 
-/// Whether the input is sound from this offset on, and there begins a constructed element.
+/// Whether the input is sound from this offset on, and a constructed element begins there.
 fn is_start(octets: &[u8], offset: usize, padding: bool) -> bool
     requires limit { length octets.now ≤ input_limit }
     requires within { offset ≤ length octets.now }
@@ -61,7 +61,7 @@ fn is_start(octets: &[u8], offset: usize, padding: bool) -> bool
     }
 }
 
-/// Whether the element with which the input begins ends with it, or is constructed and its contents begin with whole
+/// Whether the first element of the input ends with the input, or is constructed and its contents begin with whole
 /// encodings.
 fn seems_right(octets: &[u8]) -> bool
     requires { length octets.now ≤ input_limit }
@@ -77,7 +77,7 @@ fn seems_right(octets: &[u8]) -> bool
     }
 }
 
-/// Whether these octets are all of the contents, by this length.
+/// Whether contents of this length are exactly these octets.
 fn ends_with(size: Size, after: &[u8]) -> bool
     ensures { IsTrue result ↔ (definite_length size ≡ Some (length after.now)) }
 {
@@ -87,7 +87,7 @@ fn ends_with(size: Size, after: &[u8]) -> bool
     }
 }
 
-/// Those of the octets after a header that are contents, by this length.
+/// The octets after a header that are contents, by the length in the header.
 fn contents_among(size: Size, after: &[u8]) -> &[u8]
     ensures contents { result.now ≡ option_map_or (λ n. take n after.now) (definite_length size) after.now }
     ensures within { length result.now ≤ length after.now }
@@ -109,7 +109,7 @@ fn begins_with_encodings(octets: &[u8]) -> bool
     }
 }
 
-/// How many octets the encoding has with which the octets begin, if they begin with one.
+/// The number of octets of the encoding with which the octets begin, if they begin with one.
 fn first_size(octets: &[u8]) -> Option<usize>
     requires { length octets.now ≤ input_limit }
     ensures within { IfSome result (λ n. n ≤ length octets.now) }
@@ -125,7 +125,7 @@ fn first_size(octets: &[u8]) -> Option<usize>
     Some(count + size)
 }
 
-/// How many octets the contents and their end have that begin with these octets, by what the header says.
+/// The number of octets of the contents and their end, by the length in the header. The octets begin with the contents.
 fn contents_size(size: Size, after: &[u8]) -> Option<usize>
     requires { length after.now ≤ input_limit }
     ensures within { IfSome result (λ n. n ≤ length after.now) }
@@ -140,7 +140,7 @@ fn contents_size(size: Size, after: &[u8]) -> Option<usize>
     }
 }
 
-/// The length of contents, if these octets have all of them.
+/// The length of the contents, if these octets hold all of them.
 fn definite_size(size: u64, after: &[u8]) -> Option<usize>
     ensures within { IfSome result (λ n. n ≤ length after.now) }
     ensures size { size ≤ length after.now → result ≡ Some size }
@@ -152,8 +152,8 @@ fn definite_size(size: u64, after: &[u8]) -> Option<usize>
     }
 }
 
-/// How many octets the contents and their end have that begin with these octets, in the indefinite form. Read by
-/// themselves they break at the first of the end-of-contents octets.
+/// The number of octets of the contents in the indefinite form, with their end. The octets begin with the contents;
+/// read by themselves, they break at the first of the end-of-contents octets.
 fn indefinite_size(after: &[u8]) -> Option<usize>
     requires { length after.now ≤ input_limit }
     ensures within { IfSome result (λ n. n ≤ length after.now) }

@@ -1,4 +1,4 @@
-//! Which of the things that programs do to texts was done to an input.
+//! Which change that programs make to texts was made to an input.
 ghost use Rattle.std.specs.Prelude.{◌≤◌, IfOk, length};
 ghost use Rattle.tlv_head.specs.InputLimit.{input_limit};
 ghost use Rattle.tlv_mend.specs.Remedies.{IsTextChange};
@@ -15,8 +15,8 @@ pub enum TextChange {
     LineEnds,
 }
 
-/// What was done to the input as to a text, if the input is sound once that is undone: UTF-8 is looked for first.
-/// `None` if neither would make it sound. With `padding`, octets `00` are allowed at the top.
+/// The change that was made to the input as if it were a text, if undoing it makes the input sound. Tries UTF-8 first.
+/// `None` if undoing neither change makes it sound. With `padding`, octets `00` are allowed at the top level.
 ///
 /// # Errors
 ///

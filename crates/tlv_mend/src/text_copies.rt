@@ -1,4 +1,4 @@
-//! What programs do to octets that they take for a text, and whether an input is sound once that is undone.
+//! What programs do to octets that they take for a text, and whether undoing it makes an input sound.
 ghost use Rattle.std.specs.Prelude.{◌≡◌, ◌<◌, ◌≤◌, ◌↔◌, IfOk, IsTrue, MatchOption, None, length, option_map};
 ghost use Rattle.tlv_head.specs.InputLimit.{input_limit};
 ghost use Rattle.tlv_mend.specs.TextCopies.{IsSoundWithLfAlone, IsSoundWithoutUtf8, is_latin1_pair};
@@ -8,7 +8,7 @@ use crate::sound::is_sound;
 use std::alloc::{AllocError, Global};
 
 /// Whether octets `0d` were put in front of `0a`, as if the input were a text: it has octets `0d 0a`, and is sound if
-/// each is `0a` alone. With `padding`, octets `00` are allowed at the top.
+/// each is `0a` alone. With `padding`, octets `00` are allowed at the top level.
 ///
 /// # Errors
 ///
@@ -21,7 +21,7 @@ pub fn undone_line_ends(alloc: Global, octets: &[u8], padding: bool) -> Result<b
     Ok(copy.len() < octets.len() && is_sound(copy.as_slice(), padding))
 }
 
-/// The octets with each `0d 0a` as `0a` alone.
+/// The octets with `0a` in place of each `0d 0a`.
 fn with_lf_alone(alloc: Global, octets: &[u8]) -> Result<Vec<u8>, AllocError>
     ensures { IfOk result (λ copy. copy.items ≡ with_lf_alone octets.now) }
 {
@@ -37,7 +37,7 @@ fn with_lf_alone(alloc: Global, octets: &[u8]) -> Result<Vec<u8>, AllocError>
 }
 
 /// Whether the input was taken for a text in Latin-1 and written in UTF-8: it is UTF-8 of characters below 256, not all
-/// of them below 128, and is sound if each is one octet. With `padding`, octets `00` are allowed at the top.
+/// of them below 128, and is sound if each is one octet. With `padding`, octets `00` are allowed at the top level.
 ///
 /// # Errors
 ///

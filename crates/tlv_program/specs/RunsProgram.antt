@@ -22,12 +22,12 @@ use Rattle.tlv_program.specs.System.{Allows, IsUnread}
 use Rattle.tlv_program.specs.declared.program.NoWords.{NoWords}
 use Rattle.tlv_program.specs.declared.program.NoWords.TheVariants.{NotUtf8, Memory}
 
--- what the program works with, as it is before it runs or after: the system, standard input and standard output
+-- what the program works with, before or after it runs: the system, standard input and standard output
 pub record ProgramStates (S : Type 0) : Type 0 where
   pub system : S
   pub standard : DeviceStates
 
--- a program with these
+-- the states of a program with these
 abbrev pub program_states : {S : Type 0} → S → SourceState → DrainState → ProgramStates S
 program_states system input output = record { system = system; standard = device_states input output }
 
@@ -36,26 +36,25 @@ abbrev pub asks_for_text : UsageFault → Bool
 asks_for_text (usage.Parser error) = eqb (status_of_kind (kind_of error)) 0
 asks_for_text fault = false
 
--- the report if there is no command to run, by whether what `clap` has to say is printed: E2 if it is not, and the
--- words ask for it
+-- the report if there is no command to run: E2 if the words ask for what `clap` has to say, and it is not printed
 abbrev pub refusal_report : UsageFault → Bool → ReportValue
 refusal_report fault printed =
     if printed || not (asks_for_text fault) then usage_report fault else unprinted_report
 
 module _ {S : Type 0} (allows : Allows S) where
-  -- what `clap` has to say is printed, or cannot be; of another fault nothing is printed here
+  -- what `clap` has to say is printed, or cannot be; for another fault nothing is printed here
   abbrev pub PrintsIfParser : S → S → UsageFault → Bool → Type 0
   PrintsIfParser old new (usage.Parser error) printed = allows.prints old new error printed
   PrintsIfParser old new fault printed = (new ≡ old) × (printed ≡ true)
 
   -- the names for object identifiers that a command asks for, or why there are none: a line for each case
   pub data GetsNames (command : Command) (old new : S) : Result NamesValue NamesFault → Type 0 where
-    -- it asks for none
+    -- the command asks for no names
     not_asked : names_file_of command ≡ None → new ≡ old → GetsNames command old new (Ok finite.empty)
     -- the names file does not open
     unopened : (name : List ℕ) → names_file_of command ≡ Some name → allows.opens old new name None
         → GetsNames command old new (Err names.ReadFailed)
-    -- the names file is opened and read, and given back as it is after that
+    -- the names file is opened and read, and given back in the state after that
     read : (name : List ℕ) (between : S) (before after : SourceState) (result : Result NamesValue NamesFault)
         → names_file_of command ≡ Some name → allows.opens old between name (Some before) → IsUnread before
         → ReadsFrom before after result → allows.closes between new after
@@ -71,7 +70,7 @@ module _ {S : Type 0} (allows : Allows S) where
     -- the file does not open, and nothing is read or written
     unopened : (name : List ℕ) → file_of command ≡ Some name → allows.opens old.system new.system name None
         → new.standard ≡ old.standard → RunsOverInput command table old new unopened_report
-    -- the input is the file, which is opened, and given back as it is after the run; nothing is read of standard input
+    -- the input is the file, which is opened, and given back in the state after the run; standard input is not read
     file : (name : List ℕ) (between : S) (before after : SourceState) (report : ReportValue)
         → file_of command ≡ Some name → allows.opens old.system between name (Some before) → IsUnread before
         → new.standard.source ≡ old.standard.source
@@ -80,7 +79,7 @@ module _ {S : Type 0} (allows : Allows S) where
         → allows.closes between new.system after
         → RunsOverInput command table old new report
 
-  -- a command is run, and this is reported: first it gets its names, and then it runs over its input
+  -- a command is run, and this is reported: it first gets its names, and then runs over its input
   pub data RunsCommand (command : Command) (old new : ProgramStates S) : ReportValue → Type 0 where
     -- there are no names: the file is not opened, and nothing is read or written
     no_names : (fault : NamesFault) → GetsNames command old.system new.system (Err fault)

@@ -1,22 +1,22 @@
--- What a system may do if the program asks it for something.
+-- What a system may do when the program asks it for something.
 use Rattle.std.specs.Prelude.{◌≡◌, ℕ, Bool, List, Option, ⊤}
 use Rattle.clap.specs.declared.error.Error.{Error}
 use Rattle.tlv_io.specs.Device.{SourceState, new_source}
 
--- what a system may do, said of what it is before and after it
+-- what a system may do, as relations between its states before and after it
 pub record Allows (S : Type 0) : Type 1 where
   -- it opens the file of this name as this source, or does not open it
   pub opens : S → S → List ℕ → Option SourceState → Type 0
   -- it is given back a file that is in this state
   pub closes : S → S → SourceState → Type 0
-  -- it prints what `clap` has to say, or does not get it all out
+  -- it prints what `clap` has to say, or does not print all of it
   pub prints : S → S → Error → Bool → Type 0
 
--- nothing was read of the source
+-- nothing was read from the source
 abbrev pub IsUnread : SourceState → Type 0
 IsUnread source = source ≡ new_source source.left
 
--- nobody knows what it does until it has done it
+-- what the system does is not known before it does it
 abbrev pub unknown_system : {S : Type 0} → Allows S
 unknown_system = record {
   opens = λ old new name source. ⊤;

@@ -1,4 +1,4 @@
-//! What the program does, from the words of its command line to the report, over any system that opens files and prints.
+//! What the program does, from the words of its command line to the report, on any system that opens files and prints.
 #![tactic(auto)]
 
 mod program;

@@ -1,4 +1,4 @@
-//! The program: what it does in which order.
+//! The program: what it does, and in which order.
 ghost use Rattle.std.specs.Prelude.{◌≡◌};
 ghost use Rattle.tlv_run.specs.Report.{report_value_of};
 ghost use Rattle.tlv_program.specs.RunsProgram.{GetsNames, PrintsIfParser, RunsCommand, RunsOverInput, RunsProgram};
@@ -20,11 +20,11 @@ pub enum NoWords {
     Memory,
 }
 
-/// Runs the program on the words of its command line, of which the first is the program's name.
+/// Runs the program on the words of its command line. The first word is the program's name.
 ///
-/// Reads the words, then the names file, then opens the file, and runs the command: over standard input if it names no
-/// file. The report is that of the first of these that is refused, and nothing is done after it: U1 to U3, what `clap`
-/// has to say, N1 to N6 (N5 if the names file does not open, too), E5; else it is that of the run.
+/// Reads the words, then the names file, then opens the file, and runs the command: over standard input if the command
+/// names no file. Stops at the first of these that is refused and returns its report: U1 to U3, what `clap` has to say,
+/// N1 to N6 (N5 also if the names file does not open), E5. Otherwise returns the report of the run.
 pub fn run_program<S: System, I: Source, O: Drain>(
     alloc: Global,
     words: &Result<Words, NoWords>,
@@ -51,7 +51,7 @@ pub fn run_program<S: System, I: Source, O: Drain>(
     }
 }
 
-/// Prints what `clap` has to say, if it does not take the words. Returns whether nothing is left to print.
+/// Prints what `clap` has to say, if the fault comes from `clap`. Returns whether nothing is left to print.
 fn print_if_parser<S: System>(fault: &UsageFault, system: &mut S) -> bool
     ensures { PrintsIfParser S.allows system.old system.new fault.now result }
 {
@@ -62,7 +62,7 @@ fn print_if_parser<S: System>(fault: &UsageFault, system: &mut S) -> bool
     }
 }
 
-/// The report if there is no command to run, by whether what `clap` has to say is printed.
+/// The report if there is no command to run, depending on whether what `clap` has to say is printed.
 fn refusal_report(fault: &UsageFault, printed: bool) -> Report
     ensures { report_value_of result ≡ refusal_report fault.now printed }
 {

@@ -1,4 +1,4 @@
--- The blocks of all inputs, and how they are had.
+-- The blocks of all inputs, and how they are obtained.
 use Rattle.std.specs.Prelude.{◌≡◌, ℕ, Bool, false, nat_lt, List, [], ◌∷◌, ◌++◌, Option, Some, None, Result, Ok, Err}
 use Rattle.std.specs.Prelude.{length, map}
 use Rattle.tlv_io.specs.Device.{SourceState}
@@ -16,12 +16,12 @@ use Rattle.tlv_view_program.specs.Streams.{StreamsValue}
 
 -- ---- blocks
 
--- what a block has: what is reported of a file that gives none, or what was taken for an encoding or a text
+-- what a block holds: the report on a file that gives none, or what was taken for an encoding or a text
 pub data BlockContents : Type 0 where
   reported : ReportValue → BlockContents
   taken : TakenValue → BlockContents
 
--- a block of all inputs: its file, whether it is one of several in the file, and what it has
+-- a block of all inputs: its file, whether it is one of several in the file, and what it holds
 pub record InputBlockValue : Type 0 where
   pub file : Option (List ℕ)
   pub is_one_of_several : Bool
@@ -30,13 +30,13 @@ pub record InputBlockValue : Type 0 where
 abbrev pub block_of_file : Option (List ℕ) → Bool → BlockContents → InputBlockValue
 block_of_file file several contents = record { file = file; is_one_of_several = several; contents = contents }
 
--- the blocks of a file: of one that gives none a single block, which has the report
+-- the blocks of a file: if it gives none, a single block, which has the report
 abbrev pub blocks_taken : Option (List ℕ) → Result (List TakenValue) TextFault → List InputBlockValue
 blocks_taken file (Ok ts) = map (λ t. block_of_file file (nat_lt 1 (length ts)) (BlockContents.taken t)) ts
 blocks_taken file (Err fault) =
     block_of_file file false (BlockContents.reported (text_report fault)) ∷ []
 
--- what an input is taken for by the form that is asked for, or why its blocks cannot be had
+-- what an input is taken for by the requested form, or why its blocks cannot be obtained
 abbrev pub TakesInput : InputForm → List ℕ → Result (List TakenValue) TextFault → Type 0
 TakesInput asked.Any octets (Ok ts) = IsTakenFor octets ts
 TakesInput asked.Octets octets (Ok ts) = ts ≡ taken_octets octets ∷ []
@@ -46,13 +46,13 @@ TakesInput form octets (Err fault) = IsTakingFault octets fault
 
 -- ---- files
 
--- the octets, or what is reported if they cannot be had
+-- the octets, or the report if they cannot be obtained
 abbrev pub octets_or_report : Result (List ℕ) InputFault → Result (List ℕ) ReportValue
 octets_or_report (Ok octets) = Ok octets
 octets_or_report (Err fault) = Err (input_report fault)
 
 module _ {S : Type 0} (allows : Allows S) where
-  -- the octets of a file, or of standard input, or what is reported if they cannot be had: a line for each case
+  -- the octets of a file, or of standard input, or the report if they cannot be obtained: a line for each case
   pub data GetsOctets (file : Option (List ℕ)) (old new : StreamsValue S)
       : Result (List ℕ) ReportValue → Type 0 where
     standard_input : (result : Result (List ℕ) InputFault) → file ≡ None → ReadsWhole old.input new.input result

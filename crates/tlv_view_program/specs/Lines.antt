@@ -3,7 +3,7 @@ use Rattle.std.specs.Prelude.{ℕ, Bool, true, false, List, [], ◌∷◌, ◌++
 use Rattle.std.specs.Prelude.{if◌then◌else◌}
 use Rattle.tlv_value.specs.Units.{is_printable}
 
--- an octet of a name as a terminal can show it: if it is not printable, as a question mark
+-- an octet of a name as a terminal can show it: a question mark if it is not printable
 abbrev pub printable_octet : ℕ → List ℕ
 printable_octet x = (if is_printable x then x else 0x3f) ∷ []
 
@@ -16,11 +16,11 @@ abbrev pub shown_name : Option (List ℕ) → List ℕ
 shown_name None = codes "standard input"
 shown_name (Some name) = printable_name name
 
--- what the line before a block begins with: its number, and how many there are
+-- the beginning of the line before a block: its number, and the number of blocks
 abbrev pub block_start : ℕ → ℕ → List ℕ
 block_start number count = codes "# block " ++ decimal number ++ codes " of " ++ decimal count ++ codes ": "
 
--- what a block is called: by its label, or by its file if it has none; of several files by both
+-- the title of a block: its label, or its file if it has no label; both if there are several files
 abbrev pub block_title : Bool → Option (List ℕ) → List ℕ → List ℕ
 block_title several file [] = shown_name file
 block_title false file (x ∷ label) = x ∷ label
@@ -32,8 +32,8 @@ block_line number count title = (block_start number count ++ title) ++ 10 ∷ []
 
 -- ---- messages
 
--- what comes before a message that concerns a block: the name of its file, which standard input has not, and the number
--- of the block if the file has several
+-- what comes before a message that concerns a block: the name of its file (standard input has none), and the number of
+-- the block if the file has several
 pub record MessagePlace : Type 0 where
   pub file : Option (List ℕ)
   pub number : Option ℕ
@@ -49,12 +49,12 @@ number_words (Some number) = (codes "block " ++ decimal number) ++ codes ": "
 abbrev pub place_words : MessagePlace → List ℕ
 place_words place = file_words place.file ++ number_words place.number
 
--- the line of a message that concerns a block; there is none for no message
+-- the line of a message that concerns a block; none for an empty message
 abbrev pub placed_line : MessagePlace → List ℕ → List ℕ
 placed_line place [] = []
 placed_line place (x ∷ message) = (place_words place ++ x ∷ message) ++ 10 ∷ []
 
--- the note if no file of names is found
+-- the note if no names file is found
 abbrev pub no_names_note : List ℕ
 no_names_note = codes "no names file was found: object identifiers have no names"
 

@@ -1,4 +1,4 @@
--- What is said of a block before it is shown: what it was taken for, and what is wrong with its text.
+-- What is said about a block before it is shown: what it was taken for, and what is wrong with its text.
 use Rattle.std.specs.Prelude.{ℕ, Bool, true, false, List, [], ◌∷◌, ◌++◌, Option, Some, None, codes, decimal, flat_map}
 use Rattle.std.specs.Prelude.{if◌then◌else◌}
 use Rattle.tlv_text.specs.Blocks.{BlockValue}
@@ -76,7 +76,7 @@ abbrev pub text_note : Form → List (Option ℕ) → BlockValue → BlockState 
 text_note form layers b Absent = absent_words form
 text_note form layers b state = form_note form layers b
 
--- a text of no form that is known, with its first words
+-- a text whose form is not known, with its first words
 abbrev pub other_text_note : List ℕ → List ℕ
 other_text_note words =
     codes "X1 text of no form that is known: \"" ++ (words
@@ -99,7 +99,7 @@ has_note taken_for = true
 abbrev pub note_line : MessagePlace → TakenValue → List ℕ
 note_line place t = if has_note t.taken_for then (place_words place ++ taken_note t) ++ 10 ∷ [] else []
 
--- what a block of a text is called in the line before it: a label, or the line of a run
+-- the name of a block of a text in the line before it: a label, or the line of a run
 abbrev pub name_in_form : Form → BlockState → BlockValue → List ℕ
 name_in_form Pem state b = b.label
 name_in_form Runs Absent b = []
@@ -110,7 +110,7 @@ abbrev pub name_by : TakenFor → BlockValue → List ℕ
 name_by (Text form) b = name_in_form form b.state b
 name_by taken_for b = []
 
--- what is reported if the blocks of an input cannot be had
+-- the report if the blocks of an input cannot be obtained
 abbrev pub text_report : TextFault → ReportValue
 text_report text.TooLong = report_with 4 (codes "X4 text of more than 1073741824 octets")
 text_report text.Memory = input_report input.Memory

@@ -1,4 +1,4 @@
--- What is written of octets with `--why`: whether they parse, and if not, why, and what may be done.
+-- What is written about octets with `--why`: whether they parse, and if not, why, and what may be done.
 use Rattle.std.specs.Prelude.{◌≡◌, ◌≢◌, ◌++◌, ⊤, ℕ, Bool, List, [], ◌∷◌, None, Ok, Err, codes}
 use Rattle.tlv_io.specs.Device.{DrainState}
 use Rattle.tlv_io.specs.Out.{Sends}
@@ -25,17 +25,17 @@ use Rattle.tlv_view_program.specs.WritesReasons.{ExplainsFirst, ExplainsOctets, 
 abbrev pub silent_drain : DrainState
 silent_drain = record { octets = None; failures = 0 }
 
--- the findings by these rules are those that a check reports
+-- the findings by these rules are the findings that a check reports
 abbrev pub ReportsFindings : Rules → Bool → Bool → NamesValue → List ℕ → ReportValue → Type 0
 ReportsFindings rules closed padding table octets report =
     Views (view.Check rules) table closed padding octets silent_drain silent_drain report
 
--- how many findings there are, in the words of a report, which has none for no findings
+-- the number of findings, in the words of a report, which has none for no findings
 abbrev pub findings_words : List ℕ → List ℕ
 findings_words [] = codes "findings: 0"
 findings_words (x ∷ message) = x ∷ message
 
--- the line of the findings by the rules of BER and of DER
+-- the line of the findings by the rules of BER and DER
 abbrev pub findings_line : List ℕ → List ℕ → List ℕ
 findings_line ber der =
     (codes "By the rules of BER: " ++ findings_words ber)
@@ -60,7 +60,7 @@ explained_report status (Ok (Ok unit)) = report_with status []
 explained_report status (Ok (Err fault)) = device_report WriteFailed
 explained_report status (Err error) = input_report Memory
 
--- what is written of octets, what is reported, and which strings in them are reported as broken: a line for each case
+-- what is written and reported of octets, and which strings in them are reported as broken: a line for each case
 pub data ShowsReasons (closed padding : Bool) (table : NamesValue) (octets : List ℕ) (old new : DrainState)
     : ReportValue → List BrokenString → Type 0 where
   -- they do not parse: all lines about them, and what may be done
@@ -75,6 +75,6 @@ pub data ShowsReasons (closed padding : Bool) (table : NamesValue) (octets : Lis
       → ExplainsParsing padding octets (why_lines octets facts ++ findings_line ber.message der.message) broken old new
       outcome
       → ShowsReasons closed padding table octets old new (explained_report ber.status outcome) broken
-  -- they parse, and memory for what is to be found in them is refused: nothing is written
+  -- they parse, but memory for finding what is in them is refused: nothing is written
   no_memory : (facts : Facts) → AreFacts (closed_framing padding) octets facts → facts.fault ≡ None → new ≡ old
       → ShowsReasons closed padding table octets old new (input_report Memory) []

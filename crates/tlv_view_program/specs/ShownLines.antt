@@ -30,8 +30,8 @@ use Rattle.tlv_view_program.specs.Streams.{StreamsValue}
 
 -- ---- lines
 
--- the notes on what an input is taken for, whatever it has, and in whatever form it is asked for. The base64 that texts
--- are in, and the names of files, may be any
+-- the notes on what an input is taken for, whatever it has, and whatever form is requested. The base64 in which texts
+-- are written and the names of files are arbitrary
 abbrev pub NotesAreShown : Type 0
 NotesAreShown =
     (form : InputForm) (octets : List ℕ) (taken : List TakenValue) (place : MessagePlace)
@@ -44,12 +44,12 @@ TitlesAreShown =
     (wanted : Wanted) (p : BlockPlace)
     → TakesInput form octets result → All (λ b. AreShown (title wanted p b)) (blocks_taken file result)
 
--- what is reported of a file that gives no block
+-- the report on a file that gives no block
 abbrev pub HasShownReport : BlockContents → Type 0
 HasShownReport (BlockContents.reported report) = AreShown report.message
 HasShownReport (BlockContents.taken t) = Unit {0}
 
--- what is said after a block that is shown, whatever it has
+-- what is said after a block that is shown, whatever the block holds
 abbrev pub MessagesAreShown : Type 0
 MessagesAreShown =
     (request : Request) (table : NamesValue) (p : BlockPlace) (b : InputBlockValue) (old new : DrainState)
@@ -57,7 +57,7 @@ MessagesAreShown =
     → HasShownReport b.contents → ShowsTitled request table p b old new report broken
     → AreShown (block_messages place report.message broken)
 
--- the line of what is found in octets that parse
+-- the line of the findings in octets that parse
 abbrev pub FindingsLinesAreShown : Type 0
 FindingsLinesAreShown =
     (first second : Rules) (closed padding : Bool) (table : NamesValue) (octets : List ℕ) (ber der : ReportValue)
@@ -72,7 +72,7 @@ pub record TakesShown (old new : DrainState) : Type 0 where
   pub shown : AreShown text
   pub takes : Appends old.octets new.octets text
 
--- all that is written of octets with `--why`
+-- all that is written about octets with `--why`
 abbrev pub ReasonsAreShown : Type 0
 ReasonsAreShown =
     (closed padding : Bool) (table : NamesValue) (octets : List ℕ) (old new : DrainState) (report : ReportValue)
@@ -83,11 +83,11 @@ ReasonsAreShown =
 abbrev pub HasShownNames : NamesValue → Type 0
 HasShownNames table = (dotted name : List ℕ) → finite.get table dotted ≡ Some name → AreShown name
 
--- so are those of a names file
+-- so are the names in a names file
 abbrev pub NamesAreShown : Type 0
 NamesAreShown = (octets : List ℕ) (table : NamesValue) → names_of octets ≡ Ok table → HasShownNames table
 
--- all that is written of octets by a dump with such names, whatever the octets are, and whether they parse or not
+-- all that a dump with such names writes about octets, whatever the octets are, and whether they parse or not
 abbrev pub DumpsAreShown : Type 0
 DumpsAreShown =
     (rules : Rules) (limit : Option ℕ) (pure with_text closed padding : Bool) (table : NamesValue) (octets : List ℕ)
@@ -113,7 +113,7 @@ abbrev pub HasOctets : InputBlockValue → Type 0
 HasOctets b = AreOctets (octets_of_contents b.contents)
 
 module _ {S : Type 0} {allows : Allows S} where
-  -- so are those of all blocks that are shown: of files
+  -- so are the octets of all blocks that are shown: of files
   abbrev pub FilesHaveOctets : {request : Request} {table : NamesValue} {files : List (Option (List ℕ))}
       {old new : StreamsValue S} {status : ℕ}
       → ShowsFiles allows request table files old new status → Type 0
@@ -139,7 +139,7 @@ module _ {S : Type 0} {allows : Allows S} where
 
 -- all that a run of the program writes to standard error, whatever the words, the names and the inputs are, if the
 -- octets of all blocks are below 256, as all octets are: the definitions of a run do not say so. What `clap` has to
--- say of words is not written there: the system prints it
+-- say about words is not written there: the system prints it
 abbrev pub RunsAreShown : {S : Type 0} → Allows S → Type 0
 RunsAreShown {S} allows =
     (places : List (List ℕ)) (typed : Bool) (old new : StreamsValue S) (words : Result (List Text) NoWords)

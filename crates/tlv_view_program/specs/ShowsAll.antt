@@ -39,12 +39,12 @@ abbrev pub files_of_words : List (List ℕ) → List (Option (List ℕ))
 files_of_words [] = None ∷ []
 files_of_words words = map file_of_word words
 
--- the note that standard input is read: if no file is named, and it is a terminal
+-- the note that standard input is read, if no file is named and standard input is a terminal
 abbrev pub note_of_input : Bool → List (List ℕ) → List ℕ
 note_of_input typed [] = if typed then input_note else []
 note_of_input typed words = []
 
--- how many blocks there are in all, and whether there are several files
+-- the number of blocks in all, and whether there are several files
 pub record BlocksPlace : Type 0 where
   pub count : ℕ
   pub several_files : Bool
@@ -56,7 +56,7 @@ places_of files blocks = record { count = length blocks; several_files = nat_lt 
 abbrev pub block_place : BlocksPlace → ℕ → BlockPlace
 block_place p number = record { number = number; count = p.count; several_files = p.several_files }
 
--- the blocks in order, of which the first has this number: the status is the highest. After a failed write to
+-- the blocks are shown in order, and the first has this number; the status is the highest. After a failed write to
 -- standard output no other block is shown
 pub data ShowsBlocks {S : Type 0} (request : Request) (table : NamesValue) (p : BlocksPlace)
     : ℕ → List InputBlockValue → StreamsValue S → StreamsValue S → ℕ → Type 0 where
@@ -77,14 +77,14 @@ abbrev pub asks_for_help : RequestFault → Bool
 asks_for_help (fault.Parser error) = eqb (status_of_kind (kind_of error)) 0
 asks_for_help other = false
 
--- the report, by whether what `clap` has to say is printed: E2 if it is not, and the words ask for it
+-- the report: E2 if the words ask for what `clap` has to say, and it is not printed
 abbrev pub refused_report : RequestFault → Bool → ReportValue
 refused_report why printed =
     if printed || not (asks_for_help why) then request_report why else unprinted_report
 
 -- ---- names of object identifiers
 
--- the file of names that the words name, if object identifiers are shown
+-- the names file that the words name, if object identifiers are shown
 abbrev pub names_of_wanted : Wanted → Option (Option (List ℕ))
 names_of_wanted (Dump rules limit pure text closed names) = Some names
 names_of_wanted wanted = None
@@ -99,13 +99,13 @@ module _ {S : Type 0} (allows : Allows S) where
         → allows.opens old between name None → OpensFirst places between new found
         → OpensFirst (name ∷ places) old new found
 
-  -- the names for what is wanted, or why there are none; the Bool says whether it is noted that no file of names was
-  -- found: a line for each case
+  -- the names for what is wanted, or why there are none; the Bool says whether to note that no names file was found: a
+  -- line for each case
   pub data GetsTable (wanted : Wanted) (places : List (List ℕ)) (old new : S)
       : Bool → Result NamesValue NamesFault → Type 0 where
     -- no object identifiers are shown
     not_asked : names_of_wanted wanted ≡ None → new ≡ old → GetsTable wanted places old new false (Ok finite.empty)
-    -- the file of names that the words name does not open
+    -- the names file that the words name does not open
     unopened : (name : List ℕ) → names_of_wanted wanted ≡ Some (Some name) → allows.opens old new name None
         → GetsTable wanted places old new false (Err names.ReadFailed)
     -- it is opened and read
@@ -142,8 +142,8 @@ module _ {S : Type 0} (allows : Allows S) where
         → IsSaid (input_report input.Memory).message had new
         → ShowsFiles request table files old new (input_report input.Memory).status
 
-  -- the names are got, and the files are shown; `typed` says whether standard input is a terminal; the status comes
-  -- last: a line for each case
+  -- the names are obtained, and the files are shown; `typed` says whether standard input is a terminal; the status
+  -- comes last: a line for each case
   pub data ShowsRequest (places : List (List ℕ)) (typed : Bool) (request : Request) (old new : StreamsValue S)
       : ℕ → Type 0 where
     -- there are no names, and no file is opened
@@ -158,7 +158,7 @@ module _ {S : Type 0} (allows : Allows S) where
         → ShowsFiles request table (files_of_words request.files) ready new status
         → ShowsRequest places typed request old new status
 
-  -- what `clap` has to say is printed, or cannot be; of another fault nothing is printed here
+  -- what `clap` has to say is printed, or cannot be; for another fault nothing is printed here
   abbrev pub PrintsRefusal : S → S → RequestFault → Bool → Type 0
   PrintsRefusal old new (fault.Parser error) printed = allows.prints old new error printed
   PrintsRefusal old new other printed = (new ≡ old) × (printed ≡ true)

@@ -1,4 +1,4 @@
--- What is shown of a block of the inputs, and what is said of it.
+-- What is shown of a block of the inputs, and what is said about it.
 use Rattle.std.specs.Prelude.{◌≡◌, ◌&&◌, ◌||◌, ◌++◌, ⊤, ℕ, Bool, true, false, eqb, not, List, [], ◌∷◌, Option, Some}
 use Rattle.std.specs.Prelude.{None, Result, Ok, Err, flat_map, if◌then◌else◌, max, nat_lt}
 use Rattle.std.specs.Result.{IsErr, IsOk}
@@ -38,7 +38,7 @@ use Rattle.tlv_view_program.specs.Streams.{StreamsValue}
 
 -- ---- what is wanted
 
--- the view that is wanted of octets; a list of offsets is none, nor are the octets themselves, nor reasons
+-- the view of octets that is wanted; a list of offsets is not a view, nor are the octets themselves, nor reasons
 abbrev pub view_of : Wanted → Option View
 view_of (Dump rules limit pure text closed names) = Some (view.Dump rules limit pure text)
 view_of (Check rules closed) = Some (view.Check rules)
@@ -54,7 +54,7 @@ stays_closed (Check rules closed) = closed
 stays_closed (Why closed) = closed
 stays_closed wanted = false
 
--- of several blocks each has a line before it: in a dump, in a check, and with the reasons
+-- each of several blocks has a line before it: in a dump, in a check, and with the reasons
 abbrev pub has_titles : Wanted → Bool
 has_titles (Dump rules limit pure text closed names) = true
 has_titles (Check rules closed) = true
@@ -65,7 +65,7 @@ has_titles wanted = false
 abbrev pub reports_broken : Wanted → Bool
 reports_broken wanted = has_titles wanted && not (stays_closed wanted)
 
--- a block of which there are so many, with its number, and whether there are several files
+-- the place of a block: the number of blocks, its number, and whether there are several files
 pub record BlockPlace : Type 0 where
   pub number : ℕ
   pub count : ℕ
@@ -89,12 +89,12 @@ message_place p b = record { file = b.file; number = if b.is_one_of_several then
 
 -- ---- what is reported
 
--- the status: 1 for broken strings, if there is none that is higher
+-- the status, or 1 if that is higher and there are broken strings
 abbrev pub status_with : ℕ → List BrokenString → ℕ
 status_with status [] = status
 status_with status (string ∷ strings) = max status 1
 
--- a text that is not decoded, or not to its end
+-- a text that is not decoded, or not decoded to its end
 abbrev pub is_undecoded : BlockState → Bool
 is_undecoded Whole = false
 is_undecoded Unended = false
@@ -108,7 +108,7 @@ abbrev pub refused_status : Wanted → ℕ
 refused_status Raw = 2
 refused_status wanted = 4
 
--- the status of a block: that of what is shown, or if it is 0 and the text is not decoded to its end, one that says so
+-- the status of a block: that of what is shown, or `refused_status` if it is 0 and the text is not decoded to its end
 abbrev pub contents_status : Wanted → BlockContents → ℕ → ℕ
 contents_status wanted (BlockContents.reported report) status = status
 contents_status wanted (BlockContents.taken t) status =
@@ -118,19 +118,19 @@ contents_status wanted (BlockContents.taken t) status =
 abbrev pub has_failed_write : ReportValue → Bool
 has_failed_write report = bytes_eq report.message (device_report WriteFailed).message
 
--- what is reported of a list of offsets: that it could not be written, or else the fault of the input
+-- the report on a list of offsets: that it could not be written, or else the fault of the input
 abbrev pub offsets_report : Ending → Result ⊤ WriteFault → ReportValue
 offsets_report ending (Ok done) = indef_report ending
 offsets_report ending (Err fault) = device_report WriteFailed
 
--- the report of octets that are written as they are
+-- the report on octets that are written as they are
 abbrev pub raw_report : Result ⊤ WriteFault → ReportValue
 raw_report (Ok done) = report_with 0 []
 raw_report (Err fault) = device_report WriteFailed
 
 -- ---- octets
 
--- what is written of octets and reported, and which strings in them are reported as broken: a line for each case
+-- what is written and reported of octets, and which strings in them are reported as broken: a line for each case
 pub data ShowsOctets (request : Request) (table : NamesValue) (octets : List ℕ) (old new : DrainState)
     : ReportValue → List BrokenString → Type 0 where
   -- a view of them
@@ -155,7 +155,7 @@ pub data ShowsOctets (request : Request) (table : NamesValue) (octets : List ℕ
 
 -- ---- blocks
 
--- what is written of the contents of a block, and reported: a line for each case
+-- what is written and reported of what a block holds: a line for each case
 pub data ShowsContents (request : Request) (table : NamesValue) (old new : DrainState)
     : BlockContents → ReportValue → List BrokenString → Type 0 where
   no_block : {report : ReportValue} → new ≡ old
@@ -166,7 +166,7 @@ pub data ShowsContents (request : Request) (table : NamesValue) (old new : Drain
       → ShowsOctets request table t.block.octets old new report broken
       → ShowsContents request table old new (BlockContents.taken t) report broken
 
--- what is said of a block before it is shown
+-- what is said about a block before it is shown
 abbrev pub contents_note : MessagePlace → BlockContents → List ℕ
 contents_note place (BlockContents.reported report) = []
 contents_note place (BlockContents.taken t) = note_line place t
@@ -185,7 +185,7 @@ pub data ShowsTitled (request : Request) (table : NamesValue) (p : BlockPlace) (
 
 -- ---- reasons
 
--- what is explained after the messages: nothing, where the octets are written as they are, or reasons are what is shown
+-- what to explain after the messages: nothing if the octets are written as they are, or if reasons are what is shown
 abbrev pub explained_in : Wanted → ReportValue → List BrokenString → Explained
 explained_in Raw report broken = what.Nothing
 explained_in (Why closed) report broken = what.Nothing
@@ -196,7 +196,7 @@ abbrev pub octets_of_contents : BlockContents → List ℕ
 octets_of_contents (BlockContents.reported report) = []
 octets_of_contents (BlockContents.taken t) = t.block.octets
 
--- what is reported of the reasons: that memory for them is refused
+-- the report on the reasons: that memory for them is refused, if it is
 abbrev pub reasons_report : Outcome → ReportValue
 reasons_report (Ok result) = report_with 0 []
 reasons_report (Err error) = input_report Memory
@@ -208,8 +208,8 @@ abbrev pub block_messages : MessagePlace → List ℕ → List BrokenString → 
 block_messages place message broken =
     placed_line place message ++ flat_map (λ string. placed_line place (broken_line string)) broken
 
--- what is shown of a block, what is said before it, and what after it. The Bool says whether standard output failed,
--- the last number is the status
+-- what is shown of a block, what is said before it, and what is said after it. The Bool says whether standard output
+-- failed; the last number is the status
 pub record ShowsBlock {S : Type 0} (request : Request) (table : NamesValue) (p : BlockPlace) (b : InputBlockValue)
     (old new : StreamsValue S) (failed : Bool) (status : ℕ)
     : Type 0 where
@@ -232,7 +232,7 @@ pub record ShowsBlock {S : Type 0} (request : Request) (table : NamesValue) (p :
   pub reasons :
       WritesReasons request.padding (octets_of_contents b.contents) after_messages after_reasons
       (explained_in request.wanted report broken) outcome
-  -- that memory for them is refused, if it is
+  -- the message that memory for the reasons is refused, if it is
   pub told : Result ⊤ WriteFault
   pub tells :
       Sends after_reasons new.messages (block_messages (message_place p b) (reasons_report outcome).message []) told

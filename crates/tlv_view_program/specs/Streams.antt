@@ -9,7 +9,7 @@ pub record StreamsValue (S : Type 0) : Type 0 where
   pub output : DrainState
   pub messages : DrainState
 
--- the same of streams of these types, by what each shows of itself
+-- the same for streams of these types, by what each shows of itself
 abbrev pub streams_value : {S I O M : Type 0} → (I → SourceState) → (O → DrainState) → (M → DrainState)
     → Streams S I O M → StreamsValue S
 streams_value input_of output_of messages_of streams = record {

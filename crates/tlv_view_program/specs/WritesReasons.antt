@@ -1,4 +1,4 @@
--- Why octets do not parse, or a string in them, and what may be done: what is written of it.
+-- Why octets do not parse, or a string in them, and what may be done: what is written about it.
 use Rattle.std.specs.Prelude.{◌≡◌, ◌<◌, ◌++◌, ⊤, ℕ, Bool, true, false, eqb, if◌then◌else◌, nat_lt, List, []}
 use Rattle.std.specs.Prelude.{◌∷◌, Option, Some, None, Result, Ok, Err, codes, map}
 use Rattle.std.specs.List.{filter}
@@ -31,24 +31,24 @@ offset_there (Some e) = e.offset ∷ []
 abbrev pub element_offset : Element → ℕ
 element_offset e = e.offset
 
--- the headers that may say a wrong length, the nearest to the fault first: the one that is refused, those of the
--- elements before, and those of open elements
+-- the offsets of headers whose length may be wrong, the nearest to the fault first: the refused header, and the headers
+-- of the elements before and of open elements
 abbrev pub suspect_offsets : Facts → List ℕ
 suspect_offsets facts =
     (offset_there facts.there ++ facts.nearest.items) ++ map element_offset facts.holders.items
 
 -- ---- what was sent
 
--- what came of sending lines for some of which memory is needed: all are sent, a write failed, or memory is refused
+-- the result of sending lines, some of which need memory: all are sent, a write failed, or memory is refused
 abbrev pub Outcome : Type 0
 Outcome = Result (Result ⊤ WriteFault) AllocError
 
--- lines are sent, and then others for which memory is needed: a line for each case
+-- lines are sent, and then others, which need memory: a line for each case
 pub data SendsThen (first : List ℕ) (AreOthers : List ℕ → Type 0) (old new : DrainState) : Outcome → Type 0 where
-  -- a write of the first failed
+  -- a write of the first lines failed
   failed : (fault : WriteFault) → Sends {T = ⊤} old new first (Err fault)
       → SendsThen first AreOthers old new (Ok (Err fault))
-  -- memory for the others is refused
+  -- memory for the other lines is refused
   no_memory : (error : AllocError) (unit : ⊤) → Sends {E = WriteFault} old new first (Ok unit)
       → SendsThen first AreOthers old new (Err error)
   sent : (others : List ℕ) (result : Result ⊤ WriteFault) → AreOthers others → Sends old new (first ++ others) result
@@ -56,11 +56,11 @@ pub data SendsThen (first : List ℕ) (AreOthers : List ℕ → Type 0) (old new
 
 -- ---- a string that is broken
 
--- the strings that are named if one is explained: those in front of it that are opened, and itself
+-- the strings to name in order to explain a string: the opened strings in front of it, and itself
 abbrev pub offsets_up_to : ℕ → List ℕ → List ℕ
 offsets_up_to offset opened = filter (λ o. nat_lt o offset) opened ++ offset ∷ []
 
--- the line of the header that says a wrong length, if one does
+-- the line about the header whose length is wrong, if there is one
 pub record IsLengthLine (framing : Framing) (octets candidates lines : List ℕ) : Type 0 where
   pub found : Option WrongLength
   pub is_wrong : IsWrongLength framing octets candidates found
@@ -69,7 +69,7 @@ pub record IsLengthLine (framing : Framing) (octets candidates lines : List ℕ)
 -- this line, the reasons why a string breaks, and the length that would mend it: a line for each case
 pub data ExplainsString (padding : Bool) (octets : List ℕ) (x : BrokenString) (line : List ℕ) (old new : DrainState)
     : Outcome → Type 0 where
-  -- it is none of an input, which has no such offset
+  -- it is not a string of an input: no input has such an offset
   not_there : (unit : ⊤) → input_limit < x.offset → new ≡ old
       → ExplainsString padding octets x line old new (Ok (Ok unit))
   -- memory for the list of strings is refused, and nothing is written
@@ -85,7 +85,7 @@ pub data ExplainsString (padding : Bool) (octets : List ℕ) (x : BrokenString) 
 abbrev pub heading : Bool → BrokenString → List ℕ
 heading has_heading x = if has_heading then codes "The " ++ broken_line x ++ codes ".\n" else []
 
--- the first of the broken strings is explained, if there is one
+-- the first broken string is explained, if there is one
 pub data ExplainsFirst (padding : Bool) (octets : List ℕ) (old new : DrainState)
     : List BrokenString → Outcome → Type 0 where
   none : (unit : ⊤) → new ≡ old → ExplainsFirst padding octets old new [] (Ok (Ok unit))
@@ -107,13 +107,13 @@ abbrev pub first_string : List BrokenString → Explained
 first_string [] = what.Nothing
 first_string (x ∷ xs) = what.String x
 
--- what is explained, by the status that is reported: a fault, or else the first of the broken strings; nothing if
--- standard output failed
+-- what to explain if this status is reported: a fault, or else the first broken string; nothing if standard output
+-- failed
 abbrev pub explained_by : Bool → ℕ → List BrokenString → Explained
 explained_by has_failed status broken =
     if has_failed then what.Nothing else (if eqb status 2 then what.Octets else first_string broken)
 
--- the reasons of octets that come after messages: a line for each case
+-- the reasons that come after messages about octets: a line for each case
 pub data WritesReasons (padding : Bool) (octets : List ℕ) (old new : DrainState) : Explained → Outcome → Type 0 where
   of_nothing : (unit : ⊤) → new ≡ old → WritesReasons padding octets old new what.Nothing (Ok (Ok unit))
   of_octets : (facts : Facts) (outcome : Outcome) → AreFacts (closed_framing padding) octets facts

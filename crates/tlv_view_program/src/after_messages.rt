@@ -14,7 +14,7 @@ use tlv_view::{InputFault, Viewed, input_report};
 use tlv_view_words::Wanted;
 use tlv_walk::WriteFault;
 
-/// What is explained after the messages: nothing, where the octets are written as they are, or reasons are what is shown.
+/// What to explain after the messages: nothing if the octets are written as they are, or if reasons are what is shown.
 pub(crate) fn explained_in(wanted: &Wanted, shown: &Viewed) -> Explained
     ensures { result ≡ explained_in wanted.now (report_value_of shown.now.report) shown.now.broken.items }
 {
@@ -40,7 +40,7 @@ pub(crate) fn octets_of_contents(contents: &Contents) -> &[u8]
     }
 }
 
-/// What is reported of the reasons: that memory for them is refused.
+/// The report on the reasons: that memory for them is refused, if it is.
 pub(crate) fn reasons_report(outcome: Result<Result<(), WriteFault>, AllocError>) -> Report
     ensures { report_value_of result ≡ reasons_report outcome }
 {

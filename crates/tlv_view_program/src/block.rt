@@ -1,4 +1,4 @@
-//! What is shown of a block of the inputs, and what is said of it.
+//! What is shown of a block of the inputs, and what is said about it.
 ghost use Rattle.std.specs.Prelude.{◌≡◌, ◌≤◌, [], length};
 ghost use Rattle.tlv_head.specs.InputLimit.{input_limit};
 ghost use Rattle.tlv_io.specs.Out.{Sends};
@@ -34,19 +34,19 @@ use tlv_view::Viewed;
 use tlv_view_words::{Request, Wanted};
 use tlv_walk::{DeviceFault, Drain, Source, WriteFault};
 
-/// What is to be done with each block.
+/// What to do with each block.
 #[derive(Clone, Copy)]
 pub(crate) struct Task<'a> {
     pub alloc: Global,
     pub request: &'a Request,
     pub names: &'a Names,
-    /// How many blocks there are.
+    /// The number of blocks.
     pub count: usize,
     /// Whether there are several files.
     pub several_files: bool,
 }
 
-/// What a block came to.
+/// The result of showing a block.
 #[derive(Clone, Copy)]
 pub(crate) struct BlockResult {
     pub status: u8,
@@ -55,7 +55,7 @@ pub(crate) struct BlockResult {
 }
 
 impl Task<'_> {
-    /// Shows the block with this number, and says before it and after it what there is to say.
+    /// Shows the block with this number, and writes what there is to say before it and after it.
     pub fn block<S: System, I: Source, O: Drain, M: Drain>(
         &self,
         number: usize,
@@ -147,7 +147,7 @@ impl Task<'_> {
         )
     }
 
-    /// Shows what a block has.
+    /// Shows what a block holds.
     fn contents<D: Drain>(&self, contents: &Contents, drain: &mut D) -> Viewed
         requires { contents_fit contents.now }
         ensures { ShowsContents self.now.request.now self.now.names.now (D.state drain.old) (D.state drain.new)
@@ -166,7 +166,7 @@ impl Task<'_> {
         }
     }
 
-    /// Nothing is shown, and this is reported.
+    /// The result if nothing is shown and this is reported.
     fn reported(&self, report: Report) -> Viewed
         ensures report { report_value_of result.report ≡ report_value_of report }
         ensures none { result.broken.items ≡ [] }
@@ -193,7 +193,7 @@ fn name_of<'a>(number: usize, block: &InputBlock<'a>) -> BlockName<'a>
     }
 }
 
-/// Writes what is said of a block before it is shown.
+/// Writes what is said about a block before it is shown.
 fn write_contents_note<D: Drain>(
     name: BlockName<'_>,
     contents: &Contents,
@@ -208,7 +208,7 @@ fn write_contents_note<D: Drain>(
     }
 }
 
-/// What a block is called in the line before it; empty if it has no label.
+/// The name of a block in the line before it; empty if it has no label.
 fn contents_name(contents: &Contents) -> ArrayVec<u8, 64>
     ensures { result.items ≡ contents_name (block_contents contents.now) }
 {
@@ -225,14 +225,14 @@ fn has_octets(block: &Block) -> bool
     !is_undecoded(block.state) || !block.octets.is_empty()
 }
 
-/// Whether a text is not decoded, or not to its end.
+/// Whether a text is not decoded, or not decoded to its end.
 fn is_undecoded(state: BlockState) -> bool
     ensures { result ≡ is_undecoded state }
 {
     !matches!(state, BlockState::Whole | BlockState::Unended)
 }
 
-/// The status of a block by that of what is shown of it.
+/// The status of a block, from the status of what is shown of it.
 fn contents_status(wanted: &Wanted, contents: &Contents, status: u8) -> u8
     ensures { result ≡ contents_status wanted.now (block_contents contents.now) status }
 {
@@ -254,7 +254,7 @@ fn refused_status(wanted: &Wanted) -> u8
     }
 }
 
-/// The status, or 1 for broken strings, if it is higher.
+/// The status, or 1 if that is higher and there are broken strings.
 fn status_with(status: u8, broken: &[BrokenString]) -> u8
     ensures { result ≡ status_with status broken.now }
 {

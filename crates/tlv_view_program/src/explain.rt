@@ -1,4 +1,4 @@
-//! Why octets do not parse, and what may be done, where that is what is wanted.
+//! Why octets do not parse, and what may be done, if that is wanted.
 ghost use Rattle.std.specs.Prelude.{◌≡◌, ◌≤◌, ◌++◌, IfOk, [], length};
 ghost use Rattle.tlv_show.specs.declared.rules.Rules.TheVariants.{Ber, Der};
 ghost use Rattle.tlv_head.specs.InputLimit.{input_limit};
@@ -56,7 +56,7 @@ pub(crate) fn explain<N: FiniteNames, D: Drain>(
     }
 }
 
-/// Writes that octets parse and which findings are in them, and then why the first of the broken strings breaks.
+/// Writes that octets parse and which findings are in them, and then why the first broken string breaks.
 fn explain_parsing<D: Drain>(
     alloc: Global,
     padding: bool,
@@ -95,7 +95,7 @@ fn write_parsing<D: Drain>(
     )
 }
 
-/// The findings by the rules of BER and of DER, and which strings are broken.
+/// The findings by the rules of BER and DER, and which strings are broken.
 fn findings_in<N: FiniteNames>(
     alloc: Global,
     closed: bool,
@@ -118,7 +118,7 @@ fn findings_in<N: FiniteNames>(
     })
 }
 
-/// What a check by these rules reports, and which strings are broken.
+/// The report of a check by these rules, and which strings are broken.
 fn checked<N: FiniteNames>(
     alloc: Global,
     rules: Rules,
@@ -159,7 +159,7 @@ fn put_findings<D: Drain>(ber: &[u8], der: &[u8], out: &mut Out<'_, D>) -> Resul
     out.put(b".\n")
 }
 
-/// How many findings there are, in the words of a report.
+/// The number of findings, in the words of a report.
 fn findings_words(message: &[u8]) -> &[u8]
     ensures { result.now ≡ findings_words message.now }
 {
@@ -181,7 +181,7 @@ fn explained_report(status: u8, outcome: Result<Result<(), WriteFault>, AllocErr
     }
 }
 
-/// This is reported, and no string is broken.
+/// This report, without broken strings.
 fn without_strings(alloc: Global, report: Report) -> Viewed
     ensures report { report_value_of result.report ≡ report_value_of report }
     ensures none { result.broken.items ≡ [] }

@@ -17,7 +17,7 @@ use tlv_view_words::Request;
 use tlv_walk::{Drain, Source};
 
 /// Reads the files of a request, or standard input if there are none, and shows their blocks in order. Returns the
-/// highest status. After a failed write to standard output no other block is shown.
+/// highest status. Shows no other block after a failed write to standard output.
 pub(crate) fn show_files<S: System, I: Source, O: Drain, M: Drain>(
     alloc: Global,
     request: &Request,

@@ -30,13 +30,13 @@ use tlv_walk::{Drain, Source};
 pub(crate) enum NoBlocks {
     /// It does not open.
     Unopened,
-    /// Its octets cannot be had.
+    /// Its octets cannot be obtained.
     Input(InputFault),
-    /// What is written in its text cannot be had.
+    /// What is written in its text cannot be obtained.
     Text(TextFault),
 }
 
-/// What a block has.
+/// What a block holds.
 #[derive(Debug, Drop)]
 pub(crate) enum Contents {
     /// The file gives no block.
@@ -55,8 +55,8 @@ pub(crate) struct InputBlock<'a> {
     pub contents: Contents,
 }
 
-/// The blocks of all files of a request, in order, or of standard input if there are none. `None` if memory for the
-/// list of them is refused.
+/// The blocks of all files of a request, in order, or of standard input if there are no files. `None` if memory for the
+/// list of blocks is refused.
 pub(crate) fn blocks_of_files<'a, S: System, I: Source, O: Drain, M: Drain>(
     alloc: Global,
     request: &'a Request,
@@ -146,7 +146,7 @@ fn add_taken<'a>(
     Ok(())
 }
 
-/// What an input is taken for, by the form that is asked for.
+/// What an input is taken for, by the requested form.
 fn take(alloc: Global, form: InputForm, octets: Vec<u8>) -> Result<Vec<Taken>, TextFault>
     requires { length octets.items ≤ input_limit }
     ensures takes { TakesInput form octets.items (taken_had result) }
@@ -195,7 +195,7 @@ fn octets_read(octets: Result<Vec<u8>, InputFault>) -> Result<Vec<u8>, NoBlocks>
     }
 }
 
-/// What is reported of a file that gives no block.
+/// The report for a file that gives no block.
 pub(crate) fn report_without_blocks(why: NoBlocks) -> Report
     ensures { report_value_of result ≡ report_without_blocks why }
 {

@@ -1,12 +1,12 @@
-//! Laws of what is said of inputs: each is the contract of a function that does nothing.
+//! Laws of what is said about inputs: each is the contract of a function that does nothing.
 ghost use Rattle.tlv_view_program.specs.ShownLines.{DumpsAreShown, FindingsLinesAreShown, ListsAreShown};
 ghost use Rattle.tlv_view_program.specs.ShownLines.{MessagesAreShown, NamesAreShown, NotesAreShown, ReasonsAreShown};
 ghost use Rattle.tlv_view_program.specs.ShownLines.{RunsAreShown, TitlesAreShown};
 
 use tlv_program::System;
 
-/// The note on what an input is taken for is printable ASCII and a line feed, whatever the input has: labels, first
-/// words, and the names of files too.
+/// The note on what an input is taken for is printable ASCII and a line feed, whatever the input has, and whatever the
+/// labels, the first words and the names of files are.
 pub fn notes_are_shown()
     ensures { NotesAreShown }
 {}
@@ -16,27 +16,27 @@ pub fn titles_are_shown()
     ensures { TitlesAreShown }
 {}
 
-/// So are the lines of what is reported of a block, and of the strings in it that are broken.
+/// So are the lines that report on a block, and on the broken strings in it.
 pub fn messages_are_shown()
     ensures { MessagesAreShown }
 {}
 
-/// So is the line of what is found in octets that parse.
+/// So is the line of the findings in octets that parse.
 pub fn findings_lines_are_shown()
     ensures { FindingsLinesAreShown }
 {}
 
-/// All that is written of octets with `--why` is printable ASCII and line feeds.
+/// All that is written about octets with `--why` is printable ASCII and line feeds.
 pub fn reasons_are_shown()
     ensures { ReasonsAreShown }
 {}
 
-/// The names of a file of names are printable ASCII.
+/// The names in a names file are printable ASCII.
 pub fn names_are_shown()
     ensures { NamesAreShown }
 {}
 
-/// All that is written of octets by a dump is printable ASCII and line feeds, if the names of object identifiers are.
+/// All that a dump writes about octets is printable ASCII and line feeds, if the names of object identifiers are.
 pub fn dumps_are_shown()
     ensures { DumpsAreShown }
 {}
@@ -47,8 +47,8 @@ pub fn lists_are_shown<S: System>(_system: &S)
 {}
 
 /// All that a run of the program writes to standard error is printable ASCII and line feeds, whatever its words, the
-/// names and the inputs are; the octets of blocks are below 256. What `clap` has to say of words is printed by the
-/// system, and is not among this.
+/// names and the inputs are, if the octets of blocks are below 256. This does not include what `clap` has to say
+/// about words: the system prints that.
 pub fn runs_are_shown<S: System>(_system: &S)
     ensures { RunsAreShown S.allows }
 {}

@@ -20,13 +20,13 @@ use tlv_walk::{Drain, Out, WriteFault};
 /// What comes before messages that concern a block.
 #[derive(Clone, Copy)]
 pub(crate) struct BlockName<'a> {
-    /// The name of its file, which standard input has not.
+    /// The name of its file; standard input has none.
     pub file: Option<&'a str>,
     /// Its number, if it is one of several in the file.
     pub number: Option<usize>,
 }
 
-/// Writes the line before a block: its number, how many blocks there are, and what it is called.
+/// Writes the line before a block: its number, the number of blocks, and the title of the block.
 #[tactic(auto, using(tlv_io::proofs::Sends::sends))]
 pub(crate) fn write_block_line<D: Drain>(
     number: usize,
@@ -62,7 +62,7 @@ fn put_block_line<D: Drain>(
     out.put(b"\n")
 }
 
-/// Puts what a block is called.
+/// Puts the title of a block.
 fn put_title<D: Drain>(
     several_files: bool,
     file: Option<&str>,
@@ -81,7 +81,7 @@ fn put_title<D: Drain>(
     out.put(label)
 }
 
-/// What the line before a block begins with.
+/// The beginning of the line before a block.
 fn block_start(number: usize, count: usize) -> ArrayVec<u8, 64>
     ensures { result.items ≡ block_start number count }
 {
@@ -158,7 +158,7 @@ fn put_note_line<D: Drain>(
     out.put(b"\n")
 }
 
-/// Writes what is said of a block after it: its message, if there is one, and a line for each broken string.
+/// Writes what comes after a block: its message, if there is one, and a line for each broken string.
 pub(crate) fn write_messages<D: Drain>(
     name: BlockName<'_>,
     message: &[u8],
@@ -174,7 +174,7 @@ pub(crate) fn write_messages<D: Drain>(
     write_message_lines(name, message, broken, drain)
 }
 
-/// Writes it. It is apart, since its buffer is cleared on each call, and most blocks have nothing that is said.
+/// Writes these lines. A function of its own: each call clears its buffer, and most blocks need no lines.
 #[tactic(auto, using(tlv_io::proofs::Sends::sends))]
 #[inline(never)]
 fn write_message_lines<D: Drain>(
@@ -192,7 +192,7 @@ fn write_message_lines<D: Drain>(
     Ok(())
 }
 
-/// Puts what is said of a block after it.
+/// Puts what comes after a block.
 #[tactic(auto, using(tlv_io::proofs::Puts::puts))]
 fn put_messages<D: Drain>(
     name: BlockName<'_>,
@@ -221,7 +221,7 @@ fn put_broken_lines<D: Drain>(
     Ok(())
 }
 
-/// Puts a line that concerns a block, with its name before it; nothing for no text.
+/// Puts a line that concerns a block, with the name of the block before it; nothing if the text is empty.
 fn put_placed_line<D: Drain>(
     name: BlockName<'_>,
     text: &[u8],

@@ -11,14 +11,14 @@ use tlv_run::Text;
 use tlv_value::{Names, NamesFault};
 use tlv_view_words::{FileNames, Wanted};
 
-/// The names for what is wanted, and whether it is to be noted that no file of names was found.
+/// The names for what is wanted, and whether to note that no names file was found.
 #[derive(Drop)]
 pub(crate) struct Table {
     pub names: Names,
     pub is_missing: bool,
 }
 
-/// The names for what is wanted: of the file of names that the words name, or else of the first of these files that
+/// The names for what is wanted: from the names file that the words name, or else from the first of these files that
 /// opens.
 pub(crate) fn table_for<S: System>(
     alloc: Global,
@@ -50,7 +50,7 @@ pub(crate) fn table_for<S: System>(
     }
 }
 
-/// The names if no file opens: none, and that is noted, unless a file was named.
+/// The names if no file opens: none, and a note of that, unless a file was named.
 fn table_without_file(name: &Option<Text>) -> Result<Table, NamesFault>
     ensures result { table_result result ≡ result_without_file name.now }
     ensures noted { is_noted result ≡ is_none name.now }

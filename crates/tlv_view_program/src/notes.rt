@@ -1,4 +1,4 @@
-//! What is said of a block before it is shown.
+//! What is said about a block before it is shown.
 ghost use Rattle.std.specs.Prelude.{◌≡◌, ◌≤◌, ◌++◌, decimal, flat_map, length};
 ghost use Rattle.tlv_forms.specs.Taken.{taken_value};
 ghost use Rattle.tlv_io.specs.Out.{Puts};
@@ -16,7 +16,7 @@ use tlv_text::{Block, BlockState, Form, TextFault};
 use tlv_view::{InputFault, input_report};
 use tlv_walk::{Drain, Out, WriteFault};
 
-/// What is reported if the blocks of an input cannot be had.
+/// The report if the blocks of an input cannot be obtained.
 pub(crate) fn text_report(fault: TextFault) -> Report
     ensures { report_value_of result ≡ text_report fault }
 {
@@ -36,7 +36,7 @@ pub(crate) fn has_note(taken: &Taken) -> bool
     }
 }
 
-/// What a block of a text is called in the line before it; empty if it has no label.
+/// The name of a block of a text in the line before it; empty if it has no label.
 pub(crate) fn block_label(taken: &Taken) -> ArrayVec<u8, 64>
     ensures { result.items ≡ name_by taken.now.taken_for (block_value taken.now.block) }
 {
@@ -63,7 +63,7 @@ pub(crate) fn put_note<D: Drain>(taken: &Taken, out: &mut Out<'_, D>) -> Result<
     }
 }
 
-/// Puts the note of a text of no form that is known, with its first words.
+/// Puts the note of a text whose form is not known, with its first words.
 fn put_other_text<D: Drain>(words: &[u8], out: &mut Out<'_, D>) -> Result<(), WriteFault>
     ensures { Puts D.state out.old out.new (other_text_note words.now) result }
 {
@@ -99,7 +99,7 @@ fn put_label<D: Drain>(label: &[u8], out: &mut Out<'_, D>) -> Result<(), WriteFa
     out.put(label)
 }
 
-/// Puts the base64 that a block is written in.
+/// Puts the base64 in which a block is written.
 fn put_layers<D: Drain>(layers: &[Option<usize>], out: &mut Out<'_, D>) -> Result<(), WriteFault>
     ensures { Puts D.state out.old out.new (flat_map layer_words layers.now) result }
 {
@@ -109,7 +109,7 @@ fn put_layers<D: Drain>(layers: &[Option<usize>], out: &mut Out<'_, D>) -> Resul
     Ok(())
 }
 
-/// The words for base64 that a block is written in.
+/// The words for base64 in which a block is written.
 fn layer_words(layer: Option<usize>) -> ArrayVec<u8, 64>
     ensures { result.items ≡ layer_words layer }
 {
@@ -119,7 +119,7 @@ fn layer_words(layer: Option<usize>) -> ArrayVec<u8, 64>
     }
 }
 
-/// The form of a block that begins at this line.
+/// The words for the form of a block that begins at this line.
 fn form_words(form: Form, line: usize) -> ArrayVec<u8, 64>
     ensures { result.items ≡ form_words form line }
 {
@@ -133,14 +133,14 @@ fn form_words(form: Form, line: usize) -> ArrayVec<u8, 64>
     }
 }
 
-/// A run of base64, by its line.
+/// The words for a run of base64, by its line.
 fn run_words(line: usize) -> ArrayVec<u8, 64>
     ensures { result.items ≡ run_words line }
 {
     words_with_number(b"base64 of line ", line)
 }
 
-/// What is wrong with the text of a block.
+/// The words for what is wrong with the text of a block.
 fn state_words(form: Form, state: BlockState) -> ArrayVec<u8, 128>
     ensures { result.items ≡ state_words form state }
 {
@@ -165,7 +165,7 @@ fn state_words(form: Form, state: BlockState) -> ArrayVec<u8, 128>
     words
 }
 
-/// What is expected where a text is refused.
+/// The words for what is expected where a text is refused.
 fn expected_words(form: Form) -> &'static [u8]
     ensures words { result.now ≡ expected_words form }
     ensures few { length result.now ≤ 28 }
@@ -178,7 +178,7 @@ fn expected_words(form: Form) -> &'static [u8]
     }
 }
 
-/// A text that has no block of its form.
+/// The words for a text that has no block of its form.
 fn absent_words(form: Form) -> &'static [u8]
     ensures { result.now ≡ absent_words form }
 {

@@ -20,7 +20,7 @@ use tlv_view::{InputFault, View, Viewed, input_report, view_octets, write_offset
 use tlv_view_words::{Request, Wanted};
 use tlv_walk::{DeviceFault, Drain, Ending, Out, WriteFault};
 
-/// Writes what is wanted of the octets. Returns what is reported of them, and which strings in them are reported as
+/// Writes what is wanted of the octets. Returns the report on them, and the strings in them that are reported as
 /// broken.
 pub(crate) fn show_octets<N: FiniteNames, D: Drain>(
     alloc: Global,
@@ -66,7 +66,7 @@ pub(crate) fn show_octets<N: FiniteNames, D: Drain>(
     }
 }
 
-/// Memory is refused.
+/// The result if memory is refused.
 pub(crate) fn no_memory(alloc: Global) -> Viewed
     ensures report { report_value_of result.report ≡ input_report InputFault.Memory }
     ensures none { result.broken.items ≡ [] }
@@ -101,7 +101,7 @@ fn write_octets<D: Drain>(octets: &[u8], drain: &mut D) -> Result<(), WriteFault
     Ok(())
 }
 
-/// What is reported of octets that are written as they are.
+/// The report on octets that are written as they are.
 fn raw_report(written: Result<(), WriteFault>) -> Report
     ensures { report_value_of result ≡ raw_report written }
 {
@@ -158,7 +158,7 @@ fn list_offsets<D: Drain>(alloc: Global, request: &Request, octets: &[u8], drain
     }
 }
 
-/// What is reported of a list of offsets: that it could not be written, or else the fault of the input.
+/// The report on a list of offsets: that it could not be written, or else the fault of the input.
 fn offsets_report(written: Result<(), WriteFault>, octets: &[u8], padding: bool) -> Report
     requires { length octets.now ≤ input_limit }
     ensures { (ending : Ending) × IsEnding (closed_framing padding) octets.now ending

@@ -18,7 +18,7 @@ use tlv_open::{BrokenString, broken_line, laws, opened};
 use tlv_walk::{Drain, Framing, INPUT_LIMIT, Inside, Out, WriteFault};
 use tlv_why::{Element, Facts, facts_of, write_reasons, write_why};
 
-/// How many headers may be looked at: one that is refused, those of open elements, and those of elements before.
+/// The most headers to look at: the refused header, and the headers of open elements and of elements before.
 const SUSPECTS: usize = 154;
 
 /// What is explained after the messages of a block.
@@ -32,8 +32,8 @@ pub(crate) enum Explained {
     String(BrokenString),
 }
 
-/// What is explained if this is the status that is reported: a fault, or else the first of the broken strings; nothing
-/// if standard output failed.
+/// What to explain if this status is reported: a fault, or else the first broken string; nothing if standard output
+/// failed.
 pub(crate) fn explained_by(has_failed: bool, status: u8, broken: &[BrokenString]) -> Explained
     ensures { result ≡ explained_by has_failed status broken.now }
 {
@@ -69,7 +69,7 @@ pub(crate) fn write_explained<D: Drain>(
     }
 }
 
-/// Writes the reasons of a fault, and what may be done. It is apart, since its facts are cleared on each call, and most
+/// Writes the reasons of a fault, and what may be done. A function of its own: each call clears its facts, and most
 /// blocks have no fault.
 #[inline(never)]
 fn write_fault_reasons<D: Drain>(
@@ -94,7 +94,7 @@ fn write_fault_reasons<D: Drain>(
     }
 }
 
-/// What is said of octets of which no string is named.
+/// The facts about octets if no string is named.
 pub(crate) fn closed_facts(octets: &[u8], padding: bool) -> Facts
     requires { length octets.now ≤ input_limit }
     ensures { AreFacts (closed_framing padding) octets.now result }
@@ -130,7 +130,7 @@ pub(crate) fn explain_octets<D: Drain>(
     }
 }
 
-/// Explains the first of the broken strings, if there is one.
+/// Explains the first broken string, if there is one.
 pub(crate) fn explain_first<D: Drain>(
     alloc: Global,
     padding: bool,
@@ -147,7 +147,7 @@ pub(crate) fn explain_first<D: Drain>(
     }
 }
 
-/// Writes why a string breaks, with the line before it if that is wanted, and which one length would mend it.
+/// Writes why a string breaks, with the line before it if that is wanted, and which single length would mend it.
 #[inline(never)]
 fn explain_string<D: Drain>(
     alloc: Global,
@@ -233,7 +233,7 @@ fn put_heading_line<D: Drain>(string: &BrokenString, out: &mut Out<'_, D>) -> Re
     out.put(b".\n")
 }
 
-/// The offsets of the strings that are named if the one at this offset is explained.
+/// The offsets of the strings to name in order to explain the string at this offset.
 fn named_offsets(
     alloc: Global,
     padding: bool,
@@ -251,7 +251,7 @@ fn named_offsets(
     offsets_up_to(alloc, offset, opened.as_slice())
 }
 
-/// Those of the offsets that are below this one, and it.
+/// The opened offsets below this one, and this one.
 fn offsets_up_to(alloc: Global, offset: u64, opened: &[u64]) -> Result<Vec<u64>, AllocError>
     ensures { IfOk result (λ named. named.items ≡ offsets_up_to offset opened.now) }
 {
@@ -265,7 +265,7 @@ fn offsets_up_to(alloc: Global, offset: u64, opened: &[u64]) -> Result<Vec<u64>,
     Ok(named)
 }
 
-/// The headers that may say a wrong length, the nearest to the fault first.
+/// The offsets of headers whose length may be wrong, the nearest to the fault first.
 fn suspect_offsets(facts: &Facts) -> ArrayVec<usize, SUSPECTS>
     ensures { result.items ≡ suspect_offsets facts.now }
 {

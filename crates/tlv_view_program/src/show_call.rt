@@ -1,4 +1,4 @@
-//! The program: what it does in which order.
+//! The program: what it does, and in which order.
 ghost use Rattle.std.specs.Prelude.{◌≡◌, if◌then◌else◌, []};
 ghost use Rattle.tlv_run.specs.Report.{report_value_of, report_with};
 ghost use Rattle.tlv_view_program.specs.Lines.{no_names_note};
@@ -16,14 +16,13 @@ use tlv_view_words::{FileNames, Request, RequestFault, request_of, request_repor
 use tlv_walk::{Drain, Source};
 use tlv_words::{Words, not_utf8_report, unprinted_report};
 
-/// Runs the program on the words of its command line, of which the first is the program's name. Names of object
-/// identifiers are in the file that the words name, or else in the first of these places that opens. Returns the
+/// Runs the program on the words of its command line. The first word is the program's name. Reads the names of
+/// object identifiers from the file that the words name, or else from the first of these places that opens. Returns the
 /// status.
 ///
 /// Reads the words, then the names, then each file, or standard input if there is none, and shows their blocks in
-/// order. Says on standard error what there is to say of them. The first of words and names that is refused is said,
-/// and nothing is done after it. `typed` says whether standard input is a terminal: then it is said that it is read, if
-/// no file is named.
+/// order. Writes messages to standard error. If the words or the names are refused, says so and does nothing after it.
+/// `typed` says whether standard input is a terminal: if it is, and no file is named, a note says that it is read.
 pub fn run_show<S: System, I: Source, O: Drain, M: Drain>(
     alloc: Global,
     words: &Result<Words, NoWords>,
@@ -54,7 +53,7 @@ pub fn run_show<S: System, I: Source, O: Drain, M: Drain>(
     }
 }
 
-/// Prints what `clap` has to say, if it does not take the words. Returns whether nothing is left to print.
+/// Prints what `clap` has to say, if the fault comes from `clap`. Returns whether nothing is left to print.
 fn print_refusal<S: System>(fault: &RequestFault, system: &mut S) -> bool
     ensures { PrintsRefusal S.allows system.old system.new fault.now result }
 {
@@ -65,7 +64,7 @@ fn print_refusal<S: System>(fault: &RequestFault, system: &mut S) -> bool
     }
 }
 
-/// The report if the words ask for nothing, by whether what `clap` has to say is printed.
+/// The report if the words ask for nothing, depending on whether what `clap` has to say is printed.
 fn refused_report(fault: &RequestFault, printed: bool) -> Report
     ensures { report_value_of result ≡ refused_report fault.now printed }
 {
@@ -109,7 +108,7 @@ fn show_request<S: System, I: Source, O: Drain, M: Drain>(
     }
 }
 
-/// The note that no file of names was found, or nothing.
+/// The note that no names file was found, or nothing.
 fn names_note(is_missing: bool) -> Report
     ensures { report_value_of result ≡ report_with 0 (if is_missing then no_names_note else []) }
 {

@@ -1,4 +1,4 @@
-//! What follows from what is wanted.
+//! What follows from the requested output.
 ghost use Rattle.std.specs.Prelude.{◌≡◌};
 ghost use Rattle.tlv_view_program.specs.ShowsBlock.{has_titles, reports_broken, stays_closed};
 

@@ -1,4 +1,4 @@
--- What the text of `--as` says: in which form an input is.
+-- What the text of `--as` says: the form of an input.
 use Rattle.std.specs.Prelude.{List, [], ◌∷◌, Option, Some, None, codes}
 use Rattle.std.specs.Map.{lookup}
 use Rattle.std.specs.Str.{bytes_eq}
@@ -22,7 +22,7 @@ named_forms =
     ∷ (codes "runs", input.Text form.Runs)
     ∷ []
 
--- `--as`: one of these; without it, the octets of the input decide. A result `None` says that the text is no value
+-- `--as`: one of these; without it, the octets of the input decide. The result `None` means that the text is not valid
 abbrev pub form_value : Option Text → Option InputForm
 form_value None = Some input.Any
 form_value (Some text) = lookup (bytes_eq text) named_forms

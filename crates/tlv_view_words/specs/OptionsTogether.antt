@@ -1,4 +1,4 @@
--- Which options go together, of what `clap` matches: the texts of each option given, and the names of files.
+-- Which options go together, by what `clap` matches: the texts of each option given, and the names of files.
 use Rattle.std.specs.Prelude.{Bool, List, [], ◌∷◌, Option, Some, None, ◌&&◌, codes, find, if◌then◌else◌, is_some}
 use Rattle.std.specs.Prelude.{length, nat_lt, not, option_and_then, option_map, unwrap_or}
 use Rattle.std.specs.Option.{option_or}
@@ -37,7 +37,7 @@ given_files matches = unwrap_or (all_of (codes "file") matches) []
 
 -- ---- what does not go together
 
--- the options that may not be given with one that asks for something else than a dump
+-- the options that may not be given with this one, which asks for something other than a dump
 abbrev pub apart_from : ShowOption → List ShowOption
 apart_from Check = Offset ∷ Offsets ∷ Raw ∷ Why ∷ Limit ∷ Pure ∷ Names ∷ NoText ∷ []
 apart_from Offset = Offsets ∷ Raw ∷ Why ∷ Rules ∷ Limit ∷ Pure ∷ Names ∷ Closed ∷ NoText ∷ []

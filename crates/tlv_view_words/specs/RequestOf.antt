@@ -18,7 +18,7 @@ use Rattle.tlv_view_words.specs.declared.request.Request.{Request}
 use Rattle.tlv_view_words.specs.declared.request.Wanted.{Wanted}
 use Rattle.tlv_view_words.specs.declared.request.Wanted.TheVariants.{Check, Dump, Extract, Offsets, Raw, Why}
 
--- ---- what is asked for by what `clap` matches: the texts of each option given, and the names of files
+-- ---- what the matches of `clap` ask for: the texts of each option given, and the names of files
 
 abbrev pub wanted_dump : List Row → Result Wanted Refusal
 wanted_dump matches =
@@ -42,7 +42,7 @@ wanted_extract matches =
     with_value OffsetValue (offset_value (first_of (codes "offset") matches)) (λ offset.
     Ok (Extract offset (has_flag (codes "contents") matches)))
 
--- what is wanted of each file, or the first option whose text is no value
+-- what is wanted of each file, or the first option whose text is not a valid value
 abbrev pub wanted_of : List Row → Result Wanted Refusal
 wanted_of matches =
     if is_option_given given.Check matches then wanted_check matches
@@ -52,7 +52,7 @@ wanted_of matches =
     else (if is_option_given given.Why matches then Ok (Why (has_flag (codes "closed") matches))
     else wanted_dump matches))))
 
--- what is wanted, of which files, in which form they are; a text of `--as` that is no value comes after the others
+-- what is wanted, of which files, and the form of the files; an invalid text of `--as` is reported after the others
 abbrev pub request_for : List Row → Result Wanted Refusal → Result Request Refusal
 request_for matches (Ok wanted) =
     with_value FormValue (form_value (first_of (codes "as") matches)) (λ form.
@@ -74,17 +74,16 @@ matched_request matches = request_unless matches (refused_together matches)
 
 -- ---- the words of a command line
 
--- `clap` finds no fault in the words, and the result is what the matches ask for, or why they ask for nothing
+-- `clap` accepts the words, and the result is what the matches ask for, or why they ask for nothing
 pub record AreAskedAs (words : List Text) (result : Result Request Refusal) : Type 0 where
   pub no_fault : fault_of show_app words ≡ []
   pub same_result : matched_request (matches_of show_app words) ≡ result
 
 -- why nothing is asked for: a line for each cause
 abbrev pub IsRequestFaultOf : List Text → RequestFault → Type 0
--- `clap` does not take the words; if they ask for help or for the version it does not take them either, and the kind
--- of the error says so
+-- `clap` refuses the words, or they ask for help or for the version: the kind of the error says which
 IsRequestFaultOf words (Parser error) = AreRefusedBy show_app words error
--- U2, U4: the text of an option is no value, or options do not go together
+-- U2, U4: the text of an option is not a valid value, or options do not go together
 IsRequestFaultOf words (Refused refusal) = AreAskedAs words (Err refusal)
 -- U3: memory was refused, whatever the words are
 IsRequestFaultOf words Memory = ⊤

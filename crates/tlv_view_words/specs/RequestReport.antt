@@ -38,7 +38,7 @@ refusal_message (NotWith asked option) =
 refusal_message ContentsAlone = codes "U4 only with --offset: --contents"
 refusal_message (SeveralFiles asked) = codes "U4 one FILE with " ++ option_spelling asked
 
--- the report. It has no part of the text that `clap` has for words that it does not take, for help, or for the version
+-- the report. It contains nothing of `clap`'s text for refused words, for help, or for the version
 abbrev pub request_report : RequestFault → ReportValue
 request_report (fault.Parser error) = report_with (status_of_kind (kind_of error)) []
 request_report (fault.Refused refusal) = report_with 4 (refusal_message refusal)

@@ -1,16 +1,16 @@
--- The command line of `tlvdump-show`, as the help has it. To `clap` a value is a text, and each option may be given
--- with each other one.
+-- The command line of `tlvdump-show`, as help shows it. To `clap` a value is a text, and each option may be given with
+-- every other option.
 use Rattle.std.specs.Prelude.{List, [], ◌∷◌, ◌++◌, Some, codes, true}
 use Rattle.clap.specs.Words.{App, Rule}
 use Rattle.clap.specs.Simple.{new_rule, new_shape}
 use Rattle.clap.specs.declared.builder.action.ArgAction.TheVariants.{Append}
 use Rattle.tlv_words.specs.CommandLine.{flag, help_flag, option, version_flag}
 
--- `[FILE]...`: any number of files, with options between them or without
+-- `[FILE]...`: any number of files, with or without options between them
 abbrev pub any_files : Rule
 any_files = record (new_rule (codes "file")) { action = Some Append; value_names = 1 }
 
--- what is asked for, of which files
+-- what is asked for, and for which files
 abbrev pub asking_arguments : List Rule
 asking_arguments =
     any_files
@@ -22,7 +22,7 @@ asking_arguments =
     ∷ flag (codes "why")
     ∷ []
 
--- in which form a file is, how it is shown, help and the version
+-- the form of a file, how it is shown, help and the version
 abbrev pub further_arguments : List Rule
 further_arguments =
     option (codes "as")

@@ -6,7 +6,7 @@ ghost use Rattle.tlv_view_words.specs.FormValue.{form_value};
 use crate::request::InputForm;
 use tlv_text::Form;
 
-/// The form that the text names; `ber`, `der` and `cer` are octets too. Without a text the octets of the input decide.
+/// The form that the text names; `ber`, `der` and `cer` mean octets too. Without a text the octets of the input decide.
 pub(crate) fn form_value(text: Option<&str>) -> Option<InputForm>
     ensures { result ≡ form_value (text_in text.entry) }
 {

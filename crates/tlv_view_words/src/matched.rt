@@ -1,4 +1,4 @@
-//! What is read of the matches that `clap` makes of words.
+//! What is read from the matches that `clap` makes of words.
 ghost use Rattle.std.specs.Prelude.{◌≡◌, IfOk, codes, map, option_map};
 ghost use Rattle.clap.specs.Words.{all_of};
 ghost use Rattle.tlv_words.specs.Matches.{matched_rows};
@@ -30,7 +30,7 @@ pub(crate) fn is_given(matches: &ArgMatches<'_>, option: ShowOption) -> bool
     }
 }
 
-/// The names of the files, as `clap` keeps them, if there are any.
+/// The names of the files, as `clap` keeps them, if any.
 pub(crate) fn file_texts<'m, 'a>(matches: &'m ArgMatches<'a>) -> Option<&'m [&'a str]>
     ensures { option_map (λ names. map (λ name. name.now) names.now) result
         ≡ all_of (codes "file") (matched_rows matches.now) }

@@ -9,7 +9,7 @@ use tlv_words::{VERSION, flag, help_flag, option, version_flag};
 
 mod help;
 
-/// The files to read, which have no name before them.
+/// The files to read: arguments without an option name.
 fn any_files<'a>(alloc: Global) -> Arg<'a>
     ensures { IsArgumentOf any_files result }
 {
@@ -33,7 +33,7 @@ fn bare_parser<'a>(alloc: Global) -> Command<'a>
         .after_help(help::AFTER)
 }
 
-/// The program with the arguments that say what is asked for, of which files.
+/// The program with the arguments that say what is asked for, and for which files.
 fn asking_parser<'a>(alloc: Global) -> Result<Command<'a>, AllocError>
     ensures { IfOk result (IsParserOf (show_app_with asking_arguments)) }
 {

@@ -35,16 +35,16 @@ pub enum ShowOption {
     NoText,
 }
 
-/// Why words that `clap` takes ask for nothing.
+/// Why words that `clap` accepts ask for nothing.
 #[derive(Clone, Copy, Debug, PartialEq, Eq)]
 pub enum Refusal {
-    /// U2: the text of `--rules` is no value of it.
+    /// U2: the text of `--rules` is not a valid value.
     RulesValue,
-    /// U2: the text of `--limit` is no value of it.
+    /// U2: the text of `--limit` is not a valid value.
     LimitValue,
-    /// U2: the text of `--offset` is no value of it.
+    /// U2: the text of `--offset` is not a valid value.
     OffsetValue,
-    /// U2: the text of `--as` is no value of it.
+    /// U2: the text of `--as` is not a valid value.
     FormValue,
     /// U4: the second of these options may not be given with the first.
     NotWith(ShowOption, ShowOption),
@@ -57,16 +57,16 @@ pub enum Refusal {
 /// Why words ask for nothing.
 #[derive(Debug, Drop)]
 pub enum RequestFault {
-    /// `clap` does not take the words; if they ask for help or for the version it does not take them either, and the
-    /// kind of the error says so. There is no code: the text is `clap`'s own.
+    /// `clap` refuses the words, or they ask for help or for the version: the kind of the error says which. There is no
+    /// code: the text is `clap`'s own.
     Parser(clap::Error),
-    /// U2, U4: the text of an option is no value, or options do not go together.
+    /// U2, U4: the text of an option is not a valid value, or options do not go together.
     Refused(Refusal),
     /// U3: memory was refused.
     Memory,
 }
 
-/// The report if words ask for nothing. What `clap` has to say is no part of it.
+/// The report if words ask for nothing. It contains nothing of `clap`'s own text.
 pub fn request_report(fault: &RequestFault) -> Report
     ensures { report_value_of result ≡ request_report fault.now }
 {

@@ -9,7 +9,7 @@ use tlv_text::Form;
 pub struct Request {
     /// What is wanted of each file.
     pub wanted: Wanted,
-    /// In which form each file is.
+    /// The form of each file.
     pub form: InputForm,
     /// Whether octets `00` may be before, between and after the encodings.
     pub padding: bool,
@@ -17,10 +17,10 @@ pub struct Request {
     pub files: FileNames,
 }
 
-/// In which form an input is.
+/// The form of an input.
 #[derive(Clone, Copy, Debug, PartialEq, Eq)]
 pub enum InputForm {
-    /// What its octets decide.
+    /// The form that its octets decide.
     Any,
     /// Octets as they stand.
     Octets,
@@ -46,7 +46,7 @@ pub enum Wanted {
         /// The names file, for object identifiers.
         names: Option<Text>,
     },
-    /// The findings alone.
+    /// Only the findings.
     Check {
         /// The rules by which they are shown.
         rules: Rules,
@@ -57,7 +57,7 @@ pub enum Wanted {
     Extract {
         /// Where its first octet is, in octets from the start.
         offset: u64,
-        /// Whether its contents alone are written.
+        /// Whether only its contents are written.
         contents: bool,
     },
     /// The offsets of the strings that hold encodings.

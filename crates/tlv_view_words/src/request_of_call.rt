@@ -21,10 +21,9 @@ use tlv_words::{Words, first_of, has_flag, limit_value, offset_value, owned_text
 ///
 /// # Errors
 ///
-/// `Parser` if `clap` does not take the words; if they ask for help or for the version it does not take them either,
-/// and the kind of the error says so. `Refused` if `clap` finds no fault, but options do not go together, or else an
-/// option's text is no value: it names the first such option, in the order rules, limit, offset, as. `Memory` if memory
-/// is refused.
+/// `Parser` if `clap` refuses the words, or if they ask for help or for the version: the kind of the error says which.
+/// `Refused` if `clap` accepts the words, but options do not go together, or else the text of an option is not a valid
+/// value: it names the first such option, in the order rules, limit, offset, as. `Memory` if memory is refused.
 pub fn request_of(alloc: Global, words: &Words) -> Result<Request, RequestFault>
     ensures ok { IfOk result (λ request. AreAskedAs words.now (Ok request)) }
     ensures err { IfErr result (IsRequestFaultOf words.now) }

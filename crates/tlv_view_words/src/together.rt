@@ -131,7 +131,7 @@ fn first_given(matches: &ArgMatches<'_>, options: &[ShowOption]) -> Option<ShowO
     None
 }
 
-/// The options that may not be given with one that asks for something else than a dump.
+/// The options that may not be given with this one, which asks for something other than a dump.
 fn apart_from(asked: ShowOption) -> &'static [ShowOption]
     ensures { result.now ≡ apart_from asked }
 {

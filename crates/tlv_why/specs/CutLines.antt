@@ -1,4 +1,4 @@
--- What is said of an input that ends too early: X.690 8.1.3 and 8.1.5.
+-- The lines about an input that ends too early: X.690 8.1.3 and 8.1.5.
 use Rattle.std.specs.Prelude.{ℕ, ◌-◌, Bool, false, eqb, if◌then◌else◌, List, [], ◌++◌, Option, Some, None, codes}
 use Rattle.std.specs.Prelude.{decimal, length}
 use Rattle.std.specs.Option.{option_map_or}
@@ -9,7 +9,7 @@ use Rattle.tlv_why.specs.declared.facts.Unfinished.TheVariants.{EndOctets, Heade
 use Rattle.tlv_why.specs.OpenHolders.{element_end, indefinite_count, innermost_holder, outermost_definite}
 use Rattle.tlv_why.specs.Words.{first_pairs, header_sentence, named_element, octets_between, octets_in_words}
 
--- F01: there is no element, in so many octets
+-- F01: there is no element in `size` octets
 unfoldable pub empty_line : ℕ → List ℕ
 empty_line size =
     if eqb size 0 then codes "The input is empty.\n"
@@ -27,13 +27,13 @@ cut_header_line octets next =
     codes "The input ends inside the header at offset " ++ decimal next ++ codes ":"
     ++ first_pairs (octets_between octets next (length octets)) ++ codes ".\n"
 
--- a primitive lacks so many contents octets
+-- a primitive lacks `missing` contents octets
 unfoldable pub cut_primitive_lines : List ℕ → Element → ℕ → List ℕ
 cut_primitive_lines octets e missing =
     codes "The input ends inside the " ++ named_element e ++ codes ". " ++ header_sentence octets e
     ++ codes "\nMissing there: " ++ octets_in_words missing ++ codes ".\n"
 
--- the second of the end-of-contents octets is lacking
+-- the second of the end-of-contents octets is missing
 unfoldable pub cut_end_line : Option Element → List ℕ
 cut_end_line None = []
 cut_end_line (Some e) =
@@ -58,27 +58,27 @@ filled_line e end =
     codes "The " ++ named_element e ++ codes " ends with the input, at offset " ++ decimal end
     ++ codes ": its length leaves no room for what is missing.\n"
 
--- an element would end at this offset, so many octets after the input
+-- an element would end at this offset, `missing` octets after the input
 unfoldable pub lacking_line : Element → ℕ → ℕ → List ℕ
 lacking_line e end missing =
     codes "The outermost element of definite length that is not whole, the " ++ named_element e
     ++ codes ", would end at offset " ++ decimal end ++ codes ". Missing up to there: " ++ octets_in_words missing
     ++ codes ".\n"
 
--- where the outermost element with a definite length ends, if there is one, in an input of so many octets
+-- where the outermost element with a definite length ends, if there is one, in an input of `size` octets
 unfoldable pub needed_line : ℕ → Option Element → List ℕ
 needed_line size None = []
 needed_line size (Some e) =
     if eqb (element_end e) size then filled_line e size else lacking_line e (element_end e) (element_end e - size)
 
--- 8.1.5: so many elements lack their end-of-contents octets
+-- 8.1.5: `count` elements lack their end-of-contents octets
 unfoldable pub unended_line : ℕ → List ℕ
 unended_line count =
     if eqb count 0 then []
     else codes "Elements with an indefinite length that are not ended: " ++ decimal count
     ++ codes "; each needs two octets 00.\n"
 
--- an element ends with an input of so many octets
+-- an element ends with an input of `size` octets
 abbrev pub ends_with_input : ℕ → Option Element → Bool
 ends_with_input size outer = option_map_or (λ e. eqb (element_end e) size) outer false
 
@@ -90,7 +90,7 @@ cut_try_line size outer =
     codes "Try: fetch the input anew, since the copy was cut; or, where it is whole, "
     ++ codes "look for a length that is too great.\n"
 
--- what is lacking in all, of an input of so many octets, with these open elements
+-- all that an input of `size` octets with these open elements lacks
 unfoldable pub needed_lines : ℕ → List Element → List ℕ
 needed_lines size holders = needed_line size (outermost_definite holders) ++ unended_line (indefinite_count holders)
 

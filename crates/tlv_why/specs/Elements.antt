@@ -1,4 +1,4 @@
--- What the sentences say of an element: where it is, its tag, and what its header announces.
+-- What the sentences say about an element: where it is, its tag, and what its header announces.
 use Rattle.std.specs.Prelude.{ℕ, ◌+◌, ◌-◌, ◌^◌, min, length}
 use Rattle.std.specs.Option.{option_map}
 use Rattle.tlv_head.specs.declared.header.HeaderFields.{HeaderFields}
@@ -9,7 +9,7 @@ use Rattle.tlv_why.specs.declared.element.Element.{Element}
 abbrev pub offset_sum : ℕ → ℕ → ℕ
 offset_sum n m = min (n + m) (2 ^ 64 - 1)
 
--- the element whose header has these fields and so many octets
+-- the element whose header has these fields and this number of octets
 abbrev pub element_with : HeaderFields → ℕ → Element
 element_with f count = record {
   offset = f.offset;

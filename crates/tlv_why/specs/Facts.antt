@@ -26,8 +26,8 @@ open_holders (Holder h children rest) = open_holders rest
 open_holders (OpenHolder h children) = element_of h ∷ open_holders children
 open_holders end = []
 
--- the last whole element before the open end, in the element that is innermost there, if there is one; the first
--- argument is the whole element before the forest
+-- the last whole element before the open end, directly inside the innermost element there, if any; the first argument
+-- is the whole element before the forest
 abbrev pub last_whole : Option Element → Forest → Option Element
 last_whole before (PaddingOctet rest) = last_whole before rest
 last_whole before (Primitive h contents rest) = last_whole (Some (element_of h)) rest
@@ -35,14 +35,14 @@ last_whole before (Holder h children rest) = last_whole (Some (element_of h)) re
 last_whole before (OpenHolder h children) = last_whole None children
 last_whole before end = before
 
--- the offset after the last whole element of the outermost ones; the first argument is that offset before the forest
+-- the offset after the last whole outermost element; the first argument is this offset before the forest
 abbrev pub whole_end : ℕ → Forest → ℕ
 whole_end before (PaddingOctet rest) = whole_end before rest
 whole_end before (Primitive h contents rest) = whole_end (h.offset + primitive_extent h contents) rest
 whole_end before (Holder h children rest) = whole_end (h.offset + extent h children) rest
 whole_end before end = before
 
--- the offsets of the elements before the open end, the nearest first; the first argument has those before the forest
+-- the offsets of the elements before the open end, the nearest first; the first argument holds those before the forest
 abbrev pub offsets_before : List ℕ → Forest → List ℕ
 offsets_before before (PaddingOctet rest) = offsets_before before rest
 offsets_before before (Primitive h contents rest) = offsets_before (h.offset ∷ before) rest
@@ -50,16 +50,16 @@ offsets_before before (Holder h children rest) = offsets_before (offsets_before 
 offsets_before before (OpenHolder h children) = offsets_before (h.offset ∷ before) children
 offsets_before before end = before
 
--- what stands at an open end
+-- what is unfinished at an open end
 abbrev pub unfinished_in : Forest → Unfinished
 unfinished_in (OpenPrimitive h contents) = unfinished.Primitive (element_of h)
 unfinished_in (OpenHeader octets) = unfinished.Header
--- 8.6.2.2: of a BIT STRING that is named and holds encodings, the header alone is there
+-- 8.6.2.2: only the header of a BIT STRING that is named and holds encodings is there
 unfinished_in (OpenBitString h) = unfinished.Header
 unfinished_in OpenEndOctets = unfinished.EndOctets
 unfinished_in end = unfinished.Nothing
 
--- the element whose whole header the input has at this offset, if there is one
+-- the element whose whole header is in the input at this offset, if any
 abbrev pub IsElementThere : List ℕ → ℕ → Option Element → Type 0
 IsElementThere octets offset found = MatchOption found (BeginsWithNoHeader (drop offset octets))
     (λ e. (h : HeaderValue) × BeginsWith (drop offset octets) offset false h × (e ≡ element_of h))
@@ -68,12 +68,12 @@ IsElementThere octets offset found = MatchOption found (BeginsWithNoHeader (drop
 abbrev pub end_of_reading : Framing → Forest → OpenEnd
 end_of_reading framing reading = open_end (top_place framing) reading
 
--- the ending that has this fault, or none
+-- the ending with this fault, or the ending without a fault
 abbrev pub ending_by : Option Fault → Ending
 ending_by None = ending.Done
 ending_by (Some fault) = ending.Fault fault
 
--- what is said of the open end of this reading, and of what comes before it
+-- the facts about the open end of this reading, and about what comes before it
 pub record AreFactsOf (framing : Framing) (octets : List ℕ) (reading : Forest) (facts : Facts) : Type 0 where
   pub holders : facts.holders.items ≡ open_holders reading
   pub before : facts.before ≡ last_whole None reading
@@ -83,7 +83,7 @@ pub record AreFactsOf (framing : Framing) (octets : List ℕ) (reading : Forest)
   pub unfinished : facts.unfinished ≡ unfinished_in (end_of_reading framing reading).forest
   pub there : IsElementThere octets facts.next facts.there
 
--- what is said of these octets: whether they parse, and what their reading comes to
+-- the facts about these octets: whether they parse, and the result of reading them
 pub record AreFacts (framing : Framing) (octets : List ℕ) (facts : Facts) : Type 0 where
   pub ending : IsEnding framing octets (ending_by facts.fault)
   pub reading : Forest

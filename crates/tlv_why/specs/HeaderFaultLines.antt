@@ -1,4 +1,4 @@
--- What is said of headers that are refused: X.690 8.1.2 and 8.1.3.
+-- The lines about headers that are refused: X.690 8.1.2 and 8.1.3.
 use Rattle.std.specs.Prelude.{ℕ, ◌-◌, nat_le, if◌then◌else◌, List, [], ◌++◌, Option, Some, None, codes, decimal}
 use Rattle.tlv_head.specs.declared.fault.FaultCode.{FaultCode}
 use Rattle.tlv_head.specs.declared.fault.FaultCode.TheVariants.{IndefinitePrimitive, LengthTooLarge, ReservedLength}
@@ -39,7 +39,7 @@ unfoldable pub deep_lines : ℕ → List ℕ
 deep_lines next = deep_line next ++ deep_try_line
 
 -- F11, 8.1.3.3: a header begins at the offset `next`, and does not end in the element `holder`, which ends at the
--- offset `end`, so many octets on
+-- offset `end`, `left` octets after `next`
 unfoldable pub header_past_line : List ℕ → ℕ → Element → ℕ → ℕ → List ℕ
 header_past_line octets next holder end left =
     codes "The header at offset " ++ decimal next ++ codes " runs past the end of the " ++ named_element holder
@@ -47,8 +47,8 @@ header_past_line octets next holder end left =
     ++ codes "\nLeft over: " ++ octets_in_words left ++ codes "," ++ first_pairs (octets_between octets next end)
     ++ codes ".\n"
 
--- F11, 8.1.3.3: the octet at this offset completes the header of an element that would end at the offset `past`, so
--- many octets after the element `holder`, which ends at the offset `end`
+-- F11, 8.1.3.3: the octet at this offset completes the header of an element that would end at the offset `past`,
+-- `missing` octets after the element `holder`, which ends at the offset `end`
 unfoldable pub element_past_line : List ℕ → ℕ → Element → ℕ → Element → ℕ → ℕ → List ℕ
 element_past_line octets offset e past holder end missing =
     codes "The octet at offset " ++ decimal offset ++ codes " completes the header of the " ++ named_element e
@@ -61,7 +61,7 @@ unfoldable pub one_wrong_line : List ℕ
 one_wrong_line =
     codes "One of the two lengths is wrong, or octets between them are missing or were put in.\n"
 
--- by the element whose whole header is there, if there is one, and it ends in the element `holder`
+-- the line about the element, if its whole header is there and ends in the element `holder`; else about the header
 unfoldable pub past_line : List ℕ → ℕ → ℕ → Element → Option Element → List ℕ
 past_line octets offset next holder None =
     header_past_line octets next holder (element_end holder) (element_end holder - next)

@@ -11,11 +11,11 @@ use Rattle.tlv_why.specs.Why.{reasons_of, why_lines}
 abbrev pub is_shown_octet : ℕ → Bool
 is_shown_octet x = eqb x 10 || (nat_le 0x20 x && nat_le x 0x7e)
 
--- line feeds and printable ASCII alone
+-- only line feeds and printable ASCII
 abbrev pub AreShown : List ℕ → Type 0
 AreShown text = list_all is_shown_octet text ≡ true
 
--- what is said of octets is printable ASCII, in lines: all of it, and all without the first line
+-- the lines about octets are printable ASCII: all lines, and all except the first
 abbrev pub LinesAreShown : Type 0
 LinesAreShown = (framing : Framing) (octets : List ℕ) (facts : Facts) → AreOctets octets → AreFacts framing octets facts
     → AreShown (why_lines octets facts) × AreShown (reasons_of octets facts)

@@ -1,11 +1,11 @@
--- What is said of the octets after the last whole encoding.
+-- The lines about the octets after the last whole encoding.
 use Rattle.std.specs.Prelude.{ℕ, ◌-◌, Bool, ◌&&◌, ◌||◌, not, eqb, nat_lt, if◌then◌else◌, List, [], ◌++◌, codes}
 use Rattle.std.specs.Prelude.{decimal, drop, length, slice_index}
 use Rattle.std.specs.List.{list_all}
 use Rattle.tlv_why.specs.Elements.{offset_sum}
 use Rattle.tlv_why.specs.Words.{first_pairs, octets_between, octets_in_words}
 
--- whole encodings end at the offset `top`, so many octets before the end of the input
+-- whole encodings end at the offset `top`, `left` octets before the end of the input
 unfoldable pub whole_line : ℕ → ℕ → List ℕ
 whole_line top left =
     codes "Whole encodings end at offset " ++ decimal top ++ codes ". Left over: " ++ octets_in_words left
@@ -17,35 +17,35 @@ whole_try_line top = codes "Try: head -c " ++ decimal top ++ codes " FILE, for t
 unfoldable pub whole_lines_of : ℕ → ℕ → List ℕ
 whole_lines_of top left = whole_line top left ++ whole_try_line top
 
--- the same, if it is to be said and there are any
+-- the same, if this is wanted and there are whole encodings
 unfoldable pub left_over_lines : Bool → ℕ → ℕ → List ℕ
 left_over_lines is_said top left = if is_said && not (eqb top 0) then whole_lines_of top left else []
 
--- a space, or an octet of a line end or of the end of a text: HT, LF, CR, SUB
+-- a blank octet: a space, HT, LF, CR or SUB
 abbrev pub is_blank_octet : ℕ → Bool
 is_blank_octet x = eqb x 0x20 || eqb x 9 || eqb x 10 || eqb x 13 || eqb x 0x1a
 
--- line ends and spaces alone
+-- blank octets alone
 abbrev pub are_blank_octets : List ℕ → Bool
 are_blank_octets octets = list_all is_blank_octet octets
 
--- each octet is this one
+-- all octets equal this one
 abbrev pub are_all : ℕ → List ℕ → Bool
 are_all octet octets = list_all (λ x. eqb x octet) octets
 
--- two octets or more, each the same, and none 00
+-- two or more equal octets other than 00
 abbrev pub are_filler : List ℕ → Bool
 are_filler octets =
     nat_lt 1 (length octets) && not (eqb (slice_index octets 0) 0)
     && are_all (slice_index octets 0) octets
 
--- so many blanks follow whole encodings
+-- `left` blank octets follow whole encodings
 unfoldable pub blanks_line : ℕ → ℕ → List ℕ
 blanks_line top left =
     codes "Whole encodings end at offset " ++ decimal top
     ++ codes ". The octets after them are line ends or spaces: " ++ decimal left ++ codes ".\n"
 
--- so many octets of filler follow whole encodings; `after` is the offset after the first of them
+-- `left` octets of filler follow whole encodings; `after` is the offset after the first of them
 unfoldable pub filler_line : List ℕ → ℕ → ℕ → ℕ → List ℕ
 filler_line octets top after left =
     codes "Whole encodings end at offset " ++ decimal top ++ codes ". The octets after them are"
@@ -58,7 +58,7 @@ blanks_lines top left = blanks_line top left ++ whole_try_line top
 unfoldable pub filler_lines : List ℕ → ℕ → ℕ → List ℕ
 filler_lines octets top left = filler_line octets top (offset_sum top 1) left ++ whole_try_line top
 
--- whole encodings are there, and what follows them is blanks or filler alone
+-- there are whole encodings, and only blanks or filler follow them
 abbrev pub is_followed_by_filler : List ℕ → ℕ → Bool
 is_followed_by_filler octets top =
     nat_lt 0 top && nat_lt top (length octets)

@@ -1,4 +1,4 @@
--- The open elements by their lengths.
+-- The open elements, selected by their lengths.
 use Rattle.std.specs.Prelude.{ℕ, ◌-◌, Bool, not, if◌then◌else◌, List, [], ◌∷◌, Option, Some, count_by, find, length}
 use Rattle.std.specs.Prelude.{slice_get, unwrap_or}
 use Rattle.std.specs.Option.{is_some}
@@ -17,15 +17,15 @@ has_end e = is_some e.end
 abbrev pub element_end : Element → ℕ
 element_end e = unwrap_or e.end 0
 
--- the outermost of these whose length is definite
+-- the outermost of these elements that has a definite length
 abbrev pub outermost_definite : List Element → Option Element
 outermost_definite es = find has_end es
 
--- the innermost of these whose length is definite, or what was found outside of them
+-- the innermost of these elements that has a definite length, or the element found outside of them
 abbrev pub innermost_definite : Option Element → List Element → Option Element
 innermost_definite found [] = found
 innermost_definite found (e ∷ es) = innermost_definite (if has_end e then Some e else found) es
 
--- 8.1.3.6: how many of these have the indefinite length
+-- 8.1.3.6: the number of these elements that have the indefinite length
 abbrev pub indefinite_count : List Element → ℕ
 indefinite_count es = count_by (λ e. not (has_end e)) es

@@ -1,4 +1,4 @@
--- What is to be tried, and which other lengths may be wrong.
+-- What to try, and which other lengths may be wrong.
 use Rattle.std.specs.Prelude.{ℕ, eqb, if◌then◌else◌, List, [], ◌++◌, Option, Some, None, codes, decimal}
 use Rattle.tlv_why.specs.declared.element.Element.{Element}
 use Rattle.tlv_why.specs.OpenHolders.{has_end}
@@ -9,18 +9,18 @@ anew_line =
     codes "Try: fetch the input anew, in binary; or go on at the next record, with tail -c +M FILE, "
     ++ codes "where M is its offset and 1.\n"
 
--- an element in front may have another length than it announces
+-- the length that an element in front announces may be wrong
 unfoldable pub suspect_line_of : List ℕ → Element → List ℕ
 suspect_line_of octets e =
     codes "Or a length in front is wrong: that of the " ++ named_element e ++ codes ". "
     ++ header_sentence octets e ++ codes "\n"
 
--- the element before, if there is one, and it announces a length
+-- the line about the element before, if there is one and its length is definite
 unfoldable pub suspect_line : List ℕ → Option Element → List ℕ
 suspect_line octets None = []
 suspect_line octets (Some e) = if has_end e then suspect_line_of octets e else []
 
--- after a fault for which a length is to blame; the last argument is the element before
+-- what to try after a fault that a length causes; the last argument is the element before
 unfoldable pub anew_lines : List ℕ → Option Element → List ℕ
 anew_lines octets before = anew_line ++ suspect_line octets before
 

@@ -28,8 +28,8 @@ no_parse_line_of offset code text =
 abbrev pub no_parse_line : Fault → List ℕ
 no_parse_line fault = no_parse_line_of fault.offset (fault_code fault.code) (fault_text fault.code)
 
--- the lines about a fault with this code, at this offset; of F12 (a string that is named and holds no encodings)
--- nothing more is said than the first line does
+-- the lines about a fault with this code, at this offset; for F12 (a string that is named and holds no encodings) the
+-- first line already says all
 unfoldable pub code_lines : FaultCode → ℕ → List ℕ → Facts → List ℕ
 code_lines Empty offset octets facts = empty_lines (length octets)
 code_lines Short offset octets facts = cut_lines octets facts
@@ -48,22 +48,22 @@ code_lines TooDeep offset octets facts = deep_lines facts.next
 code_lines Overrun offset octets facts = past_lines octets offset facts
 code_lines BadInside offset octets facts = []
 
--- the lines of this code say by themselves what is left over: there is no element, or 00 outside of all elements
+-- the lines about this code already say what is left over: there is no element, or 00 outside of all elements
 abbrev pub says_rest : FaultCode → Facts → Bool
 says_rest Empty facts = true
 says_rest StrayEnd facts = not (is_some (innermost_holder facts))
 says_rest code facts = false
 
--- the whole encodings in front are half of so many octets, or more
+-- the whole encodings in front make up at least half of an input of `size` octets
 abbrev pub is_mostly_whole : ℕ → ℕ → Bool
 is_mostly_whole size top = nat_le (size - top) top
 
--- what is left over, if it is said there, and the lines about the fault
+-- what is left over, if it is said here, and the lines about the fault
 unfoldable pub front_lines : Bool → Fault → List ℕ → Facts → List ℕ
 front_lines is_said fault octets facts =
     left_over_lines is_said facts.top (length octets - facts.top) ++ code_lines fault.code fault.offset octets facts
 
--- what is left over is said before the lines about the fault, or after them
+-- what is left over, said before the lines about the fault or after them
 unfoldable pub reason_lines_in : Bool → Bool → Fault → List ℕ → Facts → List ℕ
 reason_lines_in is_said_before is_said_after fault octets facts =
     front_lines is_said_before fault octets facts
@@ -74,7 +74,7 @@ reason_lines fault octets facts =
     reason_lines_in (not (says_rest fault.code facts) && is_mostly_whole (length octets) facts.top)
     (not (says_rest fault.code facts) && not (is_mostly_whole (length octets) facts.top)) fault octets facts
 
--- all but the first line
+-- all lines except the first
 unfoldable pub later_lines : Fault → List ℕ → Facts → List ℕ
 later_lines fault octets facts =
     if is_followed_by_filler octets facts.top then following_lines octets facts.top
@@ -84,12 +84,12 @@ later_lines fault octets facts =
 unfoldable pub fault_lines : Fault → List ℕ → Facts → List ℕ
 fault_lines fault octets facts = no_parse_line fault ++ later_lines fault octets facts
 
--- all lines, by why the octets do not parse, if they do not
+-- all lines, by the fault if there is one
 unfoldable pub why_by : Option Fault → List ℕ → Facts → List ℕ
 why_by None octets facts = parses_line (length octets)
 why_by (Some fault) octets facts = fault_lines fault octets facts
 
--- all lines about octets of which this is said: that they parse, or why they do not
+-- all lines about octets with these facts: that they parse, or why they do not
 abbrev pub why_lines : List ℕ → Facts → List ℕ
 why_lines octets facts = why_by facts.fault octets facts
 
@@ -98,6 +98,6 @@ unfoldable pub reasons_by : Option Fault → List ℕ → Facts → List ℕ
 reasons_by None octets facts = []
 reasons_by (Some fault) octets facts = later_lines fault octets facts
 
--- all but the first line about octets of which this is said: nothing if they parse
+-- all lines except the first about octets with these facts: nothing if they parse
 abbrev pub reasons_of : List ℕ → Facts → List ℕ
 reasons_of octets facts = reasons_by facts.fault octets facts

@@ -1,4 +1,4 @@
--- The words of which sentences about octets are made.
+-- The words from which sentences about octets are made.
 use Rattle.std.specs.Prelude.{ℕ, ◌-◌, Bool, eqb, nat_lt, if◌then◌else◌, List, [], ◌++◌, codes, decimal, drop}
 use Rattle.std.specs.Prelude.{length, take}
 use Rattle.tlv_head.specs.declared.header.Size.{Size}
@@ -9,7 +9,7 @@ use Rattle.tlv_why.specs.declared.element.Element.{Element}
 use Rattle.tlv_why.specs.declared.part.Part.{Part}
 use Rattle.tlv_why.specs.declared.part.Part.TheVariants as part
 
--- so many octets
+-- a number of octets, in words
 unfoldable pub octets_in_words : ℕ → List ℕ
 octets_in_words n = decimal n ++ (if eqb n 1 then codes " octet" else codes " octets")
 
@@ -25,20 +25,20 @@ dots_if is_more = if is_more then codes " ..." else []
 unfoldable pub first_pairs : List ℕ → List ℕ
 first_pairs octets = spaced_pairs (take 16 octets) ++ dots_if (nat_lt 16 (length octets))
 
--- what an element is called, and where it is
+-- the name of an element, and where it is
 unfoldable pub named_element : Element → List ℕ
 named_element e = tag_text e.class e.number ++ codes " at offset " ++ decimal e.offset
 
--- 8.1.3: how many contents octets are announced
+-- 8.1.3: the number of contents octets that a header announces, in words
 unfoldable pub size_in_words : Size → List ℕ
 size_in_words (Definite n) = octets_in_words n
 size_in_words Indefinite = codes "an indefinite number of octets"
 
--- what a sentence about a header begins with
+-- the beginning of a sentence about a header
 unfoldable pub header_opening : ℕ → List ℕ
 header_opening offset = codes "The header at offset " ++ decimal offset ++ codes ","
 
--- what a sentence about a header ends with
+-- the end of a sentence about a header
 unfoldable pub header_closing : Size → List ℕ
 header_closing size = codes ", says that its contents are " ++ size_in_words size ++ codes "."
 

@@ -1,4 +1,4 @@
-//! What is said of an input that ends too early.
+//! The lines about an input that ends too early.
 ghost use Rattle.std.specs.Prelude.{◌≡◌};
 ghost use Rattle.tlv_io.specs.Out.{Puts};
 ghost use Rattle.tlv_why.specs.CutLines.{cut_end_line, cut_header_line, cut_holder_line, cut_lines, cut_lines_at};
@@ -10,7 +10,7 @@ use crate::part::{Part, put_parts};
 use crate::{Element, Facts, Unfinished};
 use tlv_io::{Drain, Out, WriteFault};
 
-/// Puts what is said of an input that ends inside an encoding.
+/// Puts the lines about an input that ends inside an encoding.
 #[tactic(auto, using(tlv_io::proofs::Puts::puts), unfolding(crate::specs::CutLines::cut_lines))]
 pub(crate) fn put_cut_lines<D: Drain>(
     octets: &[u8],
@@ -29,7 +29,7 @@ pub(crate) fn put_cut_lines<D: Drain>(
     put_missing_lines(octets.len() as u64, facts.holders.as_slice(), out)
 }
 
-/// Puts what lacks octets.
+/// Puts the lines about what lacks octets.
 #[tactic(auto, unfolding(crate::specs::CutLines::cut_lines_at))]
 fn put_cut_lines_at<D: Drain>(
     octets: &[u8],
@@ -141,7 +141,7 @@ fn put_cut_holder_line<D: Drain>(
     )
 }
 
-/// Puts what is lacking in all of an input of so many octets, and what to try.
+/// Puts all that an input of this size lacks, and what to try.
 #[tactic(auto, using(tlv_io::proofs::Puts::puts), unfolding(crate::specs::CutLines::missing_lines))]
 fn put_missing_lines<D: Drain>(
     size: u64,
@@ -154,7 +154,7 @@ fn put_missing_lines<D: Drain>(
     put_cut_try_line(size, outermost_definite(holders), out)
 }
 
-/// Puts what is lacking in all of an input of so many octets.
+/// Puts all that an input of this size lacks.
 #[tactic(auto, using(tlv_io::proofs::Puts::puts), unfolding(crate::specs::CutLines::needed_lines))]
 fn put_needed_lines<D: Drain>(
     size: u64,
@@ -230,7 +230,7 @@ fn put_lacking_line<D: Drain>(
     )
 }
 
-/// Puts how many elements lack their end-of-contents octets.
+/// Puts the number of elements that lack their end-of-contents octets.
 #[tactic(auto, unfolding(crate::specs::CutLines::unended_line))]
 fn put_unended_line<D: Drain>(count: u64, out: &mut Out<'_, D>) -> Result<(), WriteFault>
     ensures { Puts D.state out.old out.new (unended_line count) result }
@@ -274,7 +274,7 @@ fn put_cut_try_line<D: Drain>(
     )
 }
 
-/// Whether there is an element, and it ends with an input of so many octets.
+/// Whether there is an element, and it ends with an input of this size.
 fn ends_with_input(size: u64, outer: Option<Element>) -> bool
     ensures { result ≡ ends_with_input size outer }
 {

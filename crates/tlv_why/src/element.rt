@@ -1,4 +1,4 @@
-//! What the sentences say of an element.
+//! An element as the sentences describe it.
 ghost use Rattle.std.specs.Prelude.{◌≡◌};
 ghost use Rattle.std.specs.Option.{option_map};
 ghost use Rattle.tlv_head.specs.Header.{definite_length};
@@ -6,7 +6,7 @@ ghost use Rattle.tlv_why.specs.Elements.{element_of, element_with, offset_sum};
 
 use tlv_head::{Class, Header, HeaderFields, Size};
 
-/// An element by what its header says. Offsets are in octets from the start of the input.
+/// An element as its header describes it. Offsets are in octets from the start of the input.
 #[derive(Clone, Copy, Debug, PartialEq, Eq)]
 pub struct Element {
     /// Where its first identifier octet is.
@@ -23,7 +23,7 @@ pub struct Element {
     pub end: Option<u64>,
 }
 
-/// Of use to fill arrays alone: no element has no header.
+/// Only for filling arrays: every element has a header.
 impl Default for Element {
     fn default() -> Element {
         Element {
@@ -44,7 +44,7 @@ pub(crate) fn element_of(header: &Header) -> Element
     element_with(&header.fields(), header.raw().len())
 }
 
-/// The element whose header has these fields and so many octets.
+/// The element whose header has these fields and this number of octets.
 pub(crate) fn element_with(fields: &HeaderFields, count: usize) -> Element
     ensures { result ≡ element_with fields.now count }
 {
@@ -59,7 +59,7 @@ pub(crate) fn element_with(fields: &HeaderFields, count: usize) -> Element
     }
 }
 
-/// Where contents end that begin at this offset, if their length is definite.
+/// Where contents that begin at this offset end, if their length is definite.
 fn content_end(contents: u64, size: Size) -> Option<u64>
     ensures { result ≡ option_map (offset_sum contents) (definite_length size) }
 {

@@ -1,4 +1,4 @@
-//! What is said of an input that has no element.
+//! The lines about an input that has no element.
 ghost use Rattle.std.specs.Prelude.{◌≡◌};
 ghost use Rattle.tlv_io.specs.Out.{Puts};
 ghost use Rattle.tlv_why.specs.CutLines.{empty_line, empty_lines, empty_try_line};
@@ -6,7 +6,7 @@ ghost use Rattle.tlv_why.specs.CutLines.{empty_line, empty_lines, empty_try_line
 use crate::part::{Part, put_parts};
 use tlv_io::{Drain, Out, WriteFault};
 
-/// Puts what is said of an input of so many octets that has no element.
+/// Puts the lines about an input of this size that has no element.
 #[tactic(auto, using(tlv_io::proofs::Puts::puts), unfolding(crate::specs::CutLines::empty_lines))]
 pub(crate) fn put_empty_lines<D: Drain>(size: u64, out: &mut Out<'_, D>) -> Result<(), WriteFault>
     ensures { Puts D.state out.old out.new (empty_lines size) result }

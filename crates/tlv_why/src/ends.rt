@@ -1,4 +1,4 @@
-//! What is said of end-of-contents octets that are wrong.
+//! The lines about end-of-contents octets that are wrong.
 ghost use Rattle.std.specs.Prelude.{◌≡◌};
 ghost use Rattle.tlv_io.specs.Out.{Puts};
 ghost use Rattle.tlv_why.specs.EndLines.{bad_end_line, bad_end_lines, lacking_zeros, missing_end_line};
@@ -12,7 +12,7 @@ use crate::zeros::put_zeros_lines;
 use crate::{Element, Unfinished};
 use tlv_io::{Drain, Out, WriteFault};
 
-/// Puts what is said of `00` where no end-of-contents octets may be, inside this element or outside of all.
+/// Puts the lines about `00` where no end-of-contents octets may be, inside this element or outside of all elements.
 #[tactic(auto, unfolding(crate::specs::EndLines::stray_lines))]
 pub(crate) fn put_stray_lines<D: Drain>(
     octets: &[u8],
@@ -81,7 +81,7 @@ fn put_stray_line<D: Drain>(
     )
 }
 
-/// Puts what is said of another octet than the second `00` that is to end this element.
+/// Puts the lines about an octet that is not `00` in place of the second `00` that should end this element.
 #[tactic(auto, using(tlv_io::proofs::Puts::puts), unfolding(crate::specs::EndLines::bad_end_lines))]
 pub(crate) fn put_bad_end_lines<D: Drain>(
     octets: &[u8],
@@ -134,7 +134,7 @@ fn put_bad_end_line<D: Drain>(
     )
 }
 
-/// Puts what is said of this element if its end-of-contents octets are missing.
+/// Puts the lines about this element if its end-of-contents octets are missing.
 #[tactic(auto, unfolding(crate::specs::EndLines::missing_end_lines))]
 pub(crate) fn put_missing_end_lines<D: Drain>(
     octets: &[u8],
@@ -212,7 +212,7 @@ fn put_missing_end_line<D: Drain>(
     )
 }
 
-/// What lacks of two octets `00`.
+/// What is missing of two octets `00`.
 #[tactic(auto, unfolding(crate::specs::EndLines::lacking_zeros))]
 fn lacking_zeros(unfinished: Unfinished) -> &'static [u8]
     ensures { result.now ≡ lacking_zeros unfinished }

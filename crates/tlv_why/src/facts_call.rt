@@ -13,8 +13,8 @@ use crate::{Element, Facts, Unfinished};
 use tlv_head::{Fault, read_header};
 use tlv_walk::{Ending, Framing, Step, Walker};
 
-/// What is said of octets by their reading: why they do not parse, what is open where it ends, and what comes before
-/// that. The strings that the framing names are read as encodings.
+/// The result of reading octets: why they do not parse, what is open where the reading ends, and what comes before
+/// that. Reads the strings that the framing names as encodings.
 pub fn facts_of(octets: &[u8], framing: &Framing<'_>) -> Facts
     requires { length octets.now ≤ input_limit }
     ensures { AreFacts framing.now octets.now result }
@@ -25,7 +25,7 @@ pub fn facts_of(octets: &[u8], framing: &Framing<'_>) -> Facts
     facts_at_end(tracker, octets, walker.finish())
 }
 
-/// Walks over the octets, up to one that is refused, and takes note of the events.
+/// Walks over the octets up to one that is refused, and records the events.
 fn track_over(octets: &[u8], walker: &mut Walker<'_>, tracker: &mut Tracker)
     requires within { IsWithinInputLimit walker.old octets.now }
     requires new_walker { IsNewWalker walker.old }
@@ -41,7 +41,7 @@ fn track_over(octets: &[u8], walker: &mut Walker<'_>, tracker: &mut Tracker)
     }
 }
 
-/// What is said of octets that have this ending, by what is kept of the events.
+/// The facts about octets that have this ending, from the events recorded.
 fn facts_at_end(tracker: Tracker, octets: &[u8], ending: Ending) -> Facts
     ensures { MakesFacts tracker octets.now ending result }
 {
@@ -70,7 +70,7 @@ fn fault_of(ending: Ending) -> Option<Fault>
     }
 }
 
-/// How many octets are read of so many: all, or those before the one that is refused.
+/// The number of octets that are read: all, or the octets before the one that is refused.
 fn count_read(fault: Option<Fault>, size: usize) -> u64
     ensures { result ≡ count_read fault size }
 {
@@ -90,7 +90,7 @@ fn open_end_offset(tracker: &Tracker) -> u64
     }
 }
 
-/// The element that has begun and is not noted, if there is one.
+/// The element that has begun and is not yet recorded, if any.
 fn begun_element(tracker: &Tracker) -> Option<Element>
     ensures { result ≡ begun_element tracker.now }
 {
@@ -100,7 +100,7 @@ fn begun_element(tracker: &Tracker) -> Option<Element>
     }
 }
 
-/// What stands at the open end of octets of which so many are read.
+/// What is unfinished at the open end of octets, if this number of them is read.
 fn unfinished_at(tracker: &Tracker, octets: &[u8], count: u64) -> Unfinished
     ensures { result ≡ unfinished_at tracker.now octets.now count }
 {
@@ -110,7 +110,7 @@ fn unfinished_at(tracker: &Tracker, octets: &[u8], count: u64) -> Unfinished
     }
 }
 
-/// What stands at this offset, where no primitive has begun, of octets of which so many are read.
+/// What is unfinished at this offset, where no primitive has begun, if this number of octets is read.
 fn unfinished_entered(
     entered: Option<Element>,
     octets: &[u8],
@@ -125,7 +125,7 @@ fn unfinished_entered(
     }
 }
 
-/// What stands at this offset, where no element has begun, of octets of which so many are read.
+/// What is unfinished at this offset, where no element has begun, if this number of octets is read.
 fn unfinished_octet(octets: &[u8], offset: u64, count: u64) -> Unfinished
     ensures { result ≡ unfinished_octet octets.now offset count }
 {
@@ -149,7 +149,7 @@ pub(crate) fn octet_at(octets: &[u8], offset: u64) -> u8
     }
 }
 
-/// The element whose whole header the octets have at this offset, if there is one.
+/// The element whose whole header is at this offset of the octets, if any.
 fn element_at(octets: &[u8], offset: u64) -> Option<Element>
     ensures { IsElementThere octets.now offset result }
 {

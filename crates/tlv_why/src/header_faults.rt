@@ -1,4 +1,4 @@
-//! What is said of headers that are refused.
+//! The lines about headers that are refused.
 ghost use Rattle.std.specs.Prelude.{◌≡◌};
 ghost use Rattle.tlv_io.specs.Out.{Puts};
 ghost use Rattle.tlv_why.specs.HeaderFaultLines.{deep_line, deep_lines, deep_try_line, element_past_line};
@@ -13,7 +13,7 @@ use crate::{Element, Facts};
 use tlv_head::FaultCode;
 use tlv_io::{Drain, Out, WriteFault};
 
-/// Puts what is said of a header at the offset `next`, of which the octet at the first offset is refused.
+/// Puts the lines about the header at the offset `next`, whose octet at the offset `offset` is refused.
 #[tactic(auto, using(tlv_io::proofs::Puts::puts), unfolding(crate::specs::HeaderFaultLines::header_fault_lines))]
 pub(crate) fn put_header_fault_lines<D: Drain>(
     code: FaultCode,
@@ -58,7 +58,7 @@ fn put_header_fault_line<D: Drain>(
     )
 }
 
-/// What is wrong with a header.
+/// The words for what is wrong with a header.
 #[tactic(auto, unfolding(crate::specs::HeaderFaultLines::header_fault_words))]
 fn header_fault_words(code: FaultCode) -> &'static [u8]
     ensures { result.now ≡ header_fault_words code }
@@ -74,7 +74,7 @@ fn header_fault_words(code: FaultCode) -> &'static [u8]
     }
 }
 
-/// Puts what is said of an element, at this offset, that is inside 128 others.
+/// Puts the lines about an element at this offset that is inside 128 others.
 #[tactic(auto, using(tlv_io::proofs::Puts::puts), unfolding(crate::specs::HeaderFaultLines::deep_lines))]
 pub(crate) fn put_deep_lines<D: Drain>(next: u64, out: &mut Out<'_, D>) -> Result<(), WriteFault>
     ensures { Puts D.state out.old out.new (deep_lines next) result }
@@ -105,7 +105,7 @@ fn put_deep_try_line<D: Drain>(out: &mut Out<'_, D>) -> Result<(), WriteFault>
     out.put(b"Try: tail -c +M FILE, where M is 1 and the offset of an element some levels deep.\n")
 }
 
-/// Puts what is said of an element that runs past the end of one around it.
+/// Puts the lines about an element that runs past the end of an element around it.
 #[tactic(auto, unfolding(crate::specs::HeaderFaultLines::past_lines))]
 pub(crate) fn put_past_lines<D: Drain>(
     octets: &[u8],

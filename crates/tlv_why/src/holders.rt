@@ -1,4 +1,4 @@
-//! The open elements by their lengths.
+//! The open elements, selected by their lengths.
 ghost use Rattle.std.specs.Prelude.{◌≡◌, None};
 ghost use Rattle.tlv_why.specs.OpenHolders.{element_end, has_end, indefinite_count, innermost_definite};
 ghost use Rattle.tlv_why.specs.OpenHolders.{innermost_holder, outermost_definite};
@@ -26,7 +26,7 @@ pub(crate) fn element_end(element: &Element) -> u64
     element.end.unwrap_or(0)
 }
 
-/// The outermost of these whose length is definite.
+/// The outermost of these elements that has a definite length.
 pub(crate) fn outermost_definite(holders: &[Element]) -> Option<Element>
     ensures { result ≡ outermost_definite holders.now }
 {
@@ -38,7 +38,7 @@ pub(crate) fn outermost_definite(holders: &[Element]) -> Option<Element>
     None
 }
 
-/// The innermost of these whose length is definite.
+/// The innermost of these elements that has a definite length.
 pub(crate) fn innermost_definite(holders: &[Element]) -> Option<Element>
     ensures { result ≡ innermost_definite None holders.now }
 {
@@ -51,7 +51,7 @@ pub(crate) fn innermost_definite(holders: &[Element]) -> Option<Element>
     found
 }
 
-/// How many of these have the indefinite length.
+/// The number of these elements that have the indefinite length.
 pub(crate) fn indefinite_count(holders: &[Element]) -> u64
     ensures { result ≡ indefinite_count holders.now }
 {

@@ -1,4 +1,4 @@
-//! What is said of the octets after the last whole encoding.
+//! The lines about the octets after the last whole encoding.
 ghost use Rattle.std.specs.Prelude.{◌≡◌};
 ghost use Rattle.std.specs.List.{list_all};
 ghost use Rattle.tlv_io.specs.Out.{Puts};
@@ -10,8 +10,8 @@ use crate::facts_call::{octet_at, octets_from};
 use crate::part::{Part, put_parts};
 use tlv_io::{Drain, Out, WriteFault};
 
-/// Puts that so many octets are left over after the whole encodings, which end at the offset `top`, if it is to be said
-/// and there are any.
+/// Puts the number of octets that are left over after the whole encodings, which end at the offset `top`, if this is
+/// wanted and there are whole encodings.
 #[tactic(auto, unfolding(crate::specs::Leftovers::left_over_lines))]
 pub(crate) fn put_left_over_lines<D: Drain>(
     is_said: bool,
@@ -67,7 +67,7 @@ fn put_whole_try_line<D: Drain>(top: u64, out: &mut Out<'_, D>) -> Result<(), Wr
     )
 }
 
-/// Whether there are whole encodings, and what follows them is blanks or filler alone.
+/// Whether there are whole encodings, and only blanks or filler follow them.
 pub(crate) fn is_followed_by_filler(octets: &[u8], top: u64) -> bool
     ensures { result ≡ is_followed_by_filler octets.now top }
 {
@@ -156,7 +156,7 @@ fn put_filler_line<D: Drain>(
     )
 }
 
-/// Whether these are line ends and spaces alone.
+/// Whether all of these octets are blank.
 fn are_blank_octets(octets: &[u8]) -> bool
     ensures { result ≡ are_blank_octets octets.now }
 {
@@ -168,14 +168,14 @@ fn are_blank_octets(octets: &[u8]) -> bool
     true
 }
 
-/// Whether this is a space, or an octet of a line end or of the end of a text.
+/// Whether this octet is blank: a space, HT, LF, CR or SUB.
 fn is_blank_octet(octet: u8) -> bool
     ensures { result ≡ is_blank_octet octet }
 {
     octet == b' ' || octet == b'\t' || octet == b'\n' || octet == b'\r' || octet == 0x1a
 }
 
-/// Whether these are two octets or more, each the same, and none `00`.
+/// Whether these are two or more equal octets other than `00`.
 fn are_filler(octets: &[u8]) -> bool
     ensures { result ≡ are_filler octets.now }
 {
@@ -183,7 +183,7 @@ fn are_filler(octets: &[u8]) -> bool
     octets.len() > 1 && first != 0 && are_all(first, octets)
 }
 
-/// Whether each octet is this one.
+/// Whether all octets equal this one.
 fn are_all(octet: u8, octets: &[u8]) -> bool
     ensures { result ≡ are_all octet octets.now }
 {

@@ -19,11 +19,11 @@ pub(crate) enum Part<'a> {
     Text(&'a [u8]),
     /// A number in decimal.
     Number(u64),
-    /// So many octets, in words.
+    /// A number of octets, in words.
     Octets(u64),
     /// The octets of the input from the first offset up to the second, in hexadecimal, each after a space: at most 16.
     Pairs(u64, u64),
-    /// What an element is called, and where it is.
+    /// The name of an element, and where it is.
     Name(Element),
     /// A sentence about the header of an element.
     Header(Element),
@@ -69,7 +69,7 @@ fn put_number<D: Drain>(number: u64, out: &mut Out<'_, D>) -> Result<(), WriteFa
     out.put(digits.format(number).as_bytes())
 }
 
-/// Puts so many octets, in words.
+/// Puts a number of octets, in words.
 fn put_octet_count<D: Drain>(count: u64, out: &mut Out<'_, D>) -> Result<(), WriteFault>
     ensures { Puts D.state out.old out.new (octets_in_words count) result }
 {
@@ -99,7 +99,7 @@ fn has_more(octets: &[u8]) -> bool
     octets.len() > 16
 }
 
-/// Puts dots if there is more.
+/// Puts dots if there are more octets.
 fn put_dots_if<D: Drain>(is_more: bool, out: &mut Out<'_, D>) -> Result<(), WriteFault>
     ensures { Puts D.state out.old out.new (dots_if is_more) result }
 {
@@ -117,14 +117,14 @@ fn put_few_pairs<D: Drain>(octets: &[u8], out: &mut Out<'_, D>) -> Result<(), Wr
     Ok(())
 }
 
-/// Puts what an element is called, and where it is.
+/// Puts the name of an element, and where it is.
 fn put_name<D: Drain>(element: &Element, out: &mut Out<'_, D>) -> Result<(), WriteFault>
     ensures { Puts D.state out.old out.new (named_element element.now) result }
 {
     out.put(named_element(element).as_slice())
 }
 
-/// What an element is called, and where it is.
+/// The name of an element, and where it is.
 #[tactic(auto, unfolding(crate::specs::Words::named_element))]
 fn named_element(element: &Element) -> ArrayVec<u8, 96>
     ensures { result.items ≡ named_element element.now }
@@ -175,7 +175,7 @@ fn put_range<D: Drain>(
     put_pairs(octets_between(octets, start, end), out)
 }
 
-/// Puts what a sentence about a header begins with.
+/// Puts the beginning of a sentence about a header.
 #[tactic(auto, unfolding(crate::specs::Words::header_opening))]
 fn put_header_start<D: Drain>(offset: u64, out: &mut Out<'_, D>) -> Result<(), WriteFault>
     ensures { Puts D.state out.old out.new (header_opening offset) result }
@@ -188,7 +188,7 @@ fn put_header_start<D: Drain>(offset: u64, out: &mut Out<'_, D>) -> Result<(), W
     out.put(text.as_slice())
 }
 
-/// Puts what a sentence about a header ends with: how many contents octets it announces.
+/// Puts the end of a sentence about a header: the number of contents octets that it announces.
 #[tactic(auto, unfolding(crate::specs::Words::header_closing))]
 fn put_header_end<D: Drain>(size: Size, out: &mut Out<'_, D>) -> Result<(), WriteFault>
     ensures { Puts D.state out.old out.new (header_closing size) result }
@@ -200,7 +200,7 @@ fn put_header_end<D: Drain>(size: Size, out: &mut Out<'_, D>) -> Result<(), Writ
     out.put(text.as_slice())
 }
 
-/// How many contents octets are announced.
+/// The number of contents octets that a header announces, in words.
 #[tactic(auto, unfolding(crate::specs::Words::size_in_words))]
 fn size_in_words(size: Size) -> ArrayVec<u8, 48>
     ensures { result.items ≡ size_in_words size }
@@ -213,7 +213,7 @@ fn size_in_words(size: Size) -> ArrayVec<u8, 48>
     octets_in_words(count)
 }
 
-/// So many octets, in words.
+/// A number of octets, in words.
 #[tactic(auto, unfolding(crate::specs::Words::octets_in_words))]
 fn octets_in_words(count: u64) -> ArrayVec<u8, 48>
     ensures { result.items ≡ octets_in_words count }

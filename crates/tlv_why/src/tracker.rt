@@ -1,4 +1,4 @@
-//! Keeps of the events of a walk what is open, and what came last.
+//! Records from the events of a walk what is open, and what came last.
 ghost use Rattle.std.specs.Prelude.{◌≡◌, ◌≤◌, ◌<◌, ◌+◌, ◌++◌, ◌∷◌, [], length, take};
 ghost use Rattle.tlv_walk.specs.Events.{event_octets, event_value_of};
 ghost use Rattle.tlv_why.specs.Private.Tracking.{bit_string_opened, element_ended, holder_noted, holder_ended};
@@ -11,18 +11,18 @@ use arrayvec::ArrayVec;
 use tlv_head::universal;
 use tlv_walk::Event;
 
-/// What is kept of the events of a walk.
+/// What is recorded from the events of a walk.
 #[derive(Drop)]
 pub(crate) struct Tracker {
     /// The elements that hold others and have not ended, outermost first.
     pub holders: ArrayVec<Element, 128>,
     /// The primitive that has begun and has not ended.
     pub current: Option<Element>,
-    /// The BIT STRING that is named and holds encodings, and of which the header alone has come.
+    /// The BIT STRING that is named and holds encodings, while only its header has come.
     pub entered: Option<Element>,
-    /// The last whole element in the innermost open one.
+    /// The last whole element directly inside the innermost open element.
     pub before: Option<Element>,
-    /// The offset after the last whole element of the outermost ones.
+    /// The offset after the last whole outermost element.
     pub top: u64,
     /// The offsets of the last 25 elements, the nearest first.
     pub nearest: ArrayVec<u64, 25>,
@@ -31,7 +31,7 @@ pub(crate) struct Tracker {
 }
 
 impl Tracker {
-    /// Of no event.
+    /// The tracker before the first event.
     pub fn new() -> Tracker
         ensures { result ≡ new_tracker }
     {
@@ -46,7 +46,7 @@ impl Tracker {
         }
     }
 
-    /// Takes note of an event, after which the walk is at this offset.
+    /// Records an event, after which the walk is at this offset.
     pub fn note(&mut self, event: &Event<'_>, offset: u64)
         requires { offset ≡ self.old.offset + length (event_octets (event_value_of event.now)) }
         ensures { self.new ≡ track self.old (event_value_of event.now) }
@@ -63,7 +63,7 @@ impl Tracker {
         }
     }
 
-    /// An element that holds others begins.
+    /// Records that an element that holds others begins.
     fn begin_holder(&mut self, element: Element)
         ensures { self.new ≡ holder_noted element self.old }
     {
@@ -75,7 +75,8 @@ impl Tracker {
         self.before = None;
     }
 
-    /// A string begins that is named and holds encodings. A BIT STRING lacks its first contents octet then.
+    /// Records that a string that is named and holds encodings begins. A BIT STRING still lacks its first contents
+    /// octet.
     fn enter(&mut self, element: Element)
         ensures { self.new ≡ wrapper_entered element self.old }
     {
@@ -86,7 +87,7 @@ impl Tracker {
         }
     }
 
-    /// The first contents octet has come of the BIT STRING that holds encodings.
+    /// Records that the first contents octet of the BIT STRING that holds encodings has come.
     fn open_bit_string(&mut self)
         ensures { self.new ≡ bit_string_opened self.old.entered self.old }
     {
@@ -96,7 +97,7 @@ impl Tracker {
         }
     }
 
-    /// The primitive ends that has begun.
+    /// Records that the primitive that has begun ends.
     fn end_primitive(&mut self)
         ensures { self.new ≡ primitive_ended self.old.current self.old }
     {
@@ -108,7 +109,7 @@ impl Tracker {
         self.end_element(element);
     }
 
-    /// The innermost element that holds others ends.
+    /// Records that the innermost element that holds others ends.
     fn end_holder(&mut self)
         ensures { self.new ≡ holder_ended (innermost self.old) self.old }
     {
@@ -117,7 +118,7 @@ impl Tracker {
         }
     }
 
-    /// An element is whole.
+    /// Records that an element is whole.
     fn end_element(&mut self, element: Element)
         ensures { self.new ≡ element_ended element self.old }
     {
@@ -127,7 +128,7 @@ impl Tracker {
         }
     }
 
-    /// Puts an offset before the nearest ones so far.
+    /// Puts an offset in front of the nearest offsets.
     fn add_nearest(&mut self, offset: u64)
         ensures { self.new ≡ with_nearest offset self.old }
     {

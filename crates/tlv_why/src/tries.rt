@@ -1,4 +1,4 @@
-//! What is to be tried, and which other lengths may be wrong.
+//! What to try, and which other lengths may be wrong.
 ghost use Rattle.std.specs.Prelude.{◌≡◌};
 ghost use Rattle.tlv_io.specs.Out.{Puts};
 ghost use Rattle.tlv_why.specs.TryLines.{anew_line, anew_lines, look_line, look_lines, suspect_line};
@@ -9,7 +9,7 @@ use crate::holders::has_end;
 use crate::part::{Part, put_parts};
 use tlv_io::{Drain, Out, WriteFault};
 
-/// Puts what to try after a fault for which a length is to blame, and the element before, if its length may be wrong.
+/// Puts what to try after a fault that a length causes, and names the element before if its length may be wrong.
 #[tactic(auto, using(tlv_io::proofs::Puts::puts), unfolding(crate::specs::TryLines::anew_lines))]
 pub(crate) fn put_anew_lines<D: Drain>(
     octets: &[u8],
@@ -38,7 +38,7 @@ fn put_anew_line<D: Drain>(out: &mut Out<'_, D>) -> Result<(), WriteFault>
     )
 }
 
-/// Puts that the element before may have another length than it announces.
+/// Puts that the length that the element before announces may be wrong.
 #[tactic(auto, unfolding(crate::specs::TryLines::suspect_line))]
 fn put_suspect_line<D: Drain>(
     octets: &[u8],
@@ -77,7 +77,7 @@ fn put_suspect_line_of<D: Drain>(
     )
 }
 
-/// Puts what to try if there is no header at this offset, and the element before, if its length may be wrong.
+/// Puts what to try if there is no header at this offset, and names the element before if its length may be wrong.
 #[tactic(auto, using(tlv_io::proofs::Puts::puts), unfolding(crate::specs::TryLines::look_lines))]
 pub(crate) fn put_look_lines<D: Drain>(
     octets: &[u8],

@@ -16,9 +16,9 @@ use crate::part::{Part, put_parts};
 use tlv_head::{Fault, FaultCode};
 use tlv_io::{Drain, Out, WriteFault};
 
-/// Writes all lines about octets of which this is said ([`facts_of`](crate::facts_of)): that they parse, or why they do
-/// not: the fault, the headers that may be at fault, how many octets are missing or left over, and what to try. All is
-/// printable ASCII, in lines that end with a line feed.
+/// Writes all lines about octets with these facts ([`facts_of`](crate::facts_of)): that they parse, or why they do not:
+/// the fault, the headers that may be at fault, the number of octets that are missing or left over, and what to try.
+/// All text is printable ASCII, in lines that end with a line feed.
 ///
 /// # Errors
 ///
@@ -33,7 +33,7 @@ pub fn write_why<D: Drain>(octets: &[u8], facts: &Facts, drain: &mut D) -> Resul
     Ok(())
 }
 
-/// Writes the same without the first line: nothing if the octets parse.
+/// Writes the same lines without the first. Writes nothing if the octets parse.
 ///
 /// # Errors
 ///
@@ -80,7 +80,7 @@ fn put_reasons<D: Drain>(
     }
 }
 
-/// Puts that so many octets parse.
+/// Puts that octets parse, and how many there are.
 #[tactic(auto, unfolding(crate::specs::Why::parses_line))]
 fn put_parses_line<D: Drain>(size: u64, out: &mut Out<'_, D>) -> Result<(), WriteFault>
     ensures { Puts D.state out.old out.new (parses_line size) result }
@@ -139,7 +139,7 @@ fn put_no_parse_line_of<'x, D: Drain>(
     )
 }
 
-/// Puts all but the first line.
+/// Puts all lines except the first.
 #[tactic(auto, unfolding(crate::specs::Why::later_lines))]
 fn put_later_lines<D: Drain>(
     fault: Fault,
@@ -176,7 +176,7 @@ fn put_reason_lines<D: Drain>(
     )
 }
 
-/// Whether the lines of this code say by themselves what is left over.
+/// Whether the lines about this fault code already say what is left over.
 fn says_rest(code: FaultCode, facts: &Facts) -> bool
     ensures { result ≡ says_rest code facts.now }
 {
@@ -187,7 +187,7 @@ fn says_rest(code: FaultCode, facts: &Facts) -> bool
     }
 }
 
-/// Whether the whole encodings, which end at the offset `top`, are half of so many octets, or more.
+/// Whether the whole encodings, which end at the offset `top`, make up at least half of an input of this size.
 fn is_mostly_whole(size: u64, top: u64) -> bool
     ensures { result ≡ is_mostly_whole size top }
 {

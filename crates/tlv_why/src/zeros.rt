@@ -1,4 +1,4 @@
-//! What is said of octets `00` outside of all elements.
+//! The lines about octets `00` outside of all elements.
 ghost use Rattle.std.specs.Prelude.{◌≡◌};
 ghost use Rattle.tlv_io.specs.Out.{Puts};
 ghost use Rattle.tlv_why.specs.EndLines.{first_zeros_line, front_try_line, later_zeros_line, padding_try_line};
@@ -8,7 +8,7 @@ use crate::facts_call::octets_from;
 use crate::part::{Part, put_parts};
 use tlv_io::{Drain, Out, WriteFault};
 
-/// Puts what is said of octets `00` at this offset, outside of all elements.
+/// Puts the lines about octets `00` at this offset, outside of all elements.
 #[tactic(auto, using(tlv_io::proofs::Puts::puts), unfolding(crate::specs::EndLines::zeros_lines))]
 pub(crate) fn put_zeros_lines<D: Drain>(
     octets: &[u8],
@@ -27,7 +27,7 @@ pub(crate) fn put_zeros_lines<D: Drain>(
     put_zeros_try_lines(offset, out)
 }
 
-/// How many octets `00` these begin with.
+/// The number of octets `00` with which these octets begin.
 fn zero_count(octets: &[u8]) -> u64
     ensures { result ≡ zero_count octets.now }
 {

@@ -1,5 +1,5 @@
-//! A run of each command over memory, which takes no memory from the heap. `tests/program axioms` compares what
-//! functions of C the prover lists of this program: none of them is of the heap.
+//! A run of each command over memory, which takes no memory from the heap. `tests/program axioms` checks which C
+//! functions the prover lists for this program: none of them is of the heap.
 #![tactic(auto)]
 
 mod no_names;

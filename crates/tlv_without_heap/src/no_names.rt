@@ -1,4 +1,4 @@
-//! A table of no names, which holds no memory.
+//! A table without names, which holds no memory.
 ghost use Rattle.std.specs.FinMap as finite;
 ghost use Rattle.std.specs.Prelude.{refl};
 ghost use Rattle.tlv_value.specs.Names.{NamesValue};

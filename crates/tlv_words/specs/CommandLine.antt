@@ -1,4 +1,4 @@
--- The command line, as the help has it: each command with its options. To `clap` a value is a text.
+-- The command line, as help shows it: each command with its options. To `clap` a value is a text.
 use Rattle.std.specs.Prelude.{List, [], ◌∷◌, Some, codes, false, true}
 use Rattle.clap.specs.Words.{App, Rule, Text}
 use Rattle.clap.specs.Simple.{new_rule, new_shape}

@@ -17,9 +17,9 @@ use Rattle.tlv_words.specs.Values.{inside_value, limit_value, offset_value, rule
 use Rattle.tlv_words.specs.declared.usage.UsageFault.{UsageFault}
 use Rattle.tlv_words.specs.declared.usage.UsageFault.TheVariants.{Parser, Value, Memory}
 
--- ---- the command of what `clap` matches: a command's name, and the text of each option given
+-- ---- the command from what `clap` matches: a command's name, and the text of each option given
 
--- the framing that `--inside` and `--padding` ask for, if the text of `--inside` is a value
+-- the framing that `--inside` and `--padding` ask for, if the text of `--inside` is a valid value
 abbrev pub framing_value : List Row → Option Framing
 framing_value matches = option_map
     (λ offsets. record { inside = offsets; padding = has_flag (codes "padding") matches })
@@ -65,7 +65,7 @@ abbrev pub indef_command : List Row → Result Command Text
 indef_command matches =
     Ok (Indef (has_flag (codes "padding") matches) (first_of (codes "file") matches))
 
--- the command of this name, by what `clap` matches below it, or the first option whose text is no value
+-- the command of this name, from what `clap` matches below it, or the first option whose text is not a valid value
 abbrev pub matched_command : Text → List Row → Result Command Text
 matched_command name matches =
     if bytes_eq name (codes "dump") then dump_command matches
@@ -75,17 +75,16 @@ matched_command name matches =
 
 -- ---- the words of a command line
 
--- `clap` finds no fault in the words, and the result is the command of what it matches, or the
--- first option whose text is no value
+-- `clap` accepts the words, and the result is the command from what it matches, or the first option whose text is not a
+-- valid value
 pub record AreReadAs (words : List Text) (result : Result Command Text) : Type 0 where
   pub no_fault : fault_of tlvdump_app words ≡ []
   pub same_result :
       option_map (λ (name, matches). matched_command name matches) (subcommand_of tlvdump_app words)
       ≡ Some result
 
--- `clap` does not take the words, for this command line; if they ask for help or for the version it does not take them
--- either, and the kind of the error says so. The kind is one that `clap` allows for these words, other than lack of
--- memory
+-- `clap` refuses the words for this command line, or they ask for help or for the version: the kind of the error says
+-- which. The kind is one that `clap` allows for these words, other than lack of memory
 pub record AreRefusedBy (app : App) (words : List Text) (error : Error) : Type 0 where
   pub not_taken : takes app words ≡ false
   pub cause : IsAmong (kind_of error) (fault_of app words)
@@ -93,10 +92,9 @@ pub record AreRefusedBy (app : App) (words : List Text) (error : Error) : Type 0
 
 -- why there is no command to run: a line for each cause
 abbrev pub IsUsageFaultOf : List Text → UsageFault → Type 0
--- `clap` does not take the words; if they ask for help or for the version it does not take them either, and the kind
--- of the error says so
+-- `clap` refuses the words, or they ask for help or for the version: the kind of the error says which
 IsUsageFaultOf words (Parser error) = AreRefusedBy tlvdump_app words error
--- U2: the text of this option, the first such, is no value
+-- U2: the text of this option, the first such, is not a valid value
 IsUsageFaultOf words (Value option) = AreReadAs words (Err option.now)
 -- U3: memory was refused, whatever the words are
 IsUsageFaultOf words Memory = ⊤

@@ -1,11 +1,11 @@
--- What is read of the matches that `clap` makes of words.
+-- What is read from the matches that `clap` makes of words.
 use Rattle.std.specs.Prelude.{Bool, false, List, codes}
 use Rattle.std.specs.Option.{option_map_or}
 use Rattle.std.specs.Str.{bytes_eq}
 use Rattle.clap.specs.Words.{Row, Text, first_of, found_of, rows_of}
 use Rattle.clap.specs.declared.parser.matches.ArgMatches.{ArgMatches}
 
--- the text of each option given, of what `clap` matches
+-- the text of each option given, from what `clap` matches
 abbrev pub matched_rows : ArgMatches → List Row
 matched_rows matches = rows_of (found_of matches)
 

@@ -14,7 +14,7 @@ status_of_kind kind.DisplayHelp = 0
 status_of_kind kind.DisplayVersion = 0
 status_of_kind _ = 4
 
--- the report. It has no part of the text that `clap` has for words that it does not take, for help, or for the version
+-- the report. It contains nothing of `clap`'s text for refused words, for help, or for the version
 abbrev pub usage_report : UsageFault → ReportValue
 usage_report (usage.Parser error) = report_with (status_of_kind (kind_of error)) []
 usage_report (usage.Value option) = report_with 4 (codes "U2 value out of range: " ++ take 64 option.now)

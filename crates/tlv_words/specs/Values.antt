@@ -1,5 +1,5 @@
--- What the texts of options mean. A result `None` says that the text is no value of the option; an argument `None` is
--- an option that was not given.
+-- What the texts of options mean. A result `None` means that the text is not a valid value of the option; an argument
+-- `None` is an option that was not given.
 use Rattle.std.specs.Prelude.{ℕ, ◌-◌, ◌^◌, ◌==◌, ◌&&◌, List, [], ◌∷◌, Option, Some, None}
 use Rattle.std.specs.Prelude.{codes, if◌then◌else◌, length, nat_le, nat_lt, option_and_then}
 use Rattle.std.specs.Prelude.{option_map}
@@ -28,7 +28,7 @@ bounded_number text most =
 abbrev pub comma_parts : Text → List Text
 comma_parts = slice_split (λ octet. octet == 44)
 
--- the offset that each part is, if each is one
+-- the offset in each part, if each part is an offset
 abbrev pub part_offsets : List Text → Option (List ℕ)
 part_offsets [] = Some []
 part_offsets (part ∷ parts) =
@@ -39,7 +39,7 @@ part_offsets (part ∷ parts) =
 abbrev pub nameable_offsets : List ℕ → Option (List ℕ)
 nameable_offsets offsets = if can_name offsets then Some offsets else None
 
--- 1 to 16 rising offsets with commas between them
+-- 1 to 16 increasing offsets with commas between them
 abbrev pub offset_list : Text → Option (List ℕ)
 offset_list text = option_and_then nameable_offsets (part_offsets (comma_parts text))
 

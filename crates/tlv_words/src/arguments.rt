@@ -1,4 +1,4 @@
-//! Arguments that command lines have, as `clap` takes them.
+//! Arguments of command lines, as `clap` takes them.
 ghost use Rattle.tlv_words.specs.CommandLine.{flag, help_flag, option, version_flag};
 ghost use Rattle.tlv_words.specs.Parsers.{IsArgumentOf};
 
@@ -26,7 +26,7 @@ pub fn flag<'a>(alloc: Global, name: &'a str, text: &'a str) -> Arg<'a>
         .help(text)
 }
 
-/// `--help`: help is asked for by this long name alone.
+/// `--help`, which has no short name.
 pub fn help_flag<'a>(alloc: Global) -> Arg<'a>
     ensures { IsArgumentOf help_flag result }
 {
@@ -36,7 +36,7 @@ pub fn help_flag<'a>(alloc: Global) -> Arg<'a>
         .help("Print help")
 }
 
-/// `--version`: the version is asked for by this long name alone.
+/// `--version`, which has no short name.
 pub fn version_flag<'a>(alloc: Global) -> Arg<'a>
     ensures { IsArgumentOf version_flag result }
 {

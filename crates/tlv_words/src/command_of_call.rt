@@ -22,9 +22,9 @@ use tlv_walk::Framing;
 ///
 /// # Errors
 ///
-/// `Parser` if `clap` does not take the words; if they ask for help or for the version it does not take them either,
-/// and the kind of the error says so. `Value` if `clap` finds no fault, but an option's text is no value: it names the
-/// first such option, in the order rules, limit, offset, inside. `Memory` if memory is refused.
+/// `Parser` if `clap` refuses the words, or if they ask for help or for the version: the kind of the error says which.
+/// `Value` if `clap` accepts the words, but the text of an option is not a valid value: it names the first such option,
+/// in the order rules, limit, offset, inside. `Memory` if memory is refused.
 pub fn command_of(alloc: Global, words: &Words) -> Result<Command<'static>, UsageFault>
     ensures ok { IfOk result (λ command. AreReadAs words.now (Ok command)) }
     ensures err { IfErr result (IsUsageFaultOf words.now) }

@@ -1,5 +1,5 @@
-//! The words of `tlvdump`'s command line: the command that they ask for, or why there is none. For other programs: the
-//! parts of that, arguments of a command line, what is read of `clap`'s matches, and the values of options.
+//! The words of `tlvdump`'s command line: the command that they ask for, or why there is none. For other programs, its
+//! parts: arguments of a command line, what is read from `clap`'s matches, and the values of options.
 #![tactic(auto)]
 
 mod arguments;

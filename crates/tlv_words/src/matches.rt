@@ -1,4 +1,4 @@
-//! What is read of the matches that `clap` makes of words.
+//! What is read from the matches that `clap` makes of words.
 ghost use Rattle.std.specs.Prelude.{◌≡◌, IfErr, IfOk};
 ghost use Rattle.clap.specs.Words.{first_of};
 ghost use Rattle.tlv_run.specs.BorrowedText.{text_in};

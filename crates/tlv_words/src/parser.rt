@@ -16,21 +16,21 @@ use help::Help;
 /// The version of the programs, as `--version` prints it after their names.
 pub const VERSION: &str = "0.1.0";
 
-/// The file to read, which has no name before it.
+/// The file to read: an argument without an option name.
 fn file<'a>(alloc: Global) -> Arg<'a>
     ensures { IsArgumentOf file result }
 {
     Arg::new(alloc, "file").value_name("FILE").help(help::FILE)
 }
 
-/// An option with a value, without which the command is refused.
+/// An option with a value, which must be given.
 fn required_option<'a>(alloc: Global, name: &'a str, value: &'a str, text: &'a str) -> Arg<'a>
     ensures { IsArgumentOf (required_option name.now) result }
 {
     option(alloc, name, value, text).required(true)
 }
 
-/// A command with what each command has: a file to read, and help.
+/// A command with the parts that all commands have: a file to read, and help.
 fn command_parser<'a>(
     alloc: Global,
     name: &'a str,

@@ -10,16 +10,16 @@ use tlv_walk::DeviceFault;
 /// Why there is no command to run.
 #[derive(Debug, Drop)]
 pub enum UsageFault {
-    /// `clap` does not take the words; if they ask for help or for the version it does not take them either, and the
-    /// kind of the error says so. There is no code: the text is `clap`'s own.
+    /// `clap` refuses the words, or they ask for help or for the version: the kind of the error says which. There is no
+    /// code: the text is `clap`'s own.
     Parser(clap::Error),
-    /// U2: the text of this option, the first such, is no value of it. The name is as on the command line, with `--`.
+    /// U2: the text of this option, the first such, is not valid. The name is as on the command line, with `--`.
     Value(&'static str),
     /// U3: memory was refused.
     Memory,
 }
 
-/// The report if there is no command to run. What `clap` has to say is no part of it.
+/// The report if there is no command to run. It contains nothing of `clap`'s own text.
 pub fn usage_report(fault: &UsageFault) -> Report
     ensures { report_value_of result ≡ usage_report fault.now }
 {

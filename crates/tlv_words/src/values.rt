@@ -10,7 +10,7 @@ use arrayvec::ArrayVec;
 use tlv_show::Rules;
 use tlv_walk::{INPUT_LIMIT, Inside};
 
-/// The number that the text is: 1 to 13 digits, with leading zeros or without, of a number up to `most`.
+/// The number in the text: 1 to 13 digits, with or without leading zeros, of a number up to `most`.
 fn bounded_number(text: &[u8], most: u64) -> Option<u64>
     ensures { result ≡ bounded_number text.now most }
 {
@@ -27,7 +27,7 @@ fn bounded_number(text: &[u8], most: u64) -> Option<u64>
     if number <= most { Some(number) } else { None }
 }
 
-/// The rules that the text names, `ber`, `der` or `cer`. Without a text these are the usual ones.
+/// The rules that the text names: `ber`, `der` or `cer`. Without a text, the usual rules.
 pub fn rules_value(usual: Rules, text: Option<&str>) -> Option<Rules>
     ensures { result ≡ rules_value usual (text_in text.entry) }
 {
@@ -42,7 +42,7 @@ pub fn rules_value(usual: Rules, text: Option<&str>) -> Option<Rules>
     }
 }
 
-/// The limit that the text is, a number up to 4,294,967,295. Without a text there is no limit.
+/// The limit in the text, a number up to 4,294,967,295. Without a text there is no limit.
 pub fn limit_value(text: Option<&str>) -> Option<Option<u32>>
     ensures { result ≡ limit_value (text_in text.entry) }
 {
@@ -55,7 +55,7 @@ pub fn limit_value(text: Option<&str>) -> Option<Option<u32>>
     }
 }
 
-/// The offset that the text is, a number up to 2^40. Without a text there is none.
+/// The offset in the text, a number up to 2^40. Without a text there is none.
 pub fn offset_value(text: Option<&str>) -> Option<u64>
     ensures { result ≡ offset_value (text_in text.entry) }
 {
@@ -72,7 +72,7 @@ pub(crate) fn inside_value(text: Option<&str>) -> Option<Inside<'static>>
     }
 }
 
-/// The offsets that the text is: 1 to 16 numbers up to 2^40 with commas between them, each larger than the one before.
+/// The offsets in the text: 1 to 16 numbers up to 2^40 with commas between them, each larger than the one before.
 fn offset_list(text: &[u8]) -> Option<Inside<'static>>
     ensures { result ≡ offset_list text.now }
 {
@@ -90,7 +90,7 @@ fn offset_list(text: &[u8]) -> Option<Inside<'static>>
     Inside::new(offsets.as_slice())
 }
 
-/// The text before the first comma, and the text after it, if there is one.
+/// The text before the first comma, and the text after it, if any.
 fn first_part(text: &[u8]) -> (&[u8], Option<&[u8]>)
     ensures parts { comma_parts text.now
         ≡ result.0.now ∷ option_map_or (λ others. comma_parts others.now) result.1 [] }
@@ -104,7 +104,7 @@ fn first_part(text: &[u8]) -> (&[u8], Option<&[u8]>)
     }
 }
 
-/// How many octets are before the first comma. If there is none, it is all of them.
+/// The number of octets before the first comma, or of all octets if there is no comma.
 fn first_part_length(text: &[u8]) -> usize
     ensures value { result ≡ position_or_len (λ octet. octet == 44) text.now }
     ensures within { result ≤ length text.now }

@@ -43,7 +43,7 @@ fn words_of(rt: &HostRuntime) -> Result<Words, NoWords> {
     Ok(words)
 }
 
-/// The system that the program runs on. Nobody knows what it does until it has done it.
+/// The system on which the program runs. What it does is not known before it does it.
 #[derive(Drop)]
 struct Host<'a> {
     rt: &'a HostRuntime,
@@ -72,8 +72,8 @@ impl System for Host<'_> {
     }
 }
 
-/// A file as a source. It is a type of its own because the prover does not take `ReadSource<File>` as the associated type of
-/// `System` (docs/DECISIONS.md).
+/// A file as a source. It is a type of its own because the prover does not take `ReadSource<File>` as the associated
+/// type of `System` (docs/DECISIONS.md).
 #[derive(Drop)]
 struct InputFile {
     source: ReadSource<File>,

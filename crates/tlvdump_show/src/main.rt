@@ -1,4 +1,4 @@
-//! `tlvdump-show` shows BER, CER and DER encodings with the strings opened that hold encodings.
+//! `tlvdump-show` shows BER, CER and DER encodings, and opens the strings that hold encodings.
 #![tactic(auto)]
 
 ghost use Rattle.tlv_program.specs.System.{unknown_system};
@@ -13,7 +13,7 @@ use tlv_view_words::FileNames;
 use tlv_walk::{ReadFault, ReadSource, Source, WriteDrain};
 use tlv_words::Words;
 
-/// Where the file of names is, from the folder of the program: in an installation, where the program is in `bin`, and
+/// Where the names file is, from the folder of the program: in an installation, where the program is in `bin`, and
 /// beside the sources.
 const PLACES: [&str; 2] = ["../share/tlvdump/names.txt", "../../../data/names.txt"];
 
@@ -29,7 +29,7 @@ fn main(rt: HostRuntime) -> ExitCode {
     ExitCode::from(run_show(rt.alloc(), &words, &places, typed, &mut streams))
 }
 
-/// The arguments, and the places of the file of names.
+/// The arguments, and the places of the names file.
 fn words_and_places(rt: &HostRuntime) -> (Result<Words, NoWords>, FileNames) {
     match places_of(rt) {
         Ok(places) => (words_of(rt), places),
@@ -53,7 +53,7 @@ fn words_of(rt: &HostRuntime) -> Result<Words, NoWords> {
     Ok(words)
 }
 
-/// Where the file of names is looked for. If the program does not know where it is, these are none.
+/// Where the names file is looked for. There are no such places if the program does not know where it is itself.
 fn places_of(rt: &HostRuntime) -> Result<FileNames, NoWords> {
     let mut places = FileNames::new(rt.alloc());
     let program = match env::current_exe(rt) {
@@ -74,7 +74,7 @@ fn places_of(rt: &HostRuntime) -> Result<FileNames, NoWords> {
     }
     Ok(places)
 }
-/// The system that the program runs on. Nobody knows what it does until it has done it.
+/// The system on which the program runs. What it does is not known before it does it.
 #[derive(Drop)]
 struct Host<'a> {
     rt: &'a HostRuntime,
@@ -103,8 +103,8 @@ impl System for Host<'_> {
     }
 }
 
-/// A file as a source. It is a type of its own because the prover does not take `ReadSource<File>` as the associated type of
-/// `System` (docs/DECISIONS.md).
+/// A file as a source. It is a type of its own because the prover does not take `ReadSource<File>` as the associated
+/// type of `System` (docs/DECISIONS.md).
 #[derive(Drop)]
 struct InputFile {
     source: ReadSource<File>,

@@ -1,10 +1,10 @@
--- A follower that makes nothing of a walk, and a drain that keeps nothing.
+-- A follower that ignores the events of a walk, and a drain that keeps nothing.
 use Rattle.std.specs.Prelude.{None}
 use Rattle.tlv_io.specs.Device.{DrainState}
 use Rattle.tlv_walk.specs.Events.{EventValue}
 use Rattle.tlv_walk.specs.Follow.{Effect, no_effect}
 
--- of each event nothing is made
+-- each event is ignored
 abbrev pub silent_step : {S : Type 0} → S → EventValue → Effect S
 silent_step s e = no_effect s
 

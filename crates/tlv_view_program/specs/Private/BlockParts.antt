@@ -1,4 +1,4 @@
--- What the functions below `show_files` return and keep, apart from where it is kept.
+-- What the functions below `show_files` return and keep, without the place where it is kept.
 use Rattle.std.specs.Prelude.{ℕ, ◌≤◌, All, List, Option, Some, None, Result, Ok, Err, Vec, length, map}
 use Rattle.tlv_head.specs.InputLimit.{input_limit}
 use Rattle.tlv_run.specs.BorrowedText.{text_in}
@@ -20,23 +20,23 @@ use Rattle.tlv_view_program.specs.declared.input_blocks.NoBlocks.TheVariants.{Un
 use Rattle.tlv_view_program.specs.declared.input_blocks.InputBlock.{InputBlock}
 use Rattle.tlv_view_program.specs.declared.lines.BlockName.{BlockName}
 
--- what is reported of a file that gives no block
+-- the report for a file that gives no block
 abbrev pub report_without_blocks : NoBlocks → ReportValue
 report_without_blocks Unopened = unopened_report
 report_without_blocks (Input fault) = input_report fault
 report_without_blocks (Text fault) = text_report fault
 
--- the octets that were had, or the report that there are none
+-- the octets that were obtained, or the report that there are none
 abbrev pub octets_had : {Z : Type 0} → Result (Vec ℕ Z) NoBlocks → Result (List ℕ) ReportValue
 octets_had (Ok octets) = Ok octets.items
 octets_had (Err why) = Err (report_without_blocks why)
 
--- what an input was taken for, or why its blocks cannot be had
+-- what an input was taken for, or why its blocks cannot be obtained
 abbrev pub taken_had : {Z : Type 0} → Result (Vec Taken Z) TextFault → Result (List TakenValue) TextFault
 taken_had (Ok taken) = Ok (map taken_value taken.items)
 taken_had (Err fault) = Err fault
 
--- what a block has, and a block, as contracts see them
+-- what a block holds, and a block, as contracts see them
 abbrev pub block_contents : Contents → BlockContents
 block_contents (Nothing why) = BlockContents.reported (report_without_blocks why)
 block_contents (TakenBlock taken) = BlockContents.taken (taken_value taken)
@@ -48,7 +48,7 @@ input_block b = record {
   contents = block_contents b.contents;
 }
 
--- the blocks that were had, unless memory was refused
+-- the blocks that were obtained, unless memory was refused
 abbrev pub blocks_had : {Z : Type 0} → Option (Vec InputBlock Z) → Option (List InputBlockValue)
 blocks_had (Some blocks) = Some (map input_block blocks.items)
 blocks_had None = None
@@ -57,7 +57,7 @@ blocks_had None = None
 abbrev pub name_value : BlockName → MessagePlace
 name_value n = record { file = text_in n.file; number = n.number }
 
--- what a task says of all blocks, and of the block with this number
+-- what a task says about all blocks, and about the block with this number
 abbrev pub blocks_place : Task → BlocksPlace
 blocks_place t = record { count = t.count; several_files = t.several_files }
 

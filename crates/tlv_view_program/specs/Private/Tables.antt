@@ -1,4 +1,4 @@
--- What the functions below `table_for` return, apart from where it is kept.
+-- What the functions below `table_for` return, without the place where it is kept.
 use Rattle.std.specs.Prelude.{ℕ, Bool, false, IfSome, List, Option, Some, None, Result, Ok, Err}
 use Rattle.std.specs.FinMap as finite
 use Rattle.tlv_io.specs.Device.{SourceState}
@@ -14,12 +14,12 @@ abbrev pub table_result : Result Table NamesFault → Result NamesValue NamesFau
 table_result (Ok table) = Ok table.names
 table_result (Err fault) = Err fault
 
--- it is to be noted that no file of names was found
+-- whether to note that no names file was found
 abbrev pub is_noted : Result Table NamesFault → Bool
 is_noted (Ok table) = table.is_missing
 is_noted (Err fault) = false
 
--- the file of names that the words name is opened, or does not open; if they name none, the first that opens
+-- the names file that the words name is opened, or does not open; if they name none, the first file that opens
 abbrev pub OpensNames : {S : Type 0} → Allows S → Option (List ℕ) → List (List ℕ) → S → S → Option SourceState → Type 0
 OpensNames allows None places old new opened = OpensFirst allows places old new opened
 OpensNames allows (Some name) places old new opened = allows.opens old new name opened × IfSome opened IsUnread

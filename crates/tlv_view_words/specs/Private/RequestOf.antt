@@ -7,7 +7,7 @@ use Rattle.tlv_view_words.specs.declared.refusal.Refusal.{Refusal}
 use Rattle.tlv_view_words.specs.declared.refusal.RequestFault.{RequestFault}
 use Rattle.tlv_view_words.specs.declared.refusal.RequestFault.TheVariants.{Memory, Parser, Refused}
 
--- the result is what is asked for, or why nothing is, unless memory was refused
+-- the result is what is asked for, or why nothing is asked for, unless memory was refused
 abbrev pub ReturnsAsked : {A : Type 0} → Result A Refusal → Result A RequestFault → Type 0
 ReturnsAsked asked (Ok value) = asked ≡ Ok value
 ReturnsAsked asked (Err (Parser error)) = ⊥

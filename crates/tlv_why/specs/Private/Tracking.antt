@@ -1,4 +1,4 @@
--- What is kept of the events of a walk.
+-- What is recorded from the events of a walk.
 use Rattle.std.specs.Prelude.{◌≡◌, ℕ, ◌+◌, ◌-◌, eqb, if◌then◌else◌, nat_lt, List, [], ◌∷◌, ◌++◌, length, take}
 use Rattle.std.specs.Prelude.{Option, Some, None, slice_get, slice_index}
 use Rattle.std.specs.Option.{option_map_or}
@@ -31,18 +31,18 @@ new_tracker = record {
   offset = 0;
 }
 
--- the offset of an element more, among the 25 nearest ones
+-- with the offset of one more element among the 25 nearest offsets
 abbrev pub with_nearest : ℕ → Tracker → Tracker
 with_nearest offset t = record t { nearest = record { items = take 25 (offset ∷ t.nearest.items) } }
 
--- an element that holds others begins: of more than 128 there is none
+-- an element that holds others begins; at most 128 are recorded
 abbrev pub holder_noted : Element → Tracker → Tracker
 holder_noted e t =
     if nat_lt (length t.holders.items) 128
     then record (with_nearest e.offset t) { holders = record { items = t.holders.items ++ e ∷ [] }; before = None }
     else t
 
--- a string begins that is named and holds encodings: a BIT STRING is not noted before its first contents octet
+-- a string that is named and holds encodings begins: a BIT STRING is not recorded before its first contents octet
 abbrev pub wrapper_entered : Element → Tracker → Tracker
 wrapper_entered e t = if eqb e.number universal.bit_string then record t { entered = Some e } else holder_noted e t
 
@@ -72,7 +72,7 @@ holder_ended (Some e) t =
 abbrev pub innermost : Tracker → Option Element
 innermost t = slice_get t.holders.items (length t.holders.items - 1)
 
--- after an event, by what it is; its octets are counted
+-- after an event, by its kind; its octets are already counted
 abbrev pub tracked_event : EventValue → Tracker → Tracker
 tracked_event (Open h) t = holder_noted (element_of h) t
 tracked_event (Enter h) t = wrapper_entered (element_of h) t
@@ -100,7 +100,7 @@ pub record IsNewWalker (w : WalkerState) : Type 0 where
   pub phase : w.phase ≡ Between
   pub offset : w.offset ≡ 0
 
--- the walker has walked over the octets to their end, or to one that it refused, and this is kept of the events
+-- the walker has walked to the end of the octets, or to one that it refused, and the tracker has recorded the events
 pub record HasTracked (framing : Framing) (octets : List ℕ) (w : WalkerState) (t : Tracker) : Type 0 where
   pub framing_is : w.framing ≡ framing
   pub yielded : List EventValue
@@ -108,12 +108,12 @@ pub record HasTracked (framing : Framing) (octets : List ℕ) (w : WalkerState) 
   pub idle : IsIdle w
   pub tracked : t ≡ track_all new_tracker yielded
 
--- how many octets are read of so many: all, or those before the one that is refused
+-- the number of octets that are read: all, or the octets before the one that is refused
 abbrev pub count_read : Option Fault → ℕ → ℕ
 count_read None size = size
 count_read (Some fault) size = fault.offset
 
--- the element that has begun and is not noted: a primitive, or else a BIT STRING that was entered
+-- the element that has begun and is not yet recorded: a primitive, or else a BIT STRING that was entered
 abbrev pub begun_element : Tracker → Option Element
 begun_element t = option_map_or Some t.current t.entered
 
@@ -121,23 +121,23 @@ begun_element t = option_map_or Some t.current t.entered
 abbrev pub open_end_offset : Tracker → ℕ
 open_end_offset t = option_map_or (λ e. e.offset) (begun_element t) t.offset
 
--- what stands where no element has begun: nothing if the octets are read up to there, else what the octet there begins
+-- what is unfinished where no element has begun: nothing if all is read up to there, else what the octet there begins
 abbrev pub unfinished_octet : List ℕ → ℕ → ℕ → Unfinished
 unfinished_octet octets offset count =
     if eqb offset count then unfinished.Nothing
     else (if eqb (slice_index octets offset) 0 then unfinished.EndOctets else unfinished.Header)
 
--- what stands where no primitive has begun
+-- what is unfinished where no primitive has begun
 abbrev pub unfinished_entered : Option Element → List ℕ → ℕ → ℕ → Unfinished
 unfinished_entered None octets offset count = unfinished_octet octets offset count
 unfinished_entered (Some e) octets offset count = unfinished.Header
 
--- what stands at the open end of octets of which so many are read
+-- what is unfinished at the open end of octets, if `count` of them are read
 abbrev pub unfinished_at : Tracker → List ℕ → ℕ → Unfinished
 unfinished_at t octets count =
     option_map_or unfinished.Primitive t.current (unfinished_entered t.entered octets t.offset count)
 
--- what is said of octets that have this ending, by what is kept of the events
+-- the facts about octets that have this ending, from the events recorded
 pub record MakesFacts (t : Tracker) (octets : List ℕ) (e : Ending) (facts : Facts) : Type 0 where
   pub fault : ending_by facts.fault ≡ e
   pub holders : facts.holders.items ≡ t.holders.items

@@ -7,7 +7,7 @@ use Rattle.tlv_run.specs.declared.command.Command.{Command}
 use Rattle.tlv_words.specs.declared.usage.UsageFault.{UsageFault}
 use Rattle.tlv_words.specs.declared.usage.UsageFault.TheVariants.{Parser, Value, Memory}
 
--- the result is the command or the option that is wanted, unless memory was refused
+-- the result is the wanted command or option, unless memory was refused
 abbrev pub Returns : Result Command Text → Result Command UsageFault → Type 0
 Returns wanted (Ok command) = wanted ≡ Ok command
 Returns wanted (Err (Parser error)) = ⊥

@@ -1,13 +1,13 @@
 //! The texts of help.
 
-/// What help says of a command.
+/// The help texts of a command.
 #[derive(Clone, Copy)]
 pub(super) struct Help<'a> {
-    /// In the list of commands.
+    /// The text in the list of commands.
     pub about: &'a str,
-    /// Above the command's own options.
+    /// The text above the command's own options.
     pub more: &'a str,
-    /// Below them.
+    /// The text below them.
     pub after: &'a str,
 }
 
