@@ -1,4 +1,4 @@
--- What a check makes of events.
+-- What a check does with events.
 use Rattle.std.specs.Prelude.{ℕ, [], ◌∷◌}
 use Rattle.tlv_walk.specs.Events.{Begin, Bytes, Close, End, Enter, EventValue, Leave, Open, Pad, Unused}
 use Rattle.tlv_walk.specs.Follow.{Effect, each_octet, effect_with, no_effect}

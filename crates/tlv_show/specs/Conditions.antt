@@ -1,5 +1,5 @@
--- What is found with a header, and with an end, by the rules of X.690: each finding beside its condition, in the order
--- of the codes.
+-- The findings of a header, and of an end, by the rules of X.690: each finding beside its condition, in the order of
+-- the codes.
 use Rattle.std.specs.Prelude.{ℕ, ◌+◌, ◌-◌, ◌%◌, Bool, false, ◌&&◌, ◌||◌, not, ◌==◌, nat_le, nat_lt}
 use Rattle.std.specs.Prelude.{if◌then◌else◌, List, [], ◌∷◌, ◌++◌, length, Some, sum_by}
 use Rattle.std.specs.List.{list_all}
@@ -43,7 +43,7 @@ is_wrongly_primitive h = is_primitive h && is_always_constructed h
 abbrev pub has_long_form : HeaderValue → Bool
 has_long_form h = nat_lt 1 (length h.lengths)
 
--- 9.1, 10.1: it does not have the fewest octets: those of the long form are for 128 and more, and do not begin with 00
+-- 9.1, 10.1: the length has more octets than it needs: the long form is for 128 and more, and does not begin with 00
 abbrev pub is_length_padded : HeaderValue → Bool
 is_length_padded h =
     has_long_form h && (nat_lt (announced_length h.size) 128 || second_length_octet h == 0)
@@ -53,19 +53,19 @@ abbrev pub leaves_unused_bits : Previous → Bool
 leaves_unused_bits (Sibling h (Some x)) = is_primitive h && is_a universal.bit_string h && not (x == 0)
 leaves_unused_bits _ = false
 
--- 9.2: what is right before is an element, but no primitive of 1000 contents octets
+-- 9.2: what is right before is an element, but not a primitive of 1000 contents octets
 abbrev pub is_not_full : Previous → Bool
 is_not_full (Sibling h first) = h.constructed || not (announced_length h.size == 1000)
 is_not_full _ = false
 
--- what is around an element, as far as the conditions go by it
+-- what is around an element, as far as the conditions depend on it
 pub record Surroundings : Type 0 where
-  -- 8.6.4, 8.7.3: it is a segment: a constructed string holds it. And whether this is a BIT STRING
+  -- 8.6.4, 8.7.3: it is a segment: a constructed string holds it. And whether this string is a BIT STRING
   pub in_string : Bool
   pub in_bit_string : Bool
   -- 8.6.4: right before this segment of a BIT STRING is one with unused bits
   pub after_unused_bits : Bool
-  -- 9.2: right before this segment is one that is no primitive of 1000 contents octets
+  -- 9.2: right before this segment is one that is not a primitive of 1000 contents octets
   pub after_not_full : Bool
 
 abbrev pub surroundings_of : Site → Surroundings
@@ -87,7 +87,7 @@ basic_conditions s h =
     (is_high_form_needless h, B01)
     -- 8.1.2.4.2 c): bits 7 to 1 of the first subsequent octet are not all 0
     ∷ (begins_with_zero_bits h, B02)
-    -- X.680, table 1: the universal number is that of a type
+    -- X.680, table 1: the universal number is the number of a type
     ∷ (is_unassigned h, B03)
     -- 8.2.1, 8.3.1, 8.4, 8.5.1, 8.8.1, 8.19.1, 8.20.1: the encodings of these types are primitive
     ∷ (is_wrongly_constructed h, B04)
@@ -99,14 +99,14 @@ basic_conditions s h =
     ∷ (s.in_string && not (is_a (segment_type s.in_bit_string) h), B17)
     ∷ []
 
--- by those of DER, and by those of CER
+-- by the rules of DER, and by the rules of CER
 abbrev pub length_conditions : HeaderValue → List (Bool × Finding)
 length_conditions h =
     -- 9.1, 10.1: a definite length has the fewest octets
     (is_length_padded h, S01)
     ∷ []
 
--- by those of DER alone
+-- by the rules of DER alone
 abbrev pub der_conditions : HeaderValue → List (Bool × Finding)
 der_conditions h =
     -- 10.1: lengths are definite
@@ -115,7 +115,7 @@ der_conditions h =
     ∷ (has_segments h, D02)
     ∷ []
 
--- by those of CER alone
+-- by the rules of CER alone
 abbrev pub cer_conditions : Surroundings → HeaderValue → List (Bool × Finding)
 cer_conditions s h =
     -- 9.1: the length of a constructed element is indefinite
@@ -128,40 +128,40 @@ cer_conditions s h =
     ∷ (s.after_not_full, C04)
     ∷ []
 
--- all of them, in the order of the codes
+-- all of these conditions, in the order of the codes
 abbrev pub header_conditions : Surroundings → HeaderValue → List (Bool × Finding)
 header_conditions s h = basic_conditions s h ++ length_conditions h ++ der_conditions h ++ cer_conditions s h
 
 -- ---- With the end of an element that holds others
 
--- 8.6.2: the contents of a BIT STRING begin with one octet for unused bits, those of other strings with none
+-- 8.6.2: the contents of a BIT STRING begin with one octet for unused bits; other strings have no such octet
 abbrev pub bits_octet_count : Bool → ℕ
 bits_octet_count is_bit_string = if is_bit_string then 1 else 0
 
--- 9.2: how many contents octets a string with these segments would have as a primitive: those of each segment but for
--- its octet for unused bits, and one such octet for the whole string
+-- 9.2: the number of contents octets of a string with these segments as a primitive: the octets of each segment
+-- without its octet for unused bits, and one such octet for the whole string
 abbrev pub length_as_primitive : HeaderValue → List HeaderValue → ℕ
 length_as_primitive h segments =
     let bits = bits_octet_count (is_a universal.bit_string h) in
     bits + sum_by (λ (g : HeaderValue). announced_length g.size - bits) segments
 
--- whether the last of the elements is a primitive without contents octets; `empty` says so of the one before them
+-- whether the last of the elements is a primitive without contents octets; `empty` says so of the element before them
 abbrev pub ends_empty : Bool → List HeaderValue → Bool
 ends_empty empty [] = empty
 ends_empty empty (h ∷ hs) = ends_empty (is_primitive h && announced_length h.size == 0) hs
 
--- what an element held, as far as the conditions go by it
+-- what an element held, as far as the conditions depend on it
 pub record Segments : Type 0 where
   -- 8.6.4, 8.7.3: a constructed string held it: these are segments
   pub in_string : Bool
   -- all of them are primitive
   pub all_primitive : Bool
-  -- how many contents octets the string would have as a primitive
+  -- the number of contents octets that the string would have as a primitive
   pub length_as_primitive : ℕ
   -- the last one is a primitive without contents octets
   pub ends_empty : Bool
 
--- by the header of the element, and those of what it held
+-- from the header of the element, and the headers of what it held
 abbrev pub segments_of : HeaderValue → List HeaderValue → Segments
 segments_of h children = record {
   in_string = has_segments h;

@@ -13,7 +13,7 @@ use Rattle.tlv_show.specs.Texts.{item_text}
 abbrev pub top_layout : Options → Layout
 top_layout options = record { level = 0; limit = options.limit; pure = options.pure }
 
--- all elements, as lines, with those of findings. The first argument says whether text is beside pairs of digits
+-- all elements, as lines, with the lines of findings. The first argument says whether text is beside pairs of digits
 abbrev pub dump_job_with : Bool → Options → NamesValue → Job Outcome
 dump_job_with with_text options names =
     show_job options.rules options.framing (item_text with_text (finite.get names) (top_layout options))

@@ -1,4 +1,4 @@
--- What a dump makes of events: the lines of elements, with those of what is found in them before and after.
+-- What a dump does with events: the lines of elements, with the lines of findings in them before and after.
 use Rattle.std.specs.Prelude.{ℕ, Bool, false, List, [], ◌∷◌, ◌++◌}
 use Rattle.tlv_value.specs.declared.layout.Layout.{Layout}
 use Rattle.tlv_value.specs.Names.{NamesValue}
@@ -18,7 +18,7 @@ pub record DumpState : Type 0 where
   -- what its finder keeps
   pub finder : CheckState
 
--- a dump of which nothing is written, with text beside pairs of digits or without it; and one without it
+-- a dump that has written nothing yet, with text beside pairs of digits or without it; and one without it
 abbrev pub new_dump_with : Bool → Rules → Layout → NamesValue → DumpState
 new_dump_with with_text rules layout names = record {
   lines = new_lines with_text layout names;
@@ -28,11 +28,11 @@ new_dump_with with_text rules layout names = record {
 abbrev pub new_dump : Rules → Layout → NamesValue → DumpState
 new_dump rules layout names = new_dump_with false rules layout names
 
--- the lines of what is found
+-- the lines of the findings
 abbrev pub finding_lines : DumpState → FinderState → List ℕ
 finding_lines s f = last_finding_lines (Dump s.lines.layout.pure) f
 
--- what is found comes before the lines, or after them
+-- the lines of findings come before the other lines, or after them
 abbrev pub findings_before : DumpState → FinderState → Effect LinesState → Effect DumpState
 findings_before s f d =
     effect_with (record { lines = d.state; finder = f.kept }) (finding_lines s f ++ d.put)

@@ -1,6 +1,6 @@
--- What is kept of elements so that what is found in them can be reported event by event, and what is reported.
--- No contract of `dump` or `check` names this: `Items` says what they report. It is here for the contracts of the
--- followers `Dump` and `Check`, which see one event at a time. Laws say that these put just what `Items` says.
+-- What is kept of elements so that their findings can be reported event by event, and what is reported. No contract
+-- of `dump` or `check` names this: `Items` says what they report. It is here for the contracts of the followers
+-- `Dump` and `Check`, which see one event at a time. Laws say that these put exactly what `Items` says.
 use Rattle.std.specs.Prelude.{ℕ, ◌==◌, if◌then◌else◌, List, [], ◌∷◌, length, take, Option, Some, None}
 use Rattle.std.specs.List.{filter}
 use Rattle.tlv_head.specs.Header.{HeaderValue}
@@ -16,7 +16,7 @@ use Rattle.tlv_show.specs.SaturatingSum.{saturating_sum}
 
 -- ---- What contracts see of a `Finder`, and of a `Check`
 
--- the primitive that is open: where it begins, and what is kept of its contents
+-- the open primitive: its offset, and what is kept of its contents
 pub record OpenPrimitiveState : Type 0 where
   pub offset : ℕ
   pub check : ValueCheckState
@@ -24,18 +24,18 @@ pub record OpenPrimitiveState : Type 0 where
 -- what a finder keeps: what contracts see of a `Check`
 pub record CheckState : Type 0 where
   pub rules : Rules
-  -- the elements that hold others and are open
+  -- the open elements that hold others
   pub holders : NestingState
-  -- the primitive that is open
+  -- the open primitive
   pub open_primitive : Option OpenPrimitiveState
-  -- how many findings were reported; it stops at 2^64 - 1
+  -- the number of findings reported; it stops at 2^64 - 1
   pub finding_count : ℕ
 
 abbrev pub new_check : Rules → CheckState
 new_check rules = record { rules = rules; holders = new_nesting; open_primitive = None; finding_count = 0 }
 
--- what contracts see of a `Finder`: what it keeps, the findings of the last event with which there may have been some,
--- and in which element these are: one that begins at `offset` and that `level` others hold
+-- what contracts see of a `Finder`: what it keeps, the findings of the last event that may have had some, and the
+-- element that they are in: it begins at `offset`, and `level` others hold it
 pub record FinderState : Type 0 where
   pub kept : CheckState
   pub level : ℕ
@@ -54,9 +54,9 @@ with_findings s level offset findings = record {
 abbrev pub without_findings : CheckState → FinderState
 without_findings s = record { kept = s; level = 0; offset = 0; findings = [] }
 
--- ---- What it makes of an event
+-- ---- What it does with an event
 
--- what is found with a header
+-- the findings of a header
 abbrev pub header_findings_in : CheckState → HeaderValue → List Finding
 header_findings_in s h = header_findings s.rules (surroundings_in s.holders.frame) h
 
@@ -88,7 +88,7 @@ finder_bytes_step s octets =
     then s
     else record s { open_primitive = open_primitive_after s.open_primitive octets }
 
--- a primitive ends, of which all contents octets have come
+-- a primitive ends whose contents octets have all come
 abbrev pub contents_findings_in : Rules → ValueCheckState → List Finding
 contents_findings_in rules t = if t.left == 0 then filter (is_shown rules) (findings_in t) else []
 

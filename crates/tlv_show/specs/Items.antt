@@ -1,5 +1,5 @@
--- What is reported of elements, item by item. The lines of a dump and of a check and the number of findings are those
--- of the items, so their order is this one.
+-- What is reported of elements, item by item. A dump and a check write the lines of the items in this order, and
+-- their number of findings is the number of findings here.
 use Rattle.std.specs.Prelude.{ℕ, if◌then◌else◌, List, [], ◌∷◌, ◌++◌, map, None, Option}
 use Rattle.tlv_head.specs.Header.{HeaderValue}
 use Rattle.tlv_value.specs.declared.finding.Finding.{Finding}
@@ -12,9 +12,9 @@ use Rattle.tlv_show.specs.ShownFindings.{contents_findings, end_findings, header
 use Rattle.tlv_show.specs.Site.{Site, is_padding, site_after_holder, site_after_padding, site_after_primitive}
 use Rattle.tlv_show.specs.Site.{site_of_children}
 
--- an item, with its level: how many elements hold what it is about
+-- an item, with its level: the number of elements that hold what it is about
 pub data Item : Type 0 where
-  -- something is found in the element that begins at this offset
+  -- a finding in the element that begins at this offset
   FindingAt : (level offset : ℕ) (finding : Finding) → Item
   -- an element that holds others begins, and ends: with the offset of its end-of-contents octets, if it has them
   OpeningLine : (level : ℕ) (header : HeaderValue) → Item
@@ -37,8 +37,8 @@ abbrev pub finding_items : ℕ → ℕ → List Finding → List Item
 finding_items level offset findings = map (FindingAt level offset) findings
 
 module _ (rules : Rules) where
-  -- what is found with the header of an element, on the contents of a primitive, and with the end of an element that
-  -- held others
+  -- the findings of the header of an element, on the contents of a primitive, and of the end of an element that held
+  -- others
   abbrev pub header_items : Site → HeaderValue → List Item
   header_items s h = finding_items s.level h.offset (header_findings rules (surroundings_of s) h)
 
@@ -49,8 +49,8 @@ module _ (rules : Rules) where
   end_items s h children =
       finding_items s.level h.offset (end_findings rules (segments_of h (headers children)))
 
-  -- the items of elements of which the first is at this site. What is found with the header comes before the element's
-  -- first line, all else after its last
+  -- the items of elements, the first of which is at this site. The findings of a header come before the element's
+  -- first line, all other findings after its last line
   abbrev pub items : Site → Forest → List Item
   -- a run of padding has one line
   items s (PaddingOctet rest) =

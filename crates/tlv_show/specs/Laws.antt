@@ -32,7 +32,7 @@ use Rattle.tlv_show.specs.NestingState.{depth_in}
 use Rattle.tlv_show.specs.ShownFindings.{contents_findings, is_shown}
 use Rattle.tlv_head.specs.InputLimit.{input_limit}
 
--- the text of a longer input, of at most 2^40 octets, begins with that of the shorter
+-- the text of a longer input, of at most 2^40 octets, begins with the text of the shorter input
 abbrev pub TextGoesOn : {A : Type 0} → Job A → Type 0
 TextGoesOn job =
     (b c : List ℕ) (f g : Forest) → length (b ++ c) ≤ input_limit
@@ -48,14 +48,14 @@ DumpsGoOn =
 abbrev pub ChecksGoOn : Type 0
 ChecksGoOn = (rules : Rules) (framing : Framing) → TextGoesOn (check_job rules framing)
 
--- the lines of what is found on the contents of a primitive
+-- the lines of the findings on the contents of a primitive
 abbrev pub contents_finding_lines : DumpState → HeaderValue → List ℕ → List ℕ
 contents_finding_lines s h c =
     styled_lines (Dump s.lines.layout.pure) (depth_in s.finder.holders) h.offset
     (contents_findings s.finder.rules h c)
 
--- a primitive with as many contents octets as its header announces has the lines of its whole contents, between those
--- of what is found with its header and on its contents. Nothing of it is kept
+-- a primitive with as many contents octets as its header announces has the lines of its whole contents, between the
+-- lines of findings of its header and of findings on its contents. Nothing of it is kept
 abbrev pub PrimitivesAreShown : Type 0
 PrimitivesAreShown =
     (s : DumpState) (h : HeaderValue) (c : List ℕ) → HasAllContents h c
@@ -68,7 +68,7 @@ PrimitivesAreShown =
     ++ (whole_lines_with s.lines.with_text (finite.get s.lines.names) h s.lines.layout c
     ++ contents_finding_lines s h c)))
 
--- a `Dump` puts the text of the reading of an input of at most 2^40 octets, counts its findings, and never has enough
+-- a `Dump` puts the text of the reading of an input of at most 2^40 octets, counts its findings, and always wants more
 abbrev pub DumpsMakeTexts : Type 0
 DumpsMakeTexts =
     (with_text : Bool) (options : Options) (names : NamesValue) (b : List ℕ) (f : Forest)
@@ -79,7 +79,7 @@ DumpsMakeTexts =
     × (made.state.finder.finding_count ≡ finding_count options.rules f)
     × (made.goes ≡ On)
 
--- a `Check` puts the text of the check of such a reading, counts its findings, and never has enough
+-- a `Check` puts the text of the check of such a reading, counts its findings, and always wants more
 abbrev pub ChecksMakeTexts : Type 0
 ChecksMakeTexts =
     (rules : Rules) (framing : Framing) (b : List ℕ) (f : Forest) → length b ≤ input_limit → IsReading framing b f
@@ -97,7 +97,7 @@ is_basic (PrimitiveLines level h c) = false
 is_basic (OpenPrimitiveLines level h c) = false
 is_basic (PaddingLine level offset) = false
 
--- what a check lists under BER is what it lists under other rules, but for the findings that these rules add
+-- what a check lists under BER is what it lists under other rules, without the findings that these rules add
 abbrev pub BasicFindingsStay : Type 0
 BasicFindingsStay =
     (rules : Rules) (framing : Framing) (f : Forest)

@@ -1,4 +1,4 @@
--- What the lines of a dump make of events, without those of findings.
+-- What a dump does with events, without the lines of findings.
 use Rattle.std.specs.Prelude.{ℕ, ◌+◌, ◌-◌, ◌==◌, if◌then◌else◌, Bool, true, false, List, [], ◌∷◌, length, min}
 use Rattle.std.specs.Prelude.{take, Option, Some, None}
 use Rattle.std.specs.FinMap as finite
@@ -14,9 +14,9 @@ use Rattle.tlv_show.specs.SaturatingSum.{saturating_sum}
 
 -- what contracts see of the `Lines` of a dump
 pub record LinesState : Type 0 where
-  -- how lines are laid out: the level is how many elements are open that hold others
+  -- how lines are laid out: the level is the number of open elements that hold others
   pub layout : Layout
-  -- whether text is beside pairs of digits
+  -- whether text is shown beside pairs of digits
   pub with_text : Bool
   -- the names of object identifiers
   pub names : NamesValue
@@ -24,7 +24,7 @@ pub record LinesState : Type 0 where
   pub offset : ℕ
   -- whether the last octets were padding
   pub in_padding : Bool
-  -- what is kept of the primitive that is open
+  -- what is kept of the open primitive
   pub open_text : Option ValueTextState
 
 -- the lines of a dump before its first event
@@ -90,7 +90,7 @@ lines_octet_step s x =
     })
     (open_text_lines s.open_text (x ∷ []))
 
--- a primitive ends, of which all contents octets have come
+-- a primitive ends whose contents octets have all come
 abbrev pub open_text_end_lines : NamesValue → Option ValueTextState → List ℕ
 open_text_end_lines names None = []
 open_text_end_lines names (Some t) = if t.left == 0 then end_lines (finite.get names) t else []

@@ -1,4 +1,4 @@
--- What is kept of the elements that hold others and are open: of each a frame, which says what it held so far.
+-- What is kept of the open elements that hold others: for each a frame, which says what the element held so far.
 use Rattle.std.specs.Prelude.{ℕ, ◌+◌, ◌-◌, Bool, true, false, ◌&&◌, ◌||◌, not, ◌==◌, nat_lt, if◌then◌else◌}
 use Rattle.std.specs.Prelude.{List, [], ◌∷◌, length, min}
 use Rattle.tlv_head.specs.DepthLimit.{depth_limit}
@@ -35,8 +35,8 @@ frame_of h = record top_frame {
   is_bit_string = has_segments h && is_a universal.bit_string h;
 }
 
--- whether an element inside another, or at the top, has a frame of its own. Of one that is no string and is in none
--- nothing is to be known
+-- whether an element inside another, or at the top, has a frame of its own. An element that is not a string and is not
+-- in one needs none
 abbrev pub has_frame : HolderFrame → HeaderValue → Bool
 has_frame w h = w.has_segments || has_segments h
 
@@ -44,8 +44,8 @@ has_frame w h = w.has_segments || has_segments h
 abbrev pub frame_under : HolderFrame → HeaderValue → HolderFrame
 frame_under w h = if has_frame w h then frame_of h else top_frame
 
--- after a segment more: whether it is primitive, how many contents octets it announces, and whether bits of it are
--- unused
+-- after one more segment: whether it is primitive, how many contents octets it announces, and whether it has unused
+-- bits
 abbrev pub frame_after_segment : HolderFrame → Bool → ℕ → Bool → HolderFrame
 frame_after_segment w primitive announced unused_bits = record w {
   last_has_unused_bits = unused_bits;
@@ -55,12 +55,12 @@ frame_after_segment w primitive announced unused_bits = record w {
   ends_empty = primitive && announced == 0;
 }
 
--- after an element more: outside of strings nothing is asked of it
+-- after one more element: outside of strings nothing is kept of it
 abbrev pub frame_after : HolderFrame → Bool → ℕ → Bool → HolderFrame
 frame_after w primitive announced unused_bits =
     if w.has_segments then frame_after_segment w primitive announced unused_bits else w
 
--- ---- What a frame says to the conditions
+-- ---- What a frame tells the conditions
 
 -- of an element that begins
 abbrev pub surroundings_in : HolderFrame → Surroundings
@@ -71,7 +71,7 @@ surroundings_in w = record {
   after_not_full = w.has_segments && w.last_is_not_full;
 }
 
--- of the end of the element whose frame it is. The length of its value stops at 1001
+-- of the end of the element with this frame. The length of its value stops at 1001
 abbrev pub segments_in : HolderFrame → Segments
 segments_in w = record {
   in_string = w.has_segments;
@@ -82,12 +82,12 @@ segments_in w = record {
 
 -- ---- All frames
 
--- the frame of the innermost element that holds others and is open, or of the top, and those outside, innermost first
+-- the frame of the innermost open element that holds others, or of the top, and the frames outside it, innermost first
 pub record NestingState : Type 0 where
   pub frame : HolderFrame
   pub outer : List HolderFrame
 
--- how many elements are open that hold others
+-- the number of open elements that hold others
 abbrev pub depth_in : NestingState → ℕ
 depth_in n = length n.outer
 
@@ -95,14 +95,14 @@ depth_in n = length n.outer
 abbrev pub new_nesting : NestingState
 new_nesting = record { frame = top_frame; outer = [] }
 
--- an element that holds others begins. Past `depth_limit` of them no frame is kept
+-- an element that holds others begins. With `depth_limit` of them open, no frame is kept for more
 abbrev pub nesting_open_step : NestingState → HeaderValue → NestingState
 nesting_open_step n h =
     if nat_lt (depth_in n) depth_limit
     then record { frame = frame_under n.frame h; outer = n.frame ∷ n.outer }
     else n
 
--- a primitive ends: how many contents octets it announces, and whether bits of it are unused
+-- a primitive ends: how many contents octets it announces, and whether it has unused bits
 abbrev pub nesting_primitive_step : NestingState → ℕ → Bool → NestingState
 nesting_primitive_step n announced unused_bits =
     record n { frame = frame_after n.frame true announced unused_bits }

@@ -12,15 +12,15 @@ pub data Previous : Type 0 where
   Start : Previous
   -- octets 00 between encodings
   Padding : Previous
-  -- an element. Of a primitive that holds no encodings the first contents octet is kept, if there is one
+  -- an element. For a primitive that holds no encodings, the first contents octet is kept, if there is one
   Sibling : (header : HeaderValue) (first : Option ℕ) → Previous
 
 pub record Site : Type 0 where
   -- the offset of its first octet
   pub offset : ℕ
-  -- how far its line is indented: how many elements hold it
+  -- how far its line is indented: the number of elements that hold it
   pub level : ℕ
-  -- the innermost of these
+  -- the innermost of these elements
   pub holder : Option HeaderValue
   pub previous : Previous
 
@@ -28,7 +28,7 @@ pub record Site : Type 0 where
 abbrev pub top_site : Site
 top_site = record { offset = 0; level = 0; holder = None; previous = Start }
 
--- the site so many octets further on, with `previous` before it
+-- the site this number of octets further on, with `previous` before it
 abbrev pub later_site : Site → ℕ → Previous → Site
 later_site s count previous = record s { offset = s.offset + count; previous = previous }
 

@@ -33,7 +33,7 @@ abbrev pub is_item_on_spelling : Item → Bool
 is_item_on_spelling (FindingAt level offset finding) = is_on_spelling finding
 is_item_on_spelling _ = false
 
--- such a finding is among those of the elements
+-- such a finding is among the findings of the elements
 abbrev pub is_misspelled : Rules → Forest → Bool
 is_misspelled rules f = list_any is_item_on_spelling (items rules top_site f)
 
@@ -43,15 +43,15 @@ pub record IsWellSpelled (rules : Rules) (framing : Framing) (b : List ℕ) (f :
   pub is_reading : IsReading framing b f
   pub none : is_misspelled rules f ≡ false
 
--- by DER and by CER, two such inputs of elements alike are one, each read with the strings that are named in it
+-- by DER and by CER, two such inputs with elements alike are equal; each is read with the strings that are named in it
 abbrev pub OneSpelling : Type 0
 OneSpelling =
     (rules : Rules) (framing other : Framing) (b c : List ℕ) (f g : Forest) → rules ≢ Ber
     → IsWellSpelled rules framing b f → IsWellSpelled rules other c g → AreAlike f g → b ≡ c
 
 -- by DER and by CER, the elements of a sound input have such a spelling, if none is the universal primitive 0, and
--- the input has at most 2^38 octets, so that lengths stay below 2^40. In it the strings that hold encodings are named,
--- and no others. A user may name those offsets, since they rise; and they are no more than those of the input
+-- the input has at most 2^38 octets, so that lengths stay below 2^40. In it the strings that hold encodings are
+-- named, and no others. A user may name their offsets: they rise, and are no more than in the input
 abbrev pub SomeSpelling : Type 0
 SomeSpelling =
     (rules : Rules) (framing : Framing) (b : List ℕ) (f : Forest) → rules ≢ Ber → length b ≤ 2 ^ 38
@@ -62,7 +62,7 @@ SomeSpelling =
     × (are_rising 0 (wrapper_offsets g) ≡ true)
     × (are_rising 0 framing.inside ≡ true → length (wrapper_offsets g) ≤ length framing.inside)
 
--- a finding on the number of identifier octets, and on that of length octets
+-- a finding on the number of identifier octets, and one on the number of length octets
 abbrev pub is_on_identifier : Finding → Bool
 is_on_identifier B01 = true
 is_on_identifier B02 = true
@@ -72,14 +72,15 @@ abbrev pub is_on_lengths : Finding → Bool
 is_on_lengths S01 = true
 is_on_lengths finding = false
 
--- B01 or B02 is found exactly if fewer identifier octets say the same. The universal primitive 0 alone has no low form
+-- B01 or B02 is found if and only if fewer identifier octets say the same. The universal primitive 0 alone has no low
+-- form
 abbrev pub LongerIdentifiersAreFound : Type 0
 LongerIdentifiersAreFound =
     (rules : Rules) (s : Surroundings) (h : HeaderValue)
     → IsHeader h → identifier_octet h.class h.constructed h.number ≢ 0
     → (list_any is_on_identifier (header_findings rules s h) ≡ true) ↔ HasShorter (λ k. k.identifier) h
 
--- by DER and by CER, S01 is found exactly if fewer length octets say the same
+-- by DER and by CER, S01 is found if and only if fewer length octets say the same
 abbrev pub LongerLengthsAreFound : Type 0
 LongerLengthsAreFound =
     (rules : Rules) (s : Surroundings) (h : HeaderValue) → rules ≢ Ber → IsHeader h

@@ -1,4 +1,4 @@
-//! What BER finds in a primitive by itself.
+//! The findings of BER in a primitive by itself.
 ghost use Rattle.std.specs.Prelude.{◌≡◌, ◌↔◌, [], false};
 ghost use Rattle.tlv_head.specs.Header.{HasAllContents};
 ghost use Rattle.tlv_show.specs.Conditions.{surroundings_of};
@@ -13,7 +13,7 @@ use arrayvec::ArrayVec;
 use tlv_head::Header;
 use tlv_value::ValueCheck;
 
-/// Whether BER finds something in a primitive with this header and all these contents, as the first element of an input.
+/// Whether BER has findings in a primitive with this header and all these contents, as the first element of an input.
 pub fn has_basic_findings(header: &Header, contents: &[u8]) -> bool
     requires { HasAllContents header.now contents.now }
     ensures { (result ≡ false)

@@ -6,15 +6,15 @@ use crate::outcome::Outcome;
 use crate::{Check, Rules};
 use tlv_walk::{DeviceFault, Drain, Framing, Source, drive};
 
-/// Lists what violates the rules in the encodings that the source gives, up to its end or the first
-/// octet that is refused. The lines go to the drain, one for each finding: the offset of the element,
-/// the code, and the text. Returns the ending of the input, the number of findings, and the first
-/// named offset at which no string was found that holds encodings.
+/// Lists what violates the rules in the encodings that the source gives, up to its end or the first octet that is
+/// refused. The lines go to the drain, one for each finding: the offset of the element, the code, and the text.
+/// Returns the ending of the input, the number of findings, and the first named offset at which no string that holds
+/// encodings was found.
 ///
 /// # Errors
 ///
-/// `ReadFailed` exactly if a read failed, and `WriteFailed` exactly if a write failed. `InputTooLong`
-/// if the source gave more than 2^40 octets, and none of the first 2^40 is refused.
+/// `ReadFailed` if and only if a read failed, and `WriteFailed` if and only if a write failed. `InputTooLong` if the
+/// source gave more than 2^40 octets, and none of the first 2^40 is refused.
 pub fn check<S: Source, D: Drain>(
     source: &mut S,
     drain: &mut D,

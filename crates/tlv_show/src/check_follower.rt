@@ -12,8 +12,9 @@ use std::marker::Model;
 use tlv_head::Header;
 use tlv_walk::{Drain, Event, Follow, Go, Out, WriteFault};
 
-/// Lists what violates the rules, a line for each finding: the offset of the element, the code, and the text. A finding
-/// comes with the event that shows it: a header, the end of a primitive, or the end of an element that holds others.
+/// Lists what violates the rules, a line for each finding: the offset of the element, the code, and the text. A
+/// finding comes with the event that shows it: a header, the end of a primitive, or the end of an element that holds
+/// others.
 #[derive(Drop)]
 pub struct Check {
     finder: Finder,
@@ -28,7 +29,7 @@ impl Model for Check {
 }
 
 impl Check {
-    /// A check by these rules, of an input of which no event has come.
+    /// A check by these rules, before the first event.
     pub fn new(rules: Rules) -> Check
         ensures { result ≡ new_check rules }
     {
@@ -37,7 +38,7 @@ impl Check {
         }
     }
 
-    /// How many findings were listed.
+    /// The number of findings listed so far.
     pub fn findings(&self) -> u64
         ensures { result ≡ self.now.finding_count }
     {

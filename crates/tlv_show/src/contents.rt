@@ -1,10 +1,10 @@
-//! The contents of a primitive of which all octets are at hand.
+//! The contents of a primitive whose octets are all available.
 ghost use Rattle.std.specs.Prelude.{◌≡◌};
 ghost use Rattle.tlv_walk.specs.Follow.{IsWholeElement, contents_in};
 
 use tlv_head::Header;
 
-/// Of the octets of a primitive, those after its header.
+/// The octets of a primitive after its header.
 #[inline(always)]
 pub(crate) fn contents_in<'a>(header: &Header, octets: &'a [u8]) -> &'a [u8]
     requires { IsWholeElement header.now octets.now }

@@ -1,4 +1,4 @@
-//! What is found on contents.
+//! The findings on contents.
 ghost use Rattle.std.specs.Prelude.{◌≡◌, []};
 ghost use Rattle.tlv_show.specs.FinderState.{contents_findings_in};
 ghost use Rattle.tlv_show.specs.ShownFindings.{is_shown};
@@ -7,7 +7,7 @@ use crate::Rules;
 use arrayvec::ArrayVec;
 use tlv_value::{Finding, ValueCheck};
 
-/// Adds what is found on the contents of a primitive, of which all have come.
+/// Adds the findings on the contents of a primitive, after all its contents octets.
 #[inline(never)]
 pub(crate) fn add_contents_findings(
     rules: Rules,

@@ -5,15 +5,15 @@ ghost use Rattle.tlv_show.specs.DumpJob.{dump_job, dump_job_with};
 use crate::{Dump, FiniteNames, Options, Outcome};
 use tlv_walk::{DeviceFault, Drain, Source, drive};
 
-/// Writes the lines of the encodings that the source gives, up to its end or the first octet that is
-/// refused. Object identifiers that the table has are shown with their names, and findings with lines
-/// of their own. The lines go to the drain. Returns the ending of the input, the number of findings,
-/// and the first named offset at which no string was found that holds encodings.
+/// Writes the lines of the encodings that the source gives, up to its end or the first octet that is refused. Object
+/// identifiers that the table has are shown with their names, and findings with lines of their own. The lines go to
+/// the drain. Returns the ending of the input, the number of findings, and the first named offset at which no string
+/// that holds encodings was found.
 ///
 /// # Errors
 ///
-/// `ReadFailed` exactly if a read failed, and `WriteFailed` exactly if a write failed. `InputTooLong`
-/// if the source gave more than 2^40 octets, and none of the first 2^40 is refused.
+/// `ReadFailed` if and only if a read failed, and `WriteFailed` if and only if a write failed. `InputTooLong` if the
+/// source gave more than 2^40 octets, and none of the first 2^40 is refused.
 pub fn dump<N: FiniteNames, S: Source, D: Drain>(
     source: &mut S,
     drain: &mut D,
@@ -27,9 +27,9 @@ pub fn dump<N: FiniteNames, S: Source, D: Drain>(
     dump_with(source, drain, options, false, names)
 }
 
-/// The same. If text is wanted, it is beside pairs of digits: what is shown as pairs and has three or more octets, a
-/// value on its line or a row, and all of them printable ASCII (20 to 7e), has these octets behind it, after two
-/// spaces and between bars.
+/// Like [`dump`], but with text beside pairs of digits if `with_text` is set: if a value on its line, or a row, is
+/// shown as pairs and has three or more octets, all printable ASCII (20 to 7e), two spaces and these octets between
+/// bars follow it.
 ///
 /// # Errors
 ///

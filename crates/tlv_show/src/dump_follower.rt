@@ -19,9 +19,9 @@ use tlv_head::{Header, HeaderFields};
 use tlv_value::{Layout, Names};
 use tlv_walk::{Drain, Event, Follow, Go, Out, WriteFault};
 
-/// Writes the lines that each event allows. The line of an element that holds others comes with its header, and that
-/// of its end with its end; those of a primitive come as [`ValueText`](tlv_value::ValueText) writes them. A finding has
-/// its line before that of its element if it is known from the header, and else after the last line.
+/// Writes the lines that each event allows. An element that holds others has a line with its header and a line with
+/// its end; the lines of a primitive come as [`ValueText`](tlv_value::ValueText) writes them. A finding that the
+/// header shows has its line before the first line of its element; any other finding has it after the last line.
 #[derive(Drop)]
 pub struct Dump<'n, N: FiniteNames = Names> {
     lines: Lines<'n, N>,
@@ -41,15 +41,15 @@ impl<'n, N: FiniteNames> Model for Dump<'n, N> {
 }
 
 impl<'n, N: FiniteNames> Dump<'n, N> {
-    /// A dump of which nothing is written.
+    /// A dump that has written nothing yet.
     pub fn new(options: &Options<'_>, names: &'n N) -> Dump<'n, N>
         ensures { result ≡ new_dump options.now.rules (top_layout options.now) (N.table names.now) }
     {
         Dump::new_with(options, false, names)
     }
 
-    /// The same. If text is wanted, it is beside pairs of digits, as
-    /// [`ValueText::new_with`](tlv_value::ValueText::new_with) has it.
+    /// Like `new`, but with text beside pairs of digits if `with_text` is set, as in
+    /// [`ValueText::new_with`](tlv_value::ValueText::new_with).
     pub fn new_with(options: &Options<'_>, with_text: bool, names: &'n N) -> Dump<'n, N>
         ensures { result ≡ new_dump_with with_text
             options.now.rules (top_layout options.now) (N.table names.now) }
@@ -65,7 +65,7 @@ impl<'n, N: FiniteNames> Dump<'n, N> {
         }
     }
 
-    /// How many findings there are so far, also if their lines are left out.
+    /// The number of findings so far. A finding counts even if its line is left out.
     pub fn findings(&self) -> u64
         ensures { result ≡ self.now.finder.finding_count }
     {
@@ -168,7 +168,7 @@ impl<N: FiniteNames> Dump<'_, N> {
         self.lines.open(header, word, out)
     }
 
-    /// A string that holds encodings begins. It is apart: with it [`Dump::put_lines`] would be too large to be inlined.
+    /// A string that holds encodings begins. Separate: with it [`Dump::put_lines`] would be too large to be inlined.
     #[inline(never)]
     fn open_wrapper<D: Drain>(
         &mut self,
@@ -181,7 +181,7 @@ impl<N: FiniteNames> Dump<'_, N> {
         self.open(header, b" wraps {", out)
     }
 
-    /// A primitive begins of which not all octets are at hand, or with which something is found.
+    /// A primitive begins whose octets are not all available, or that may have findings.
     #[inline(never)]
     fn begin<D: Drain>(&mut self, header: &Header, out: &mut Out<'_, D>) -> Result<(), WriteFault>
         ensures { HasEffect D.state (dump_step self.old (Begin header.now))

@@ -1,4 +1,4 @@
-//! What is found in elements, event by event.
+//! The findings in elements, event by event.
 ghost use Rattle.std.specs.Prelude.{◌≡◌};
 ghost use Rattle.tlv_head.specs.Header.{HasAllContents};
 ghost use Rattle.tlv_walk.specs.Events.{event_value_of};
@@ -24,23 +24,23 @@ use tlv_head::Header;
 use tlv_value::{ValueCheck, is_clear};
 use tlv_walk::Event;
 
-/// Finds what violates the rules, event by event. It keeps a frame for each open element that holds others, and what it
-/// must know of the primitive that is open.
+/// Finds what violates the rules, event by event. It keeps what it must know of the open elements that hold others,
+/// and of the open primitive.
 #[derive(Drop)]
 pub(crate) struct Finder {
     rules: Rules,
     /// What must be known of the open elements that hold others.
     holders: Nesting,
-    /// Where the primitive begins that is open.
+    /// The offset of the open primitive.
     offset: u64,
     is_open: bool,
-    /// What is kept of the primitive that is open, or of the last one. It is used again for the next primitive, so its
-    /// room is not filled anew each time.
+    /// What is kept of the open primitive, or of the last one. It is reused for the next primitive, so that its room
+    /// is not filled again each time.
     check: ValueCheck,
-    /// How many findings there are so far.
+    /// The number of findings so far.
     finding_count: u64,
-    /// The findings of the last event with which there may have been some. They are kept here so that nothing is moved
-    /// if nothing is found.
+    /// The findings of the last event that may have had some. They are kept here so that nothing is moved if there
+    /// are no findings.
     last: LastFindings,
 }
 
@@ -64,7 +64,7 @@ impl Model for Finder {
 }
 
 impl Finder {
-    /// A finder of which no event has come.
+    /// A finder before its first event.
     pub fn new(rules: Rules) -> Finder
         ensures { result ≡ new_finder rules }
     {
@@ -83,14 +83,14 @@ impl Finder {
         }
     }
 
-    /// How many findings there are so far.
+    /// The number of findings so far.
     pub fn finding_count(&self) -> u64
         ensures { result ≡ self.now.kept.finding_count }
     {
         self.finding_count
     }
 
-    /// The findings of the last event with which there may have been some.
+    /// The findings of the last event that may have had some.
     #[inline(always)]
     pub fn last(&self) -> &LastFindings
         ensures level { result.now.level ≡ self.now.level }
@@ -100,8 +100,8 @@ impl Finder {
         &self.last
     }
 
-    /// Takes an event. Returns whether there may be findings. If not, there are none, and the last
-    /// findings stay those of an event before.
+    /// Takes an event. Returns whether there may be findings. If not, there are none, and the last findings are still
+    /// the findings of an earlier event.
     #[inline(always)]
     pub fn find(&mut self, event: &Event<'_>) -> bool
         ensures { ReturnsFindings
@@ -123,17 +123,16 @@ impl Finder {
         }
     }
 
-    /// Takes a primitive of which all contents are at hand: its header, its contents and its end.
-    /// Returns whether nothing is found with them, as far as a short look shows. If there may be
-    /// findings, it takes nothing.
+    /// Takes a primitive whose contents are all available: its header, its contents and its end. Returns whether a
+    /// short look shows that it has no findings. If it may have findings, takes nothing.
     #[inline(always)]
     pub fn passes(&mut self, header: &Header, contents: &[u8]) -> bool
         requires { HasAllContents header.now contents.now }
         ensures { PassesOrStays self.old self.new header.now contents.now result }
     {
         let frame = self.holders.frame();
-        // The type is asked for once: that it has primitives shows in `is_clear`. The form need not be known to the
-        // caller, and costs nothing if the compiler knows it.
+        // The type is looked up once: `is_clear` shows that it has primitives. The caller need not know the form; the
+        // check costs nothing if the compiler knows it.
         if header.constructed
             || !has_no_header_findings_if_usual(self.rules, frame, header)
             || !is_clear(header, contents)
@@ -144,7 +143,7 @@ impl Finder {
         true
     }
 
-    /// Finds what is to be found with a header, without a short look.
+    /// Determines the findings of a header, without a short look.
     #[inline(always)]
     fn find_with_header(&mut self, header: &Header)
         ensures { self.new ≡ with_header_findings self.old.kept header.now self.old.kept }
@@ -162,7 +161,7 @@ impl Finder {
             .saturating_add(self.last.findings.len() as u64);
     }
 
-    /// Keeps where a primitive begins, and that nothing of its contents has come.
+    /// Records the offset of a primitive, and that none of its contents has come.
     #[inline(always)]
     fn set_in_primitive(&mut self, header: &Header)
         ensures { self.new
@@ -178,7 +177,7 @@ impl Finder {
     pub fn open(&mut self, header: &Header) -> bool
         ensures { ReturnsFindings (finder_open_step self.old.kept header.now) self.new result }
     {
-        // Most such elements are no strings, and nothing is found with them.
+        // Most such elements are not strings, and have no findings.
         if has_no_header_findings(self.rules, self.holders.frame(), header) {
             self.holders.open_without_frame(header);
             return false;
@@ -188,7 +187,7 @@ impl Finder {
         true
     }
 
-    /// A primitive begins. There is no short look first: those that come to this did not pass, or are cut.
+    /// A primitive begins. There is no short look first: this primitive did not pass it, or comes in pieces.
     #[inline(always)]
     pub fn begin(&mut self, header: &Header)
         ensures { self.new ≡ finder_begin_step self.old.kept header.now }
@@ -244,7 +243,7 @@ impl Finder {
         }
     }
 
-    /// Finds what is to be found with the end of an element that held segments.
+    /// Determines the findings of the end of an element that held segments.
     #[inline(never)]
     fn find_with_end(&mut self, closed: &HolderFrame) -> bool
         ensures { ReturnsFindings

@@ -16,7 +16,7 @@ use tlv_walk::{Drain, HeldOctets, Out, WriteFault};
 pub(crate) enum Style {
     /// As lines of a check.
     Check,
-    /// As lines of a dump, which has none if it is pure.
+    /// As lines of a dump; a pure dump has no such lines.
     Dump { pure: bool },
 }
 
@@ -107,7 +107,7 @@ fn write_check_finding(held: &mut HeldOctets, offset: u64, finding: Finding)
     held.add(b"\n");
 }
 
-/// Adds the line of a finding in a dump; none if first columns are left out.
+/// Adds the line of a finding in a dump; adds nothing if first columns are left out.
 fn write_dump_finding(held: &mut HeldOctets, layout: Layout, offset: u64, finding: Finding)
     requires { HasRoomFor held.old line_room }
     ensures { held.new ≡ held.old ++ dump_finding_line layout offset finding }
@@ -120,7 +120,7 @@ fn write_dump_finding(held: &mut HeldOctets, layout: Layout, offset: u64, findin
     held.add(b"\n");
 }
 
-/// A code at the right of six places.
+/// A code, right-aligned in six places.
 fn code_columns(code: &[u8]) -> [u8; 6]
     requires { length code.now ≡ 3 }
     ensures { result ≡ 32 ∷ 32 ∷ 32 ∷ code.now }

@@ -5,12 +5,12 @@ ghost use Rattle.tlv_value.specs.Names.{NamesValue};
 
 use tlv_value::{NameTable, Names};
 
-/// A table of names of object identifiers, of which finitely many have one.
+/// A table of names for finitely many object identifiers.
 pub trait FiniteNames: NameTable {
     /// The names, by dotted texts.
     ghost table: { Self → NamesValue };
 
-    /// `get` gives these.
+    /// `get` returns these names.
     ghost has_table: { (names : Self) → Self.name_of names ≡ finite.get (table names) };
 }
 

@@ -1,4 +1,4 @@
-//! What is found with a header, and with the end of an element that holds others.
+//! The findings of a header, and of the end of an element that holds others.
 ghost use Rattle.std.specs.Prelude.{IsTrue, false, ◌≡◌, ◌<◌, ◌≤◌, ◌+◌, ◌++◌, nat_le};
 ghost use Rattle.std.specs.Prelude.{length, []};
 ghost use Rattle.tlv_value.specs.Checks.{finding_if, findings_by};
@@ -18,7 +18,7 @@ use arrayvec::ArrayVec;
 use tlv_head::Header;
 use tlv_value::Finding;
 
-/// Adds what is found with a header, in order, by the frame of the element that holds it.
+/// Adds the findings of a header, in order, from the frame of the element that holds it.
 #[inline(always)]
 pub(crate) fn add_header_findings(
     rules: Rules,
@@ -43,7 +43,7 @@ pub(crate) fn add_header_findings(
     }
 }
 
-/// Whether nothing is found with a header, as far as a short look shows.
+/// Whether a short look shows that a header has no findings.
 #[inline(always)]
 pub(crate) fn has_no_header_findings(rules: Rules, frame: &HolderFrame, header: &Header) -> bool
     ensures no_findings { IsTrue result
@@ -53,8 +53,8 @@ pub(crate) fn has_no_header_findings(rules: Rules, frame: &HolderFrame, header: 
     is_usual(header) && has_no_header_findings_if_usual(rules, frame, header)
 }
 
-/// Whether nothing is found with the header of a usual element, as far as a short look shows. The type is not asked
-/// for: callers look at it first, or with the contents.
+/// Whether a short look shows that the header of a usual element has no findings. It does not check the type: callers
+/// check it first, or with the contents.
 #[inline(always)]
 pub(crate) fn has_no_header_findings_if_usual(
     rules: Rules,
@@ -79,7 +79,7 @@ pub(crate) fn has_no_header_findings_if_usual(
     }
 }
 
-/// Whether nothing is found with the form of the tag: it is the low form, or the high form as it has to be.
+/// Whether the form of the tag has no findings: it is the low form, or the high form as it has to be.
 #[inline(always)]
 fn is_tag_usual(header: &Header) -> bool
     ensures needed { IsTrue result → is_high_form_needless header.now ≡ false }
@@ -88,8 +88,8 @@ fn is_tag_usual(header: &Header) -> bool
     !has_high_form(header) || (header.number >= 31 && header.second_identifier_octet() % 128 != 0)
 }
 
-/// Whether an element is constructed, and has a universal type that is always so or a class that is not universal. All
-/// that hold others are, but for strings in segments and primitives that hold encodings, which are few.
+/// Whether an element is constructed, and its class is not universal or its universal type is always constructed. All
+/// elements that hold others are so, except strings in segments and primitives that hold encodings, which are few.
 #[inline(always)]
 fn is_usual(header: &Header) -> bool
     ensures { IsTrue result → IsUsual header.now }
@@ -97,7 +97,7 @@ fn is_usual(header: &Header) -> bool
     header.constructed && (!is_universal(header) || is_always_constructed(header))
 }
 
-/// Adds what is found with the end of the element whose frame this is.
+/// Adds the findings of the end of the element with this frame.
 #[inline(always)]
 pub(crate) fn add_end_findings(rules: Rules, frame: &HolderFrame, found: &mut ArrayVec<Finding, 16>)
     requires { found.old.items ≡ [] }
@@ -121,7 +121,7 @@ fn fits_in_primitive(frame: &HolderFrame) -> bool
     frame.value_length <= if frame.is_bit_string { 999 } else { 1000 }
 }
 
-/// Adds a finding, if it is there.
+/// Adds a finding if `there` is set.
 #[inline(always)]
 fn add_if(there: bool, finding: Finding, found: &mut ArrayVec<Finding, 16>)
     requires { length found.old.items < 16 }

@@ -1,5 +1,5 @@
-//! What a header says of its element. The functions on types have lists of their own, which are those of the table of
-//! types: a look at the table in each place where a header is asked would make these too large to be inlined.
+//! What a header says of its element. The functions on types have lists of their own, which agree with the table of
+//! types: a look-up in the table at each use would make these functions too large to be inlined.
 ghost use Rattle.std.specs.Prelude.{◌≡◌};
 ghost use Rattle.tlv_head.specs.Header.{announced_length, is_universal};
 ghost use Rattle.tlv_head.specs.UniversalTypes.{bit_string};
@@ -34,7 +34,7 @@ pub(crate) fn is_length_padded(header: &Header) -> bool
     has_long_form(header) && (announced_length(header) < 128 || header.second_length_octet() == 0)
 }
 
-/// How many contents octets the header announces; none in the indefinite form.
+/// The number of contents octets that the header announces; 0 in the indefinite form.
 #[inline(always)]
 pub(crate) fn announced_length(header: &Header) -> u64
     ensures { result ≡ announced_length header.now.size }
@@ -101,7 +101,7 @@ pub(crate) fn is_always_constructed(header: &Header) -> bool
         )
 }
 
-/// Whether the type is that of a string, with the strings of characters and the two times.
+/// Whether the type is a string type: the character strings and the two times are string types too.
 #[inline(always)]
 pub(crate) fn is_string(header: &Header) -> bool
     ensures { result ≡ is_string header.now }
@@ -118,7 +118,7 @@ pub(crate) fn is_string(header: &Header) -> bool
         )
 }
 
-/// Whether it is a constructed string, so that what it holds are segments.
+/// Whether it is a constructed string, which holds segments.
 #[inline(always)]
 pub(crate) fn has_segments(header: &Header) -> bool
     ensures { result ≡ has_segments header.now }
@@ -134,7 +134,7 @@ pub(crate) fn is_bit_string(header: &Header) -> bool
     is_universal(header) && header.number == universal::BIT_STRING
 }
 
-/// Whether the tag is that of a segment, of a BIT STRING or of any other string.
+/// Whether the tag is the tag of a segment: of a BIT STRING if `in_bit_string` is set, else of any other string.
 #[inline(always)]
 pub(crate) fn is_segment(in_bit_string: bool, header: &Header) -> bool
     ensures { result ≡ is_a (segment_type in_bit_string) header.now }

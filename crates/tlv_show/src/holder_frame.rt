@@ -1,32 +1,32 @@
-//! What is kept of an element that holds others, and of those that it holds so far.
+//! What is kept of an element that holds others, and of the elements that it holds so far.
 ghost use Rattle.std.specs.Prelude.{◌≡◌};
 ghost use Rattle.tlv_show.specs.NestingState.{frame_after, frame_of, top_frame};
 
 use crate::headers::{announced_length, has_segments, is_bit_string};
 use tlv_head::Header;
 
-/// What is kept of an element that holds others, and of those that it holds so far.
+/// What is kept of an element that holds others, and of the elements that it holds so far.
 #[derive(Clone, Copy, Default)]
 pub(crate) struct HolderFrame {
-    /// Where the holder begins.
+    /// The offset of the holder.
     pub offset: u64,
-    /// How many contents octets its header announces.
+    /// The number of contents octets that its header announces.
     pub announced_length: u64,
     /// Whether it is primitive: a string that holds encodings.
     pub is_primitive: bool,
-    /// Whether it is a constructed string, so that what it holds are segments.
+    /// Whether it is a constructed string, which holds segments.
     pub has_segments: bool,
     /// Whether it is a constructed BIT STRING.
     pub is_bit_string: bool,
     /// Whether the last segment so far has unused bits.
     pub last_has_unused_bits: bool,
-    /// Whether the last segment so far is no primitive of 1000 contents octets.
+    /// Whether the last segment so far is not a primitive of 1000 contents octets.
     pub last_is_not_full: bool,
-    /// Whether all that it holds so far is primitive.
+    /// Whether all elements that it holds so far are primitive.
     pub all_primitive: bool,
-    /// How many octets of the value the segments have so far. It stops at 1001.
+    /// The number of octets of the value in the segments so far. It stops at 1001.
     pub value_length: u64,
-    /// Whether the last that it holds is a primitive without contents octets.
+    /// Whether the last element that it holds is a primitive without contents octets.
     pub ends_empty: bool,
 }
 
@@ -40,7 +40,7 @@ pub(crate) fn top_frame() -> HolderFrame
     }
 }
 
-/// The frame of an element of which nothing inside has come.
+/// The frame of an element before anything inside it.
 #[inline(always)]
 pub(crate) fn frame_of(header: &Header) -> HolderFrame
     ensures { result ≡ frame_of header.now }
@@ -57,8 +57,8 @@ pub(crate) fn frame_of(header: &Header) -> HolderFrame
     }
 }
 
-/// Makes of a frame the one after an element more: whether this is primitive, how many contents octets it announces,
-/// and whether bits of it are unused. Outside of strings nothing is kept of it.
+/// Updates a frame after one more element: whether this is primitive, how many contents octets it announces, and
+/// whether it has unused bits. Outside of strings nothing is kept of the element.
 #[inline(always)]
 pub(crate) fn set_frame_after(
     frame: &mut HolderFrame,
@@ -79,7 +79,7 @@ pub(crate) fn set_frame_after(
     frame.ends_empty = is_primitive && announced_length == 0;
 }
 
-/// A frame, and its floor: how many elements hold what is directly in its element.
+/// A frame, and its floor: the number of elements that hold what is directly in its element.
 #[derive(Clone, Copy, Default)]
 pub(crate) struct KeptFrame {
     pub frame: HolderFrame,

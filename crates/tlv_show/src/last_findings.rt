@@ -4,7 +4,7 @@ ghost use Rattle.std.specs.Prelude.{◌≡◌, []};
 use arrayvec::ArrayVec;
 use tlv_value::Finding;
 
-/// Findings in an element, in order: how many others hold it, and where it begins.
+/// The findings in an element, in order, with the number of elements that hold it and its offset.
 #[derive(Drop)]
 pub(crate) struct LastFindings {
     pub level: u8,
@@ -13,7 +13,7 @@ pub(crate) struct LastFindings {
 }
 
 impl LastFindings {
-    /// Begins anew, for the element at this level and offset.
+    /// Starts again without findings, for the element at this level and offset.
     #[inline(always)]
     pub fn restart(&mut self, level: u8, offset: u64)
         ensures level { self.new.level ≡ level }

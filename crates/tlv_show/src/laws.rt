@@ -4,32 +4,31 @@ ghost use Rattle.tlv_show.specs.Laws.{BasicFindingsStay, ChecksGoOn, ChecksMakeT
 ghost use Rattle.tlv_show.specs.Laws.{DumpsMakeTexts, PrimitivesAreShown};
 ghost use Rattle.tlv_show.specs.Spellings.{LongerIdentifiersAreFound, LongerLengthsAreFound, OneSpelling, SomeSpelling};
 
-/// What a `Dump` makes of the events of the reading of an input of at most 2^40 octets is the text of
-/// that reading and the number of its findings. It always wants more.
+/// For the events of the reading of an input of at most 2^40 octets, a `Dump` writes the text of that reading and
+/// counts its findings. It always wants more.
 pub fn dumps_make_texts()
     ensures { DumpsMakeTexts }
 {}
 
-/// What a `Check` makes of the events of the reading of an input of at most 2^40 octets is the list of
-/// its findings and their number. It always wants more.
+/// For the events of the reading of an input of at most 2^40 octets, a `Check` writes the list of its findings and
+/// counts them. It always wants more.
 pub fn checks_make_texts()
     ensures { ChecksMakeTexts }
 {}
 
-/// What is written of a longer input, of at most 2^40 octets, is what is written of the shorter, and
-/// then more.
+/// The text written for a longer input, of at most 2^40 octets, begins with the text written for the shorter input.
 pub fn dumps_go_on()
     ensures { DumpsGoOn }
 {}
 
-/// What a check lists of a longer input, of at most 2^40 octets, is what it lists of the shorter, and
-/// then more.
+/// The list that a check writes for a longer input, of at most 2^40 octets, begins with its list for the shorter
+/// input.
 pub fn checks_go_on()
     ensures { ChecksGoOn }
 {}
 
-/// A primitive is shown with all of its contents octets, by the definition of a value's lines,
-/// between what is found with its header and on its contents. Once it has ended nothing of it is
+/// A primitive is shown with all of its contents octets, by the definition of a value's lines. The findings of its
+/// header come before these lines, and the findings on its contents after them. Once it has ended, nothing of it is
 /// kept.
 pub fn primitives_are_shown()
     ensures { PrimitivesAreShown }
@@ -47,25 +46,24 @@ pub fn one_spelling()
     ensures { OneSpelling }
 {}
 
-/// Each sound input has a spelling by DER, and one by CER: a sound input whose elements agree with its
-/// own, one by one, in class, form, number and contents, with as much padding between them, and in
-/// which a check under DER, or under CER, finds none of B01, B02, S01, D01 and C01. In it the strings
-/// that hold encodings are named at the offsets that they then have, and no others; a user may name
-/// those offsets if those of the input may be named. This is said of inputs of at most 2^38 octets in
-/// which no primitive is the universal 0.
+/// Each sound input has a spelling by DER, and one by CER: a sound input whose elements agree with its own, one by
+/// one, in class, form, number and contents, with as much padding between them, and in which a check under DER, or
+/// under CER, finds none of B01, B02, S01, D01 and C01. In the spelling, the strings that hold encodings are named at
+/// the offsets that they have there, and no others; a user may name these offsets if the offsets of the input may be
+/// named. This holds for inputs of at most 2^38 octets in which no primitive is the universal 0.
 pub fn some_spelling()
     ensures { SomeSpelling }
 {}
 
-/// B01 or B02 is found with a header exactly if another header of that class, form, number and size has fewer
-/// identifier octets. Of the universal primitive 0 nothing is said: its low form would be the `00` of end-of-contents
+/// B01 or B02 is found with a header if and only if another header of that class, form, number and size has fewer
+/// identifier octets. This excludes the universal primitive 0: its low form would be the `00` of end-of-contents
 /// octets (8.1.5).
 pub fn longer_identifiers_are_found()
     ensures { LongerIdentifiersAreFound }
 {}
 
-/// Under DER and under CER, S01 is found with a header exactly if another header of that class, form, number and size
-/// has fewer length octets.
+/// Under DER and under CER, S01 is found with a header if and only if another header of that class, form, number and
+/// size has fewer length octets.
 pub fn longer_lengths_are_found()
     ensures { LongerLengthsAreFound }
 {}

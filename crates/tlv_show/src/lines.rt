@@ -1,4 +1,4 @@
-//! The lines of a dump that are no findings.
+//! The lines of a dump, except the lines of findings.
 ghost use Rattle.std.specs.FinMap as finite;
 ghost use Rattle.std.specs.Prelude.{◌≡◌, ◌≤◌, OnOk, length};
 ghost use Rattle.tlv_walk.specs.Events.{Unused};
@@ -20,22 +20,22 @@ use tlv_head::Header;
 use tlv_value::{Layout, ValueText, put_whole_with};
 use tlv_walk::{Drain, Out, WriteFault};
 
-/// Writes the lines that each event allows. The line of an element that holds others comes with its header, and that
-/// of its end with its end; those of a primitive come as [`ValueText`] writes them.
+/// Writes the lines that each event allows. An element that holds others has a line with its header and a line with
+/// its end; the lines of a primitive come as [`ValueText`] writes them.
 #[derive(Drop)]
 pub(crate) struct Lines<'n, N: FiniteNames> {
-    /// How lines are laid out: the level is how many elements are open that hold others.
+    /// How lines are laid out: the level is the number of open elements that hold others.
     layout: Layout,
-    /// Whether text is beside pairs of digits.
+    /// Whether text is shown beside pairs of digits.
     with_text: bool,
     names: &'n N,
-    /// Where the next octet is.
+    /// The offset of the next octet.
     offset: u64,
     /// Whether the last octets were padding.
     in_padding: bool,
     /// Whether a primitive is open.
     is_open: bool,
-    /// The text of the primitive that is open, or of the last one.
+    /// The text of the open primitive, or of the last one.
     text: ValueText,
 }
 
@@ -60,7 +60,7 @@ impl<'n, N: FiniteNames> Model for Lines<'n, N> {
 }
 
 impl<'n, N: FiniteNames> Lines<'n, N> {
-    /// Lines in this layout, of which none is written. Text is beside pairs of digits if it is wanted.
+    /// The lines of a dump in this layout, before the first line. `with_text` asks for text beside pairs of digits.
     pub fn new(layout: Layout, with_text: bool, names: &'n N) -> Lines<'n, N>
         ensures { result ≡ new_lines with_text layout (N.table names.now) }
     {
@@ -174,8 +174,8 @@ impl<'n, N: FiniteNames> Lines<'n, N> {
         put
     }
 
-    /// A primitive begins, has all of these contents, and ends. Its lines are written at once, and nothing is kept of
-    /// it: no contents are copied, and its type is asked for once, not again with its contents and its end.
+    /// A primitive begins, has all of these contents, and ends. Its lines are written in one step, and nothing is
+    /// kept of it: no contents are copied, and its type is looked up once, not again for its contents and its end.
     #[inline(always)]
     pub fn whole<D: Drain>(
         &mut self,
@@ -223,8 +223,8 @@ impl<'n, N: FiniteNames> Lines<'n, N> {
 ghost use Rattle.tlv_show.specs.LinesStep.{open_text_after, open_text_lines, open_text_end_lines};
 ghost use Rattle.tlv_show.specs.Private.IfOpen.{if_open};
 
-/// Puts the lines that more contents octets of the open primitive make known. Of octets after those that were
-/// announced nothing is put.
+/// Puts the lines that more contents octets of the open primitive make known. Puts nothing for octets after the
+/// announced ones.
 fn put_bytes<D: Drain>(
     is_open: bool,
     text: &mut ValueText,

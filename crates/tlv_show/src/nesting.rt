@@ -1,4 +1,4 @@
-//! The frames of the elements that are open, without those of which nothing is to be known.
+//! The frames of the open elements about which something must be known.
 ghost use Rattle.std.specs.Prelude.{◌≡◌, false, true};
 ghost use Rattle.tlv_show.specs.NestingState.{depth_in, has_frame, nesting_close_step, nesting_open_step};
 ghost use Rattle.tlv_show.specs.NestingState.{nesting_primitive_step, new_nesting, surroundings_in};
@@ -10,16 +10,16 @@ use std::marker::Model;
 use tlv_head::Header;
 use tlv_walk::Frames;
 
-/// The frames of the open elements that hold others, of which at most 128 are kept. An element that is no string and
-/// is in none is counted alone: such elements are many, and a frame is long.
+/// The frames of the open elements that hold others; at most 128 are kept. An element that is not a string and is not
+/// in one is only counted: such elements are many, and a frame is long.
 #[derive(Drop)]
 pub(crate) struct Nesting {
-    /// How many elements are open that hold others.
+    /// The number of open elements that hold others.
     depth: u8,
-    /// The innermost frame that is kept, or that of the top.
+    /// The innermost frame that is kept, or the frame of the top.
     frame: HolderFrame,
-    /// Its floor: how many elements hold what is directly in its element. The `depth - floor` elements that are
-    /// open inside of it have no frame.
+    /// Its floor: the number of elements that hold what is directly in its element. The `depth - floor` elements that
+    /// are open inside of that element have no frame.
     floor: u8,
     /// The frames outside of it that are kept.
     outer: Frames<KeptFrame>,
@@ -60,7 +60,7 @@ impl Nesting {
         }
     }
 
-    /// How many elements are open that hold others.
+    /// The number of open elements that hold others.
     #[tactic(auto, using(crate::proofs::FindingLemmas::KeptFrames::one_each))]
     #[inline(always)]
     pub fn depth(&self) -> u8
@@ -69,7 +69,7 @@ impl Nesting {
         self.depth
     }
 
-    /// A frame by which a header has the same surroundings as by the innermost one.
+    /// A frame that gives a header the same surroundings as the innermost frame does.
     #[inline(always)]
     pub fn frame(&self) -> &HolderFrame
         ensures segments { result.now.has_segments ≡ self.now.frame.has_segments }
@@ -99,7 +99,7 @@ impl Nesting {
         self.floor = self.depth;
     }
 
-    /// An element that holds others begins, which is no string and is in none.
+    /// An element that holds others begins. It is not a string and is not in one.
     #[tactic(auto, using(crate::proofs::FindingLemmas::KeptFrames::one_each))]
     #[inline(always)]
     pub fn open_without_frame(&mut self, header: &Header)
@@ -111,7 +111,7 @@ impl Nesting {
         }
     }
 
-    /// A primitive ends: how many contents octets it announces, and whether bits of it are unused.
+    /// A primitive ends: how many contents octets it announces, and whether it has unused bits.
     #[inline(always)]
     pub fn primitive(&mut self, announced_length: u64, has_unused_bits: bool)
         ensures { self.new ≡ nesting_primitive_step self.old announced_length has_unused_bits }
@@ -119,7 +119,7 @@ impl Nesting {
         set_frame_after(&mut self.frame, true, announced_length, has_unused_bits);
     }
 
-    /// An element that holds others ends. Returns its frame, if what it held were segments.
+    /// An element that holds others ends. Returns its frame, if it held segments.
     #[inline(always)]
     pub fn close(&mut self) -> Option<HolderFrame>
         ensures state { self.new ≡ nesting_close_step self.old }
@@ -144,7 +144,7 @@ impl Nesting {
     }
 }
 
-/// Whether an element is to have a frame of its own, inside the one with this frame.
+/// Whether an element needs a frame of its own, inside the element with this frame.
 #[inline(always)]
 fn has_frame(frame: &HolderFrame, header: &Header) -> bool
     ensures { result ≡ has_frame frame.now header.now }

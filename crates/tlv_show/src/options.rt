@@ -7,11 +7,11 @@ use tlv_walk::Framing;
 pub struct Options<'a> {
     /// The rules by which findings are reported.
     pub rules: Rules,
-    /// How many rows of one value are written; one more is written as `...`, and the others are left out. Without a
-    /// limit all are written.
+    /// The number of rows of one value that are written. One more row is written as `...`, and the rest are left out.
+    /// Without a limit, all rows are written.
     pub limit: Option<u32>,
-    /// Whether the first columns of each line are left out: offsets, lengths, and the spaces in their place. The lines
-    /// of findings are left out too; they are counted.
+    /// Whether the first columns of each line are left out: offsets, lengths, and the spaces in their place. The
+    /// lines of findings are left out too, but the findings are counted.
     pub pure: bool,
     /// How the input is to be read.
     pub framing: Framing<'a>,

@@ -4,7 +4,7 @@ use Rattle.std.specs.Prelude.{[], ◌∷◌, ◌++◌, length, map, slice_index,
 use Rattle.std.specs.List.{join_by, list_all, onto_first}
 use Rattle.tlv_head.specs.Header.{value_of}
 
--- 8.19.2: the octets are cut after each that has bit 8 clear
+-- 8.19.2: the octets, cut after each octet that has bit 8 clear
 abbrev pub parts_of : List ℕ → List (List ℕ)
 parts_of [] = []
 parts_of (x ∷ xs) = if nat_lt x 128 then (x ∷ []) ∷ parts_of xs else onto_first x (parts_of xs)
@@ -23,7 +23,7 @@ first_arcs v =
     else if nat_lt v 80 then 1 ∷ (v - 40) ∷ []
     else 2 ∷ (v - 80) ∷ []
 
--- 8.19.3, 8.20.3: the arcs; those of a relative object identifier are the subidentifiers
+-- 8.19.3, 8.20.3: the arcs; for a relative object identifier they are the subidentifiers
 abbrev pub arcs_of : Bool → List ℕ → List ℕ
 arcs_of true vs = vs
 arcs_of false [] = []
@@ -37,7 +37,7 @@ is_finished octets = nat_le 1 (length octets) && nat_lt (slice_index octets (len
 abbrev pub dotted_arcs : List ℕ → List ℕ
 dotted_arcs arcs = join_by decimal (codes ".") arcs
 
--- the dotted text of 1 to 64 octets: none if the last subidentifier is unfinished, or one is 2^128 or more
+-- the dotted text of 1 to 64 octets; none if the last subidentifier is unfinished, or a subidentifier is 2^128 or more
 abbrev pub dotted_of : Bool → List ℕ → Option (List ℕ)
 dotted_of relative octets =
     if is_finished octets && nat_le (length octets) 64 && list_all (λ v. nat_lt v (2 ^ 128)) (subidentifiers octets)

@@ -1,4 +1,4 @@
--- Laws of what is found on contents.
+-- Laws of the findings on contents.
 use Rattle.std.specs.Str.{is_utf8}
 use Rattle.std.specs.List.{list_all}
 use Rattle.std.specs.Prelude.{◌≡◌, ◌↔◌, ℕ, true, List, ◌++◌, IsUtf8}
@@ -9,17 +9,17 @@ use Rattle.tlv_value.specs.ValueCheckState.{ValueCheckState, findings_in, value_
 use Rattle.tlv_value.specs.ValueCheckState.{value_check_after}
 use Rattle.tlv_value.specs.Rows.{rows_of}
 
--- two pieces, one after the other, are as one
+-- two pieces, one after the other, have the effect of one
 abbrev pub ChecksJoin : Type 0
 ChecksJoin = (s : ValueCheckState) (x y : List ℕ)
     → value_check_after (value_check_after s x) y ≡ value_check_after s (x ++ y)
 
--- at the end of the contents all findings on them are there, and no others
+-- at the end of the contents exactly the findings on them are reported
 abbrev pub FindingsEnd : Type 0
 FindingsEnd =
     (h : HeaderValue) (octets : List ℕ) → HasAllContents h octets
     → findings_in (value_check_for h octets) ≡ all_contents_findings h octets
 
--- contents are well-formed UTF-8 exactly if each of their rows is
+-- contents are well-formed UTF-8 if and only if each of their rows is
 abbrev pub RowsAreUtf8 : Type 0
 RowsAreUtf8 = (octets : List ℕ) → IsUtf8 octets ↔ (list_all is_utf8 (rows_of Utf8 octets) ≡ true)

@@ -1,5 +1,5 @@
--- What is found on the contents of a primitive: X.690 8 and 11. The conditions are at the end, with what they speak of
--- before them.
+-- The findings on the contents of a primitive: X.690 8 and 11. The conditions are at the end, and the terms that they
+-- use before them.
 use Rattle.std.specs.Prelude.{ℕ, ◌%◌, ◌^◌, Bool, true, false, ◌&&◌, ◌||◌, not, ◌==◌, eqb, nat_le, nat_lt}
 use Rattle.std.specs.Prelude.{if◌then◌else◌, List, [], ◌∷◌, flat_map, length, slice_index, Option, Some, None}
 use Rattle.std.specs.Prelude.{codes}
@@ -26,8 +26,8 @@ abbrev pub is_padded_integer : List ℕ → Bool
 is_padded_integer (x ∷ y ∷ ys) = (eqb x 0 && nat_lt y 128) || (eqb x 255 && nat_le 128 y)
 is_padded_integer octets = false
 
--- 8.19.2, 8.20.2: an octet 80 that begins a subidentifier: it is after an octet with bit 8 clear. The first octet
--- begins one too: the octet before it is taken to be 0
+-- 8.19.2, 8.20.2: an octet 80 begins a subidentifier: it follows an octet with bit 8 clear. The first octet begins
+-- one too, since the octet before it is taken to be 0
 abbrev pub is_padded_after : ℕ → List ℕ → Bool
 is_padded_after previous [] = false
 is_padded_after previous (x ∷ xs) = (nat_lt previous 128 && eqb x 128) || is_padded_after x xs
@@ -53,35 +53,35 @@ octet_test number =
 abbrev pub allows_octet : ℕ → ℕ → Bool
 allows_octet number x = option_map_or (λ test. test x) (octet_test number) true
 
--- so many octets are whole characters: BMPString has two octets for each, UniversalString four
+-- this number of octets makes whole characters: BMPString has two octets for each, UniversalString four
 abbrev pub are_whole_characters : ℕ → ℕ → Bool
 are_whole_characters number size =
     if eqb number universal.bmp_string then eqb (size % 2) 0
     else if eqb number universal.universal_string then eqb (size % 4) 0
     else true
 
--- the contents have the characters of the type with this number
+-- the type with this number allows the characters of the contents
 abbrev pub allows : ℕ → List ℕ → Bool
 allows number octets =
     (if eqb number universal.utf8_string then is_utf8 octets
     else are_whole_characters number (length octets))
     && list_all (allows_octet number) octets
 
--- ---- What the conditions go by
+-- ---- What the conditions use
 
 -- what is known of contents
 pub record ContentsFacts : Type 0 where
-  -- how many octets there are
+  -- the number of octets
   pub size : ℕ
-  -- the first of them: two, if there are as many, or more
+  -- the first two octets, or all if there are fewer
   pub first_octets : List ℕ
-  -- the last one, or 0
+  -- the last octet, or 0 if there is none
   pub last : ℕ
   -- 8.19.2, 8.20.2: whether an octet 80 begins a subidentifier
   pub is_padded : Bool
-  -- X.680 41: whether the characters are those of the type
+  -- X.680 41: whether the type allows the characters
   pub is_allowed : Bool
-  -- the first octets of a time: 64, if there are as many, or more
+  -- the first 64 octets of a time, or all if there are fewer
   pub time : List ℕ
 
 -- what is known of these contents, of the type with this number
@@ -103,7 +103,7 @@ first_octet facts = slice_index facts.first_octets 0
 abbrev pub unused_bits_value : ContentsFacts → ℕ
 unused_bits_value facts = facts.last % 2 ^ first_octet facts
 
--- 8.25: a UTCTime or GeneralizedTime of at most 64 octets: of a longer one the form is not looked at
+-- 8.25: a UTCTime or GeneralizedTime of at most 64 octets; the form of a longer one is not checked
 abbrev pub is_short_time : ℕ → ContentsFacts → Bool
 is_short_time number facts = is_number_of time_types number && nat_le facts.size 64
 
@@ -116,15 +116,15 @@ canonical_form number =
 
 -- ---- The findings
 
--- a finding, if it is there
+-- the finding, if the condition holds
 abbrev pub finding_if : Bool → Finding → List Finding
 finding_if there finding = if there then finding ∷ [] else []
 
--- findings beside their conditions: those whose conditions hold, in the same order
+-- from findings beside their conditions: the findings whose conditions hold, in the same order
 abbrev pub findings_by : List (Bool × Finding) → List Finding
 findings_by rows = flat_map (λ row. finding_if row.0 row.1) rows
 
--- what may be found on the contents of a primitive of the type with this number
+-- the possible findings on the contents of a primitive of the type with this number, beside their conditions
 abbrev pub type_conditions : ℕ → ContentsFacts → List (Bool × Finding)
 type_conditions number facts =
     -- 8.2.1: a BOOLEAN has one octet
@@ -151,9 +151,9 @@ type_conditions number facts =
           && nat_le 1 (first_octet facts) && nat_le (first_octet facts) 7,
       B15,
     )
-    -- X.680 41: a string of characters has those of its type
+    -- X.680 41: a string of characters has only characters that its type allows
     ∷ (is_number_of character_types number && not facts.is_allowed, B18)
-    -- X.680 46, 47: a time is of its grammar
+    -- X.680 46, 47: a time follows the grammar of its type
     ∷ (is_short_time number facts && not (times.has_form (time_form number) facts.time), B19)
     -- 11.1: TRUE is ff
     ∷ (number == universal.boolean && facts.size == 1 && not (first_octet facts == 0 || first_octet facts == 0xff), S02)
@@ -171,11 +171,11 @@ type_conditions number facts =
     )
     ∷ []
 
--- what may be found on these contents of a primitive with this header
+-- the possible findings on these contents of a primitive with this header, beside their conditions
 abbrev pub contents_conditions : HeaderValue → List ℕ → List (Bool × Finding)
 contents_conditions h contents = type_conditions (type_number h) (facts_of (type_number h) contents)
 
--- what is found on these contents of a primitive of the type with this number, by the rules of BER, CER or DER, in
+-- the findings on these contents of a primitive of the type with this number, by the rules of BER, CER or DER, in
 -- order
 abbrev pub type_findings : ℕ → List ℕ → List Finding
 type_findings number contents = findings_by (type_conditions number (facts_of number contents))

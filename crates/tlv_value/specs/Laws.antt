@@ -11,14 +11,14 @@ use Rattle.tlv_value.specs.ValueTextState.{ValueTextState, begin_lines, contents
 use Rattle.tlv_value.specs.ValueTextState.{new_value_text_with, value_text_for, value_text_after}
 use Rattle.tlv_value.specs.Value.{NameOf}
 
--- two pieces, one after the other, are as one
+-- two pieces, one after the other, have the effect of one
 abbrev pub PiecesJoin : Type 0
 PiecesJoin =
     (s : ValueTextState) (x y : List ℕ)
     → (value_text_after (value_text_after s x) y ≡ value_text_after s (x ++ y))
     × (contents_lines s (x ++ y) ≡ contents_lines s x ++ contents_lines (value_text_after s x) y)
 
--- with the header, the lines of a primitive without contents so far; the state is then the one before any octet
+-- with the header, the lines of a primitive before any contents; the state is then the state before any octet
 abbrev pub LinesBegin : Type 0
 LinesBegin =
     (with_text : Bool) (h : HeaderValue) (layout : Layout)
@@ -45,7 +45,7 @@ abbrev pub RowsAreACut : Type 0
 RowsAreACut =
     (kind : Kind) (octets : List ℕ) → IsCut (row_size kind) (character_length kind) octets (rows_of kind octets)
 
--- a cut of contents is their rows: there is no other
+-- a cut of contents is their rows: there is no other cut
 abbrev pub RowsHaveOneCut : Type 0
 RowsHaveOneCut =
     (kind : Kind) (octets : List ℕ) (rows : List (List ℕ))

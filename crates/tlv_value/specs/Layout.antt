@@ -24,7 +24,7 @@ line pure first level text = margin pure first level ++ text ++ 10 ∷ []
 abbrev pub inner_line : Layout → List ℕ → List ℕ
 inner_line layout text = line layout.pure blank_columns (layout.level + 1) text
 
--- a row of this number, from 0 on: above the limit the first row is three dots, and the others have no line
+-- the row with this number, counted from 0: from the limit on, the first row is three dots, and the rest have no line
 abbrev pub row_by_limit : Option ℕ → ℕ → List ℕ → Option (List ℕ)
 row_by_limit None i text = Some text
 row_by_limit (Some limit) i text =

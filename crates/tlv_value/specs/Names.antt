@@ -65,7 +65,7 @@ are_first_arcs [] = false
 are_first_arcs (first ∷ []) = false
 are_first_arcs (first ∷ second ∷ more) = may_begin first second
 
--- what is between dots
+-- the parts between dots
 abbrev pub dotted_parts : List ℕ → List (List ℕ)
 dotted_parts text = slice_split (λ x. x == 46) text
 
@@ -87,7 +87,7 @@ pub data NamesLine : Type 0 where
   no_name : NamesLine
   long_line : NamesLine
 
--- what a line says that has these two parts
+-- what a line with these two parts says
 abbrev pub pair_line : List ℕ → List ℕ → NamesLine
 pair_line dotted name =
     if is_dotted dotted
@@ -101,11 +101,11 @@ entry_line (x ∷ xs) =
     if x == 35 then no_entry
     else pair_line (before_first is_blank (x ∷ xs)) (without_first_blanks (after_first is_blank (x ∷ xs)))
 
--- how many octets a line has at most, with its CR
+-- the largest number of octets in a line, its CR included
 abbrev pub line_limit : ℕ
 line_limit = 400
 
--- what a line says; of one with more octets nothing else is looked at
+-- what a line says; a line with more octets is not checked further
 abbrev pub names_line : List ℕ → NamesLine
 names_line octets =
     if nat_lt line_limit (length octets) then long_line
@@ -118,15 +118,15 @@ line_entries _ = []
 abbrev pub entries_of : List NamesLine → List Entry
 entries_of lines = flat_map line_entries lines
 
--- the dotted text is in one of the entries
+-- one of the entries has the dotted text
 abbrev pub has_entry : List ℕ → List Entry → Bool
 has_entry dotted entries = list_any (λ e. bytes_eq dotted e.0) entries
 
--- how many entries a table has at most
+-- the largest number of entries in a table
 abbrev pub entry_limit : ℕ
 entry_limit = 65536
 
--- why a line is refused that is below others, if it is; lines are numbered from 1
+-- why a line below others is refused, if it is; lines are numbered from 1
 abbrev pub line_refusal : List NamesLine → NamesLine → Option NamesFault
 line_refusal above no_entry = None
 line_refusal above (entry dotted name) =
@@ -136,7 +136,7 @@ line_refusal above no_object_identifier = Some (BadOid (length above + 1))
 line_refusal above no_name = Some (BadName (length above + 1))
 line_refusal above long_line = Some TooLarge
 
--- the first refusal among lines that are below others
+-- the first refusal among lines below others
 abbrev pub first_refusal : List NamesLine → List NamesLine → Option NamesFault
 first_refusal above [] = None
 first_refusal above (line ∷ below) =

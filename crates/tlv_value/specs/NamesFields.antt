@@ -1,4 +1,4 @@
--- The table that names hold, by the map that the code keeps.
+-- The table that names hold, from the map that the code keeps.
 use Rattle.std.specs.Prelude.{ℕ, List, map, Option, Some, None, String, Vec, string_bytes}
 use Rattle.std.specs.FinMap as finite
 use Rattle.std.specs.HashMap.{HashMap}
@@ -16,7 +16,7 @@ table_with entries = finite.from_entries entries
 abbrev pub table_in : {Z S : Type 0} → HashMap (String Z) (Vec ℕ Z) S → NamesValue
 table_in m = table_with (texts_in m)
 
--- the table that names hold; they need no map for none
+-- the table that names hold; an empty table needs no map
 abbrev pub names_in : {Z S : Type 0} → Option (HashMap (String Z) (Vec ℕ Z) S) → NamesValue
 names_in None = finite.empty
 names_in (Some m) = table_in m

@@ -1,4 +1,4 @@
--- What reading a names file from a source comes to.
+-- The result of reading a names file from a source.
 use Rattle.std.specs.Prelude.{◌≡◌, ℕ, ◌+◌, ◌<◌, ◌≤◌, ◌⊎◌, List, length, Result, Err}
 use Rattle.std.specs.Io.KnownBytes.{IsAtEnd}
 use Rattle.tlv_io.specs.Device.{LastReadValue, Pieces, SourceState, failed, gave, next_count, octets_given}
@@ -6,7 +6,7 @@ use Rattle.tlv_value.specs.Names.{NamesValue, names_of}
 use Rattle.tlv_value.specs.declared.names.fault.NamesFault.{NamesFault}
 use Rattle.tlv_value.specs.declared.names.fault.NamesFault.TheVariants.{TooLarge, ReadFailed, Memory}
 
--- how many octets a names file has at most
+-- the largest number of octets in a names file
 abbrev pub file_limit : ℕ
 file_limit = 1048576
 
@@ -21,7 +21,7 @@ pub record FailsWithin (new : SourceState) (octets : List ℕ) : Type 0 where
   pub failed_last : new.last ≡ failed
   pub within : length octets ≤ file_limit
 
--- the source has ended, and the octets say the result
+-- the source has ended, and the octets determine the result
 pub record IsWholeFile
     (new : SourceState) (octets : List ℕ) (result : Result NamesValue NamesFault)
     : Type 0 where
@@ -47,7 +47,7 @@ abbrev pub names_failures_after : {T : Type 0} → Result T NamesFault → ℕ �
 names_failures_after (Err ReadFailed) old = next_count old
 names_failures_after _ old = old
 
--- some octets are read, in pieces, and the result is theirs
+-- some octets are read, in pieces, and they determine the result
 pub record ReadsFrom (old new : SourceState) (result : Result NamesValue NamesFault) : Type 0 where
   pub pieces : Pieces old new
   pub result_is : ReadsNames new (octets_given pieces) result

@@ -1,15 +1,15 @@
--- By what the octets of long contents are cut into rows: `IsCut` of tlv_io says which rows are then a cut.
+-- The sizes by which the octets of long contents are cut into rows. `IsCut` of tlv_io says which rows are then a cut.
 use Rattle.std.specs.Prelude.{ℕ, if◌then◌else◌}
 use Rattle.tlv_io.specs.Cuts.{utf8_length}
 use Rattle.tlv_head.specs.declared.kind.Kind.{Kind}
 use Rattle.tlv_head.specs.declared.kind.Kind.TheVariants.{Utf8}
 use Rattle.tlv_head.specs.Kind.{is_text}
 
--- how many octets a row has room for
+-- the number of octets that a row has room for
 abbrev pub row_size : Kind → ℕ
 row_size kind = if is_text kind then 64 else 16
 
--- how many octets are to be kept in one row, from this one on: those of a character of UTF-8
+-- the number of octets, from this one on, that must be kept in one row: the octets of a character of UTF-8
 abbrev pub character_length : Kind → ℕ → ℕ
 character_length Utf8 x = utf8_length x
 character_length _ x = 1

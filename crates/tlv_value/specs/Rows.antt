@@ -7,17 +7,17 @@ use Rattle.tlv_head.specs.declared.kind.Kind.TheVariants.{Utf8}
 use Rattle.tlv_head.specs.Kind.{is_text}
 use Rattle.tlv_value.specs.RowSizes.{character_length, row_size}
 
--- a cut of any octets, as the type says. That there is one is a lemma: so these two names are from `proofs`, and a
+-- a cut of any octets, as the type says. A lemma proves that there is one, so these two names are from `proofs`; a
 -- reader need not look there
 abbrev pub cut_of_contents : (kind : Kind) (octets : List ℕ) → RowsOf (row_size kind) (character_length kind) octets
 cut_of_contents Utf8 octets = cut_of_characters octets
 cut_of_contents kind octets = cut_of_octets (is_text kind) octets
 
--- the rows of octets: those of that cut, which is the only one (`laws::rows_have_one_cut`)
+-- the rows of octets: the rows of that cut, which is the only one (`laws::rows_have_one_cut`)
 abbrev pub rows_of : Kind → List ℕ → List (List ℕ)
 rows_of kind octets = (cut_of_contents kind octets).rows
 
--- of rows, those that are full whatever octets follow: all but a last one that has fewer octets than a row has room for
+-- the rows that are full whatever octets follow: all but a last one that has fewer octets than a row has room for
 abbrev pub full_rows_in : Kind → List (List ℕ) → List (List ℕ)
 full_rows_in kind [] = []
 full_rows_in kind (row ∷ []) = if eqb (length row) (row_size kind) then row ∷ [] else []
@@ -29,7 +29,7 @@ open_row_in kind [] = []
 open_row_in kind (row ∷ []) = if eqb (length row) (row_size kind) then [] else row
 open_row_in kind (row ∷ next ∷ rows) = open_row_in kind (next ∷ rows)
 
--- the rows that are known: all if the octets are whole, and before that the full ones
+-- the rows that are known: all rows if the octets are whole, and before that the full rows
 abbrev pub known_rows : Bool → Kind → List ℕ → List (List ℕ)
 known_rows whole kind octets = if whole then rows_of kind octets else full_rows_in kind (rows_of kind octets)
 

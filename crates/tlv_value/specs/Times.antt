@@ -3,7 +3,7 @@ use Rattle.std.specs.Prelude.{ℕ, ◌+◌, ◌-◌, ◌*◌, Bool, true, false,
 use Rattle.std.specs.Prelude.{◌++◌, flat_map}
 use Rattle.std.specs.Char.{is_ascii_digit}
 
--- a form of text, by what may follow a prefix of it: for some octets, each rest that some prefix of the form leaves
+-- a form of text: from some octets, it gives each rest that is left after a prefix of that form
 abbrev pub Form : Type 0
 Form = List ℕ → List (List ℕ)
 

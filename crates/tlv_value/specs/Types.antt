@@ -6,15 +6,15 @@ use Rattle.tlv_head.specs.UniversalTypes as universal
 use Rattle.tlv_head.specs.Header.{HeaderValue, is_universal}
 use Rattle.tlv_head.specs.TypeTable.{are_constructed, are_primitive, are_segmented, has_encodings, type_at}
 
--- the tag is that of this type
+-- the tag is the tag of this type
 abbrev pub is_a : ℕ → HeaderValue → Bool
 is_a number h = is_universal h.class && h.number == number
 
--- the number is that of one of these types
+-- the number is the number of one of these types
 abbrev pub is_number_of : List ℕ → ℕ → Bool
 is_number_of types number = list_any (eqb number) types
 
--- the universal number of the type; of another class that of OCTET STRING, on whose contents nothing is found
+-- the universal number of the type; for another class, the number of OCTET STRING, whose contents have no findings
 abbrev pub type_number : HeaderValue → ℕ
 type_number h = if is_universal h.class then h.number else universal.octet_string
 
@@ -26,7 +26,7 @@ integer_types = universal.integer ∷ universal.enumerated ∷ []
 abbrev pub object_types : List ℕ
 object_types = universal.object_identifier ∷ universal.relative_oid ∷ []
 
--- X.680 41: strings whose octets are looked at one by one
+-- X.680 41: strings whose octets are checked one by one
 abbrev pub tested_string_types : List ℕ
 tested_string_types =
     universal.numeric_string
@@ -35,7 +35,7 @@ tested_string_types =
     ∷ universal.visible_string
     ∷ []
 
--- X.680 41: strings whose characters are looked at
+-- X.680 41: strings whose characters are checked
 abbrev pub character_types : List ℕ
 character_types =
     universal.utf8_string ∷ tested_string_types ++ universal.universal_string ∷ universal.bmp_string ∷ []
@@ -44,15 +44,15 @@ character_types =
 abbrev pub time_types : List ℕ
 time_types = universal.utc_time ∷ universal.generalized_time ∷ []
 
--- its encodings are primitive alone
+-- its encodings are always primitive
 abbrev pub is_always_primitive : HeaderValue → Bool
 is_always_primitive h = is_universal h.class && has_encodings are_primitive h.number
 
--- its encodings are constructed alone
+-- its encodings are always constructed
 abbrev pub is_always_constructed : HeaderValue → Bool
 is_always_constructed h = is_universal h.class && has_encodings are_constructed h.number
 
--- a string, the times among them
+-- a string; the two times are strings too
 abbrev pub is_string : HeaderValue → Bool
 is_string h = is_universal h.class && has_encodings are_segmented h.number
 

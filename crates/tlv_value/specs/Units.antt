@@ -42,7 +42,7 @@ utf8_number _ = 0
 abbrev pub three_octets : ℕ → List ℕ
 three_octets n = n / 65536 % 256 ∷ n / 256 % 256 ∷ n % 256 ∷ []
 
--- RFC 3629, 4: the octets of the character that the first octet announces, as far as they are there
+-- RFC 3629, 4: the octets of the character that the first octet announces, as far as they are present
 abbrev pub character_octets : List ℕ → List ℕ
 character_octets octets = take (utf8_length (slice_index octets 0)) octets
 
@@ -53,7 +53,7 @@ unit_size Ucs4 octets = if nat_le 4 (length octets) then 4 else 1
 unit_size Utf8 octets = if is_utf8 (character_octets octets) then length (character_octets octets) else 1
 unit_size _ octets = 1
 
--- the units in order, after octets that belong to one before them
+-- the units in order, after this number of octets that belong to an earlier unit
 abbrev pub units : Kind → ℕ → List ℕ → List (List ℕ)
 units kind skipped [] = []
 units kind zero (x ∷ xs) =

@@ -31,14 +31,14 @@ value_on_line text = record { text = 0x20 ∷ text; rows = [] }
 
 -- ---- Pairs of digits, and the text beside them
 
--- three or more octets that are all printable ASCII, between bars and after two spaces; of any others nothing
+-- three or more octets that are all printable ASCII, between bars and after two spaces; nothing for any other octets
 abbrev pub text_behind : List ℕ → List ℕ
 text_behind octets =
     if nat_le 3 (length octets) && list_all is_printable octets
     then codes "  |" ++ octets ++ codes "|"
     else []
 
--- the pairs of these octets, and their text behind them, if it is wanted: the first argument says whether it is
+-- the pairs of these octets, followed by their text if the first argument says that it is wanted
 abbrev pub pairs_with_text : Bool → List ℕ → List ℕ → List ℕ
 pairs_with_text false octets pairs = pairs
 pairs_with_text true octets pairs = pairs ++ text_behind octets
@@ -62,7 +62,7 @@ abbrev pub integer_value : List ℕ → Value
 integer_value [] = record { text = []; rows = [] }
 integer_value (x ∷ xs) = value_on_line (signed_decimal (twos_complement (x ∷ xs)))
 
--- the number of bits of so many octets, without those that are not used
+-- the number of bits in this number of octets, without the unused bits
 abbrev pub bit_count_text : ℕ → ℕ → List ℕ
 bit_count_text unused_bits octet_count = decimal (8 * octet_count - unused_bits) ++ codes " bits"
 
@@ -74,7 +74,7 @@ is_readable unused_bits octet_count = nat_le unused_bits 7 && (eqb unused_bits 0
 abbrev pub digits_of_bits : List ℕ → List ℕ
 digits_of_bits bits = map (λ bit. 48 + bit) bits
 
--- the bits of octets but for those that are not used, after a space if there are any
+-- the bits of octets, without the unused bits, after a space if there are any
 abbrev pub used_digits : ℕ → List ℕ → List ℕ
 used_digits unused_bits [] = []
 used_digits unused_bits octets =
@@ -104,14 +104,14 @@ object_value with_text name_of relative octets =
 
 -- ---- Of any kind
 
--- the longest contents that wait for their last octet, so that they can be on the line
+-- the size of the longest contents that wait for their last octet, so that they can be on the line
 abbrev pub most_on_line : Kind → ℕ
 most_on_line Bits = 9
 most_on_line Object = 64
 most_on_line Relative = 64
 most_on_line kind = row_size kind
 
--- n contents octets are longer than that
+-- n contents octets are more than this
 abbrev pub is_long : Kind → ℕ → Bool
 is_long kind n = nat_lt (most_on_line kind) n
 
@@ -125,19 +125,19 @@ short_value with_text name_of Relative octets = object_value with_text no_names 
 short_value with_text name_of kind octets =
     if is_text kind then value_on_line (quoted_text kind octets) else octets_value with_text octets
 
--- of long contents: what is on the line of n octets, of which these have come. 8.6.2: of a BIT STRING the number of
--- bits, if its first octet can be read
+-- for long contents: what the line of n octets shows, of which these have come. 8.6.2: for a BIT STRING, the number
+-- of bits, if its first octet can be read
 abbrev pub long_text : Kind → ℕ → List ℕ → List ℕ
 long_text Bits n (unused_bits ∷ octets) =
     if nat_le unused_bits 7 then 0x20 ∷ bit_count_text unused_bits (n - 1) else []
 long_text kind n octets = []
 
--- the octets that are in rows: not such a first octet
+-- the octets that are shown in rows: all but such a first octet
 abbrev pub row_octets : Kind → List ℕ → List ℕ
 row_octets Bits (unused_bits ∷ octets) = if nat_le unused_bits 7 then octets else unused_bits ∷ octets
 row_octets kind octets = octets
 
--- the value of long contents of n octets, of which these have come, as far as it is known: the first argument says
+-- the value of long contents of n octets, of which these have come, as far as it is known. The first argument says
 -- whether they are whole
 abbrev pub long_value : Bool → Kind → ℕ → List ℕ → Value
 long_value whole kind n octets = record {

@@ -1,4 +1,4 @@
--- What is to be kept of the contents of a primitive, so that what is found on them can be reported at their end.
+-- What must be kept of the contents of a primitive so that the findings on them can be reported at their end.
 use Rattle.std.specs.List.{list_all}
 use Rattle.std.specs.Prelude.{ℕ, ◌-◌, Bool, true, false, ◌&&◌, ◌||◌, not, eqb, if◌then◌else◌, List, []}
 use Rattle.std.specs.Prelude.{◌∷◌, ◌++◌, length, take}
@@ -17,21 +17,21 @@ pub record ValueCheckState : Type 0 where
   -- the universal number of the type
   pub number : ℕ
   pub size : ℕ
-  -- how many octets are still to come
+  -- the number of octets still to come
   pub left : ℕ
   -- the first two octets, and the last one, if the type asks for them
   pub first_octets : List ℕ
   pub last : ℕ
-  -- whether each octet is one of its type, and whether a subidentifier is padded
+  -- whether the type allows each octet, and whether a subidentifier is padded
   pub are_octets_allowed : Bool
   pub is_padded : Bool
-  -- of a UTF8String whether the rows that were full are well-formed, and the row that has begun
+  -- for a UTF8String, whether the rows that were full are well-formed, and the row that has begun
   pub are_full_rows_utf8 : Bool
   pub row : List ℕ
   -- the first 64 octets of a time
   pub time : List ℕ
 
--- the state before any octet, for a primitive of the universal type with this number and so many contents octets
+-- the state before any octet, for a primitive of the universal type with this number and with this many contents octets
 abbrev pub new_value_check_of : ℕ → ℕ → ValueCheckState
 new_value_check_of number size = record {
   number = number;
@@ -49,14 +49,14 @@ new_value_check_of number size = record {
 abbrev pub new_value_check : HeaderValue → ValueCheckState
 new_value_check h = new_value_check_of (type_number h) (announced_length h.size)
 
--- the first octets are looked at, and the last one: BOOLEAN, INTEGER, BIT STRING, ENUMERATED
+-- the first octets and the last octet are checked: BOOLEAN, INTEGER, BIT STRING, ENUMERATED
 abbrev pub notes_first : ℕ → Bool
 notes_first number =
     is_number_of
     (universal.boolean ∷ universal.integer ∷ universal.bit_string ∷ universal.enumerated ∷ [])
     number
 
--- each octet of the type with this number is looked at: object identifiers, UTF8String, and the strings of some
+-- each octet of the type with this number is checked: object identifiers, UTF8String, and the strings of some
 -- characters
 abbrev pub notes_each : ℕ → Bool
 notes_each number =
@@ -68,7 +68,7 @@ notes_each number =
 abbrev pub notes_time : ℕ → Bool
 notes_time number = is_number_of time_types number
 
--- whether a subidentifier begins with 80, with these octets too
+-- whether a subidentifier begins with 80, in the octets before or in these
 abbrev pub is_padded_with : Bool → ℕ → List ℕ → Bool
 is_padded_with is_padded previous octets = is_padded || is_padded_after previous octets
 
@@ -94,7 +94,7 @@ with_each_noted s octets = record s {
 abbrev pub with_time_noted : ValueCheckState → List ℕ → ValueCheckState
 with_time_noted s octets = record s { time = take 64 (s.time ++ octets) }
 
--- the same, by what the type asks for
+-- the same, as the type needs it
 abbrev pub with_octets_noted : ValueCheckState → List ℕ → ValueCheckState
 with_octets_noted s octets =
     if notes_first s.number then with_first_noted s octets
@@ -120,7 +120,7 @@ begins_nonzero (x ∷ octets) = not (eqb x 0)
 abbrev pub has_unused_bits : ValueCheckState → Bool
 has_unused_bits s = eqb s.number universal.bit_string && begins_nonzero s.first_octets
 
--- the characters are those of the type
+-- the type allows the characters
 abbrev pub is_allowed : ValueCheckState → Bool
 is_allowed s =
     (if eqb s.number universal.utf8_string then s.are_full_rows_utf8 && is_utf8 s.row
@@ -138,6 +138,6 @@ facts_in s = record {
   time = s.time;
 }
 
--- what is found on them
+-- the findings on them
 abbrev pub findings_in : ValueCheckState → List Finding
 findings_in s = findings_by (type_conditions s.number (facts_in s))

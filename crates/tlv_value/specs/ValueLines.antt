@@ -1,5 +1,5 @@
--- The lines of a primitive: of one that is whole, and of one whose contents are still to come. A first argument
--- `with_text` says whether text is beside pairs of digits.
+-- The lines of a primitive that is whole, and of one whose contents are still to come. A first argument `with_text`
+-- says whether text is shown beside pairs of digits.
 use Rattle.std.specs.Prelude.{ℕ, ◌+◌, ◌&&◌, Bool, true, false, if◌then◌else◌, List, [], ◌∷◌, ◌++◌, decimal}
 use Rattle.tlv_head.specs.declared.header.Class.{Class}
 use Rattle.tlv_head.specs.Header.{HeaderValue, announced_length}
@@ -15,7 +15,7 @@ use Rattle.tlv_value.specs.Value.{NameOf, Value, is_long, long_value, row_text, 
 abbrev pub header_kind : HeaderValue → Kind
 header_kind h = kind_of h.class h.number
 
--- what the line of an element of this class, number and size begins with
+-- the beginning of the line of an element of this class, number and size
 abbrev pub element_prefix : Layout → ℕ → Class → ℕ → ℕ → List ℕ
 element_prefix layout offset class number size =
     line_margin layout (columns offset (decimal size)) ++ tag_text class number
@@ -25,13 +25,13 @@ abbrev pub element_line : Layout → ℕ → Class → ℕ → ℕ → List ℕ 
 element_line layout offset class number size text =
     element_prefix layout offset class number size ++ text ++ 10 ∷ []
 
--- rows in order, the first of which has this number
+-- the lines of rows in order; the first row has this number
 abbrev pub row_lines : Bool → Kind → Layout → ℕ → List (List ℕ) → List ℕ
 row_lines with_text kind layout i [] = []
 row_lines with_text kind layout i (row ∷ rows) =
     row_line layout i (row_text with_text kind row) ++ row_lines with_text kind layout (i + 1) rows
 
--- the element's line, and those of its rows
+-- the element's line, and the lines of its rows
 abbrev pub value_lines : Bool → HeaderValue → Layout → Value → List ℕ
 value_lines with_text h layout value =
     element_line layout h.offset h.class h.number (announced_length h.size) value.text
@@ -45,13 +45,13 @@ whole_lines_with with_text name_of h layout octets =
 abbrev pub whole_lines : NameOf → HeaderValue → Layout → List ℕ → List ℕ
 whole_lines name_of h layout octets = whole_lines_with false name_of h layout octets
 
--- the line of a long value is known from its header; that of a BIT STRING from its first contents octet
+-- the line of a long value is known from its header; for a BIT STRING, from its first contents octet
 abbrev pub has_line : Kind → List ℕ → Bool
 has_line Bits [] = false
 has_line kind octets = true
 
--- the lines of a primitive of whose contents these octets have come, and others are still to come: of a long value
--- those that are known
+-- the lines of a primitive of whose contents these octets have come, and others are still to come: for a long value,
+-- the lines that are known
 abbrev pub open_lines_with : Bool → HeaderValue → Layout → List ℕ → List ℕ
 open_lines_with with_text h layout octets =
     if is_long (header_kind h) (announced_length h.size) && has_line (header_kind h) octets

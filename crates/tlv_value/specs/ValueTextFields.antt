@@ -14,10 +14,10 @@ value_text_state_of t = record {
 
 pub record ValueTextFieldsAgree (t : Inside) : Type 0 where
   pub counted : t.row_count + length t.row.items + t.left ≤ t.primitive.size
-  -- of a long value the row that has begun
+  -- for a long value, the row that has begun
   pub is_open : is_long_primitive t.primitive ≡ true
       → IsOpenRow t.primitive.kind t.row.items
-  -- of any other all octets that have come
+  -- for any other value, all octets that have come
   pub kept : is_long_primitive t.primitive ≡ false
       → length t.row.items + t.left ≡ t.primitive.size
   -- before the first octet of a long BIT STRING

@@ -11,8 +11,8 @@ use Rattle.tlv_value.specs.Rows.{full_rows, open_row}
 use Rattle.tlv_value.specs.ValueLines.{element_line, has_line, header_kind, row_lines}
 use Rattle.tlv_value.specs.Value.{NameOf, is_long, long_text, row_octets, short_value}
 
--- what is kept: of a long value whether its line was put, how many rows were full, and the octets of the row that
--- has begun; of any other all octets
+-- what is kept: for a long value, whether its line was put, the number of rows that were full, and the octets of the
+-- row that has begun; for any other value, all octets
 pub record KeptContents : Type 0 where
   pub has_put_line : Bool
   pub row_count : ℕ
@@ -22,7 +22,7 @@ pub record KeptContents : Type 0 where
 pub record ValueTextState : Type 0 where
   -- what the header says of the primitive, and how its lines are laid out
   pub primitive : Primitive
-  -- how many octets are still to come
+  -- the number of octets still to come
   pub left : ℕ
   pub kept : KeptContents
 
@@ -38,7 +38,7 @@ new_primitive with_text h layout = record {
   with_text = with_text;
 }
 
--- it has too many contents octets for them to be on its line
+-- it has too many contents octets to be shown on its line
 abbrev pub is_long_primitive : Primitive → Bool
 is_long_primitive p = is_long p.kind p.size
 
@@ -65,7 +65,7 @@ new_value_text_with with_text h layout = new_value_text_of (new_primitive with_t
 abbrev pub new_value_text : HeaderValue → Layout → ValueTextState
 new_value_text h layout = new_value_text_with false h layout
 
--- the state for no primitive yet: as for an empty one that is of no universal type, at the top
+-- the state for no primitive yet: as for an empty primitive at the top whose type is not universal
 abbrev pub idle_value_text : ValueTextState
 idle_value_text = new_value_text_of (record {
   offset = 0;

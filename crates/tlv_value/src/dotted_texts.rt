@@ -7,11 +7,11 @@ ghost use Rattle.tlv_value.specs.Private.Arcs.{arcs_text};
 use arrayvec::ArrayVec;
 use tlv_io::HeldOctets;
 
-/// Leaves in `to` the arcs of an object identifier in decimal, with dots between them (8.19), or those of a relative
-/// one (8.20). What `to` held before is dropped.
+/// Writes to `to` the arcs of an object identifier (8.19), or of a relative one (8.20), in decimal with dots between
+/// them. Replaces what `to` held before.
 ///
-/// Returns whether there is such a text. There is none, and `to` is empty, if the contents are empty, end inside
-/// a subidentifier, have more than 64 octets, or have a subidentifier of 2^128 or more.
+/// Returns whether there is such a text. If the contents are empty, end inside a subidentifier, have more than 64
+/// octets, or have a subidentifier of 2^128 or more, there is none, and `to` is left empty.
 pub fn dotted_of(contents: &[u8], relative: bool, to: &mut ArrayVec<u8, 320>) -> bool
     ensures exists { result ≡ is_some (dotted_of relative contents.now) }
     ensures text { to.new.items ≡ unwrap_or (dotted_of relative contents.now) [] }
@@ -26,7 +26,7 @@ pub fn dotted_of(contents: &[u8], relative: bool, to: &mut ArrayVec<u8, 320>) ->
 }
 
 /// Adds the dotted text of an object identifier, or of a relative one, after a space. Returns whether there is such a
-/// text. If there is none, nothing is added.
+/// text; adds nothing if there is none.
 pub(crate) fn write_dotted(held: &mut HeldOctets, contents: &[u8], relative: bool) -> bool
     requires short { length contents.now ≤ 64 }
     requires room { HasRoomFor held.old 320 }
@@ -60,8 +60,8 @@ pub(crate) fn write_dotted(held: &mut HeldOctets, contents: &[u8], relative: boo
     true
 }
 
-/// Adds the dotted text of at most nine octets, after a space. Their numbers fit into 64 bits, which saves work at
-/// each octet.
+/// Adds the dotted text of at most nine octets, after a space. The subidentifiers fit into 64 bits, which saves work
+/// at each octet.
 #[inline(always)]
 fn write_short(held: &mut HeldOctets, contents: &[u8], relative: bool)
     requires finished { is_finished contents.now ≡ true }

@@ -1,7 +1,8 @@
-//! What may be found on an element.
+//! The findings on an element.
 
-/// A rule of X.690 or X.680 that an element breaks. The letter says whose rule it is: `B` of all encodings (clause 8,
-/// and X.680), `S` of both CER and DER (clauses 9 to 11), `D` of DER alone (10), `C` of CER alone (9).
+/// A rule of X.690 or X.680 that an element breaks. The letter of the code says where the rule applies: `B` in all
+/// encodings (clause 8, and X.680), `S` in both CER and DER (clauses 9 to 11), `D` in DER alone (10), `C` in CER
+/// alone (9).
 #[derive(Clone, Copy, Debug, Default, PartialEq, Eq)]
 pub enum Finding {
     /// The high form for a number below 31 (8.1.2.2).
@@ -37,11 +38,11 @@ pub enum Finding {
     B15,
     /// A segment after one with unused bits (8.6.4).
     B16,
-    /// A segment with another tag than its string's segments have (8.6.4, 8.7.3).
+    /// A segment whose tag is not the tag that the segments of its string have (8.6.4, 8.7.3).
     B17,
-    /// Characters that the type does not have (X.680 41).
+    /// Characters that the type does not allow (X.680 41).
     B18,
-    /// A time that is not of its type's grammar (X.680 46, 47).
+    /// A time that does not follow the grammar of its type (X.680 46, 47).
     B19,
     /// A length that is not the shortest (9.1, 10.1).
     S01,
@@ -61,7 +62,7 @@ pub enum Finding {
     C02,
     /// A segment that is constructed (9.2).
     C03,
-    /// A segment after one that is no primitive of 1000 contents octets (9.2).
+    /// A segment after one that is not a primitive of 1000 contents octets (9.2).
     C04,
     /// A constructed string that fits in 1000 contents octets (9.2).
     C05,
@@ -73,7 +74,7 @@ impl Finding {
     ghost use Rattle.std.specs.Prelude.{◌≡◌, ◌≤◌, take};
     ghost use Rattle.tlv_value.specs.Finding.{finding_code, finding_text, finding_wording};
 
-    /// The three characters that name the finding, as `B01`.
+    /// The three-character code of the finding, such as `B01`.
     pub fn code(self) -> &'static [u8]
         ensures { result.now ≡ finding_code self }
     {
@@ -81,7 +82,7 @@ impl Finding {
         &wording[..3]
     }
 
-    /// What is found, in ASCII.
+    /// The description of the finding, in ASCII.
     pub fn text(self) -> &'static [u8]
         ensures { result.now ≡ finding_text self }
     {
@@ -89,8 +90,8 @@ impl Finding {
         &wording[4..count]
     }
 
-    /// A block that begins with the code, a space and the text, and has spaces after them, so that they can be copied
-    /// at once, and how many octets they are.
+    /// A block of the code, a space and the text, filled up with spaces so that it can be copied at once; and the
+    /// number of octets before these spaces.
     pub fn wording_block(self) -> (&'static [u8; 48], usize)
         ensures wording { take result.1 result.0.now ≡ finding_wording self }
 

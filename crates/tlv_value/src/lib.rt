@@ -1,5 +1,5 @@
-//! What the contents of a primitive mean (ITU-T X.690, clauses 8, 9 and 11): the lines that show a value, in
-//! whatever pieces its octets come, and what is found on it.
+//! What the contents of a primitive mean (ITU-T X.690, clauses 8, 9 and 11): the lines that show a value, and the
+//! findings on it, in whatever pieces its octets come.
 #![tactic(auto)]
 
 mod decimal;

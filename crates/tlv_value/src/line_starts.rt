@@ -11,8 +11,8 @@ use crate::Layout;
 use tlv_head::{Class, type_name_block};
 use tlv_io::HeldOctets;
 
-/// Begins a line with its first columns (an offset and a number of contents octets), unless `layout.pure` leaves
-/// them out, and its indentation.
+/// Begins a line with its first columns (an offset and the number of contents octets) and its indentation. Leaves out
+/// the first columns if `layout.pure` is set.
 #[inline(always)]
 pub fn begin_sized(held: &mut HeldOctets, layout: Layout, offset: u64, size: u64)
     requires { HasRoomFor held.old line_start_room }
@@ -23,7 +23,7 @@ pub fn begin_sized(held: &mut HeldOctets, layout: Layout, offset: u64, size: u64
     held.spaces(2 * usize::from(layout.level));
 }
 
-/// Adds first columns with an offset and a number of contents octets, unless they are left out.
+/// Adds the first columns, an offset and the number of contents octets, unless `pure` is set.
 #[inline(always)]
 fn write_sized(held: &mut HeldOctets, pure: bool, offset: u64, size: u64)
     requires { HasRoomFor held.old 50 }
@@ -34,8 +34,8 @@ fn write_sized(held: &mut HeldOctets, pure: bool, offset: u64, size: u64)
     }
 }
 
-/// Begins a line with its first columns (an offset and a word, which takes six places), unless `layout.pure` leaves
-/// them out, and its indentation.
+/// Begins a line with its first columns (an offset and a word of six places) and its indentation. Leaves out the
+/// first columns if `layout.pure` is set.
 #[inline(always)]
 pub fn begin_word(held: &mut HeldOctets, layout: Layout, offset: u64, word: &[u8; 6])
     requires { HasRoomFor held.old line_start_room }
@@ -46,7 +46,7 @@ pub fn begin_word(held: &mut HeldOctets, layout: Layout, offset: u64, word: &[u8
     held.spaces(2 * usize::from(layout.level));
 }
 
-/// Adds first columns with an offset and a word, unless they are left out.
+/// Adds the first columns, an offset and a word, unless `pure` is set.
 #[inline(always)]
 fn write_worded(held: &mut HeldOctets, pure: bool, offset: u64, word: &[u8; 6])
     requires { HasRoomFor held.old 50 }
@@ -57,8 +57,8 @@ fn write_worded(held: &mut HeldOctets, pure: bool, offset: u64, word: &[u8; 6])
     }
 }
 
-/// Begins a line that has no offset: with 17 spaces in place of the first columns, unless `layout.pure` leaves them
-/// out, and its indentation.
+/// Begins a line that has no offset: 17 spaces in place of the first columns, and its indentation. Leaves out these
+/// 17 spaces if `layout.pure` is set.
 #[inline(always)]
 pub fn begin_blank(held: &mut HeldOctets, layout: Layout)
     requires { HasRoomFor held.old line_start_room }
@@ -67,7 +67,7 @@ pub fn begin_blank(held: &mut HeldOctets, layout: Layout)
     held.spaces(blank_column_count(layout.pure) + 2 * usize::from(layout.level));
 }
 
-/// How many spaces are before a row.
+/// The number of spaces before a row.
 #[inline(always)]
 pub(crate) fn row_indent(layout: Layout) -> usize
     ensures value { result ≡ row_indent layout }
@@ -78,7 +78,7 @@ pub(crate) fn row_indent(layout: Layout) -> usize
     blank_column_count(layout.pure) + 2 * (usize::from(layout.level) + 1)
 }
 
-/// How many spaces are in place of the first columns.
+/// The number of spaces in place of the first columns.
 #[inline(always)]
 fn blank_column_count(pure: bool) -> usize
     ensures { result ≡ (if pure then 0 else 17) }
@@ -117,8 +117,8 @@ fn write_universal(held: &mut HeldOctets, number: u64)
     }
 }
 
-/// Adds the text of a tag that has no name: what begins it, the number and a bracket. What begins it are
-/// the first `count` of 32 octets, so that no copy depends on how many they are.
+/// Adds the text of a tag that has no name: a prefix, the number and a bracket. The prefix is the first `count`
+/// octets of a block of 32, so that the size of the copy does not depend on `count`.
 #[inline]
 fn write_bracketed(held: &mut HeldOctets, prefix: &[u8; 32], count: usize, number: u64)
     requires within { count ≤ 16 }
@@ -130,8 +130,8 @@ fn write_bracketed(held: &mut HeldOctets, prefix: &[u8; 32], count: usize, numbe
     held.add(b"]");
 }
 
-/// Begins the line of an element, up to its tag text: with its first columns, unless `layout.pure` leaves them out, its
-/// indentation and the tag text.
+/// Begins the line of an element with its first columns, its indentation and its tag text. Leaves out the first
+/// columns if `layout.pure` is set.
 #[inline(always)]
 pub(crate) fn begin_element(
     held: &mut HeldOctets,

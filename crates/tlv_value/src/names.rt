@@ -46,18 +46,18 @@ impl Names {
 }
 
 impl<A: Allocator> Names<A> {
-    /// Reads a names file to its end, and then judges its lines in order. Makes no read after the end.
+    /// Reads a names file to its end, and then checks its lines in order. Does not read again after the end.
     ///
-    /// A line is the octets up to an LF or the end, of which a CR at its end and the spaces and tabs at both ends are
-    /// dropped. A line that is then empty or begins with `#` says nothing. Any other is the dotted text of an object
-    /// identifier, spaces or tabs, and its name of octets from `20` to `7e`.
+    /// A line is the octets up to an LF or the end, without a CR at its end and then without the spaces and tabs at
+    /// both ends. A line that is then empty or begins with `#` is ignored. Any other line has the dotted text of an
+    /// object identifier, then spaces or tabs, then its name, which consists of octets from `20` to `7e`.
     ///
     /// # Errors
     ///
-    /// `ReadFailed` exactly if a read failed, and `TooLarge` once the source gave more than 1,048,576 octets; nothing
-    /// more is read then. Of the lines the first refusal counts: `TooLarge` for one of more than 400 octets, with its
-    /// CR, `BadOid` and `BadName` for its parts, `Repeated` if its dotted text is in an earlier line, and `TooLarge`
-    /// for an entry after the first 65,536. `Memory` at any time, if memory is refused.
+    /// `ReadFailed` if and only if a read failed. `TooLarge` once the source gave more than 1,048,576 octets; nothing
+    /// more is read then. Of the lines, the first one refused decides: `TooLarge` for a line of more than 400 octets,
+    /// its CR included, `BadOid` and `BadName` for its parts, `Repeated` if an earlier line has its dotted text, and
+    /// `TooLarge` for an entry after the first 65,536. `Memory` at any time, if memory is refused.
     pub fn read<S: Source>(alloc: A, source: &mut S) -> Result<Names<A>, NamesFault>
     where
         A: Copy,
@@ -75,7 +75,7 @@ impl<A: Allocator> Names<A> {
             return None;
         };
         let Ok(text) = str::from_utf8(dotted) else {
-            // Keys are UTF-8, so this text is none of them.
+            // Keys are UTF-8, so this text is not a key.
             return None;
         };
         match table.get(text) {

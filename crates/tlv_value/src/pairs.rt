@@ -8,7 +8,7 @@ ghost use Rattle.tlv_value.specs.Value.{joined_pairs, pairs_with_text, text_behi
 
 use tlv_io::HeldOctets;
 
-/// Adds pairs of digits, each after a space, and the text of their octets behind them, if it is wanted.
+/// Adds pairs of digits, each after a space. If text is wanted, adds the text of their octets after them.
 #[inline(always)]
 pub(crate) fn write_pairs(held: &mut HeldOctets, with_text: bool, octets: &[u8])
     requires { HasRoomFor held.old (4 * length octets.now + 4) }
@@ -20,7 +20,7 @@ pub(crate) fn write_pairs(held: &mut HeldOctets, with_text: bool, octets: &[u8])
     }
 }
 
-/// Adds a full row of pairs of digits, each after a space, and the text of its octets behind them, if it is wanted.
+/// Adds a full row of pairs of digits, each after a space. If text is wanted, adds the text of its octets after them.
 #[inline(always)]
 pub(crate) fn write_full_row<const WITH_TEXT: bool>(held: &mut HeldOctets, row: &[u8; 16])
     requires { HasRoomFor held.old 68 }
@@ -32,8 +32,8 @@ pub(crate) fn write_full_row<const WITH_TEXT: bool>(held: &mut HeldOctets, row: 
     }
 }
 
-/// Adds a row of pairs of digits after a space, with spaces between them, and the text of its octets behind them, if it
-/// is wanted.
+/// Adds a row of pairs of digits after a space, with spaces between them. If text is wanted, adds the text of its
+/// octets after them.
 pub(crate) fn write_row_pairs(held: &mut HeldOctets, with_text: bool, row: &[u8])
     requires short { length row.now ≤ 64 }
     requires room { HasRoomFor held.old 261 }
@@ -59,8 +59,8 @@ fn write_joined_pairs(held: &mut HeldOctets, octets: &[u8])
     }
 }
 
-/// Adds the text of three or more octets that are all printable, between bars. Most random octets are not, and are not
-/// worth a call.
+/// Adds the octets between bars if they are three or more, and all printable. Most random octets are not all
+/// printable, and do not cost a call.
 #[inline(always)]
 fn write_text_behind(held: &mut HeldOctets, octets: &[u8])
     requires { HasRoomFor held.old (length octets.now + 4) }

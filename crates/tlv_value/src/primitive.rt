@@ -1,4 +1,4 @@
-//! A primitive by what its header says.
+//! What a header says of a primitive.
 ghost use Rattle.std.specs.Prelude.{◌≡◌, ◌<◌, ◌≤◌, ◌++◌, [], IsTrue, None, OnOk, length, true, ◌↔◌};
 ghost use Rattle.tlv_io.specs.OutLimits.{line_room};
 ghost use Rattle.tlv_io.specs.LineTexts.{AddsAtMost, HasRoomFor};
@@ -24,16 +24,16 @@ pub(crate) struct Primitive {
     pub offset: u64,
     pub class: Class,
     pub number: u64,
-    /// How many contents octets it has.
+    /// The number of its contents octets.
     pub size: u64,
     pub kind: Kind,
     pub layout: Layout,
-    /// Whether text is beside pairs of digits.
+    /// Whether text is shown beside pairs of digits.
     pub with_text: bool,
 }
 
 impl Primitive {
-    /// The primitive with this header. Text is beside pairs of digits if it is wanted.
+    /// The primitive with this header. If `with_text` is set, text is shown beside pairs of digits.
     #[inline(always)]
     pub fn new(header: &Header, layout: Layout, with_text: bool) -> Primitive
         ensures { result ≡ new_primitive with_text header.now layout }
@@ -49,7 +49,7 @@ impl Primitive {
         }
     }
 
-    /// Whether it has too many contents octets for them to be on its line.
+    /// Whether it has too many contents octets to be shown on its line.
     #[inline(always)]
     pub fn is_long(&self) -> bool
         ensures { result ≡ is_long_primitive self.now }
@@ -62,7 +62,7 @@ impl Primitive {
         self.size > most
     }
 
-    /// Whether its rows are pairs of digits, and their number is not limited.
+    /// Whether its rows are pairs of digits, and the number of rows is not limited.
     #[inline(always)]
     pub fn has_unlimited_pairs(&self) -> bool
         ensures { IsTrue result
@@ -108,7 +108,7 @@ impl Primitive {
         held.add(b"\n");
     }
 
-    /// Adds the line of a long value: of a BIT STRING with the number of its bits.
+    /// Adds the line of a long value. The line of a BIT STRING has the number of its bits.
     #[inline(always)]
     fn write_long_line(&self, held: &mut HeldOctets, contents: &[u8])
         requires room { HasRoomFor held.old line_room }
@@ -144,7 +144,7 @@ impl Primitive {
         Ok(())
     }
 
-    /// Puts the line of a long value: of a BIT STRING with the number of its bits.
+    /// Puts the line of a long value. The line of a BIT STRING has the number of its bits.
     #[inline(always)]
     pub fn put_long_line<D: Drain>(
         &self,
@@ -159,7 +159,7 @@ impl Primitive {
         Ok(())
     }
 
-    /// Begins its line where an `Out` holds it, up to its tag text, and leaves room for the rest.
+    /// Begins its line, up to its tag text, in the octets that an `Out` holds, and leaves room for the rest.
     #[inline(always)]
     fn put_prefix<D: Drain>(&self, out: &mut Out<'_, D>) -> Result<(), WriteFault>
         ensures puts { Puts D.state out.old out.new (line_prefix self.now) result }

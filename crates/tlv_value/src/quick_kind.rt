@@ -4,7 +4,7 @@ ghost use Rattle.tlv_head.specs.Kind.{kind_of};
 
 use tlv_head::{Class, Kind, kind_of};
 
-/// How the contents of the types are shown whose tags have one octet, by their numbers.
+/// How the contents of each type whose tag has one octet are shown, by the number of the type.
 static KINDS: [Kind; 31] = [
     Kind::Octets,
     Kind::Boolean,
@@ -39,8 +39,8 @@ static KINDS: [Kind; 31] = [
     Kind::Ucs2,
 ];
 
-/// How the contents of a primitive with this tag are shown, as the table of types says. Each element asks this. Most tags
-/// have one octet, and for their numbers one look-up does.
+/// How the contents of a primitive with this tag are shown, by the table of types. This is called for each element.
+/// Most tags have one octet, and one look-up is enough for their numbers.
 #[inline(always)]
 pub(crate) fn quick_kind(class: Class, number: u64) -> Kind
     ensures { result ≡ kind_of class number }
@@ -52,7 +52,7 @@ pub(crate) fn quick_kind(class: Class, number: u64) -> Kind
     }
 }
 
-/// How the contents of a primitive with this universal tag are shown. It is apart, since it is seldom called.
+/// How the contents of a primitive with this universal tag are shown. It is separate, since it is seldom called.
 #[inline(never)]
 fn late_kind(number: u64) -> Kind
     ensures { result ≡ kind_of Class.Universal number }

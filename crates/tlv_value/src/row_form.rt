@@ -8,6 +8,6 @@ use tlv_head::Kind;
 pub(crate) struct RowForm {
     pub kind: Kind,
     pub layout: Layout,
-    /// Whether text is beside pairs of digits.
+    /// Whether text is shown beside pairs of digits.
     pub with_text: bool,
 }

@@ -6,7 +6,7 @@ ghost use Rattle.tlv_value.specs.Private.Room.{HaveRoom, has_room};
 
 use tlv_head::Kind;
 
-/// How many octets a row has room for.
+/// The number of octets that a row has room for.
 pub(crate) fn row_size(kind: Kind) -> usize
     ensures { result ≡ row_size kind }
 {
@@ -16,7 +16,7 @@ pub(crate) fn row_size(kind: Kind) -> usize
     }
 }
 
-/// How many of the first octets have room in a row that has so many already.
+/// How many of these octets, from the first on, fit into a row that already has `begun` octets.
 pub(crate) fn fitting_length(kind: Kind, begun: usize, octets: &[u8]) -> usize
     requires { begun ≤ row_size kind }
     ensures within { result ≤ length octets.now }
@@ -38,7 +38,7 @@ pub(crate) fn fitting_length(kind: Kind, begun: usize, octets: &[u8]) -> usize
     most
 }
 
-/// How many octets a character of UTF-8 has that begins with this octet (RFC 3629); 1 if none does.
+/// The number of octets of a UTF-8 character that begins with this octet (RFC 3629); 1 if no character does.
 pub(crate) fn utf8_length(octet: u8) -> usize
     ensures value { result ≡ utf8_length octet }
     ensures within { result ≤ 4 }

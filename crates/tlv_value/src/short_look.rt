@@ -12,8 +12,8 @@ use crate::time::{general_canonical, utc_canonical};
 use crate::value_check::{are_allowed, is_any_set, is_padded_after, is_utf8, last_octet};
 use tlv_head::{Class, Header, universal};
 
-/// Whether nothing is found on these contents of a primitive with this header. `false` says nothing: it is a short
-/// look. It is `false` too if the type has no primitives, or if no universal type has the number.
+/// Whether a short look shows that there is no finding on these contents of a primitive with this header. `false`
+/// says nothing. It is also returned if the type has no primitives, or if no universal type has the number.
 #[inline(always)]
 pub fn is_clear(header: &Header, contents: &[u8]) -> bool
     ensures contents { IsTrue result → all_contents_findings header.now contents.now ≡ [] }
@@ -23,8 +23,8 @@ pub fn is_clear(header: &Header, contents: &[u8]) -> bool
     !matches!(header.class, Class::Universal) || is_type_clear(header.number, contents)
 }
 
-/// Whether the universal type with this number has primitives, and nothing is found on these contents of one. `false`
-/// says nothing: it is a short look.
+/// Whether a short look shows that the universal type with this number has primitives, and that there is no finding
+/// on these contents of one. `false` says nothing.
 #[inline(always)]
 fn is_type_clear(number: u64, contents: &[u8]) -> bool
     ensures contents { IsTrue result → type_findings number contents.now ≡ [] }
@@ -47,7 +47,7 @@ fn is_type_clear(number: u64, contents: &[u8]) -> bool
         universal::GENERALIZED_TIME => contents.len() > 64 || is_generalized_clear(contents),
         universal::UNIVERSAL_STRING => contents.len() % 4 == 0,
         universal::BMP_STRING => contents.len() % 2 == 0,
-        // Of the other types that have primitives nothing is asked here.
+        // The other types that have primitives are not checked here.
         universal::OCTET_STRING
         | universal::OBJECT_DESCRIPTOR
         | universal::REAL
@@ -61,7 +61,7 @@ fn is_type_clear(number: u64, contents: &[u8]) -> bool
     }
 }
 
-/// Whether there is one octet, that of FALSE or of TRUE (8.2.1, 11.1).
+/// Whether there is one octet, and it is FALSE or TRUE (8.2.1, 11.1).
 #[inline(always)]
 fn is_canonical_boolean(contents: &[u8]) -> bool
     ensures { IsTrue result → type_findings boolean contents.now ≡ [] }
@@ -69,7 +69,7 @@ fn is_canonical_boolean(contents: &[u8]) -> bool
     matches!(contents, [0 | 255])
 }
 
-/// Whether there is a number of the fewest octets: its first nine bits are not all equal (8.3.1, 8.3.2).
+/// Whether there is a number, and it has the fewest octets: its first nine bits are not all equal (8.3.1, 8.3.2).
 #[inline(always)]
 fn is_shortest(contents: &[u8]) -> bool
     ensures some { IsTrue result → (length contents.now == 0) ≡ false }
@@ -78,8 +78,8 @@ fn is_shortest(contents: &[u8]) -> bool
     let [first, ..] = contents else {
         return false;
     };
-    // No branch asks for the length, which often is another than that of the number before. If there is no second
-    // octet, one is taken whose first bit differs from that of the first.
+    // No branch depends on the length, which often differs from the length of the number before. If there is no
+    // second octet, one is taken whose first bit differs from the first bit of the first octet.
     let is_single = contents.len() == 1;
     let flip = if is_single { 255 } else { 0 };
     let second = contents[usize::from(!is_single)] ^ flip;
@@ -87,7 +87,7 @@ fn is_shortest(contents: &[u8]) -> bool
     nine_bits != 0 && nine_bits != 511
 }
 
-/// Whether there is a number of unused bits, and so many bits, which are 0 (8.6.2, 11.2.1).
+/// Whether there is a number of unused bits, and there are that many bits, all 0 (8.6.2, 11.2.1).
 #[inline(always)]
 fn has_clear_bits(contents: &[u8]) -> bool
     ensures { IsTrue result → type_findings bit_string contents.now ≡ [] }
@@ -115,7 +115,7 @@ fn are_subidentifiers(contents: &[u8]) -> bool
 fn is_utc_clear(time: &[u8]) -> bool
     ensures { result ≡ eqb (length (utc_time_findings time.now)) 0 }
 {
-    // A canonical time is of its grammar.
+    // A canonical time follows the grammar of its type.
     utc_canonical(time)
 }
 
@@ -125,6 +125,6 @@ fn is_utc_clear(time: &[u8]) -> bool
 fn is_generalized_clear(time: &[u8]) -> bool
     ensures { result ≡ eqb (length (generalized_time_findings time.now)) 0 }
 {
-    // A canonical time is of its grammar.
+    // A canonical time follows the grammar of its type.
     general_canonical(time)
 }

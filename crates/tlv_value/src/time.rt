@@ -1,7 +1,7 @@
 //! Times as texts: UTCTime and GeneralizedTime (X.680 46 and 47), and their canonical forms (11.7, 11.8).
 //!
-//! `after_..` returns what is after a part with which the octets begin, or none if they do not begin with it. `is_..`
-//! says whether the octets are such parts, and no more.
+//! `after_..` returns the octets after a part with which the octets begin, or none if they do not begin with it.
+//! `is_..` returns whether the octets are such parts, and no more.
 ghost use Rattle.std.specs.Prelude.{◌≡◌, option_copied, option_to_list};
 ghost use Rattle.tlv_value.specs.Times.{canonical_generalized_time_form, canonical_second, canonical_utc_time_form};
 ghost use Rattle.tlv_value.specs.Times.{digits, fraction, generalized_hour, generalized_tail, generalized_time_form};
@@ -9,7 +9,7 @@ ghost use Rattle.tlv_value.specs.Times.{generalized_zone, has_form, hour, mark, 
 ghost use Rattle.tlv_value.specs.Times.{octet_between, second, sign, two_digits, utc_minute, utc_time_form, utc_zone};
 ghost use Rattle.tlv_value.specs.Times.{◌then◌};
 
-/// Whether the octets are of the grammar of UTCTime: `YYMMDDhhmm`, `ss` or nothing, and `Z`, `+hhmm` or `-hhmm`.
+/// Whether the octets follow the grammar of UTCTime: `YYMMDDhhmm`, `ss` or nothing, and `Z`, `+hhmm` or `-hhmm`.
 #[inline(never)]
 pub fn utc_ok(contents: &[u8]) -> bool
     ensures { result ≡ has_form utc_time_form contents.now }
@@ -33,7 +33,7 @@ pub fn utc_canonical(contents: &[u8]) -> bool
     }
 }
 
-/// Whether the octets are of the grammar of GeneralizedTime: `YYYYMMDDhh`, `mm`, `mmss` or nothing, a fraction of one
+/// Whether the octets follow the grammar of GeneralizedTime: `YYYYMMDDhh`, `mm`, `mmss` or nothing, a fraction of one
 /// or more digits after `.` or `,` or nothing, and `Z`, `+hh`, `-hh`, `+hhmm`, `-hhmm` or nothing.
 #[inline(never)]
 pub fn general_ok(contents: &[u8]) -> bool
@@ -48,8 +48,8 @@ pub fn general_ok(contents: &[u8]) -> bool
     }
 }
 
-/// Whether the octets are a canonical GeneralizedTime (11.7): `YYYYMMDDhhmmssZ`, with an hour of at most 23, and before
-/// the `Z` perhaps `.` and digits, of which the last is not 0.
+/// Whether the octets are a canonical GeneralizedTime (11.7): `YYYYMMDDhhmmssZ`, with an hour of at most 23. Before
+/// the `Z` there may be `.` and digits; the last digit is not 0.
 pub fn general_canonical(contents: &[u8]) -> bool
     ensures { result ≡ has_form canonical_generalized_time_form contents.now }
 {
@@ -169,7 +169,7 @@ fn is_generalized_difference(octets: &[u8]) -> bool
     }
 }
 
-/// Digits of which the last is not 0, and `Z`, and no more.
+/// Digits, the last of which is not 0, and `Z`, and no more.
 fn is_canonical_fraction_rest(octets: &[u8]) -> bool
     ensures { result ≡ has_form ((digits then octet_between 49 57) then mark 90) octets.now }
 {

@@ -12,7 +12,7 @@ use crate::row_sizes::utf8_length;
 use tlv_head::Kind;
 use tlv_io::HeldOctets;
 
-/// As many octets as a row of characters has at most.
+/// The largest number of octets in a row of characters.
 const ROW: usize = 64;
 
 /// Adds the characters of a row. There is room for five octets for each of its octets; it takes four at most.
@@ -21,8 +21,8 @@ pub(crate) fn write_characters(held: &mut HeldOctets, kind: Kind, row: &[u8])
     requires room { HasRoomFor held.old 320 }
     ensures { held.new ≡ held.old ++ flat_map (unit_text kind) (units kind 0 row.now) }
 {
-    // Most rows are written as they are. They are looked at and copied as a block of one size, so that no branch goes
-    // by how many octets there are.
+    // Most rows are written as they are. They are checked and copied as a block of one size, so that no branch
+    // depends on the number of octets.
     if has_ascii_octets(kind) {
         let block = block_of(row);
         if are_unescaped(&block) {
@@ -32,7 +32,7 @@ pub(crate) fn write_characters(held: &mut HeldOctets, kind: Kind, row: &[u8])
     write_units(held, kind, row);
 }
 
-/// A block that begins with the row, and has spaces after it.
+/// A block that begins with the row and is filled up with spaces.
 #[inline(always)]
 fn block_of(row: &[u8]) -> [u8; ROW]
     requires { length row.now ≤ 64 }
@@ -55,7 +55,7 @@ fn write_units(held: &mut HeldOctets, kind: Kind, row: &[u8])
     }
 }
 
-/// Adds the first octets, if they are written as they are, or else a unit. Returns how many octets these are.
+/// Adds the first octets if they are written as they are, or else a unit. Returns the number of octets it has taken.
 fn write_part(held: &mut HeldOctets, kind: Kind, octets: &[u8]) -> usize
     requires { 1 ≤ length octets.now }
     ensures count { IsSomeOf result octets.now }
@@ -71,7 +71,7 @@ fn write_part(held: &mut HeldOctets, kind: Kind, octets: &[u8]) -> usize
     size
 }
 
-/// Adds a unit: a character, or an octet that belongs to none.
+/// Adds a unit: a character, or an octet that belongs to no character.
 fn write_unit(held: &mut HeldOctets, kind: Kind, unit: &[u8])
     ensures { AddsIfRoom held.old held.new (unit_text kind unit.now) }
 {
@@ -143,7 +143,7 @@ fn write_octet(held: &mut HeldOctets, octet: u8)
     }
 }
 
-/// Adds a printable character; a quotation mark or a reverse solidus is after a reverse solidus.
+/// Adds a printable character, after a reverse solidus if it is a quotation mark or a reverse solidus.
 fn write_printable(held: &mut HeldOctets, octet: u8)
     ensures { AddsIfRoom held.old held.new (printable_text octet) }
 {
@@ -177,7 +177,7 @@ fn write_escaped_number(held: &mut HeldOctets, octets: &[u8])
     held.add_if_room(b"}");
 }
 
-/// Digits without the zeros in front of them, but for the last.
+/// The digits without leading zeros. The last digit stays.
 fn without_zeros(digits: &[u8]) -> &[u8]
     ensures { result.now ≡ without_zeros digits.now }
 {
@@ -216,7 +216,7 @@ fn has_ascii_octets(kind: Kind) -> bool
 fn are_unescaped(octets: &[u8; ROW]) -> bool
     ensures { result ≡ list_all is_unescaped octets.now }
 {
-    // There is no way out of the loop, so that many octets are looked at in one go.
+    // The loop has no early exit, so that many octets are checked at once.
     let mut all = true;
     for octet in octets {
         all &= is_unescaped(*octet);

@@ -18,7 +18,7 @@ use tlv_io::HeldOctets;
 /// A space, a sign, and spaces up to 32 octets.
 const SIGN: &[u8; 32] = b" -                              ";
 
-/// Adds a row of long contents after a space. Text is beside pairs of digits if it is wanted.
+/// Adds a row of long contents after a space. If `with_text` is set, text is shown beside pairs of digits.
 pub(crate) fn write_row(held: &mut HeldOctets, kind: Kind, with_text: bool, row: &[u8])
     requires short { length row.now ≤ 64 }
     requires room { HasRoomFor held.old 400 }
@@ -30,8 +30,8 @@ pub(crate) fn write_row(held: &mut HeldOctets, kind: Kind, with_text: bool, row:
     }
 }
 
-/// Adds a value that is not long, with a space before it, if there is one. An object identifier is shown in
-/// hexadecimal. Text is beside pairs of digits if it is wanted.
+/// Adds a value that is not long, after a space if there is a value. Shows an object identifier in hexadecimal. If
+/// `with_text` is set, text is shown beside pairs of digits.
 #[inline(always)]
 pub(crate) fn write_undotted(held: &mut HeldOctets, kind: Kind, with_text: bool, contents: &[u8])
     requires short { length contents.now ≤ most_on_line kind }
@@ -82,7 +82,7 @@ fn write_integer(held: &mut HeldOctets, contents: &[u8])
     if contents.len() > 8 {
         write_wide_integer(held, contents);
     } else if let Some(number) = short_decimal_of(contents) {
-        // The first octet of `SIGN`, or the first two if the number is negative: no branch asks for the sign.
+        // The first octet of `SIGN`, or the first two if the number is negative: no branch depends on the sign.
         held.add_prefix(SIGN, 1 + usize::from(number < 0));
         held.number(number.unsigned_abs());
     }
@@ -128,7 +128,7 @@ fn write_bits(held: &mut HeldOctets, with_text: bool, contents: &[u8])
     }
 }
 
-/// Adds what is on the line of a long value of this size: of a BIT STRING the number of its bits.
+/// Adds what the line of a long value of this size shows: for a BIT STRING, the number of its bits.
 #[inline(always)]
 pub(crate) fn write_long_value(held: &mut HeldOctets, kind: Kind, size: u64, contents: &[u8])
     requires long { is_long kind size ≡ true }
@@ -140,7 +140,7 @@ pub(crate) fn write_long_value(held: &mut HeldOctets, kind: Kind, size: u64, con
     }
 }
 
-/// Adds what is on the line of a long BIT STRING of this size: the number of its bits, if its first contents octet
+/// Adds what the line of a long BIT STRING of this size shows: the number of its bits, if its first contents octet
 /// can be read.
 pub(crate) fn write_long_bits(held: &mut HeldOctets, size: u64, unused_bits: u8)
     requires long { 9 < size }
@@ -152,7 +152,7 @@ pub(crate) fn write_long_bits(held: &mut HeldOctets, size: u64, unused_bits: u8)
     }
 }
 
-/// Adds the number of bits of so many octets.
+/// Adds the number of bits in `octet_count` octets, without the unused bits.
 fn write_bit_count(held: &mut HeldOctets, unused_bits: u8, octet_count: u64)
     requires within { unused_bits ≤ 8 * octet_count }
     requires room { HasRoomFor held.old 64 }
@@ -163,7 +163,7 @@ fn write_bit_count(held: &mut HeldOctets, unused_bits: u8, octet_count: u64)
     held.add(b" bits");
 }
 
-/// Adds the bits of octets, without those that are not used, after a space if there are any.
+/// Adds the bits of octets, without the unused bits, after a space if there are any.
 fn write_used_digits(held: &mut HeldOctets, unused_bits: u8, octets: &[u8])
     requires unused_bits { unused_bits ≤ 7 }
     requires short { length octets.now ≤ 8 }
@@ -181,7 +181,7 @@ fn write_used_digits(held: &mut HeldOctets, unused_bits: u8, octets: &[u8])
     held.truncate(held.len() - usize::from(unused_bits));
 }
 
-/// Whether the first contents octet of a BIT STRING can be read, before so many others.
+/// Whether the first contents octet of a BIT STRING can be read, if `octet_count` others follow it.
 fn is_readable(unused_bits: u8, octet_count: usize) -> bool
     ensures { result ≡ is_readable unused_bits octet_count }
 {

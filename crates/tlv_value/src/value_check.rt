@@ -1,4 +1,4 @@
-//! What is found on the contents of a primitive.
+//! The findings on the contents of a primitive.
 ghost use Rattle.std.specs.Prelude.{◌≡◌, ◌+◌, ◌≤◌, ◌&&◌, ℕ, List, length, slice_index};
 ghost use Rattle.tlv_head.specs.Header.{HasAllContents, HeaderValue, announced_length};
 ghost use Rattle.tlv_value.specs.Types.{type_number};
@@ -29,7 +29,7 @@ pub struct ValueCheck {
     /// The universal number of its type.
     number: u64,
     size: u64,
-    /// How many octets are still to come.
+    /// The number of octets still to come.
     left: u64,
     /// The first two octets, if the type asks for them, and how many of them have come.
     first: u8,
@@ -37,7 +37,7 @@ pub struct ValueCheck {
     known: u8,
     /// The last octet, if the type asks for it; 0 before the first.
     last: u8,
-    /// Whether each octet is one that the type has.
+    /// Whether the type allows each octet.
     are_octets_allowed: bool,
     /// Whether a subidentifier begins with `80`.
     is_padded: bool,
@@ -62,14 +62,14 @@ impl Model for ValueCheck {
 }
 
 impl ValueCheck {
-    /// For the primitive with this header, of whose contents no octet has come.
+    /// A check of the primitive with this header, before its first contents octet.
     pub fn new(header: &Header) -> ValueCheck
         ensures { result ≡ new_value_check header.now }
     {
         ValueCheck::of_type(type_number(header), header.size.announced_length())
     }
 
-    /// For a primitive of the universal type with this number, with so many contents octets, of which none has come.
+    /// A check of a primitive of the universal type with this number and `size` contents octets, before the first.
     pub fn of_type(number: u64, size: u64) -> ValueCheck
         ensures { result ≡ new_value_check_of number size }
     {
@@ -111,14 +111,14 @@ impl ValueCheck {
         }
     }
 
-    /// How many contents octets are still to come.
+    /// The number of contents octets still to come.
     pub fn left(&self) -> u64
         ensures { result ≡ self.now.left }
     {
         self.left
     }
 
-    /// How many contents octets the primitive has.
+    /// The number of contents octets of the primitive.
     pub fn size(&self) -> u64
         ensures { result ≡ self.now.size }
     {
@@ -196,13 +196,13 @@ impl ValueCheck {
         self.last = last_octet(self.last, octets);
     }
 
-    /// What is found on the contents, in order, by the rules of BER, CER or DER.
+    /// The findings on the contents, in order, by the rules of BER, CER or DER.
     #[inline(always)]
     pub fn end(&self) -> ArrayVec<Finding, 16>
         requires { self.now.left ≡ 0 }
         ensures found { result.items ≡ findings_in self.now }
 
-        // In other words: if these are all contents of the primitive with the header h, what is found on them.
+        // In other words: the findings on c, if c is all contents of the primitive with the header h.
         ensures all_contents { (h : HeaderValue) (c : List ℕ)
             → self.now ≡ value_check_for h c
             → HasAllContents h c
@@ -234,7 +234,7 @@ impl ValueCheck {
         }
     }
 
-    /// Whether the contents have the characters of their type.
+    /// Whether the type allows the characters of the contents.
     #[inline(always)]
     fn is_allowed(&self) -> bool
         ensures { result ≡ is_allowed self.now }
@@ -249,7 +249,7 @@ impl ValueCheck {
     }
 }
 
-/// The universal number of the type. Of another class it is that of OCTET STRING, on whose contents nothing is found.
+/// The universal number of the type. For another class, the number of OCTET STRING, whose contents have no findings.
 #[inline(always)]
 fn type_number(header: &Header) -> u64
     ensures { result ≡ type_number header.now }

@@ -1,4 +1,4 @@
-//! The rest of lines on their way to an [`Out`], after the tag texts.
+//! Puts the rest of lines, after the tag texts, to an [`Out`].
 ghost use Rattle.std.specs.Prelude.{◌≤◌, ◌++◌, [], codes, false, length, true};
 ghost use Rattle.tlv_io.specs.LineTexts.{HasRoomFor};
 ghost use Rattle.tlv_io.specs.Out.{Puts, held_octets};

@@ -30,17 +30,17 @@ fn begin_row(unused_bits: u8, row: &mut ArrayVec<u8, 64>)
 
 /// Puts the lines of a primitive from its contents, in whatever pieces they come.
 ///
-/// A value that fits on its element's line is kept until its last octet has come. The line of a long
-/// value comes with the header (that of a BIT STRING with its first contents octet), and each row
-/// when it is full or with the last octet. At most 64 octets are kept.
+/// A value that fits on its element's line is kept until its last octet has come. The line of a long value is put
+/// with the header (for a BIT STRING, with its first contents octet), and each row when it is full or with the last
+/// octet. At most 64 octets are kept.
 #[derive(Drop)]
 pub struct ValueText {
     primitive: Primitive,
-    /// How many octets are still to come.
+    /// The number of octets still to come.
     left: u64,
     /// Whether the line of a long value was put.
     has_put_line: bool,
-    /// How many rows were full.
+    /// The number of rows that were full.
     row_count: u64,
     /// The octets of the row that has begun, or of a value that is not long.
     row: ArrayVec<u8, 64>,
@@ -59,7 +59,7 @@ impl Model for ValueText {
 }
 
 impl ValueText {
-    /// For the primitive with this header, of whose contents no octet has come.
+    /// The text of the primitive with this header, before its first contents octet.
     #[inline(always)]
     pub fn new(header: &Header, layout: Layout) -> ValueText
         ensures { result ≡ new_value_text header.now layout }
@@ -67,9 +67,9 @@ impl ValueText {
         ValueText::new_with(header, layout, false)
     }
 
-    /// The same. If text is wanted, it is beside pairs of digits: what is shown as pairs and has three or more octets, a
-    /// value on its line or a row, and all of them printable ASCII (20 to 7e), has these octets behind it, after two
-    /// spaces and between bars.
+    /// Like `new`, but with text beside pairs of digits if `with_text` is set: if a value on its line, or a row, is
+    /// shown as pairs and has three or more octets, all printable ASCII (20 to 7e), two spaces and these octets
+    /// between bars follow it.
     #[inline(always)]
     pub fn new_with(header: &Header, layout: Layout, with_text: bool) -> ValueText
         ensures { result ≡ new_value_text_with with_text header.now layout }
@@ -77,7 +77,7 @@ impl ValueText {
         ValueText::of(Primitive::new(header, layout, with_text))
     }
 
-    /// For this primitive, of whose contents no octet has come.
+    /// The text of this primitive, before its first contents octet.
     #[inline(always)]
     pub(crate) fn of(primitive: Primitive) -> ValueText
         ensures { result ≡ new_value_text_of primitive }
@@ -91,7 +91,7 @@ impl ValueText {
         }
     }
 
-    /// For no primitive yet: as for an empty one that is of no universal type, at the top.
+    /// A text for no primitive yet: as for an empty primitive at the top whose type is not universal.
     pub fn idle() -> ValueText
         ensures { result ≡ idle_value_text }
     {
@@ -117,18 +117,18 @@ impl ValueText {
         }
     }
 
-    /// How many contents octets are still to come.
+    /// The number of contents octets still to come.
     pub fn left(&self) -> u64
         ensures { result ≡ self.now.left }
     {
         self.left
     }
 
-    /// Puts what is known with the header: the lines of its primitive without contents so far.
+    /// Puts the lines that are known with the header: the lines of its primitive before any contents.
     ///
     /// # Errors
     ///
-    /// `WriteFault` exactly if a write failed.
+    /// `WriteFault` if and only if a write failed.
     #[inline(always)]
     pub fn begin<D: Drain>(&self, out: &mut Out<'_, D>) -> Result<(), WriteFault>
         ensures puts { Puts D.state out.old out.new (begin_lines self.now) result }
@@ -144,18 +144,18 @@ impl ValueText {
         self.primitive.put_bare_line(out)
     }
 
-    /// Puts what is known with more contents octets: after the lines of its primitive with the contents before
-    /// them, the rest of its lines with these too.
+    /// Puts the lines that become known with more contents octets: what these octets add to the lines of the
+    /// primitive with the contents before them.
     ///
     /// # Errors
     ///
-    /// `WriteFault` exactly if a write failed.
+    /// `WriteFault` if and only if a write failed.
     pub fn bytes<D: Drain>(&mut self, octets: &[u8], out: &mut Out<'_, D>) -> Result<(), WriteFault>
         requires { length octets.now ≤ self.old.left }
         ensures state { OnOk result (self.new ≡ value_text_after self.old octets.now) }
         ensures puts { Puts D.state out.old out.new (contents_lines self.old octets.now) result }
 
-        // In other words: after the lines with the contents c, the rest of those with these octets too.
+        // In other words: after the lines with the contents c, the rest of the lines with c and these octets.
         ensures lines { (with_text : Bool) (h : HeaderValue) (layout : Layout) (c : List ℕ)
             → self.old ≡ value_text_for with_text h layout c
             → PutsRest D.state out.old out.new
@@ -184,12 +184,12 @@ impl ValueText {
         put_rows(&form, &mut self.row, &mut self.row_count, rest, out)
     }
 
-    /// Puts what is known with the last contents octet: after what was put before it, the rest of the lines
-    /// of the whole primitive.
+    /// Puts the lines that become known with the last contents octet: the rest of the lines of the whole primitive,
+    /// after the lines that were put before.
     ///
     /// # Errors
     ///
-    /// `WriteFault` exactly if a write failed.
+    /// `WriteFault` if and only if a write failed.
     pub fn end<N: NameTable, D: Drain>(
         &mut self,
         names: &N,
@@ -200,7 +200,7 @@ impl ValueText {
         ensures puts { Puts D.state out.old out.new
             (end_lines (N.name_of names.now) self.old) result }
 
-        // In other words: after the lines with the contents c, which are all, the rest of those of the whole primitive.
+        // In other words: after the lines with c, all the contents, the rest of the lines of the whole primitive.
         ensures lines { (with_text : Bool) (h : HeaderValue) (layout : Layout) (c : List ℕ)
             → self.old ≡ value_text_for with_text h layout c
             → HasAllContents h c

@@ -1,5 +1,5 @@
-//! The lines of a primitive of which all contents are at hand. Those of a value that is on its line, or in rows of
-//! pairs of digits without a limit, are made at once: no contents are copied, and its type is asked for once.
+//! The lines of a primitive whose contents are all available. If the value is on its line, or in rows of pairs of
+//! digits without a limit, its lines are made in one step: no contents are copied, and the type is looked up once.
 ghost use Rattle.std.specs.Prelude.{◌≡◌, ◌++◌, None, length, true};
 ghost use Rattle.tlv_head.specs.Header.{HasAllContents, announced_length};
 ghost use Rattle.tlv_io.specs.Out.{Puts};
@@ -16,12 +16,12 @@ use crate::{Layout, NameTable, ValueText};
 use tlv_head::{Header, Kind};
 use tlv_io::{Drain, Out, WriteFault};
 
-/// Puts the lines of a primitive of which all contents are at hand: as a [`ValueText`] does with its header, its
-/// contents and its end.
+/// Puts the lines of a primitive whose contents are all available: the lines that a [`ValueText`] puts for its
+/// header, its contents and its end.
 ///
 /// # Errors
 ///
-/// `WriteFault` exactly if a write failed.
+/// `WriteFault` if and only if a write failed.
 #[inline(always)]
 pub fn put_whole<N: NameTable, D: Drain>(
     header: &Header,
@@ -37,11 +37,11 @@ pub fn put_whole<N: NameTable, D: Drain>(
     put_whole_with(header, layout, false, contents, names, out)
 }
 
-/// The same. If text is wanted, it is beside pairs of digits, as [`ValueText::new_with`] has it.
+/// Like [`put_whole`], but with text beside pairs of digits if `with_text` is set, as in [`ValueText::new_with`].
 ///
 /// # Errors
 ///
-/// `WriteFault` exactly if a write failed.
+/// `WriteFault` if and only if a write failed.
 #[inline(always)]
 pub fn put_whole_with<N: NameTable, D: Drain>(
     header: &Header,
@@ -65,8 +65,8 @@ pub fn put_whole_with<N: NameTable, D: Drain>(
     }
 }
 
-/// Puts the lines of a primitive whose contents are too long for its line. It is apart and `cold`, since most values are
-/// on their line.
+/// Puts the lines of a primitive whose contents are too long for its line. It is a separate `cold` function, since
+/// most values are on their line.
 #[cold]
 #[inline(never)]
 fn put_long_lines<N: NameTable, D: Drain>(
@@ -88,8 +88,8 @@ fn put_long_lines<N: NameTable, D: Drain>(
     }
 }
 
-/// Puts the lines of a primitive whose value is in rows of pairs of digits, from where its contents are. This
-/// saves the state of a [`ValueText`].
+/// Puts the lines of a primitive whose value is in rows of pairs of digits, straight from its contents. This avoids
+/// the state of a [`ValueText`].
 #[inline(always)]
 fn put_pairs<D: Drain>(
     primitive: &Primitive,
@@ -109,7 +109,7 @@ fn put_pairs<D: Drain>(
     put_pair_rows(primitive.layout, primitive.with_text, rows, out)
 }
 
-/// The contents octets that are in rows: of a BIT STRING all but the first, if that can be read.
+/// The contents octets that are shown in rows: all, except the first octet of a BIT STRING if it can be read.
 #[inline(always)]
 fn row_octets(kind: Kind, contents: &[u8]) -> &[u8]
     ensures { result.now ≡ row_octets kind contents.now }

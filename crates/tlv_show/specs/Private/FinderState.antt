@@ -1,4 +1,4 @@
--- What a `Finder` makes of an event, and what it returns.
+-- What a `Finder` does with an event, and what it returns.
 use Rattle.std.specs.Prelude.{ℕ, ◌≡◌, Bool, true, false, if◌then◌else◌, List, []}
 use Rattle.tlv_head.specs.Header.{HeaderValue}
 use Rattle.tlv_walk.specs.Events.{Begin, Bytes, Close, End, Enter, EventValue, Leave, Open, Pad, Unused}
@@ -7,7 +7,7 @@ use Rattle.tlv_show.specs.FinderState.{CheckState, FinderState, new_check, witho
 use Rattle.tlv_show.specs.FinderState.{finder_open_step, finder_begin_step, finder_bytes_step}
 use Rattle.tlv_show.specs.FinderState.{finder_end_step, finder_close_step}
 
--- a finder of which no event has come
+-- a finder before its first event
 abbrev pub new_finder : Rules → FinderState
 new_finder rules = without_findings (new_check rules)
 
@@ -20,7 +20,7 @@ abbrev pub ReturnsFindings : FinderState → FinderState → Bool → Type 0
 ReturnsFindings f new true = new ≡ f
 ReturnsFindings f new false = (new.kept ≡ f.kept) × (f.findings ≡ [])
 
--- what is found, if the finder says that there may be findings
+-- the findings, if the finder says that there may be findings
 abbrev pub with_findings_if : Bool → FinderState → FinderState
 with_findings_if may_have_findings f = if may_have_findings then f else without_findings f.kept
 
@@ -36,17 +36,17 @@ finder_step s Unused = without_findings s
 finder_step s Leave = finder_close_step s
 finder_step s (Pad octets) = without_findings s
 
--- all of a primitive: its header, its contents and its end. What is found with its end
+-- all of a primitive: its header, its contents and its end. The result has the findings of its end
 abbrev pub finder_whole_step : CheckState → HeaderValue → List ℕ → FinderState
 finder_whole_step s h c = finder_end_step (finder_bytes_step (finder_begin_step s h).kept c)
 
--- nothing is found with a primitive, and what is kept is what is kept after its end
+-- a primitive has no findings, and what is kept is what is kept after its end
 pub record PassesPrimitive (old new : FinderState) (h : HeaderValue) (c : List ℕ) : Type 0 where
   pub begins : (finder_begin_step old.kept h).findings ≡ []
   pub ends : (finder_whole_step old.kept h c).findings ≡ []
   pub kept : new ≡ with_check_state (finder_whole_step old.kept h c).kept old
 
--- a finder returns whether it took a primitive with which nothing is found; if not, nothing changes
+-- a finder returns whether it took a primitive that has no findings; if not, nothing changes
 abbrev pub PassesOrStays : FinderState → FinderState → HeaderValue → List ℕ → Bool → Type 0
 PassesOrStays old new h c true = PassesPrimitive old new h c
 PassesOrStays old new h c false = new ≡ old

@@ -1,4 +1,4 @@
--- The frames that are kept of the elements that are open, and all those that they represent.
+-- The frames that are kept of the open elements, and all frames that they represent.
 use Rattle.std.specs.Prelude.{ℕ, zero, suc, ◌≡◌, ◌-◌, ◌<◌, ⊤, if◌then◌else◌, false, List, [], ◌∷◌}
 use Rattle.std.specs.Prelude.{Option, Some, None}
 use Rattle.tlv_show.specs.declared.holder_frame.HolderFrame.{HolderFrame}
@@ -7,7 +7,7 @@ use Rattle.tlv_show.specs.NestingState.{NestingState, frame_after, top_frame}
 
 -- ---- What is left of an element that ends
 
--- its frame, if what it held were segments
+-- its frame, if it held segments
 abbrev pub frame_if_segments : HolderFrame → Option HolderFrame
 frame_if_segments w = if w.has_segments then Some w else None
 
@@ -18,9 +18,9 @@ closed_string_frame_inside closed (w ∷ outer) = frame_if_segments closed
 abbrev pub closed_string_frame : NestingState → Option HolderFrame
 closed_string_frame s = closed_string_frame_inside s.frame s.outer
 
--- ---- Those that are kept
+-- ---- The frames that are kept
 
--- if so many elements without a frame are open inside `w`, each of them has that of the top
+-- if this number of elements without a frame are open inside `w`, each of them has the frame of the top
 abbrev pub innermost_frame : HolderFrame → ℕ → HolderFrame
 innermost_frame w zero = w
 innermost_frame w (suc without_frame) = top_frame
@@ -33,8 +33,8 @@ abbrev pub outer_frames : HolderFrame → ℕ → List HolderFrame → List Hold
 outer_frames w zero outer = outer
 outer_frames w (suc without_frame) outer = frames_with w without_frame outer
 
--- those outside of an element that has a frame, by its floor. It is itself inside `floor - 1` others; outside of it,
--- from the floor of `k` on, elements without a frame are open
+-- the frames outside of an element that has a frame, from its floor. The element is inside `floor - 1` others;
+-- outside of it, from the floor of `k` on, elements without a frame are open
 abbrev pub all_frames : ℕ → List KeptFrame → List HolderFrame
 all_frames floor [] = []
 all_frames floor (k ∷ outer) = frames_with k.frame (floor - 1 - k.floor) (all_frames k.floor outer)
@@ -43,7 +43,7 @@ all_frames floor (k ∷ outer) = frames_with k.frame (floor - 1 - k.floor) (all_
 abbrev pub HasFramesInStrings : HolderFrame → ℕ → Type 0
 HasFramesInStrings w without_frame = (innermost_frame w without_frame).has_segments ≡ w.has_segments
 
--- each floor is above the one outside of it, and that of the top is 0
+-- each floor is above the floor outside of it, and the floor of the top is 0
 abbrev pub HaveRisingFloors : ℕ → List KeptFrame → Type 0
 HaveRisingFloors floor [] = floor ≡ 0
 HaveRisingFloors floor (k ∷ outer) =

@@ -1,4 +1,4 @@
--- What is asked of the type of an element before more is looked for.
+-- What is checked of the type of an element before anything else.
 use Rattle.std.specs.Prelude.{◌≡◌, false}
 use Rattle.tlv_head.specs.Header.{HeaderValue}
 use Rattle.tlv_value.specs.Types.{has_segments, is_unassigned}

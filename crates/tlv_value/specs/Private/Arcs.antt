@@ -1,4 +1,4 @@
--- Texts that dotted texts are made of.
+-- The parts of dotted texts.
 use Rattle.std.specs.Prelude.{ℕ, Bool, true, false, List, ◌∷◌, decimal}
 use Rattle.tlv_value.specs.Arcs.{dotted_arcs, first_arcs}
 

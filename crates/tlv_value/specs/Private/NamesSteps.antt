@@ -49,7 +49,7 @@ AddsLine number no_object_identifier old new result = IsErrOf result (BadOid num
 AddsLine number no_name old new result = IsErrOf result (BadName number)
 AddsLine number long_line old new result = IsErrOf result TooLarge
 
--- the octets come to this table or refusal; memory may be refused at any time
+-- the octets give this table or refusal; memory may be refused at any time
 abbrev pub IsTableOf : {Z S : Type 0}
     → List ℕ → Result (HashMap (String Z) (Vec ℕ Z) S) NamesFault → Type 0
 IsTableOf octets (Ok table) = names_of octets ≡ Ok (table_in table)

@@ -1,4 +1,4 @@
--- The lines of an object identifier of at most 64 octets, after what its element's line begins with.
+-- The lines of an object identifier of at most 64 octets, after the beginning of its element's line.
 use Rattle.std.specs.Prelude.{ℕ, Bool, List, [], ◌∷◌, ◌++◌}
 use Rattle.tlv_head.specs.declared.kind.Kind.TheVariants.{Octets}
 use Rattle.tlv_value.specs.declared.layout.Layout.{Layout}

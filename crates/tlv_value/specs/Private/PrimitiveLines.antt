@@ -1,4 +1,4 @@
--- The lines of a primitive, by what its header says of it.
+-- The lines of a primitive, from what its header says of it.
 use Rattle.std.specs.Prelude.{ℕ, List, [], ◌∷◌, ◌++◌}
 use Rattle.tlv_head.specs.declared.kind.Kind.TheVariants.{Bits}
 use Rattle.tlv_value.specs.declared.primitive.Primitive.{Primitive}
@@ -7,7 +7,7 @@ use Rattle.tlv_value.specs.ValueLines.{element_prefix}
 use Rattle.tlv_value.specs.ValueTextState.{ValueTextState, begin_lines, contents_lines, end_lines, primitive_line}
 use Rattle.tlv_value.specs.ValueTextState.{value_text_after}
 
--- what its line begins with
+-- the beginning of its line
 abbrev pub line_prefix : Primitive → List ℕ
 line_prefix p = element_prefix p.layout p.offset p.class p.number p.size
 

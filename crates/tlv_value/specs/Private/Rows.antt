@@ -5,7 +5,7 @@ use Rattle.tlv_value.specs.declared.layout.Layout.{Layout}
 use Rattle.tlv_value.specs.Layout.{inner_line}
 use Rattle.tlv_value.specs.Value.{row_text}
 
--- how many spaces are before a row
+-- the number of spaces before a row
 abbrev pub row_indent : Layout → ℕ
 row_indent layout = (if layout.pure then 0 else 17) + 2 * (layout.level + 1)
 

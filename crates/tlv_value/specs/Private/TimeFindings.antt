@@ -1,4 +1,4 @@
--- What is found on the contents of a time.
+-- The findings on the contents of a time.
 use Rattle.std.specs.Prelude.{ℕ, Bool, not, if◌then◌else◌, List, [], ◌∷◌}
 use Rattle.tlv_value.specs.declared.finding.Finding.{Finding}
 use Rattle.tlv_value.specs.declared.finding.Finding.TheVariants.{B19, S04}
@@ -6,7 +6,7 @@ use Rattle.tlv_value.specs.Checks.{finding_if}
 use Rattle.tlv_value.specs.Times.{canonical_generalized_time_form, canonical_utc_time_form}
 use Rattle.tlv_value.specs.Times.{generalized_time_form, has_form, utc_time_form}
 
--- by whether it is of its grammar, and in the canonical form
+-- from whether the time follows its grammar, and whether it is in the canonical form
 abbrev pub time_findings : Bool → Bool → List Finding
 time_findings of_grammar is_canonical = if of_grammar then finding_if (not is_canonical) S04 else B19 ∷ []
 

@@ -1,4 +1,4 @@
--- Characters in a row: those written as they are, and what is written of the first ones.
+-- Characters in a row: the ones written as they are, and what is written for the first ones.
 use Rattle.std.specs.Prelude.{◌≡◌, ℕ, ◌<◌, ◌≤◌, Bool, true, false, ◌&&◌, ◌||◌, not, eqb, List, ◌++◌, drop, length}
 use Rattle.std.specs.Prelude.{flat_map, slice_index}
 use Rattle.tlv_io.specs.LineTexts.{AddsIfRoom}
@@ -16,7 +16,7 @@ has_ascii_octets Text = true
 has_ascii_octets Utf8 = true
 has_ascii_octets _ = false
 
--- the count is that of some of these octets: of one at least
+-- the count is the number of some of these octets, at least one
 pub record IsSomeOf (count : ℕ) (octets : List ℕ) : Type 0 where
   pub some : 1 ≤ count
   pub within : count ≤ length octets

@@ -1,4 +1,4 @@
-//! Object identifiers as dotted texts, judged.
+//! Whether a text is an object identifier in dotted form.
 ghost use Rattle.std.specs.Prelude.{◌≡◌, nat_le, true};
 ghost use Rattle.std.specs.Char.{is_ascii_digit};
 ghost use Rattle.std.specs.List.{list_all};
@@ -7,8 +7,8 @@ ghost use Rattle.tlv_value.specs.Names.{are_first_arcs, dotted_parts, is_arc, is
 
 use super::names_line::{end_before, rest_after};
 
-/// Whether the text is two or more arcs with dots between them, of which the first is 0, 1 or 2, and if it is 0 or 1,
-/// the second is at most 39 (ITU-T X.660). Arcs are decimals without a leading zero, of any size.
+/// Whether the text is two or more arcs with dots between them. The first arc is 0, 1 or 2; if it is 0 or 1, the
+/// second is at most 39 (ITU-T X.660). Arcs are decimals of any size without a leading zero.
 pub(super) fn is_dotted(text: &[u8]) -> bool
     ensures { result ≡ is_dotted text.now }
 {
@@ -54,7 +54,7 @@ fn are_digits(part: &[u8]) -> bool
     true
 }
 
-/// Whether there are two arcs, and those may be the first ones.
+/// Whether there are at least two arcs, and an object identifier may begin with the first two.
 fn are_first_arcs(text: &[u8]) -> bool
     requires { list_all is_arc (dotted_parts text.now) ≡ true }
     ensures { result ≡ are_first_arcs (dotted_parts text.now) }
@@ -67,7 +67,7 @@ fn are_first_arcs(text: &[u8]) -> bool
     may_begin(&text[..end], &rest[..end_before(rest, b'.')])
 }
 
-/// Whether these arcs may be the first ones.
+/// Whether an object identifier may begin with these arcs.
 fn may_begin(first: &[u8], second: &[u8]) -> bool
     requires first { is_arc first.now ≡ true }
     requires second { is_arc second.now ≡ true }

@@ -11,10 +11,10 @@ use super::arcs::is_dotted;
 use crate::pairs::are_printable;
 use std::str;
 
-/// The most octets of a line.
+/// The largest number of octets in a line.
 const LINE_LIMIT: usize = 400;
 
-/// The dotted text and the name on a line, or none if it is blank or a comment. `number` is the line's.
+/// The dotted text and the name on the line with this number, or none if the line is blank or a comment.
 pub(super) fn entry_or_refusal<'a>(
     line: &'a [u8],
     number: u32,
@@ -44,7 +44,7 @@ pub(super) fn entry_or_refusal<'a>(
     Ok(Some((dotted, name)))
 }
 
-/// Where the octet first is, or the end.
+/// The position of the first such octet, or the end if there is none.
 pub(super) fn end_before(text: &[u8], mark: u8) -> usize
     ensures value { result ≡ position_or_len (λ x. x == mark) text.now }
     ensures within { result ≤ length text.now }
@@ -57,7 +57,7 @@ pub(super) fn end_before(text: &[u8], mark: u8) -> usize
     text.len()
 }
 
-/// What is after the octet at `end`; nothing if the text ends there.
+/// The octets after the octet at `end`; none if the text ends there.
 pub(super) fn rest_after(text: &[u8], end: usize) -> &[u8]
     ensures { result.now ≡ drop (end + 1) text.now }
 {
@@ -68,7 +68,7 @@ pub(super) fn rest_after(text: &[u8], end: usize) -> &[u8]
     }
 }
 
-/// Where the first space or tab is, or the end.
+/// The position of the first space or tab, or the end if there is none.
 fn end_before_blank(text: &[u8]) -> usize
     ensures value { result ≡ position_or_len is_blank text.now }
     ensures within { result ≤ length text.now }
@@ -87,7 +87,7 @@ fn is_blank(octet: u8) -> bool
     octet == b' ' || octet == b'\t'
 }
 
-/// Without the one CR at the end, if there is one.
+/// The line without one CR at its end, if it has one there.
 fn strip_carriage_return(line: &[u8]) -> &[u8]
     ensures { result.now ≡ strip_carriage_return line.now }
 {
@@ -97,7 +97,7 @@ fn strip_carriage_return(line: &[u8]) -> &[u8]
     }
 }
 
-/// Without the spaces and tabs at both ends.
+/// The text without the spaces and tabs at both ends.
 fn without_outer_blanks(text: &[u8]) -> &[u8]
     ensures { result.now ≡ without_outer_blanks text.now }
 {

@@ -7,10 +7,10 @@ use super::table::{Table, names_of};
 use std::alloc::Allocator;
 use tlv_io::Source;
 
-/// The most octets of a names file.
+/// The largest number of octets in a names file.
 const FILE_LIMIT: usize = 1_048_576;
 
-/// Reads the source to its end, and then judges its lines.
+/// Reads the source to its end, and then checks its lines.
 pub(super) fn read_in<A: Allocator + Copy, S: Source>(
     alloc: A,
     source: &mut S,

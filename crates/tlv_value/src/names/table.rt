@@ -11,10 +11,10 @@ use std::alloc::Allocator;
 use std::collections::HashMap;
 use std::hash::{BuildHasherDefault, FoldHasher};
 
-/// From dotted texts to names.
+/// A map from dotted texts to names.
 pub(super) type Table<A> = HashMap<String<A>, Vec<u8, A>, BuildHasherDefault<FoldHasher>, A>;
 
-/// The most entries of a table.
+/// The largest number of entries in a table.
 const ENTRY_LIMIT: usize = 65_536;
 
 /// The table of all lines, or the first refusal.
@@ -34,7 +34,7 @@ pub(super) fn names_of<A: Allocator + Copy>(alloc: A, octets: &[u8]) -> Result<T
     Ok(table)
 }
 
-/// Adds what a line says to the table.
+/// Adds to the table what a line says.
 fn add_line<A: Allocator + Copy>(
     alloc: A,
     table: &mut Table<A>,
@@ -51,7 +51,7 @@ fn add_line<A: Allocator + Copy>(
     }
 }
 
-/// Adds an entry to the table. `number` is its line's.
+/// Adds an entry to the table. `number` is the number of its line.
 fn add<A: Allocator + Copy>(
     alloc: A,
     table: &mut Table<A>,

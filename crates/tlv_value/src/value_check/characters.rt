@@ -1,4 +1,4 @@
-//! Which octets the strings of some characters have.
+//! Which octets NumericString, PrintableString, IA5String and VisibleString allow.
 ghost use Rattle.std.specs.List.{list_all};
 ghost use Rattle.std.specs.Prelude.{◌≡◌};
 ghost use Rattle.tlv_value.specs.Checks.{allows_octet, is_printable_string_octet};
@@ -17,12 +17,12 @@ static PRINTABLE: [u8; 256] = *b"\
     ********************************\
     ********************************";
 
-/// Whether the type with this universal number has all of the octets.
+/// Whether the type with this universal number allows all of the octets.
 #[inline(never)]
 pub(crate) fn are_allowed(number: u64, octets: &[u8]) -> bool
     ensures { result ≡ list_all (allows_octet number) octets.now }
 {
-    // A call for each type: where it is inlined, the type is then not asked for again at each octet.
+    // A call for each type: where the call is inlined, the type is not checked again at each octet.
     match number {
         universal::NUMERIC_STRING => is_each_allowed(universal::NUMERIC_STRING, octets),
         universal::PRINTABLE_STRING => is_each_allowed(universal::PRINTABLE_STRING, octets),
@@ -32,12 +32,12 @@ pub(crate) fn are_allowed(number: u64, octets: &[u8]) -> bool
     }
 }
 
-/// Whether the type with this universal number has each of the octets.
+/// Whether the type with this universal number allows each of the octets.
 #[inline(always)]
 fn is_each_allowed(number: u64, octets: &[u8]) -> bool
     ensures { result ≡ list_all (allows_octet number) octets.now }
 {
-    // There is no way out of the loop, so that many octets are looked at in one go.
+    // The loop has no early exit, so that many octets are checked at once.
     let mut all = true;
     for octet in octets {
         all = both(all, allows_octet(number, *octet));
@@ -45,7 +45,7 @@ fn is_each_allowed(number: u64, octets: &[u8]) -> bool
     all
 }
 
-/// Whether the type with this universal number has the octet: NumericString, PrintableString, IA5String, VisibleString.
+/// Whether the type with this number allows the octet: NumericString, PrintableString, IA5String, VisibleString.
 #[inline(always)]
 fn allows_octet(number: u64, octet: u8) -> bool
     ensures { result ≡ allows_octet number octet }
@@ -59,7 +59,7 @@ fn allows_octet(number: u64, octet: u8) -> bool
     }
 }
 
-/// Whether PrintableString has the octet (X.680 41.4).
+/// Whether PrintableString allows the octet (X.680 41.4).
 #[inline(always)]
 fn is_printable_string_octet(octet: u8) -> bool
     ensures { result ≡ is_printable_string_octet octet }

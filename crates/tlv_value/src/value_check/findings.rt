@@ -1,4 +1,4 @@
-//! What is found on contents by what was noted of them.
+//! The findings on contents, from what was noted of them.
 ghost use Rattle.std.specs.Prelude.{◌≡◌, ◌<◌, ◌≤◌, ◌%◌, ◌^◌, ◌++◌, [], eqb, length, not};
 ghost use Rattle.tlv_head.specs.UniversalTypes.{bit_string, boolean};
 ghost use Rattle.tlv_value.specs.Checks.{finding_if, findings_by, type_conditions};
@@ -13,7 +13,7 @@ use arrayvec::ArrayVec;
 use tlv_head::universal;
 
 impl ValueCheck {
-    /// What is found on the contents by what was noted of them.
+    /// The findings on the contents, from what was noted of them.
     pub(super) fn findings(&self) -> ArrayVec<Finding, 16>
         ensures { result.items ≡ findings_in self.now }
     {
@@ -55,7 +55,7 @@ impl ValueCheck {
         found
     }
 
-    /// Adds what is found on the contents of a BOOLEAN.
+    /// Adds the findings on the contents of a BOOLEAN.
     fn add_boolean_findings(&self, found: &mut ArrayVec<Finding, 16>)
         requires { found.old.items ≡ [] }
         ensures { found.new.items
@@ -70,7 +70,7 @@ impl ValueCheck {
         );
     }
 
-    /// Adds what is found on the contents of a BIT STRING.
+    /// Adds the findings on the contents of a BIT STRING.
     fn add_bit_string_findings(&self, found: &mut ArrayVec<Finding, 16>)
         requires { found.old.items ≡ [] }
         ensures { found.new.items
@@ -92,7 +92,7 @@ impl ValueCheck {
     }
 }
 
-/// Whether the type with this number is a string whose characters are looked at.
+/// Whether the type with this number is a string whose characters are checked.
 fn is_character_type(number: u64) -> bool
     ensures { result ≡ is_number_of character_types number }
 {
@@ -108,7 +108,7 @@ fn is_character_type(number: u64) -> bool
     )
 }
 
-/// Adds a finding, if it is there.
+/// Adds a finding if `there` is set.
 fn add_if(there: bool, finding: Finding, found: &mut ArrayVec<Finding, 16>)
     requires { length found.old.items < 16 }
     ensures { found.new.items ≡ found.old.items ++ finding_if there finding }
@@ -118,7 +118,7 @@ fn add_if(there: bool, finding: Finding, found: &mut ArrayVec<Finding, 16>)
     }
 }
 
-/// Adds what is found on a time.
+/// Adds the findings on a time.
 fn add_time_findings(of_grammar: bool, is_canonical: bool, found: &mut ArrayVec<Finding, 16>)
     requires { length found.old.items < 16 }
     ensures { found.new.items ≡ found.old.items ++ time_findings of_grammar is_canonical }
@@ -130,7 +130,7 @@ fn add_time_findings(of_grammar: bool, is_canonical: bool, found: &mut ArrayVec<
     }
 }
 
-/// Whether so many of the last bits of an octet are not all 0.
+/// Whether any of the last `bits` bits of an octet is 1.
 pub(crate) fn is_any_set(bits: u8, octet: u8) -> bool
     requires { bits ≤ 7 }
     ensures { result ≡ not (eqb (octet % 2 ^ bits) 0) }

@@ -6,7 +6,7 @@ ghost use Rattle.tlv_value.specs.Checks.{is_padded_after, last_octet};
 use arrayvec::ArrayVec;
 use tlv_head::universal;
 
-/// Whether the first octets of the type with this universal number are looked at, and the last one: BOOLEAN, INTEGER,
+/// Whether the first octets and the last octet of the type with this universal number are checked: BOOLEAN, INTEGER,
 /// BIT STRING, ENUMERATED.
 #[inline(always)]
 pub(super) fn notes_first(number: u64) -> bool
@@ -18,7 +18,7 @@ pub(super) fn notes_first(number: u64) -> bool
     )
 }
 
-/// Whether each contents octet of the type with this universal number is looked at.
+/// Whether each contents octet of the type with this universal number is checked.
 #[inline(always)]
 pub(super) fn notes_each(number: u64) -> bool
     ensures { result ≡ notes_each number }
@@ -43,7 +43,7 @@ pub(super) fn notes_time(number: u64) -> bool
     matches!(number, universal::UTC_TIME | universal::GENERALIZED_TIME)
 }
 
-/// The last of the octets, or the one before them.
+/// The last of the octets, or `previous` if there are none.
 pub(crate) fn last_octet(previous: u8, octets: &[u8]) -> u8
     ensures { result ≡ last_octet previous octets.now }
 {
@@ -53,18 +53,18 @@ pub(crate) fn last_octet(previous: u8, octets: &[u8]) -> u8
     }
 }
 
-/// Whether a subidentifier begins with `80`, with these octets too.
+/// Whether a subidentifier begins with `80`, in the octets before or in these.
 pub(super) fn is_padded_with(is_padded: bool, previous: u8, octets: &[u8]) -> bool
     ensures { result ≡ is_padded_with is_padded previous octets.now }
 {
     is_padded || is_padded_after(previous, octets)
 }
 
-/// Whether a subidentifier begins with `80`, after this octet.
+/// Whether a subidentifier in these octets, which follow `previous`, begins with `80`.
 pub(crate) fn is_padded_after(previous: u8, octets: &[u8]) -> bool
     ensures { result ≡ is_padded_after previous octets.now }
 {
-    // Most have no octet 80 at all, which is seen for many octets at once. The loop is then left out.
+    // Most contents have no octet 80, which can be checked for many octets at once. The loop is then skipped.
     if !octets.contains(&128) {
         return false;
     }

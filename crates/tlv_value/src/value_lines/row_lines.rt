@@ -44,8 +44,8 @@ pub(super) fn put_all_rows<D: Drain>(
     put_last(&form, row_count, row.as_slice(), out)
 }
 
-/// Puts the rows that are full, of the octets of the row that has begun and those after them. What is left begins a
-/// row.
+/// Puts the full rows that the octets of the row that has begun and the octets after them make. The octets left over
+/// begin a row.
 pub(crate) fn put_rows<D: Drain>(
     form: &RowForm,
     row: &mut ArrayVec<u8, 64>,
@@ -89,7 +89,7 @@ pub(crate) fn put_rows<D: Drain>(
     Ok(())
 }
 
-/// Whether the octets begin with full rows of pairs of digits, while no row has begun and their number is not limited.
+/// Whether the octets begin with full rows of pairs of digits, no row has begun, and the number of rows is not limited.
 #[inline(always)]
 fn has_full_rows(layout: Layout, size: usize, begun: usize, octets: &[u8]) -> bool
     ensures { IsTrue result
@@ -98,7 +98,7 @@ fn has_full_rows(layout: Layout, size: usize, begun: usize, octets: &[u8]) -> bo
     begun == 0 && size == 16 && layout.limit.is_none() && octets.len() >= 16
 }
 
-/// Puts full rows of pairs of digits, from where their octets are. There is no limit to them.
+/// Puts full rows of pairs of digits, straight from their octets. The number of rows is not limited.
 #[inline(always)]
 fn put_full_rows<D: Drain>(
     layout: Layout,
@@ -115,7 +115,7 @@ fn put_full_rows<D: Drain>(
     }
 }
 
-/// Puts full rows of pairs of digits: none of them asks whether text is wanted.
+/// Puts full rows of pairs of digits. Does not check at each row whether text is wanted.
 #[inline(always)]
 fn put_each_row<const WITH_TEXT: bool, D: Drain>(
     layout: Layout,
@@ -133,7 +133,7 @@ fn put_each_row<const WITH_TEXT: bool, D: Drain>(
     Ok(())
 }
 
-/// Puts rows of pairs of digits, of all of the octets, from where they are. There is no limit to them.
+/// Puts all of the octets as rows of pairs of digits, straight from the octets. The number of rows is not limited.
 #[inline(always)]
 pub(crate) fn put_pair_rows<D: Drain>(
     layout: Layout,
@@ -159,7 +159,7 @@ pub(crate) fn put_pair_rows<D: Drain>(
     Ok(())
 }
 
-/// Puts the row that has begun with the octets that fill it: from where they are, if they are the whole row.
+/// Puts the row that has begun with the octets that fill it; straight from these octets if they are the whole row.
 fn put_full<D: Drain>(
     form: &RowForm,
     index: u64,
@@ -199,7 +199,7 @@ pub(crate) fn put_last<D: Drain>(
     put_row(form, index, row, out)
 }
 
-/// Puts a row; beyond the limit three dots for the first, and nothing for the others.
+/// Puts a row. Beyond the limit, puts three dots in place of the first row, and nothing for the rest.
 #[inline(always)]
 fn put_row<D: Drain>(
     form: &RowForm,
