@@ -20,12 +20,13 @@ use Rattle.tlv_forms.specs.declared.taken.TakenFor.TheVariants.{Octets, OtherTex
 
 -- ---- characters
 
--- the characters of a text: of one in UTF-16 with its mark its ASCII, of others all but a mark of UTF-8
+-- the characters of a text: the ASCII characters of a text in UTF-16 with its mark; of any other text, all but a mark
+-- of UTF-8
 abbrev pub text_of : List ℕ → List ℕ
 text_of octets = unwrap_or (ascii_of_utf16 octets) (after_mark octets)
 
--- a control character that texts do not have; they have those from tab to carriage return, 1a (the end of a text under
--- DOS) and 1b (colours)
+-- a control character that texts do not have; texts do have the control characters from tab to carriage return, 1a
+-- (the end of a text under DOS) and 1b (colours)
 abbrev pub is_control : ℕ → Bool
 is_control x = (nat_lt x 0x20 && not (nat_le 9 x && nat_le x 13) && not (x == 0x1a) && not (x == 0x1b)) || (x == 0x7f)
 
@@ -33,11 +34,11 @@ is_control x = (nat_lt x 0x20 && not (nat_le 9 x && nat_le x 13) && not (x == 0x
 abbrev pub has_controls : List ℕ → Bool
 has_controls text = list_any is_control (take 4096 text)
 
--- a character that is seen
+-- a visible character
 abbrev pub is_seen : ℕ → Bool
 is_seen x = not (is_white x)
 
--- what is no encoding is a text if it is UTF-8, has a character that is seen, and no control character
+-- octets that are not encodings are a text if they are UTF-8, and have a visible character and no control character
 abbrev pub is_other_text : List ℕ → Bool
 is_other_text text = is_utf8 text && list_any is_seen text && not (has_controls text)
 
@@ -51,8 +52,8 @@ first_words text = map shown_character (take 32 text)
 
 -- ---- blocks
 
--- what a block was taken for; the base64 that it is written in, from the inside: a line of its text, or all of it;
--- and the block
+-- what a block was taken for; the layers of base64 that it is written in, innermost first: a line of its text, or all
+-- of it; and the block
 pub record TakenValue : Type 0 where
   pub taken_for : TakenFor
   pub layers : List (Option ℕ)
@@ -69,7 +70,7 @@ taken_as taken_for b = record { taken_for = taken_for; layers = []; block = b }
 abbrev pub taken_octets : List ℕ → TakenValue
 taken_octets octets = taken_as Octets (only_block octets Whole)
 
--- a text of no form that is known: it has no octets, and its first words in place of a label
+-- a text of no known form: it has no octets, and its first words as the label
 abbrev pub taken_other_text : List ℕ → TakenValue
 taken_other_text text =
     taken_as OtherText (record { line = 1; label = first_words text; octets = []; state = Absent })
@@ -111,13 +112,13 @@ pub data AreTakenAsEncodings (octets : List ℕ) : Bool → Type 0 where
   begins : begins_as_sequence octets ≡ true → AreTakenAsEncodings octets true
   neither : (IsSoundInput octets → ⊥) → begins_as_sequence octets ≡ false → AreTakenAsEncodings octets false
 
--- two octets 00 at the start, which no encoding has, but the digits of a dump's first offset
+-- two octets 00 at the start: no encoding begins so, but the digits of a dump's first offset do
 abbrev pub begins_with_zeros : List ℕ → Bool
 begins_with_zeros (x ∷ y ∷ octets) = (x == 0) && (y == 0)
 begins_with_zeros octets = false
 
 module _ (Inner : List ℕ → List TakenValue → Type 0) where
-  -- the blocks of the text that a block of base64 is base64 of, if all of it is decoded
+  -- the blocks of the text that a block of base64 decodes to, if all of the block is decoded
   abbrev pub HasInner : Bool → List ℕ → List TakenValue → Type 0
   HasInner true octets inner = Inner octets inner
   HasInner false octets inner = inner ≡ []
@@ -125,11 +126,11 @@ module _ (Inner : List ℕ → List TakenValue → Type 0) where
   -- what a block of base64 counts as: a line for each case
   pub data Counts (form : Form) (layer : Option ℕ) (b : BlockValue) : List TakenValue → Type 0 where
     nothing : has_some b.octets ≡ false → Counts form layer b []
-    -- a text of a form in its turn: the blocks of that
+    -- the octets are in turn a text of a form: the blocks of that text
     text : (t : TakenValue) (ts : List TakenValue) → has_some b.octets ≡ true
         → HasInner (is_whole_block b.state) b.octets (t ∷ ts)
         → Counts form layer b (map (in_layer layer) (t ∷ ts))
-    -- itself, if it is taken for encodings, and otherwise nothing
+    -- the block itself, if it is taken for encodings, and otherwise nothing
     encodings : has_some b.octets ≡ true → HasInner (is_whole_block b.state) b.octets []
         → AreTakenAsEncodings b.octets true → Counts form layer b (taken_as (Text form) b ∷ [])
     other : has_some b.octets ≡ true → HasInner (is_whole_block b.state) b.octets []
@@ -146,7 +147,7 @@ module _ (Inner : List ℕ → List TakenValue → Type 0) where
     -- all blocks of PEM count
     pem : {bs : List BlockValue}
         → BlocksCount Pem bs (map (taken_as (Text Pem)) (filter (λ b. is_present b.state) bs))
-    -- a dump, hexadecimal and numbers count if all of the text is decoded; a dump that is refused is no hexadecimal
+    -- a dump, hexadecimal and numbers count if all of the text is decoded; a refused dump is not hexadecimal
     dump : {b : BlockValue}
         → BlocksCount Dump (b ∷ []) (if is_complete b then taken_as (Text Dump) b ∷ [] else [])
     hex : {b : BlockValue}
@@ -154,13 +155,13 @@ module _ (Inner : List ℕ → List TakenValue → Type 0) where
         (if is_complete b && not (begins_with_zeros b.octets) then taken_as (Text Hex) b ∷ [] else [])
     numbers : {b : BlockValue}
         → BlocksCount Numbers (b ∷ []) (if is_complete b then taken_as (Text Numbers) b ∷ [] else [])
-    -- so it is with base64, if what it gives is an encoding or a text in its turn
+    -- the same for base64, if its octets are encodings or in turn a text
     base64 : {b : BlockValue} {ts : List TakenValue} → is_complete b ≡ true → Counts Base64 None b ts
         → BlocksCount Base64 (b ∷ []) ts
     no_base64 : {b : BlockValue} → is_complete b ≡ false → BlocksCount Base64 (b ∷ []) []
     runs : {bs : List BlockValue} {ts : List TakenValue} → RunsCount bs ts → BlocksCount Runs bs ts
 
-  -- the blocks of a text in the first of these forms in which one counts; none if there is no such form
+  -- the blocks of a text in the first of these forms in which a block counts; none if there is no such form
   pub data AreFirstBlocks (text : List ℕ) : List Form → List TakenValue → Type 0 where
     no_form : AreFirstBlocks text [] []
     here : {form : Form} {forms : List Form} {bs : List BlockValue} {t : TakenValue} {ts : List TakenValue}
@@ -173,8 +174,8 @@ module _ (Inner : List ℕ → List TakenValue → Type 0) where
 abbrev pub all_forms : List Form
 all_forms = Pem ∷ Dump ∷ Hex ∷ Numbers ∷ Base64 ∷ Runs ∷ []
 
--- the blocks of octets that are a text in this many layers of base64 at most: none if they have a control character,
--- or no form
+-- the blocks of octets that are a text, in at most this number of layers of base64: none if they have a control
+-- character, or no form
 pub data HasBlocks (Inner : List ℕ → List TakenValue → Type 0) (octets : List ℕ) : List TakenValue → Type 0 where
   control : has_controls (text_of octets) ≡ true → HasBlocks Inner octets []
   text : {ts : List TakenValue} → has_controls (text_of octets) ≡ false
@@ -186,7 +187,7 @@ TextBlocks (suc layers) octets ts = HasBlocks (TextBlocks layers) octets ts
 
 -- ---- inputs
 
--- sound encodings that are not ASCII in UTF-16: that is sound too, with an element for each character
+-- sound encodings that are not ASCII in UTF-16, which is sound too, with one element for each character
 pub record AreEncodings (octets : List ℕ) : Type 0 where
   pub no_utf16 : ascii_of_utf16 octets ≡ None
   pub sound : IsSoundInput octets
@@ -195,7 +196,7 @@ pub record AreEncodings (octets : List ℕ) : Type 0 where
 pub data IsTakenFor (octets : List ℕ) : List TakenValue → Type 0 where
   -- a text of a form, which has no control character
   text : {t : TakenValue} {ts : List TakenValue} → TextBlocks 4 octets (t ∷ ts) → IsTakenFor octets (t ∷ ts)
-  -- nearly each encoding has a control character, and texts have none
+  -- nearly every encoding has a control character, and texts have none
   control : has_controls (text_of octets) ≡ true → IsTakenFor octets (taken_octets octets ∷ [])
   sound : TextBlocks 4 octets [] → AreEncodings octets → IsTakenFor octets (taken_octets octets ∷ [])
   other_text : TextBlocks 4 octets [] → (AreEncodings octets → ⊥) → is_other_text (text_of octets) ≡ true
@@ -203,13 +204,14 @@ pub data IsTakenFor (octets : List ℕ) : List TakenValue → Type 0 where
   no_text : TextBlocks 4 octets [] → is_other_text (text_of octets) ≡ false
       → IsTakenFor octets (taken_octets octets ∷ [])
 
--- what an input of a form that is named is taken for: all blocks of its text in that form
+-- what an input is taken for if its form is named: all blocks of its text in that form
 pub record IsTakenAs (form : Form) (octets : List ℕ) (ts : List TakenValue) : Type 0 where
   pub blocks : List BlockValue
   pub are_blocks : AreBlocks (text_of octets) form blocks
   pub taken : ts ≡ map (taken_as (Text form)) blocks
 
--- why the blocks of an input cannot be had: those of its text in some form cannot, or those of what is base64 in it
+-- why the blocks of an input cannot be returned: the blocks of its text in some form cannot, or the blocks of base64
+-- in it cannot
 pub data IsTakingFault : List ℕ → TextFault → Type 0 where
   here : {octets : List ℕ} {fault : TextFault} (form : Form) → IsBlocksFault (text_of octets) form fault
       → IsTakingFault octets fault

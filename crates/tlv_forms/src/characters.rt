@@ -8,13 +8,14 @@ ghost use Rattle.tlv_text.specs.Marks.{after_mark};
 use arrayvec::ArrayVec;
 use tlv_text::after_mark;
 
-/// How many characters of a text are looked at for control characters.
+/// The number of characters of a text that are checked for control characters.
 const LOOKED_AT: usize = 4096;
 
-/// How many characters of a text are shown.
+/// The number of characters of a text that are shown.
 const SHOWN: usize = 32;
 
-/// The characters of an input: the ASCII of a text in UTF-16, if it is one, and otherwise all but a mark of UTF-8.
+/// The characters of an input: the ASCII characters of a text in UTF-16, or otherwise all octets after a mark of
+/// UTF-8.
 pub(crate) fn text_in<'a>(ascii: &'a Option<Vec<u8>>, octets: &'a [u8]) -> &'a [u8]
     ensures { result.now
         ≡ unwrap_or (option_map (λ text. text.items) ascii.now) (after_mark octets.now) }
@@ -25,7 +26,7 @@ pub(crate) fn text_in<'a>(ascii: &'a Option<Vec<u8>>, octets: &'a [u8]) -> &'a [
     }
 }
 
-/// Whether the first characters of a text have a control character that texts do not have. It is read up to the first.
+/// Whether the first characters of a text include a control character that texts do not have. Stops at the first one.
 pub(crate) fn has_controls(text: &[u8]) -> bool
     ensures { result ≡ has_controls text.now }
 {
@@ -37,7 +38,7 @@ pub(crate) fn has_controls(text: &[u8]) -> bool
     false
 }
 
-/// Whether texts do not have this control character.
+/// Whether this is a control character that texts do not have.
 fn is_control(character: u8) -> bool
     ensures { result ≡ is_control character }
 {
@@ -48,7 +49,7 @@ fn is_control(character: u8) -> bool
     }
 }
 
-/// Whether these characters, of which none is a control character, are a text.
+/// Whether these characters, none of them a control character, are a text.
 pub(crate) fn is_other_text(text: &[u8]) -> bool
     requires { has_controls text.now ≡ false }
     ensures { result ≡ is_other_text text.now }
@@ -56,7 +57,7 @@ pub(crate) fn is_other_text(text: &[u8]) -> bool
     simdutf8::is_utf8(text) && has_seen(text)
 }
 
-/// Whether a text has a character that is seen.
+/// Whether a text has a visible character.
 fn has_seen(text: &[u8]) -> bool
     ensures { result ≡ list_any is_seen text.now }
 {

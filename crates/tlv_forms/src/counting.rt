@@ -26,8 +26,8 @@ const FORMS: [Form; 6] = [
     Form::Runs,
 ];
 
-/// The blocks of a text in the first form in which one counts. There is none if the text has no form. What is base64
-/// in it may be a text in its turn, in this many layers at most.
+/// The blocks of a text in the first form in which a block counts; none if the text has no form. Base64 in it may
+/// hold a text in turn, in at most `layers` layers.
 #[cycle(layers)]
 pub(crate) fn first_blocks(alloc: Global, layers: u8, text: &[u8]) -> Result<Vec<Taken>, TextFault>
     requires { layers ≤ 3 }
@@ -69,7 +69,7 @@ fn counted_blocks(
     }
 }
 
-/// What the block of a text that is base64 counts as.
+/// What the block of a base64 text counts as.
 #[cycle(layers)]
 fn counted_base64(
     alloc: Global,
@@ -109,7 +109,7 @@ fn counted_runs(alloc: Global, layers: u8, blocks: Vec<Block>) -> Result<Vec<Tak
     Ok(taken)
 }
 
-/// What a block of base64 counts as: the blocks of the text that it is base64 of, or itself.
+/// What a block of base64 counts as: the blocks of the text that it decodes to, or the block itself.
 #[cycle(layers)]
 fn counted(
     alloc: Global,
@@ -136,7 +136,7 @@ fn counted(
     Ok(inner)
 }
 
-/// The blocks of the text that a block is base64 of. There is none if not all of it is decoded.
+/// The blocks of the text that a block of base64 decodes to; none if the block is not decoded completely.
 #[cycle(layers)]
 fn inner_blocks(alloc: Global, layers: u8, block: &Block) -> Result<Vec<Taken>, TextFault>
     requires { layers ≤ 3 }
@@ -152,7 +152,7 @@ fn inner_blocks(alloc: Global, layers: u8, block: &Block) -> Result<Vec<Taken>, 
     }
 }
 
-/// The blocks of octets that are a text in this many layers of base64 at most. There is none if they have a control
+/// The blocks of octets that are a text, in at most `layers` layers of base64; none if the octets have a control
 /// character, which no text has.
 #[cycle(layers)]
 fn text_blocks(alloc: Global, layers: u8, octets: &[u8]) -> Result<Vec<Taken>, TextFault>
@@ -172,7 +172,7 @@ fn text_blocks(alloc: Global, layers: u8, octets: &[u8]) -> Result<Vec<Taken>, T
     first_blocks(alloc, layers - 1, text)
 }
 
-/// The blocks of a text in a form of which each block counts for itself.
+/// The blocks of a text that count, in a form in which each block counts by itself.
 fn kept_blocks(alloc: Global, form: Form, blocks: Vec<Block>) -> Result<Vec<Taken>, AllocError>
     requires { list_any is_too_long (map block_value blocks.items) ≡ false }
     ensures taken { IfOk result
@@ -189,8 +189,8 @@ fn kept_blocks(alloc: Global, form: Form, blocks: Vec<Block>) -> Result<Vec<Take
     Ok(kept)
 }
 
-/// Whether a block counts in a form of which each block counts for itself. All blocks of PEM do. A dump that is refused
-/// is no hexadecimal: its first offset gives two octets 00.
+/// Whether a block counts, in a form in which each block counts by itself. All blocks of PEM count. A refused dump is
+/// not hexadecimal: its first offset gives two octets 00.
 fn is_kept(form: Form, block: &Block) -> bool
     ensures { result ≡ is_kept form (block_value block.now) }
 {
@@ -208,7 +208,7 @@ fn is_complete(block: &Block) -> bool
     block.state == BlockState::Whole && !block.octets.is_empty()
 }
 
-/// Whether two octets 00 come first, which no encoding has.
+/// Whether the octets begin with two octets 00, as no encoding does.
 fn begins_with_zeros(octets: &[u8]) -> bool
     ensures { result ≡ begins_with_zeros octets.now }
 {

@@ -22,7 +22,7 @@ fn begins_as_sequence(octets: &[u8]) -> bool
     matches!(octets, [0x30 | 0x31, ..])
 }
 
-/// Whether the octets of an input are sound encodings. ASCII in UTF-16, if they are that, is sound by chance.
+/// Whether the octets of an input are sound encodings. ASCII in UTF-16 does not count: it is sound only by chance.
 pub(crate) fn are_encodings(ascii: &Option<Vec<u8>>, octets: &[u8]) -> bool
     requires size { length octets.now ≤ input_limit }
     requires ascii { option_map (λ text. text.items) ascii.now ≡ ascii_of_utf16 octets.now }

@@ -1,4 +1,4 @@
-//! What an input is taken for: octets as they stand, or a text of one of the forms that people have encodings in.
+//! What an input is taken for: octets as they stand, or a text in one of the forms in which people keep encodings.
 #![tactic(auto)]
 
 mod characters;

@@ -13,13 +13,13 @@ use crate::values::{all_taken_as, one_taken, taken_octets, taken_other_text};
 use std::alloc::Global;
 use tlv_text::{Form, TextFault, ascii_of_utf16, blocks_of};
 
-/// How many layers of base64 a text may be in.
+/// The maximum number of layers of base64 that a text may be in.
 const LAYERS: u8 = 3;
 
-/// The blocks of an input, by what its octets decide: octets as they stand, or the blocks of a text. A text has no
-/// control character among its first 4096 characters, and is that of the first form of which a block counts, in the
-/// order of PEM, dumps, hexadecimal, numbers, base64 and runs of base64. If there is no such form, the input is octets
-/// if they are sound encodings or no text, and otherwise a text of no form. There is one block at least.
+/// Returns the blocks of an input, as its octets decide: octets as they stand, or the blocks of a text. A text has no
+/// control character among its first 4096 characters. Its form is the first in which a block counts, in this order:
+/// PEM, dumps, hexadecimal, numbers, base64, runs of base64. If there is no such form, the input is octets if it is
+/// sound encodings or not a text; otherwise it is a text of no form. There is at least one block.
 ///
 /// # Errors
 ///
@@ -38,7 +38,7 @@ pub fn take_input(alloc: Global, octets: Vec<u8>) -> Result<Vec<Taken>, TextFaul
     }
 }
 
-/// The blocks of an input that is taken for a text. There is none if it is taken for octets as they stand.
+/// The blocks of an input that is taken for a text; none if the input is taken for octets as they stand.
 fn taken_from_text(alloc: Global, octets: &[u8]) -> Result<Vec<Taken>, TextFault>
     requires { length octets.now ≤ input_limit }
     ensures taken { IfOk result
@@ -58,11 +58,11 @@ fn taken_from_text(alloc: Global, octets: &[u8]) -> Result<Vec<Taken>, TextFault
     Ok(taken)
 }
 
-/// The blocks of an input that is a text of this form. There is one block at least.
+/// Returns the blocks of an input that is a text of this form. There is at least one block.
 ///
 /// # Errors
 ///
-/// As those of `take_input`.
+/// The same as for `take_input`.
 pub fn take_as(alloc: Global, form: Form, octets: &[u8]) -> Result<Vec<Taken>, TextFault>
     ensures taken { IfOk result (λ ts. IsTakenAs form octets.now (map taken_value ts.items)) }
     ensures within { IfOk result (λ ts. All (λ t. length t.block.octets.items ≤ input_limit) ts.items) }
@@ -73,7 +73,7 @@ pub fn take_as(alloc: Global, form: Form, octets: &[u8]) -> Result<Vec<Taken>, T
     Ok(all_taken_as(alloc, form, blocks)?)
 }
 
-/// The only block of an input that is octets as they stand.
+/// Returns the only block of an input that is octets as they stand.
 ///
 /// # Errors
 ///

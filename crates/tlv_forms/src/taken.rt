@@ -9,7 +9,7 @@ pub enum TakenFor {
     Octets,
     /// A text of this form.
     Text(Form),
-    /// A text of no form that is known. Its block has no octets, and its first words in place of a label.
+    /// A text of no known form. Its block has no octets, and has its first words as the label.
     OtherText,
 }
 
@@ -18,8 +18,8 @@ pub enum TakenFor {
 pub struct Taken {
     /// What it was taken for.
     pub taken_for: TakenFor,
-    /// The base64 that its text is written in, from the inside: the line of a run, or `None` for a text that is base64
-    /// and nothing else.
+    /// The layers of base64 that its text is written in, innermost first: the line of a run, or `None` for a text
+    /// that is only base64.
     pub layers: ArrayVec<Option<usize>, 3>,
     /// The block, with its octets.
     pub block: Block,

@@ -38,7 +38,7 @@ pub(crate) fn taken_octets(octets: Vec<u8>) -> Taken
     taken_as(TakenFor::Octets, block)
 }
 
-/// A text of no form that is known.
+/// A text of no known form.
 pub(crate) fn taken_other_text(alloc: Global, text: &[u8]) -> Taken
     ensures value { taken_value result ≡ taken_other_text text.now }
     ensures octets { result.block.octets.items ≡ [] }
@@ -52,7 +52,7 @@ pub(crate) fn taken_other_text(alloc: Global, text: &[u8]) -> Taken
     taken_as(TakenFor::OtherText, block)
 }
 
-/// A block alone.
+/// A list of one block.
 pub(crate) fn one_taken(alloc: Global, taken: Taken) -> Result<Vec<Taken>, AllocError>
     ensures { IfOk result (λ ts. ts.items ≡ taken ∷ []) }
 {
@@ -80,7 +80,7 @@ pub(crate) fn all_taken_as(
     Ok(all)
 }
 
-/// Adds a layer of base64, outside those that the blocks are in.
+/// Adds a layer of base64 outside the layers that the blocks are in.
 pub(crate) fn add_layer(taken: &mut [Taken], layer: Option<usize>)
     requires { All (IsBounded 3) taken.old }
     ensures values { map taken_value taken.new ≡ map (in_layer layer) (map taken_value taken.old) }

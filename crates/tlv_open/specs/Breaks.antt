@@ -23,8 +23,8 @@ use Rattle.tlv_walk.specs.Reading.{IsReading}
 
 -- ---- Which strings look like encodings
 
--- the octets are more than 24, and begin with a header of definite length; the element that it announces ends at most 8
--- octets before or after their end
+-- there are more than 24 octets, and they begin with a header of definite length; the element that it announces ends
+-- at most 8 octets before or after their end
 pub record HaveAnnouncedSize (octets : List ℕ) : Type 0 where
   pub many : 24 < length octets
   pub header : HeaderValue
@@ -34,12 +34,12 @@ pub record HaveAnnouncedSize (octets : List ℕ) : Type 0 where
   pub not_before : length octets ≤ (length (octets_of header) + announced) + 8
   pub not_after : length (octets_of header) + announced ≤ length octets + 8
 
--- the same, and their first octet is this one
+-- the same, and the first octet is `first`
 pub record BeginsAs (first : ℕ) (octets : List ℕ) : Type 0 where
   pub first_octet : slice_index octets 0 ≡ first
   pub size : HaveAnnouncedSize octets
 
--- why a string looks like encodings, by its inner octets, and by whether it is the value of an extension: a line for
+-- why a string looks like encodings, given its inner octets and whether it is the value of an extension: a line for
 -- each reason. 8.9.1, 8.11.1: SEQUENCE begins with 30, SET with 31
 pub data LooksEncoded (octets : List ℕ) (is_value : Bool) : Suspicion → Type 0 where
   sequence : BeginsAs 0x30 octets → LooksEncoded octets is_value Sequence
@@ -49,14 +49,14 @@ pub data LooksEncoded (octets : List ℕ) (is_value : Bool) : Suspicion → Type
 
 -- ---- Extensions of certificates
 
--- the octets are these, and then one or more others
+-- the second list is the first list, followed by one or more octets
 abbrev pub goes_beyond : List ℕ → List ℕ → Bool
 goes_beyond [] [] = false
 goes_beyond [] (x ∷ more) = true
 goes_beyond (b ∷ begin) [] = false
 goes_beyond (b ∷ begin) (x ∷ more) = eqb x b && goes_beyond begin more
 
--- 8.19: contents of an OBJECT IDENTIFIER below 2.5.29 or 1.3.6.1.5.5.7.1, which are those of extensions
+-- 8.19: contents of an OBJECT IDENTIFIER below 2.5.29 or 1.3.6.1.5.5.7.1, which name extensions
 abbrev pub names_extension : List ℕ → Bool
 names_extension contents =
     goes_beyond (0x55 ∷ 0x1d ∷ []) contents || goes_beyond (0x2b ∷ 6 ∷ 1 ∷ 5 ∷ 5 ∷ 7 ∷ 1 ∷ []) contents
@@ -66,8 +66,8 @@ abbrev pub begin_extension : Forest → Bool
 begin_extension (Primitive id contents rest) = is_a universal.object_identifier id && names_extension contents
 begin_extension f = false
 
--- an element with this header, which holds these others, is an extension: a SEQUENCE that begins so. Its last element
--- is its value
+-- an element with this header and these children is an extension: a SEQUENCE that begins with such an OBJECT
+-- IDENTIFIER. Its last element is its value
 abbrev pub is_extension : HeaderValue → Forest → Bool
 is_extension h children = is_a universal.sequence h && begin_extension children
 
@@ -78,28 +78,28 @@ is_no_more f = false
 
 -- ---- Where they break
 
--- the first octets of so many SEQUENCEs of indefinite length, each in the one before
+-- the first octets of this number of SEQUENCEs of indefinite length, each inside the one before
 abbrev pub sequence_starts : ℕ → List ℕ
 sequence_starts zero = []
 sequence_starts (suc n) = 0x30 ∷ 0x80 ∷ sequence_starts n
 
--- a string, header and contents, inside so many SEQUENCEs that have not ended, and a NULL after it. What is open at its
--- end meets the octet that is after it there
+-- a string (header and contents) inside `depth` SEQUENCEs that have not ended, and a NULL after it. Whatever is open
+-- at the end of the string meets the octet after it
 abbrev pub octets_around : ℕ → List ℕ → List ℕ
 octets_around depth string = sequence_starts depth ++ (string ++ 5 ∷ 0 ∷ [])
 
--- and the string is named
+-- the framing in which this string is named
 abbrev pub framing_around : ℕ → Framing
 framing_around depth = record { inside = 2 * depth ∷ []; padding = false }
 
--- a string that is so many elements deep breaks when it is read as encodings: the octets around it end in a fault that
--- is not beyond the end of the string. These octets are an input, and so no more than an input may have
+-- a string inside `depth` elements breaks when it is read as encodings: the octets around it end in a fault that is
+-- not beyond the end of the string. These octets are an input, so there are no more than an input may have
 pub record BreaksAt (depth : ℕ) (string : List ℕ) (fault : Fault) : Type 0 where
   pub within_limit : length (octets_around depth string) ≤ input_limit
   pub is_ending : IsEnding (framing_around depth) (octets_around depth string) (ending.Fault fault)
   pub within_string : fault.offset ≤ 2 * depth + length string
 
--- the same fault, of a string at this offset: counted from where the offset is
+-- the same fault for a string at `offset`: its offset is counted from where `offset` is counted
 abbrev pub fault_of_string : ℕ → ℕ → Fault → Fault
 fault_of_string offset depth fault = fault_at fault.code (offset + (fault.offset - 2 * depth))
 
@@ -113,8 +113,7 @@ pub record IsBrokenString
   pub breaks_at : BreaksAt depth string fault
   pub fault_is : broken.fault ≡ fault_of_string offset depth fault
 
--- a primitive among elements at a place is a string that is broken: it may be opened there, is not, looks like
--- encodings, and breaks
+-- a primitive at this place is a broken string: it may be opened there but is not, looks like encodings, and breaks
 pub record IsBroken
     (w : Where) (is_value : Bool) (h : HeaderValue) (contents : List ℕ) (broken : BrokenString)
     : Type 0 where
@@ -124,8 +123,8 @@ pub record IsBroken
   pub inner : inner_octets h contents ≡ Some octets
   pub is_broken : IsBrokenString (w.start + h.offset) w.depth (octets_of h ++ contents) octets is_value broken
 
--- the strings among these elements that are broken, and those that are broken in strings that are opened, in order; and
--- whether the elements are all those of an extension
+-- the broken strings among these elements and inside their opened strings, in order; the Bool says whether the
+-- elements are all the elements of an extension
 pub data Breaks : Where → Bool → Forest → List BrokenString → Type 0 where
   no_more : {w : Where} {e : Bool} → Breaks w e NoMore []
   padded : {w : Where} {e : Bool} {rest : Forest} {xs : List BrokenString} → Breaks w e rest xs
@@ -135,7 +134,7 @@ pub data Breaks : Where → Bool → Forest → List BrokenString → Type 0 whe
       → w.may_open ≡ true → (inner : Forest) → HoldsEncodings w.depth h contents inner
       → Breaks (where_of_held w h) false inner xs → Breaks w e rest ys
       → Breaks w e (Primitive h contents rest) (xs ++ ys)
-  -- one that is broken: in it nothing is looked for
+  -- a broken string: nothing is searched for in it
   broken : {w : Where} {e : Bool} {h : HeaderValue} {contents : List ℕ} {rest : Forest} {ys : List BrokenString}
       → (x : BrokenString) → IsBroken w (e && is_no_more rest) h contents x → Breaks w e rest ys
       → Breaks w e (Primitive h contents rest) (x ∷ ys)
@@ -147,17 +146,17 @@ pub data Breaks : Where → Bool → Forest → List BrokenString → Type 0 whe
   holder : {w : Where} {e : Bool} {h : HeaderValue} {children rest : Forest} {xs ys : List BrokenString}
       → Breaks (where_of_children w h (is_one_primitive children)) (is_extension h children) children xs
       → Breaks w e rest ys → Breaks w e (Holder h children rest) (xs ++ ys)
-  -- of an element that has not ended nobody knows which element is the last
+  -- in an element that has not ended, the last element is not known
   open_holder : {w : Where} {e : Bool} {h : HeaderValue} {children : Forest} {xs : List BrokenString}
       → Breaks (where_of_children w h false) false children xs → Breaks w e (OpenHolder h children) xs
-  -- what is unfinished is not looked at
+  -- unfinished elements are not looked at
   open_primitive : {w : Where} {e : Bool} {h : HeaderValue} {contents : List ℕ}
       → Breaks w e (OpenPrimitive h contents) []
   open_bit_string : {w : Where} {e : Bool} {h : HeaderValue} → Breaks w e (OpenBitString h) []
   open_header : {w : Where} {e : Bool} {octets : List ℕ} → Breaks w e (OpenHeader octets) []
   open_end_octets : {w : Where} {e : Bool} → Breaks w e OpenEndOctets []
 
--- the strings of an input that are broken, by its reading in which no string is named
+-- the broken strings of an input, given by its reading in which no string is named
 pub record AreBroken (padding : Bool) (octets : List ℕ) (list : List BrokenString) : Type 0 where
   pub reading : Forest
   pub is_reading : IsReading (closed_framing padding) octets reading

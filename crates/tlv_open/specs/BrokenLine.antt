@@ -1,4 +1,4 @@
--- The line that is written of a string that is broken.
+-- The line that is written for a broken string.
 use Rattle.std.specs.Prelude.{ℕ, List, ◌++◌, codes, decimal}
 use Rattle.tlv_head.specs.Fault.{fault_code, fault_text}
 use Rattle.tlv_open.specs.declared.strings.BrokenString.{BrokenString}

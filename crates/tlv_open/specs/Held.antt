@@ -13,18 +13,18 @@ use Rattle.tlv_walk.specs.Forest.{Forest, Holder, Primitive, has_element, spelli
 use Rattle.tlv_walk.specs.Place.{Place}
 use Rattle.tlv_walk.specs.Reading.{IsSound}
 
--- 8.6.2.2: the contents octets of a BIT STRING after the first, if that says that no bit is unused
+-- 8.6.2.2: the contents octets of a BIT STRING after the first, if the first says that no bit is unused
 abbrev pub after_unused_bits : List ℕ → Option (List ℕ)
 after_unused_bits [] = None
 after_unused_bits (x ∷ octets) = if eqb x 0 then Some octets else None
 
--- 8.6.2, 8.7.2: the octets that may be encodings, of a primitive with this header and these contents
+-- 8.6.2, 8.7.2: the octets of a primitive with this header and these contents that may be encodings
 abbrev pub inner_octets : HeaderValue → List ℕ → Option (List ℕ)
 inner_octets h contents =
     if is_a universal.octet_string h then Some contents
     else (if is_a universal.bit_string h then after_unused_bits contents else None)
 
--- where these octets are read by themselves: at the offset 0, so many elements deep, and without padding
+-- the place where octets are read by themselves: at offset 0, inside `depth` elements, and without padding
 abbrev pub place_by_itself : ℕ → Place
 place_by_itself depth = record {
   offset = 0;
@@ -35,7 +35,7 @@ place_by_itself depth = record {
   inside = [];
 }
 
--- a primitive of the universal class in which BER finds nothing: random octets are seldom such
+-- a primitive of the universal class that has no findings under BER: random octets are seldom one
 pub record IsClearPrimitive (h : HeaderValue) (contents : List ℕ) : Type 0 where
   pub in_universal_class : is_universal h.class ≡ true
   pub no_header_findings : header_findings Ber (surroundings_of top_site) h ≡ []
@@ -47,8 +47,8 @@ AreLikely (Primitive h contents rest) = IsClearPrimitive h contents × AreLikely
 AreLikely (Holder h children rest) = AreLikely rest
 AreLikely end = Unit {0}
 
--- a primitive that is `depth` elements deep is a string that holds encodings, and no others: by themselves they are
--- one or more sound elements at the depth at which they are then, of which the outermost are likely to be encodings
+-- a primitive inside `depth` elements is a string that holds encodings and nothing else: read by themselves, at
+-- `depth + 1`, they are one or more sound elements, and the outermost are likely to be encodings
 pub record HoldsEncodings (depth : ℕ) (h : HeaderValue) (contents : List ℕ) (inner : Forest) : Type 0 where
   pub octets : inner_octets h contents ≡ Some (spelling inner)
   -- the string counts among the elements that hold others

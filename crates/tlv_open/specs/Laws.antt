@@ -1,4 +1,4 @@
--- Laws of the strings that are opened, and of those that break.
+-- Laws of the strings that are opened, and of the strings that break.
 use Rattle.std.specs.Prelude.{◌≡◌, ◌≤◌, Bool, List, ℕ, length, true}
 use Rattle.tlv_head.specs.InputLimit.{input_limit}
 use Rattle.tlv_walk.specs.declared.ending.Ending.{Ending}
@@ -12,12 +12,12 @@ use Rattle.tlv_open.specs.declared.strings.BrokenString.{BrokenString}
 use Rattle.tlv_open.specs.Breaks.{AreBroken}
 use Rattle.tlv_open.specs.Opens.{AreOpened, closed_framing}
 
--- an input has one list of strings that are opened
+-- an input has exactly one list of opened strings
 abbrev pub InputsHaveOneList : Type 0
 InputsHaveOneList = (padding : Bool) (octets : List ℕ) → AreOctets octets
     → (xs : List ℕ) × AreOpened padding octets xs × ((ys : List ℕ) → AreOpened padding octets ys → ys ≡ xs)
 
--- an input has one list of strings that are broken
+-- an input has exactly one list of broken strings
 abbrev pub InputsHaveOneBrokenList : Type 0
 InputsHaveOneBrokenList = (padding : Bool) (octets : List ℕ) → AreOctets octets
     → (xs : List BrokenString) × AreBroken padding octets xs
@@ -27,17 +27,18 @@ InputsHaveOneBrokenList = (padding : Bool) (octets : List ℕ) → AreOctets oct
 abbrev pub opened_framing : Bool → List ℕ → Framing
 opened_framing padding offsets = record { inside = offsets; padding = padding }
 
--- what comes of an input if the strings that are opened are named, by its reading and the one in which none is named
+-- the result of naming the opened strings: `opened` is the reading with them named, `closed` the reading with none
+-- named
 pub record OpensWell (padding : Bool) (octets offsets : List ℕ) (closed opened : Forest) : Type 0 where
-  -- each of them holds encodings in the reading, and no other does: none is named in vain
+  -- in the reading, each of them holds encodings, and no other string does: none is named without effect
   pub wrappers : wrapper_offsets opened ≡ offsets
-  -- the same octets are spelled
+  -- both readings spell the same octets
   pub spelled : spelling opened ≡ spelling closed
-  -- the ending is the one without: opening makes no fault and hides none
+  -- the ending is the same as with no string named: opening makes no fault and hides none
   pub ending : (e : Ending) → IsEnding (closed_framing padding) octets e
       → IsEnding (opened_framing padding offsets) octets e
 
--- strings that are opened can be named, and what comes of it
+-- the opened strings can be named, with the result above
 abbrev pub OpeningIsSafe : Type 0
 OpeningIsSafe = (padding : Bool) (octets offsets : List ℕ) (closed opened : Forest) → AreOctets octets
     → length octets ≤ input_limit → AreOpened padding octets offsets

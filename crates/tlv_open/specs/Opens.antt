@@ -1,4 +1,4 @@
--- Which strings of an input are opened: those that are read as the encodings that they hold.
+-- Which strings of an input are opened, that is, read as the encodings that they hold.
 use Rattle.std.specs.Prelude.{◌≡◌, ℕ, ◌+◌, Bool, true, false, ◌||◌, not, List, [], ◌∷◌, ◌++◌, length}
 use Rattle.tlv_head.specs.Header.{HeaderValue}
 use Rattle.tlv_value.specs.Types.{has_segments}
@@ -13,13 +13,13 @@ abbrev pub is_one_primitive : Forest → Bool
 is_one_primitive (Primitive h contents NoMore) = true
 is_one_primitive f = false
 
--- 8.6.4, 8.7.3: the strings that an element holds may be opened, unless they are segments of a constructed string. If
--- that is whole and has one segment alone, the octets of this are all of its value, so it may be opened
+-- 8.6.4, 8.7.3: the strings in an element may be opened, unless they are segments of a constructed string. If the
+-- constructed string is whole and has only one segment, that segment has all of its value, so it may be opened
 abbrev pub may_open_in : HeaderValue → Bool → Bool
 may_open_in h is_one_whole = not (has_segments h) || is_one_whole
 
--- where elements are that are read by themselves: what their offsets are counted from, how many elements hold them, and
--- whether strings that are directly among them may be opened
+-- the position of elements that are read by themselves: what their offsets are counted from, the number of elements
+-- that hold them, and whether strings directly among them may be opened
 pub record Where : Type 0 where
   pub start : ℕ
   pub depth : ℕ
@@ -33,7 +33,7 @@ where_of_children w h is_one_whole = record w { depth = w.depth + 1; may_open = 
 abbrev pub where_of_held : Where → HeaderValue → Where
 where_of_held w h = record { start = w.start + (h.offset + length (opening h)); depth = w.depth + 1; may_open = true }
 
--- the offsets of the strings among these elements that are opened, and of those that are opened in these, in order
+-- the offsets of the opened strings among these elements, and of the opened strings inside these strings, in order
 pub data Opens : Where → Forest → List ℕ → Type 0 where
   no_more : {w : Where} → Opens w NoMore []
   padded : {w : Where} {rest : Forest} {xs : List ℕ} → Opens w rest xs → Opens w (PaddingOctet rest) xs
@@ -49,10 +49,10 @@ pub data Opens : Where → Forest → List ℕ → Type 0 where
   holder : {w : Where} {h : HeaderValue} {children rest : Forest} {xs ys : List ℕ}
       → Opens (where_of_children w h (is_one_primitive children)) children xs → Opens w rest ys
       → Opens w (Holder h children rest) (xs ++ ys)
-  -- of an element that has not ended nobody knows how many segments it has
+  -- in an element that has not ended, the number of segments is not known
   open_holder : {w : Where} {h : HeaderValue} {children : Forest} {xs : List ℕ}
       → Opens (where_of_children w h false) children xs → Opens w (OpenHolder h children) xs
-  -- what is unfinished is not opened
+  -- unfinished elements are not opened
   open_primitive : {w : Where} {h : HeaderValue} {contents : List ℕ} → Opens w (OpenPrimitive h contents) []
   open_bit_string : {w : Where} {h : HeaderValue} → Opens w (OpenBitString h) []
   open_header : {w : Where} {octets : List ℕ} → Opens w (OpenHeader octets) []
@@ -66,7 +66,7 @@ where_at_top = record { start = 0; depth = 0; may_open = true }
 abbrev pub closed_framing : Bool → Framing
 closed_framing padding = record { inside = []; padding = padding }
 
--- the strings of an input that are opened, by its reading in which none is named
+-- the opened strings of an input, given by its reading in which no string is named
 pub record AreOpened (padding : Bool) (octets offsets : List ℕ) : Type 0 where
   pub reading : Forest
   pub is_reading : IsReading (closed_framing padding) octets reading

@@ -1,4 +1,4 @@
-//! Adds the strings that are found among elements, and says whether the elements are sound.
+//! Adds the strings found among elements, and returns whether the elements are sound.
 ghost use Rattle.std.specs.Prelude.{◌≡◌, ◌≢◌, ◌≤◌, ◌+◌, ◌<◌, ◌↔◌, IfOk, IsTrue, List, OnOk, ℕ};
 ghost use Rattle.std.specs.Prelude.{Some, false, length, slice_index, true};
 ghost use Rattle.tlv_head.specs.DepthLimit.{depth_limit};
@@ -21,9 +21,9 @@ use crate::spot::{Spot, inside, inside_lacking, is_octet_or_bit_string, is_value
 use std::alloc::AllocError;
 use tlv_head::{HeaderFields, Size};
 
-/// Adds the strings that are found among the elements that the octets are, at this offset from where these are counted,
-/// and in them. Returns whether the elements are sound. Most elements are in one that has a length, so that this is
-/// called the most: that it returns no more than a yes or no makes it fast.
+/// Adds the strings found among the elements that make up the octets, and inside those elements. The octets begin at
+/// this offset from `spot.start`. Returns whether the elements are sound. Most elements are in an element of definite
+/// length, so this function is called most often: returning only a `bool` makes it fast.
 #[cycle(find)]
 #[inline(never)]
 pub(crate) fn add_all_strings(
@@ -40,8 +40,8 @@ pub(crate) fn add_all_strings(
     Ok(extent.sound)
 }
 
-/// Adds the strings that are found among the elements with which the octets begin, up to `00 00`, and in them. Returns
-/// how many octets they have, and whether they are sound.
+/// Adds the strings found among the leading elements of the octets, up to `00 00`, and inside those elements. Returns
+/// the size of the elements in octets, and whether they are sound.
 #[cycle(find)]
 #[inline(never)]
 fn add_ended_strings(
@@ -57,9 +57,9 @@ fn add_ended_strings(
     add_strings(octets, offset, spot, true, found)
 }
 
-/// Adds the strings that are found among the elements with which the octets begin, at this offset from where these are
-/// counted, and in them. They end with `00 00`, if `end_octets`, or with the octets. Returns how many octets they have,
-/// and whether they are sound. It becomes a part of the two functions that call it, by whether `end_octets` or not.
+/// Adds the strings found among the leading elements of the octets, which begin at this offset from `spot.start`, and
+/// inside those elements. With `end_octets`, the elements end before `00 00`; otherwise they end with the octets.
+/// Returns their size in octets, and whether they are sound. Inlined into both callers, one per `end_octets`.
 #[cycle(find)]
 #[inline(always)]
 fn add_strings(
@@ -104,8 +104,8 @@ fn add_strings(
     Ok(Extent { size: at, sound })
 }
 
-/// Adds the strings that are found in the element with which the octets begin, which may itself be one. Returns how
-/// many octets it has, and whether it is sound; if it has not ended, these are all. The header may be of any length.
+/// Adds the strings found in the first element of the octets, which may itself be such a string. Returns its size in
+/// octets, and whether it is sound; an element that has not ended takes all the octets. The header may have any length.
 #[cycle(find)]
 #[inline(never)]
 fn add_after_long(
@@ -128,7 +128,7 @@ fn add_after_long(
     }
 }
 
-/// [`add_after_long`], of an element whose header has these fields and so many octets.
+/// [`add_after_long`] for an element whose header has these fields and `count` octets.
 #[cycle(find)]
 #[inline(always)]
 fn add_with(
@@ -162,7 +162,7 @@ fn add_with(
     Ok(Extent { size, sound })
 }
 
-/// [`add_after_long`], of a constructed element whose header has these fields and so many octets.
+/// [`add_after_long`] for a constructed element whose header has these fields and `count` octets.
 #[cycle(find)]
 #[inline(always)]
 fn add_in_holder(
@@ -233,8 +233,8 @@ fn add_in_indefinite(
     Ok(unended(octets))
 }
 
-/// Adds the primitive that these octets are, at this offset, if it is a string that is opened or that is broken, and
-/// the strings that are found in it. Its header is read again, so that it need not be kept for all other elements.
+/// Adds the primitive at this offset, encoded by these octets, if it is an opened or broken string, and the strings
+/// found in it. Reads its header again, so that the header need not be kept for all other elements.
 #[cycle(find)]
 #[inline(never)]
 fn add_string(
@@ -268,8 +268,8 @@ fn add_string(
     Ok(())
 }
 
-/// Adds a string at this offset that may hold these octets, which begin at `start`, and the strings that are found in
-/// it, if they are encodings, and says whether they are. If not, what was found is as before.
+/// If these octets, which begin at `start`, are encodings, adds the string at this offset that holds them, and the
+/// strings found in it. Returns whether they are encodings; if not, `found` is as before.
 #[cycle(find)]
 fn add_held(
     octets: &[u8],

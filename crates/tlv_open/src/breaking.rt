@@ -13,14 +13,14 @@ use std::alloc::AllocError;
 use tlv_head::{Fault, Size};
 use tlv_walk::{Ending, Framing, INPUT_LIMIT, Inside, Walker};
 
-/// A string has more inner octets than these if it may break for its size.
+/// A string must have more than this number of inner octets to look like encodings by its size.
 const FEW_OCTETS: usize = 24;
 
-/// So many octets may an element end before or after the string that it begins.
+/// The maximum distance in octets between the end of a string and the end of the element that it begins with.
 const MOST_APART: u64 = 8;
 
-/// What is to be said of a string, header and contents, that is at this offset, has these inner octets, and is not
-/// opened, if it breaks. `depth` is how many elements hold it.
+/// The entry for a string that is not opened, if it breaks. `string` is its header and contents, at this offset, and
+/// `octets` are its inner octets. `depth` is the number of elements that hold it.
 pub(crate) fn broken_string(
     offset: u64,
     depth: u8,
@@ -66,7 +66,7 @@ fn suspicion(octets: &[u8], is_value: bool) -> Option<Suspicion>
     }
 }
 
-/// Whether the octets begin with this one, and [`have_announced_size`].
+/// Whether the octets begin with this octet and [`have_announced_size`].
 fn begin_as(first: u8, octets: &[u8]) -> bool
     requires { length octets.now ≤ input_limit }
     ensures { IsTrue result ↔ BeginsAs first octets.now }
@@ -74,8 +74,8 @@ fn begin_as(first: u8, octets: &[u8]) -> bool
     first_octet(octets) == first && have_announced_size(octets)
 }
 
-/// Whether the octets are more than 24, and begin with the header of an element that ends at most 8 octets before or
-/// after them.
+/// Whether there are more than 24 octets, and they begin with the header of an element that ends at most 8 octets
+/// before or after their end.
 fn have_announced_size(octets: &[u8]) -> bool
     requires { length octets.now ≤ input_limit }
     ensures { IsTrue result ↔ HaveAnnouncedSize octets.now }
@@ -93,8 +93,8 @@ fn have_announced_size(octets: &[u8]) -> bool
     length <= rest + MOST_APART && rest <= length + MOST_APART
 }
 
-/// The fault of a string, header and contents, if it breaks. Its offset is counted from the start of the octets around
-/// the string. `depth` is how many elements hold it.
+/// The fault of a string (header and contents), if it breaks. The fault's offset counts from the start of the octets
+/// around the string. `depth` is the number of elements that hold the string.
 fn fault_in(string: &[u8], depth: u8) -> Option<Fault>
     requires { length string.now ≤ input_limit }
     ensures { MatchOption result ((f : Fault) → BreaksAt depth string.now f → ⊥)
@@ -116,7 +116,7 @@ fn fault_in(string: &[u8], depth: u8) -> Option<Fault>
     }
 }
 
-/// The ending of the octets around a string, read so.
+/// The ending of the octets around a string, read in this framing.
 fn ending_around(string: &[u8], depth: u8, framing: &Framing<'_>) -> Ending
     requires { length (octets_around depth string.now) ≤ input_limit }
     ensures { IsEnding framing.now (octets_around depth string.now) result }

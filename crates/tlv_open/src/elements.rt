@@ -1,4 +1,4 @@
-//! Sound elements in octets that are at hand.
+//! Sound elements in octets in memory.
 ghost use Rattle.std.specs.Prelude.{◌≡◌, ◌+◌, ◌<◌, ◌^◌, ◌↔◌, IfSome, IsTrue, MatchOption, drop, false, length};
 ghost use Rattle.std.specs.Prelude.{slice_index, take, true, ℕ};
 ghost use Rattle.tlv_head.specs.Header.{announced_length};
@@ -13,12 +13,12 @@ ghost use Rattle.tlv_open.specs.Private.Elements.{BeginsWithNoElements, is_eleme
 use tlv_head::{Class, Header, HeaderFields, Size, read_header, read_short};
 use tlv_show::has_basic_findings;
 
-/// The most elements that hold others, inside one another.
+/// The maximum number of elements that hold others, one inside another.
 pub(crate) const DEPTH_LIMIT: u8 = 128;
 
-/// The header with which the octets begin, at this offset, if it has two octets, as most have. `None` if they begin
-/// with no header, or with a longer one, which [`header_at`] finds. It is apart, since few instructions read so short
-/// a header where it is asked for.
+/// The header that the octets begin with, at this offset, if it has two octets, as most headers do. `None` if the
+/// octets begin with no header, or with a longer one, which [`header_at`] finds. This is a separate function because
+/// inlined code reads so short a header in few instructions.
 #[inline(always)]
 pub(crate) fn two_octet_header(octets: &[u8], offset: u64) -> Option<(HeaderFields, usize)>
     ensures { IfSome result (λ (fields, count). BeginsWithFields octets.now offset false fields count) }
@@ -39,7 +39,7 @@ pub(crate) fn first_octet(octets: &[u8]) -> u8
     if octets.is_empty() { 0 } else { octets[0] }
 }
 
-/// The header with which the octets begin, at this offset, and how many octets it has. `None` if they begin with none.
+/// The header that the octets begin with, at this offset, and its size in octets. `None` if they begin with no header.
 #[inline(never)]
 pub(crate) fn header_at(octets: &[u8], offset: u64) -> Option<(HeaderFields, usize)>
     ensures { MatchOption result (BeginsWithNoHeader octets.now)
@@ -51,7 +51,7 @@ pub(crate) fn header_at(octets: &[u8], offset: u64) -> Option<(HeaderFields, usi
     }
 }
 
-/// [`header_at`], with few instructions if the header has at most four octets and no high tag number, as most have.
+/// [`header_at`], with few instructions if the header has at most four octets and no high tag number, as most do.
 #[inline(always)]
 pub(crate) fn quick_header_at(octets: &[u8], offset: u64) -> Option<(HeaderFields, usize)>
     ensures { MatchOption result (BeginsWithNoHeader octets.now)
@@ -63,7 +63,7 @@ pub(crate) fn quick_header_at(octets: &[u8], offset: u64) -> Option<(HeaderField
     }
 }
 
-/// The header with which the octets begin, at this offset, if it has at most four octets and no high tag number.
+/// The header that the octets begin with, at this offset, if it has at most four octets and no high tag number.
 #[inline(always)]
 fn four_octet_header(octets: &[u8], offset: u64) -> Option<(HeaderFields, usize)>
     ensures { IfSome result (λ (fields, count). BeginsWithFields octets.now offset false fields count) }
@@ -76,9 +76,9 @@ fn four_octet_header(octets: &[u8], offset: u64) -> Option<(HeaderFields, usize)
     }
 }
 
-/// How many octets the sound elements have with which the octets begin, at this offset and depth, up to the octets `00
-/// 00` if those end them, and else up to the last octet. If `likely`, each of the outermost has to be constructed, or a
-/// primitive of the universal class in which BER finds nothing.
+/// The size in octets of the sound elements that the octets begin with, at this offset and depth. With `end_octets`,
+/// the elements end before `00 00`; otherwise they end with the last octet. If `likely`, each outermost element must
+/// be constructed, or a primitive of the universal class that has no findings under BER.
 #[cycle(sound)]
 pub(crate) fn elements_size(
     octets: &[u8],
@@ -114,7 +114,7 @@ pub(crate) fn is_elements_end(octets: &[u8], end_octets: bool) -> bool
     }
 }
 
-/// How many octets the sound element has with which the octets begin, at this offset and depth.
+/// The size in octets of the sound element that the octets begin with, at this offset and depth, if there is one.
 #[cycle(sound)]
 #[inline(always)]
 fn element_size(octets: &[u8], offset: u64, depth: u8, likely: bool) -> Option<usize>
@@ -128,7 +128,7 @@ fn element_size(octets: &[u8], offset: u64, depth: u8, likely: bool) -> Option<u
     }
 }
 
-/// [`element_size`], whatever the header.
+/// [`element_size`] for a header of any length.
 #[cycle(sound)]
 #[inline(never)]
 fn long_element_size(octets: &[u8], offset: u64, depth: u8, likely: bool) -> Option<usize>
@@ -140,7 +140,7 @@ fn long_element_size(octets: &[u8], offset: u64, depth: u8, likely: bool) -> Opt
     size_with(octets, offset, &fields, count, depth, likely)
 }
 
-/// [`element_size`], of an element whose header has these fields and so many octets.
+/// [`element_size`] for an element whose header has these fields and `count` octets.
 #[cycle(sound)]
 #[inline(always)]
 fn size_with(
@@ -180,7 +180,7 @@ fn size_with(
     }
 }
 
-/// [`is_clear_at`], if that is asked.
+/// [`is_clear_at`] if `likely`; otherwise true.
 #[inline(always)]
 pub(crate) fn is_likely_if(likely: bool, octets: &[u8], offset: u64) -> bool
     requires { IsAllOfPrimitive octets.now offset }
@@ -192,7 +192,8 @@ pub(crate) fn is_likely_if(likely: bool, octets: &[u8], offset: u64) -> bool
     !likely || is_clear_at(octets, offset)
 }
 
-/// Whether the primitive that these octets are, at this offset, is of the universal class, and BER finds nothing in it.
+/// Whether the primitive at this offset, encoded by these octets, is of the universal class and has no findings under
+/// BER.
 #[inline(never)]
 fn is_clear_at(octets: &[u8], offset: u64) -> bool
     requires { IsAllOfPrimitive octets.now offset }
@@ -205,7 +206,7 @@ fn is_clear_at(octets: &[u8], offset: u64) -> bool
     }
 }
 
-/// Whether a primitive with this header and these contents is of the universal class, and BER finds nothing in it.
+/// Whether a primitive with this header and these contents is of the universal class and has no findings under BER.
 #[inline(never)]
 fn is_clear_primitive(fields: &HeaderFields, header: &[u8], contents: &[u8]) -> bool
     requires sized { IsHeaderSized fields.now header.now }

@@ -1,20 +1,20 @@
-//! How many octets elements have, and whether they are sound.
+//! The size in octets of elements, and whether they are sound.
 ghost use Rattle.std.specs.Prelude.{◌≡◌, ◌≤◌, IfSome, false, length};
 ghost use Rattle.tlv_open.specs.Private.Adds.{IsPlain};
 
 use crate::spot::is_octet_or_bit_string;
 use tlv_head::HeaderFields;
 
-/// How many octets elements have that are looked for among octets, and whether they are sound.
+/// The size in octets of a run of elements, and whether they are sound.
 #[derive(Clone, Copy)]
 pub(crate) struct Extent {
-    /// How many octets they have.
+    /// The number of octets.
     pub(crate) size: usize,
-    /// Whether they are sound, and end where they have to.
+    /// Whether the elements are sound and end where they must.
     pub(crate) sound: bool,
 }
 
-/// The extent of what has not ended: all these octets.
+/// The extent of an unfinished element: all these octets.
 #[inline(always)]
 pub(crate) fn unended(octets: &[u8]) -> Extent
     ensures { result ≡ record { size = length octets.now; sound = false } }
@@ -25,9 +25,9 @@ pub(crate) fn unended(octets: &[u8]) -> Extent
     }
 }
 
-/// How many octets the primitive has with which the octets begin, if it is no OCTET STRING and no BIT STRING, and need
-/// not be `likely`. Its header has these fields and so many octets. Most primitives are such, and then nothing more is
-/// asked.
+/// The size in octets of the primitive that the octets begin with, if it is neither an OCTET STRING nor a BIT STRING
+/// and need not be `likely`. Its header has these fields and `count` octets. Most primitives are like this, and need
+/// no further check.
 #[inline(always)]
 pub(crate) fn plain_size(
     octets: &[u8],

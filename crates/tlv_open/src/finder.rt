@@ -1,4 +1,4 @@
-//! Finds the strings that are opened, and those that break.
+//! Finds the strings that are opened, and the strings that break.
 ghost use Rattle.std.specs.Prelude.{◌≡◌, ◌≤◌, IfOk, length};
 ghost use Rattle.tlv_head.specs.InputLimit.{input_limit};
 ghost use Rattle.tlv_open.specs.Breaks.{AreBroken};
@@ -10,9 +10,10 @@ use crate::reading::count_read;
 use crate::spot::Spot;
 use std::alloc::{AllocError, Global};
 
-/// The offsets of the strings of an input that are opened, in order, in octets from its start: those strings that hold
-/// encodings, and are no segments but the only one of a whole string. With `padding`, octets `00` are allowed at the
-/// top. The input may be sound or damaged; of a damaged one it is said of what is read before the fault.
+/// Returns the offsets of the opened strings of an input, in order, in octets from its start. A string is opened if
+/// it holds encodings, and is either no segment or the only segment of a whole string. With `padding`, octets `00`
+/// are allowed at the top. The input may be sound or damaged; in a damaged input, only what is read before the fault
+/// counts.
 ///
 /// # Errors
 ///
@@ -25,11 +26,11 @@ pub fn opened(alloc: Global, octets: &[u8], padding: bool) -> Result<Vec<u64>, A
     Ok(opened)
 }
 
-/// The strings of an input that are opened, as [`opened`] has them, and those that are broken: they look like encodings
-/// ([`Suspicion`](crate::Suspicion)), are not opened, and break when they are read as encodings. In a string that is
-/// opened both are looked for, and in one that is broken neither. With `padding`, octets `00` are allowed at the top.
-/// The input may be sound or damaged; of a damaged one it is said of what is read before the fault. Memory is needed
-/// for the strings that are found, and for those that are tried and then not opened.
+/// Returns the opened strings of an input, as [`opened`] defines them, and the broken strings. A broken string looks
+/// like encodings ([`Suspicion`](crate::Suspicion)), is not opened, and breaks when it is read as encodings. The
+/// search continues inside an opened string, but not inside a broken one. With `padding`, octets `00` are allowed at
+/// the top. The input may be sound or damaged; in a damaged input, only what is read before the fault counts. Needs
+/// memory for the strings that it finds, and for the strings that it tries but does not open.
 ///
 /// # Errors
 ///

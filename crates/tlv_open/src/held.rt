@@ -9,10 +9,10 @@ ghost use Rattle.tlv_walk.specs.Forest.{Forest};
 use crate::elements::{DEPTH_LIMIT, elements_size};
 use tlv_head::{Class, Header, universal};
 
-/// Whether a primitive with this header and these contents, inside so many elements that hold others, is a string that
-/// holds encodings: an OCTET STRING, or a BIT STRING with no unused bits, of which the octets by themselves are one or
-/// more sound elements, of which each of the outermost is constructed or a primitive of the universal class in which
-/// BER finds nothing. The string counts among the 128 elements that may hold others.
+/// Whether a primitive with this header and these contents, inside `depth` elements that hold others, is a string
+/// that holds encodings. It is an OCTET STRING, or a BIT STRING with no unused bits. Read by themselves, its octets
+/// are one or more sound elements, and each outermost element is constructed, or a primitive of the universal class
+/// that has no findings under BER. The string itself counts among the 128 elements that may hold others.
 pub fn holds_encodings(header: &Header, contents: &[u8], depth: u8) -> bool
     ensures { IsTrue result ↔ ((inner : Forest) × HoldsEncodings depth header.now contents.now inner) }
 {
@@ -22,7 +22,7 @@ pub fn holds_encodings(header: &Header, contents: &[u8], depth: u8) -> bool
     }
 }
 
-/// Whether these octets, inside so many elements that hold others, are what a string holds.
+/// Whether these octets, inside `depth` elements that hold others, are encodings that a string holds.
 pub(crate) fn are_held(octets: &[u8], depth: u8) -> bool
     ensures held { (h : HeaderValue) (contents : List ℕ) → inner_octets h contents ≡ Some octets.now
         → IsTrue result ↔ ((inner : Forest) × HoldsEncodings depth h contents inner) }
@@ -34,8 +34,8 @@ pub(crate) fn are_held(octets: &[u8], depth: u8) -> bool
     !octets.is_empty() && elements_size(octets, 0, depth + 1, true, false).is_some()
 }
 
-/// The octets that may be encodings (8.6.2, 8.7.2), of a primitive of this class and number: the contents of an OCTET
-/// STRING, those of a BIT STRING after a first octet `00`, and of other types none.
+/// The octets of a primitive of this class and number that may be encodings (8.6.2, 8.7.2): the contents of an OCTET
+/// STRING, or the contents of a BIT STRING after a first octet `00`. `None` for any other primitive.
 pub(crate) fn held_octets(class: Class, number: u64, contents: &[u8]) -> Option<&[u8]>
     ensures inner { MatchOption result (inner_octets_of class number contents.now ≡ None)
         (λ octets. inner_octets_of class number contents.now ≡ Some octets.now) }

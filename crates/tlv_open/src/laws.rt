@@ -1,19 +1,18 @@
 //! Laws of the definitions: each is the contract of a function that does nothing.
 ghost use Rattle.tlv_open.specs.Laws.{InputsHaveOneBrokenList, InputsHaveOneList, OpeningIsSafe};
 
-/// An input has one list of strings that are opened, and no other.
+/// An input has exactly one list of opened strings.
 pub fn inputs_have_one_list()
     ensures { InputsHaveOneList }
 {}
 
-/// An input has one list of strings that are broken, and no other.
+/// An input has exactly one list of broken strings.
 pub fn inputs_have_one_broken_list()
     ensures { InputsHaveOneBrokenList }
 {}
 
-/// The offsets of the strings that are opened rise. If they are named, each is that of a string that holds encodings in
-/// the reading, and no other string holds any; the reading has the same octets, and the ending of the input is the
-/// same.
+/// The offsets of the opened strings rise. If these strings are named, then in the reading each of them holds
+/// encodings, and no other string does; the reading has the same octets, and the input has the same ending.
 pub fn opening_is_safe()
     ensures { OpeningIsSafe }
 {}

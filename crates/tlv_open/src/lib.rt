@@ -1,5 +1,5 @@
 //! Which OCTET STRINGs and BIT STRINGs of an input hold encodings, so that they can be opened (ITU-T X.690, 8.6 and
-//! 8.7), and which look like it and break.
+//! 8.7), and which look like encodings but break.
 #![tactic(auto)]
 
 mod adding;

@@ -11,7 +11,7 @@ ghost use Rattle.tlv_walk.specs.WalkerState.{IsWithinInputLimit, new_walker};
 use crate::elements::elements_size;
 use tlv_walk::{Ending, Framing, Inside, Step, Walker};
 
-/// How many octets of the input are read with no string named: all, or those before the octet that is refused.
+/// The number of octets of the input that are read with no string named: all, or the number before the refused octet.
 pub(crate) fn count_read(octets: &[u8], padding: bool) -> usize
     requires { length octets.now ≤ input_limit }
     ensures { (f : Forest) → IsReading (closed_framing padding) octets.now f
@@ -23,12 +23,12 @@ pub(crate) fn count_read(octets: &[u8], padding: bool) -> usize
     }
 }
 
-/// What an input of these octets comes to with no string named. With `padding`, octets `00` are allowed at the top.
+/// Returns how an input of these octets ends with no string named. With `padding`, octets `00` are allowed at the top.
 pub fn ending_of(octets: &[u8], padding: bool) -> Ending
     requires { length octets.now ≤ input_limit }
     ensures { IsEnding (closed_framing padding) octets.now result }
 {
-    // Most inputs are sound, and to see that takes much less time than a walk.
+    // Most inputs are sound, and checking that takes much less time than a walk.
     if are_sound_elements(octets) {
         return Ending::Done;
     }
@@ -47,7 +47,7 @@ fn are_sound_elements(octets: &[u8]) -> bool
     !octets.is_empty() && elements_size(octets, 0, 0, false, false).is_some()
 }
 
-/// The walker that has walked over the octets, read so.
+/// A walker that has walked over the octets in this framing.
 fn walk_over<'f>(octets: &[u8], framing: &'f Framing<'_>) -> Walker<'f>
     requires { length octets.now ≤ input_limit }
     ensures { HasWalkedOver framing.now octets.now result }
@@ -57,7 +57,7 @@ fn walk_over<'f>(octets: &[u8], framing: &'f Framing<'_>) -> Walker<'f>
     walker
 }
 
-/// Walks over octets after those that the walker has walked over, up to one that is refused.
+/// Walks on over these octets, up to an octet that is refused.
 pub(crate) fn walk_on(walker: &mut Walker<'_>, octets: &[u8])
     requires { IsWithinInputLimit walker.old octets.now }
     ensures walks { WalksOverMore walker.old walker.new octets.now }

@@ -1,4 +1,4 @@
-//! Where elements are that are read by themselves, and what is looked for among them.
+//! The position of elements that are read by themselves, and what is searched for among them.
 ghost use Rattle.std.specs.Prelude.{◌≡◌, ◌<◌, ◌+◌, ◌&&◌, ◌||◌, Bool, List, false, true, ℕ};
 ghost use Rattle.tlv_head.specs.DepthLimit.{depth_limit};
 ghost use Rattle.tlv_head.specs.HeaderFields.{new_header};
@@ -14,25 +14,25 @@ ghost use Rattle.tlv_walk.specs.Place.{Place};
 use crate::elements::{header_at, is_elements_end, quick_header_at};
 use tlv_head::{Class, HeaderFields, Size, universal};
 
-/// Where elements are that are read by themselves.
+/// The position of elements that are read by themselves.
 #[derive(Clone, Copy)]
 pub(crate) struct Spot {
-    /// Where the first of them begins, in octets from the start of the input.
+    /// Where their offsets are counted from, in octets from the start of the input.
     pub(crate) start: u64,
-    /// How many elements hold them.
+    /// The number of elements that hold them.
     pub(crate) depth: u8,
     /// Whether strings among them may be opened.
     pub(crate) may_open: bool,
-    /// Whether they are those of an extension: the last of them is its value, if it has ended.
+    /// Whether they are the elements of an extension. The last element is its value, if the extension has ended.
     pub(crate) in_extension: bool,
-    /// Whether, to be sound, each of them has to be constructed, or a primitive of the universal class in which BER
-    /// finds nothing.
+    /// Whether each element, to be sound, must be constructed, or a primitive of the universal class that has no
+    /// findings under BER.
     pub(crate) likely: bool,
     /// Whether octets `00` may be before, between and after them.
     pub(crate) padding: bool,
 }
 
-/// Inside an element with these fields, whose contents are the first of these octets, at this offset.
+/// The spot inside an element with these fields. Its contents are the first of these octets, at this offset.
 #[inline(always)]
 pub(crate) fn inside(
     spot: &Spot,
@@ -59,7 +59,7 @@ pub(crate) fn inside(
     }
 }
 
-/// Inside an element with these fields that lacks octets.
+/// The spot inside an element with these fields that lacks octets.
 #[inline(always)]
 pub(crate) fn inside_lacking(spot: &Spot, fields: &HeaderFields) -> Spot
     requires { spot.now.depth < depth_limit }
@@ -76,15 +76,15 @@ pub(crate) fn inside_lacking(spot: &Spot, fields: &HeaderFields) -> Spot
     }
 }
 
-/// Whether an element at this spot, after which these octets come, is the value of an extension.
+/// Whether an element at this spot, followed by these octets, is the value of an extension.
 pub(crate) fn is_value_before(spot: &Spot, octets: &[u8], end_octets: bool) -> bool
     ensures { result ≡ (spot.now.in_extension && is_elements_end end_octets octets.now) }
 {
     spot.in_extension && is_elements_end(octets, end_octets)
 }
 
-/// Whether strings in an element with these fields and contents may be opened: they are no segments, or the only one of
-/// a whole string.
+/// Whether strings in an element with these fields and contents may be opened: they are not segments, or there is
+/// only one segment and the string is whole.
 #[inline(always)]
 fn may_open_in(fields: &HeaderFields, octets: &[u8], offset: u64, end_octets: bool) -> bool
     ensures { (header : List ℕ) (p : Place) (f : Forest) (depth : ℕ) (rest : List ℕ)
@@ -119,7 +119,7 @@ fn is_string(fields: &HeaderFields) -> bool
         )
 }
 
-/// Whether the octets, those that follow the header of an element, are one primitive and its end, and nothing else.
+/// Whether the octets after the header of an element are one primitive and then the end of the element.
 fn is_one_segment(octets: &[u8], offset: u64, end_octets: bool) -> bool
     ensures { (p : Place) (f : Forest) (depth : ℕ) (rest : List ℕ) → p.padding ≡ false
         → IsReadAt p f depth offset end_octets octets.now rest
@@ -149,7 +149,7 @@ fn is_extension(fields: &HeaderFields, octets: &[u8], offset: u64) -> bool
     is_a(universal::SEQUENCE, fields) && begin_extension(octets, offset)
 }
 
-/// Whether the type has this number.
+/// Whether the type is the universal type with this number.
 #[inline(always)]
 fn is_a(number: u64, fields: &HeaderFields) -> bool
     ensures { (header : List ℕ) → result ≡ is_a number (new_header fields.now header) }
@@ -186,8 +186,8 @@ fn begin_extension(octets: &[u8], offset: u64) -> bool
     is_a(universal::OBJECT_IDENTIFIER, &fields) && names_extension(&rest[..length as usize])
 }
 
-/// Whether a primitive OBJECT IDENTIFIER of an extension may be the first element: a look at four octets, so that few
-/// headers are read. The first octet of such an element is 06, or in the high form 1f.
+/// Whether the first element may be a primitive OBJECT IDENTIFIER of an extension. Looks only at four octets, so that
+/// few headers are read. The first octet of such an element is 06, or 1f in the high form.
 #[inline(always)]
 fn may_begin_extension(octets: &[u8]) -> bool
     ensures { (p : Place) (f : Forest) (depth offset : ℕ) (end_octets : Bool) (rest : List ℕ)

@@ -1,4 +1,4 @@
-//! The strings of an input that are opened, and those that break.
+//! The strings of an input that are opened, and the strings that break.
 ghost use Rattle.std.specs.Prelude.{◌≡◌, ◌≤◌, ◌+◌, ◌++◌, decimal, length};
 ghost use Rattle.tlv_open.specs.BrokenLine.{broken_line};
 
@@ -9,10 +9,10 @@ use tlv_head::Fault;
 /// Why a string that is not opened looks like encodings.
 #[derive(Clone, Copy, PartialEq, Eq, Debug)]
 pub enum Suspicion {
-    /// Its inner octets are more than 24, begin with `30`, as a SEQUENCE does, and are at most 8 octets more or fewer
-    /// than their header announces.
+    /// It has more than 24 inner octets. They begin with `30`, as a SEQUENCE does, and are at most 8 octets more or
+    /// fewer than their header announces.
     Sequence,
-    /// The same, and they begin with `31`, as a SET does.
+    /// The same, but the octets begin with `31`, as a SET does.
     Set,
     /// It is the value of a certificate's extension: the last element of a SEQUENCE that begins with an OBJECT
     /// IDENTIFIER below 2.5.29 or 1.3.6.1.5.5.7.1.
@@ -30,12 +30,12 @@ pub struct BrokenString {
     pub fault: Fault,
 }
 
-/// The strings of an input that are opened, and those that break.
+/// The strings of an input that are opened, and the strings that break.
 #[derive(Drop)]
 pub struct Strings {
-    /// The offsets of those that are opened, rising, in octets from the start of the input.
+    /// The offsets of the opened strings, rising, in octets from the start of the input.
     pub opened: Vec<u64>,
-    /// Those that break, in order.
+    /// The strings that break, in order.
     pub broken: Vec<BrokenString>,
 }
 
@@ -43,7 +43,7 @@ impl Suspicion {
     ghost use Rattle.std.specs.Prelude.{◌≡◌, ◌≤◌, length};
     ghost use Rattle.tlv_open.specs.BrokenLine.{suspicion_text};
 
-    /// What a line says of it, in ASCII: at most 32 octets.
+    /// The text for it in a line, in ASCII: at most 32 octets.
     pub fn text(self) -> &'static [u8]
         ensures text { result.now ≡ suspicion_text self }
         ensures short { length result.now ≤ 32 }
@@ -56,8 +56,8 @@ impl Suspicion {
     }
 }
 
-/// The line of a broken string, in ASCII, without its end: where it is, why it looks like encodings, and where it
-/// breaks, by which fault. Offsets are decimal, in octets from the start of the input.
+/// Returns the line for a broken string, in ASCII, without its line end: its offset, why it looks like encodings, and
+/// where it breaks with which fault. Offsets are decimal, in octets from the start of the input.
 pub fn broken_line(broken: &BrokenString) -> ArrayVec<u8, 256>
     ensures { result.items ≡ broken_line broken.now }
 {

@@ -1,4 +1,4 @@
--- Octets in base64 (RFC 4648, sections 4 and 5), in lines and quotes as people have it.
+-- Octets in base64 (RFC 4648, sections 4 and 5), in lines and quotes as people write it.
 use Rattle.std.specs.Prelude.{◌≡◌, ℕ, ◌+◌, ◌-◌, ◌*◌, ◌/◌, ◌%◌, ◌==◌, Bool, true, false, ◌&&◌, ◌||◌, nat_le}
 use Rattle.std.specs.Prelude.{List, [], ◌∷◌, length, take, Option, Some, None, if◌then◌else◌, option_map}
 use Rattle.base64.specs.Engines.{standard_no_pad, url_safe_no_pad}
@@ -25,15 +25,15 @@ is_symbol UrlSafe x = is_letter_or_digit x || (x == 45) || (x == 95)
 abbrev pub is_left_out : ℕ → Bool
 is_left_out x = is_white x || is_quote x || (x == 62)
 
--- a line feed or a carriage return as JSON and C have it: a backslash, and n or r
+-- a line feed or a carriage return as JSON and C write it: a backslash, and n or r
 abbrev pub is_escaped_line_end : ℕ → ℕ → Bool
 is_escaped_line_end x y = (x == 92) && ((y == 110) || (y == 114))
 
--- a slash as JSON may have it (RFC 8259, section 7): the backslash before it is left out, the slash is not
+-- a slash as JSON may write it (RFC 8259, section 7): the backslash before it is left out, the slash is not
 abbrev pub is_escaped_slash : ℕ → ℕ → Bool
 is_escaped_slash x y = (x == 92) && (y == 47)
 
--- the symbols with which a text begins, and the rest of it, from the first character on that is none and not left out
+-- the leading symbols of a text, and the rest of it, from the first character that is neither a symbol nor left out
 pub record SymbolsRead : Type 0 where
   pub symbols : List ℕ
   pub rest : List ℕ
@@ -59,7 +59,7 @@ symbols_read alphabet (x ∷ y ∷ text) =
     )
     )
 
--- how much padding a text is, if it is nothing else but what is left out; 61 is `=`
+-- the amount of padding in a text, if the text has nothing else but left-out characters; 61 is `=`
 abbrev pub padding_of : List ℕ → Option ℕ
 padding_of [] = Some 0
 padding_of (x ∷ []) = if x == 61 then Some 1 else (if is_left_out x then Some 0 else None)
@@ -70,7 +70,7 @@ padding_of (x ∷ y ∷ text) =
     else (if is_escaped_line_end x y then padding_of text else None)
     )
 
--- 3.2: so much padding may follow so many symbols: none, or what makes the last group four characters
+-- 3.2: this amount of padding may follow `count` symbols: none, or the amount that makes the last group four characters
 abbrev pub fits_after : ℕ → Option ℕ → Bool
 fits_after count None = false
 fits_after count (Some n) = (n == 0) || ((n == 1) && (count % 4 == 3)) || ((n == 2) && (count % 4 == 2))
@@ -86,11 +86,11 @@ pub record IsBase64 (alphabet : Alphabet) (text octets : List ℕ) : Type 0 wher
 abbrev pub whole_groups : List ℕ → List ℕ
 whole_groups symbols = take (4 * (length symbols / 4)) symbols
 
--- these octets are read from a text, and it is refused there, if it is
+-- these octets are read from a text, and the text is refused at this place, if it is refused
 pub data ReadsBase64 (alphabet : Alphabet) (text octets : List ℕ) : Option ℕ → Type 0 where
   -- all of it is base64
   whole : IsBase64 alphabet text octets → ReadsBase64 alphabet text octets None
-  -- it is base64 of no octets: those of whole groups are read, and it is refused after the last symbol
+  -- it is not the base64 of any octets: the octets of whole groups are read, and it is refused after the last symbol
   refused : ((others : List ℕ) → IsBase64 alphabet text others → ⊥)
       → IsBytes octets
       → base64_of alphabet octets ≡ whole_groups (symbols_read alphabet text).symbols

@@ -1,4 +1,4 @@
--- Blocks of a text: octets that are written in it in one form, each with what is to be said of it.
+-- Blocks of a text: octets that are written in it in one form, each with its state.
 use Rattle.std.specs.Prelude.{◌≡◌, ℕ, ◌+◌, ◌-◌, ◌==◌, Bool, true, false, ◌||◌, nat_le, nat_lt, if◌then◌else◌}
 use Rattle.std.specs.Prelude.{List, [], ◌∷◌, length, take, Option, Some, None}
 use Rattle.std.specs.List.{list_any}
@@ -23,12 +23,12 @@ use Rattle.tlv_text.specs.declared.text_fault.TextFault.TheVariants.{Memory, Too
 
 -- ---- lines
 
--- how many line feeds a text has
+-- the number of line feeds in a text
 abbrev pub line_feeds : List ℕ → ℕ
 line_feeds [] = 0
 line_feeds (x ∷ text) = if x == 10 then 1 + line_feeds text else line_feeds text
 
--- the number of the line, from 1 on, of the character before which so many others come
+-- the number of the line, counted from 1, of the character that has `place` characters before it
 abbrev pub line_at : List ℕ → ℕ → ℕ
 line_at text place = 1 + line_feeds (take place text)
 
@@ -45,7 +45,7 @@ pub record BlockValue : Type 0 where
 abbrev pub block_value : Block → BlockValue
 block_value b = record { line = b.line; label = b.label.items; octets = b.octets.items; state = b.state }
 
--- a text of which all is one block, without a label
+-- a text that is one block as a whole, without a label
 abbrev pub only_block : List ℕ → BlockState → BlockValue
 only_block octets state = record { line = 1; label = []; octets = octets; state = state }
 
@@ -57,15 +57,15 @@ abbrev pub or_absent : List BlockValue → List BlockValue
 or_absent [] = absent_block ∷ []
 or_absent (b ∷ bs) = b ∷ bs
 
--- the state of octets that are refused at a place in a text, if they are: so many characters come before the place in
--- the part that is decoded, and so many more before that part
+-- the state of octets that are refused at a place in a text, if they are refused: `place` characters come before it
+-- in the decoded part, and `before` characters come before that part
 abbrev pub state_at_place : List ℕ → ℕ → Option ℕ → BlockState
 state_at_place text before None = Whole
 state_at_place text before (Some place) = Refused (line_at text (before + place))
 
 -- ---- forms of one block
 
--- two tokens or more are read alone, wherever they stand; otherwise the text is pairs
+-- two or more tokens are read alone, wherever they stand; otherwise the text is pairs
 abbrev pub hex_read : List ℕ → TextRead
 hex_read text = if nat_le 2 (token_count text) then tokens_read text else pairs_read text
 
@@ -83,7 +83,7 @@ numbers_block None = absent_block
 abbrev pub is_url_symbol : ℕ → Bool
 is_url_symbol x = (x == 45) || (x == 95)
 
--- the alphabet of RFC 4648, section 5, if one of its symbols is in the text, and that of section 4 otherwise
+-- the alphabet of RFC 4648, section 5, if the text has one of its symbols; otherwise the alphabet of section 4
 abbrev pub alphabet_of : List ℕ → Alphabet
 alphabet_of text = if list_any is_url_symbol text then UrlSafe else Standard
 
@@ -93,16 +93,16 @@ pub data IsBase64Block (text : List ℕ) : BlockValue → Type 0 where
 
 -- ---- forms of several blocks
 
--- how many characters of a text come before its end part
+-- the number of characters of a text before its end part
 abbrev pub place_in_text : List ℕ → List ℕ → ℕ
 place_in_text text part = length text - length part
 
--- a body that its text ends without a marker is not ended, if nothing else is wrong with it
+-- a body that ends with the text, without a marker, is not ended, if nothing else is wrong with it
 abbrev pub state_with_end : List ℕ → BlockState → BlockState
 state_with_end [] Whole = Unended
 state_with_end rest state = state
 
--- the block of PEM that begins at a place in a text, with this label and body; this comes after the body
+-- the block of PEM that begins at a place in a text, with this label and body; `rest` comes after the body
 pub data IsPemBlock (text : List ℕ) (place : ℕ) (label body rest : List ℕ) : BlockValue → Type 0 where
   encrypted : is_encrypted body ≡ true
       → IsPemBlock text place label body rest
@@ -151,7 +151,7 @@ pub data AreBlocks (text : List ℕ) : Form → List BlockValue → Type 0 where
 abbrev pub is_too_long : BlockValue → Bool
 is_too_long b = nat_lt dump_limit (length b.octets)
 
--- why the blocks of a text cannot be had: one has too many octets, or memory is refused
+-- why the blocks of a text cannot be returned: a block has too many octets, or memory is refused
 pub data IsBlocksFault (text : List ℕ) (form : Form) : TextFault → Type 0 where
   too_long : (bs : List BlockValue) → AreBlocks text form bs → list_any is_too_long bs ≡ true
       → IsBlocksFault text form TooLong

@@ -26,31 +26,31 @@ use Rattle.tlv_text.specs.declared.dump.rows.Phase.{Phase}
 
 -- ---- the pairs of a row
 
--- without this character, if it comes first
+-- the text without this character, if it comes first
 abbrev pub after_one : ℕ → List ℕ → List ℕ
 after_one c [] = []
 after_one c (x ∷ text) = if x == c then text else x ∷ text
 
--- after blanks, a colon, a hyphen and blanks
+-- the text after leading blanks, a colon, a hyphen and blanks
 abbrev pub before_pairs : List ℕ → List ℕ
 before_pairs rest = after_blanks (after_one 45 (after_one 58 (after_blanks rest)))
 
--- after so many blanks at most
+-- the text after at most this number of leading blanks
 abbrev pub after_few : ℕ → List ℕ → List ℕ
 after_few zero text = text
 after_few (suc n) [] = []
 after_few (suc n) (x ∷ text) = if is_dump_blank x then after_few n text else x ∷ text
 
--- after what may be between two pairs: a hyphen, or blanks, or nothing where pairs may be joined; where that is not
--- so, no pair follows a pair at once
+-- the text after what may be between two pairs: a hyphen, or blanks, or nothing where pairs may be joined; where they
+-- may not, no pair follows a pair at once
 abbrev pub after_gap : Gap → List ℕ → List ℕ
 after_gap gap [] = []
 after_gap gap (x ∷ text) =
     if x == 45 then text
     else (if gap.joined || is_dump_blank x then after_few gap.blanks (x ∷ text) else [])
 
--- with so many blanks at most. Pairs may be joined only if a colon follows the offset at once: without one, they are
--- words of 16 or 32 bits, as hexdump and od -tx2 write them, and their octets may be swapped
+-- the gap with at most this number of blanks. Pairs may be joined only if a colon follows the offset at once: without
+-- one, they are words of 16 or 32 bits, as hexdump and od -tx2 write them, and their octets may be swapped
 abbrev pub gap_of : ℕ → List ℕ → Gap
 gap_of blanks rest = record { blanks = blanks; joined = begins_colon rest }
 
@@ -62,12 +62,12 @@ abbrev pub begins_pair : List ℕ → Bool
 begins_pair (x ∷ y ∷ text) = is_hex_digit x && is_hex_digit y
 begins_pair text = false
 
--- the octet of the pair with which a text begins
+-- the octet of the pair that a text begins with
 abbrev pub leading_octet : List ℕ → ℕ
 leading_octet (x ∷ y ∷ text) = pair_octet x y
 leading_octet text = 0
 
--- the octets of so many pairs at most, each after a gap, and the rest after the last of them
+-- the octets of at most this number of pairs, each after a gap, and the rest after the last of them
 abbrev pub pairs_after : ℕ → Gap → List ℕ → TextRead
 pairs_after zero gap text = nothing_read text
 pairs_after (suc n) gap text =
@@ -75,7 +75,7 @@ pairs_after (suc n) gap text =
     if begins_pair next then octets_then (leading_octet next ∷ []) (pairs_after n gap (drop 2 next))
     else nothing_read text
 
--- the same with the first pair at once
+-- the same, with no gap before the first pair
 abbrev pub pairs_at : ℕ → Gap → List ℕ → TextRead
 pairs_at zero gap text = nothing_read text
 pairs_at (suc n) gap text =
@@ -87,11 +87,11 @@ abbrev pub begins_blank : List ℕ → Bool
 begins_blank [] = true
 begins_blank (x ∷ text) = is_dump_blank x
 
--- a pair that a blank or the end follows comes first
+-- the text begins with a pair that a blank or the end follows
 abbrev pub begins_lone_pair : List ℕ → Bool
 begins_lone_pair text = begins_pair text && begins_blank (drop 2 text)
 
--- after pairs a digit follows at once; or after as many as a row has, a lone pair follows after one blank
+-- a digit follows the pairs at once, or, after a full row, a lone pair follows after one blank
 abbrev pub has_more_digits : ℕ → TextRead → Bool
 has_more_digits size read =
     begins_digit read.rest || ((length read.octets == size) && begins_lone_pair (after_few 1 read.rest))
@@ -103,28 +103,28 @@ row_fits size text read = begins_pair text && not (has_more_digits size read)
 abbrev pub octets_if : Bool → List ℕ → Option (List ℕ)
 octets_if fits octets = if fits then Some octets else None
 
--- the octets of a row among others, if it fits; a row has so many octets, and the last may have fewer
+-- the octets of a row among others, if it fits; a row has `size` octets, and the last row may have fewer
 abbrev pub dump_row_octets : ℕ → List ℕ → Option (List ℕ)
 dump_row_octets size rest =
     let text : List ℕ = before_pairs rest in
     let read : TextRead = pairs_at size (gap_of 2 rest) text in
     octets_if (row_fits size text read) read.octets
 
--- the octets of a row that is alone: its offset is 0 or a colon follows it, and it has one pair or more, with no digit
--- at once after them
+-- the octets of a single row: its offset is 0 or a colon follows it, and it has one or more pairs, with no digit
+-- right after them
 abbrev pub single_row_octets : RowRead → Option (List ℕ)
 single_row_octets r =
     let text : List ℕ = before_pairs r.rest in
     let read : TextRead = pairs_at (length text) (gap_of 1 r.rest) text in
     octets_if (((r.offset == 0) || begins_colon r.rest) && begins_pair text && not (begins_digit read.rest)) read.octets
 
--- a row with a pair; without one it is an end, and before the first row another line
+-- a row with a pair; a row without a pair is an end, or, before the first row, another line
 abbrev pub has_pair : RowRead → Bool
 has_pair r = begins_pair (before_pairs r.rest)
 
 -- ---- rows
 
--- octets, and if the text is refused, how many characters it has from there on
+-- octets, and, if the text is refused, the number of characters from that place on
 pub record DumpRead : Type 0 where
   pub octets : List ℕ
   pub left : Option ℕ
@@ -136,8 +136,8 @@ abbrev pub octets_repeated : ℕ → List ℕ → List ℕ
 octets_repeated zero octets = []
 octets_repeated (suc n) octets = octets ++ octets_repeated n octets
 
--- where the reading is: the offset of the last row and its octets, and whether it is that row, a repeat with so many
--- characters from it on, or the end that came last
+-- where the reading is: the offset and the octets of the last row, and what came last: that row, a repeat with the
+-- number of characters from it on, or the end
 pub record DumpPlace : Type 0 where
   pub phase : Phase
   pub offset : ℕ
@@ -152,7 +152,7 @@ pub record Step : Type 0 where
 abbrev pub is_full : ℕ → DumpPlace → Bool
 is_full size place = length place.octets == size
 
--- how many times the row before is repeated in front of a row with this offset; none if it does not fit
+-- the number of times the row before is repeated ahead of a row with this offset; none if the offset does not fit
 abbrev pub times_in : ℕ → Phase → DumpPlace → ℕ → Option ℕ
 times_in size Phase.Row place offset =
     if offset == place.offset + length place.octets then Some 0 else None
@@ -175,7 +175,7 @@ with_row before offset None = None
 with_row before offset (Some octets) =
     Some (record { octets = before ++ octets; place = record { phase = Phase.Row; offset = offset; octets = octets } })
 
--- a row: an end row, or one with pairs after one that has as many as a row has
+-- a row: an end, or, after a full row, a row with pairs
 abbrev pub dump_row_step : ℕ → DumpPlace → RowRead → Option ℕ → Option Step
 dump_row_step size place r None = None
 dump_row_step size place r (Some times) =
@@ -183,7 +183,7 @@ dump_row_step size place r (Some times) =
     if list_all is_dump_blank r.rest then Some (record { octets = before; place = record place { phase = Phase.End } })
     else (if is_full size place then with_row before r.offset (dump_row_octets size r.rest) else None)
 
--- what a line adds at a place, if it fits there; `left` is how many characters there are from it on
+-- what a line adds at a place, if it fits there; `left` is the number of characters from the line on
 abbrev pub dump_line_step : ℕ → DumpPlace → ℕ → LineKind → Option Step
 dump_line_step size place left LineKind.blank = Some (record { octets = []; place = place })
 dump_line_step size place left LineKind.repeat =
@@ -201,7 +201,7 @@ abbrev pub dump_step_then : Option Step → ℕ → DumpRead → DumpRead
 dump_step_then (Some s) left more = record more { octets = s.octets ++ more.octets }
 dump_step_then None left more = refused_with left
 
--- a repeat after which no row comes does not fit
+-- a repeat with no row after it does not fit
 abbrev pub left_in : Phase → Option ℕ
 left_in Phase.Row = None
 left_in (Phase.Repeat left) = Some left
@@ -216,8 +216,8 @@ rows_read radix size place (line ∷ lines) =
 
 -- ---- a whole dump
 
--- the octets of a row by the difference of the first two offsets, 1 to 256. With another difference the second row does
--- not fit, and the first one is read with 16
+-- the number of octets in a row, given the difference of the first two offsets: 1 to 256. With another difference the
+-- second row does not fit, and the first one is read with 16
 abbrev pub size_by : ℕ → ℕ
 size_by difference = if nat_le 1 difference && nat_le difference 256 then difference else 16
 
@@ -227,7 +227,7 @@ size_at first LineKind.repeat more = Some 16
 size_at first (LineKind.row r) more = Some (size_by (r.offset - first))
 size_at first LineKind.other more = more
 
--- the octets of a row by the lines after the first, which has this offset; none if it is alone
+-- the number of octets in a row, given the lines after the first row, which has this offset; none if it is a single row
 abbrev pub size_in : Radix → ℕ → List TextLine → Option ℕ
 size_in radix first [] = None
 size_in radix first (line ∷ lines) = size_at first (line_kind radix line.characters) (size_in radix first lines)
@@ -268,8 +268,8 @@ lines_read radix (line ∷ lines) =
 abbrev pub dump_in : Radix → List ℕ → DumpRead
 dump_in radix text = lines_read radix (dump_lines text)
 
--- whether the offset of the first row has seven octal digits and no colon after it, as od writes it, by what each line
--- is with hexadecimal offsets and with octal ones
+-- whether the offset of the first row has seven octal digits and no colon after it, as od writes it, given what each
+-- line is with hexadecimal offsets and with octal offsets
 abbrev pub octal_first_at : LineKind → LineKind → Bool → Bool
 octal_first_at LineKind.blank octal more = more
 octal_first_at LineKind.repeat octal more = more
@@ -281,17 +281,18 @@ is_octal_first [] = false
 is_octal_first (line ∷ lines) =
     octal_first_at (line_kind Hexadecimal line.characters) (line_kind Octal line.characters) (is_octal_first lines)
 
--- offsets are hexadecimal; but octal where they look like those of od, unless the text is refused so. Other dumps are
--- not read as octal if they are refused: of rows of 16 in two halves, that would be the octets of the first halves
+-- offsets are hexadecimal. They are octal where they look like the offsets of od, unless the text read so is refused.
+-- Other refused dumps are not read as octal: in rows of 16 in two halves, that would give the octets of the first
+-- halves
 abbrev pub dump_read : List ℕ → DumpRead
 dump_read text =
     if is_octal_first (dump_lines text) && is_none (dump_in Octal text).left then dump_in Octal text
     else dump_in Hexadecimal text
 
--- how many characters come before the place where a text is refused, if it is
+-- the number of characters before the place where a text is refused, if it is refused
 abbrev pub refused_in : List ℕ → Option ℕ → Option ℕ
 refused_in text left = option_map (λ n. length text - n) left
 
--- the most octets of a dump
+-- the maximum number of octets in a dump
 abbrev pub dump_limit : ℕ
 dump_limit = 1073741824

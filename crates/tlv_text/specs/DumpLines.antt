@@ -1,4 +1,4 @@
--- Lines of a hex dump, and what each of them is.
+-- Lines of a hex dump, and the kind of each.
 use Rattle.std.specs.Prelude.{ℕ, ◌+◌, ◌-◌, ◌*◌, ◌==◌, Bool, true, false, ◌&&◌, ◌||◌, not, if◌then◌else◌, nat_le, nat_lt}
 use Rattle.std.specs.Prelude.{List, [], ◌∷◌, length, slice_index, take, Option, Some, None}
 use Rattle.std.specs.List.{list_all}
@@ -7,7 +7,7 @@ use Rattle.tlv_text.specs.Pairs.{hex_value}
 use Rattle.tlv_text.specs.declared.dump.lines.Radix.{Radix}
 use Rattle.tlv_text.specs.declared.dump.lines.Radix.TheVariants.{Hexadecimal, Octal}
 
--- the characters of a line, without its line feed, and how many characters the text has from the line on
+-- the characters of a line, without its line feed, and the number of characters of the text from the line on
 pub record TextLine : Type 0 where
   pub characters : List ℕ
   pub left : ℕ
@@ -50,13 +50,13 @@ abbrev pub base : Radix → ℕ
 base Hexadecimal = 16
 base Octal = 8
 
--- so many digits are read from a text, at most 16, with this number; the rest comes after them
+-- the digits read from a text: their count, at most 16, and their value; the rest comes after them
 pub record OffsetRead : Type 0 where
   pub count : ℕ
   pub number : ℕ
   pub rest : List ℕ
 
--- the same after so many digits with this number
+-- the same after `count` digits with this value
 abbrev pub offset_read : Radix → ℕ → ℕ → List ℕ → OffsetRead
 offset_read radix count number [] = record { count = count; number = number; rest = [] }
 offset_read radix count number (x ∷ text) =
@@ -64,7 +64,7 @@ offset_read radix count number (x ∷ text) =
     offset_read radix (count + 1) (number * base radix + hex_value x) text
     else record { count = count; number = number; rest = x ∷ text }
 
--- after `0x` or `0X`, if the text begins with it
+-- the text after a leading `0x` or `0X`, if it has one
 abbrev pub after_prefix : List ℕ → List ℕ
 after_prefix (x ∷ y ∷ text) = if (x == 48) && ((y == 120) || (y == 88)) then text else x ∷ y ∷ text
 after_prefix text = text
@@ -79,7 +79,7 @@ abbrev pub ends_offset : List ℕ → Bool
 ends_offset [] = true
 ends_offset (x ∷ text) = (x == 58) || is_dump_blank x
 
--- a row has an offset of so many digits, and a rest after it
+-- a row has an offset with this number of digits, and a rest after it
 pub record RowRead : Type 0 where
   pub digits : ℕ
   pub offset : ℕ
@@ -105,7 +105,7 @@ abbrev pub row_or_other : Option RowRead → LineKind
 row_or_other (Some r) = LineKind.row r
 row_or_other None = LineKind.other
 
--- what a line is from its first character on that is no blank; 42 is `*`
+-- what a line is, given its text from the first character that is not a blank; 42 is `*`
 abbrev pub kind_from : Radix → List ℕ → LineKind
 kind_from radix [] = LineKind.blank
 kind_from radix (x ∷ text) =

@@ -1,4 +1,4 @@
--- Octets as decimal numbers from -128 to 255 in brackets or braces, as JSON, Go and Java have them.
+-- Octets as decimal numbers from -128 to 255 in brackets or braces, as JSON, Go and Java write them.
 use Rattle.std.specs.Prelude.{ℕ, zero, suc, ◌+◌, ◌-◌, ◌*◌, ◌%◌, ◌==◌, Bool, true, false, ◌&&◌, nat_le, if◌then◌else◌}
 use Rattle.std.specs.Prelude.{List, [], ◌∷◌, Option, Some, None, is_some, length, option_map}
 use Rattle.tlv_text.specs.Characters.{is_white}
@@ -14,7 +14,7 @@ use Rattle.tlv_text.specs.declared.numbers.Step.TheVariants.{Closes, Fails, Pass
 abbrev pub is_decimal : ℕ → Bool
 is_decimal x = nat_le 48 x && nat_le x 57
 
--- digits have a value, and so many more digits come after the first
+-- digits have a value, and this number of digits comes after the first
 abbrev pub digits_of : ℕ → ℕ → Digits
 digits_of value more = record { value = value; more = more }
 
@@ -25,7 +25,7 @@ abbrev pub number_of_two : ℕ → ℕ → Option Digits
 number_of_two x y =
     if is_decimal x && is_decimal y then Some (digits_of ((x - 48) * 10 + (y - 48)) 1) else number_of_one x
 
--- the digits with which a text begins, three of them at most
+-- the digits that a text begins with, at most three
 abbrev pub digits_at : List ℕ → Option Digits
 digits_at [] = None
 digits_at (x ∷ []) = number_of_one x
@@ -35,7 +35,7 @@ digits_at (x ∷ y ∷ z ∷ text) =
     then Some (digits_of ((x - 48) * 100 + (y - 48) * 10 + (z - 48)) 2)
     else number_of_two x y
 
--- a number has an octet, and so many more characters come after its first
+-- a number has an octet, and this number of characters comes after its first
 abbrev pub number_of : ℕ → ℕ → Number
 number_of octet more = record { octet = octet; more = more }
 
@@ -44,13 +44,13 @@ abbrev pub plain_number : Option Digits → Option Number
 plain_number None = None
 plain_number (Some d) = if nat_le d.value 255 then Some (number_of d.value d.more) else None
 
--- after a minus: down to -128. The octet of -n is 256 - n, that of -0 is 0
+-- after a minus: down to -128. The octet of -n is 256 - n; the octet of -0 is 0
 abbrev pub negative_number : Option Digits → Option Number
 negative_number None = None
 negative_number (Some d) =
     if nat_le d.value 128 then Some (number_of ((256 - d.value) % 256) (1 + d.more)) else None
 
--- the number with which a text begins
+-- the number that a text begins with
 abbrev pub number_at : List ℕ → Option Number
 number_at [] = None
 number_at (x ∷ text) =
@@ -58,19 +58,19 @@ number_at (x ∷ text) =
 
 -- ---- a list of numbers
 
--- where in a list a text begins is a place; what its first characters are there is a step
+-- a place says where in a list a text begins; a step says what its first characters are there
 abbrev pub number_step : Option Number → Step
 number_step None = Fails
 number_step (Some n) = Reads n
 
--- white space is passed over, a number is read, and only after a comma a list may close
+-- white space is passed over, a number is read, and a list may close only after a comma
 abbrev pub before_number : Place → Bool → ℕ → List ℕ → Step
 before_number place may_close close (x ∷ text) =
     if is_white x then Passes place
     else (if may_close && (x == close) then Closes else number_step (number_at (x ∷ text)))
 before_number place may_close close [] = Fails
 
--- white space is passed over, a comma too, or a list closes
+-- white space and a comma are passed over, or a list closes
 abbrev pub after_number : ℕ → List ℕ → Step
 after_number close (x ∷ text) =
     if is_white x then Passes AfterNumber
@@ -89,22 +89,22 @@ list_place_after (Reads n) = AfterNumber
 list_place_after Closes = AfterNumber
 list_place_after Fails = AfterNumber
 
--- how many characters of a number are still to come
+-- the number of characters of a number that are still to come
 abbrev pub in_list_after : Step → ℕ
 in_list_after (Reads n) = n.more
 in_list_after (Passes place) = 0
 in_list_after Closes = 0
 in_list_after Fails = 0
 
--- the octets from a step on, given those after it
+-- the octets from a step on, given the octets after it
 abbrev pub list_step_then : Step → Option (List ℕ) → Option (List ℕ)
 list_step_then (Passes place) more = more
 list_step_then (Reads n) more = option_map (λ octets. n.octet ∷ octets) more
 list_step_then Closes more = Some []
 list_step_then Fails more = None
 
--- the octets of a list from a place on, if it is closed; the second argument is how many characters of the text belong
--- to a number that began before
+-- the octets of a list from a place on, if it is closed; the second argument is the number of characters of the text
+-- that belong to a number that began before
 abbrev pub items_read : ℕ → ℕ → Place → List ℕ → Option (List ℕ)
 items_read close inside place [] = None
 items_read close (suc n) place (x ∷ text) = items_read close n place text
@@ -117,7 +117,7 @@ abbrev pub two_or_more : Option (List ℕ) → Option (List ℕ)
 two_or_more None = None
 two_or_more (Some octets) = if nat_le 2 (length octets) then Some octets else None
 
--- the octets of the list with which a text begins: 91 and 93 are brackets, 123 and 125 braces
+-- the octets of the list that a text begins with: 91 and 93 are brackets, 123 and 125 braces
 abbrev pub list_at : List ℕ → Option (List ℕ)
 list_at [] = None
 list_at (x ∷ text) =

@@ -15,7 +15,8 @@ hex_value x = unwrap_or (hex_digit_value x) 0
 abbrev pub pair_octet : ℕ → ℕ → ℕ
 pair_octet x y = hex_value x * 16 + hex_value y
 
--- the octets of pairs of digits, and the rest from the first character on that is no pair and not between pairs
+-- the octets of pairs of digits, and the rest from the first character that neither begins a pair nor may be between
+-- pairs
 abbrev pub pairs_read : List ℕ → TextRead
 pairs_read [] = nothing_read []
 pairs_read (x ∷ []) = if is_between_pairs x then nothing_read [] else nothing_read (x ∷ [])

@@ -18,11 +18,11 @@ has_headers body = list_any is_colon body
 abbrev pub does_not_count : ℕ → Bool
 does_not_count x = (x == 32) || (x == 9) || (x == 13) || is_quote x || (x == 62)
 
--- the same as JSON and C have it: a backslash and r
+-- a carriage return as JSON and C write it: a backslash and r
 abbrev pub is_escaped_return : ℕ → ℕ → Bool
 is_escaped_return x y = (x == 92) && (y == 114)
 
--- a line feed as they have it: a backslash and n
+-- a line feed as JSON and C write it: a backslash and n
 abbrev pub is_escaped_line_feed : ℕ → ℕ → Bool
 is_escaped_line_feed x y = (x == 92) && (y == 110)
 
@@ -33,8 +33,8 @@ after_line (x ∷ []) = []
 after_line (x ∷ y ∷ text) =
     if x == 10 then y ∷ text else (if is_escaped_line_feed x y then text else after_line (y ∷ text))
 
--- how many characters the lines of a text up to the first blank one take, with that line and its end: all, if none is
--- blank; it is told whether the line that the text begins in has been blank so far
+-- the number of characters in the lines of a text up to the first blank line, including that line and its end: all,
+-- if no line is blank; the first argument says whether the line that the text begins in has been blank so far
 abbrev pub headers_size : Bool → List ℕ → ℕ
 headers_size blank [] = 0
 headers_size blank (x ∷ []) = 1
@@ -48,7 +48,7 @@ headers_size blank (x ∷ y ∷ text) =
     )
     )
 
--- headers stand in the lines after that of the marker
+-- the headers are in the lines after the line of the marker
 abbrev pub size_of_headers : List ℕ → ℕ
 size_of_headers body = headers_size true (after_line body)
 
@@ -65,11 +65,11 @@ abbrev pub has_word : List ℕ → List ℕ → Bool
 has_word word [] = false
 has_word word (x ∷ text) = bytes_eq (take (length word) (x ∷ text)) word || has_word word text
 
--- RFC 1421, section 4.6.1.1: the headers say so
+-- RFC 1421, section 4.6.1.1: the headers say that the block is encrypted
 abbrev pub is_encrypted : List ℕ → Bool
 is_encrypted body = has_word (codes "ENCRYPTED") (headers_of body)
 
--- what a body holds is not looked at if it is encrypted, and is its base64 otherwise
+-- what an encrypted body holds is not looked at; any other body holds its base64
 abbrev pub IsHeldBy : List ℕ → PemBody → Type 0
 IsHeldBy body Encrypted = is_encrypted body ≡ true
 IsHeldBy body (Base64 text) = (is_encrypted body ≡ false) × (text.now ≡ base64_part body)

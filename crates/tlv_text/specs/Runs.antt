@@ -14,29 +14,29 @@ is_run_blank x = (x == 32) || (x == 9)
 abbrev pub ends_symbols : ℕ → Bool
 ends_symbols x = (x == 10) || (x == 13) || (x == 61) || (x == 60) || is_quote x
 
--- the symbols with which a text begins reach to the end of their line
+-- the leading symbols of a text reach to the end of their line
 abbrev pub reaches_line_end : List ℕ → Bool
 reaches_line_end [] = true
 reaches_line_end (x ∷ text) = if is_symbol Standard x then reaches_line_end text else ends_symbols x
 
--- n characters and then so many blanks, if symbols stand after them, one or more, that reach to the end of their line;
--- otherwise 0
+-- the size of n characters and the blanks after them, if one or more symbols follow that reach to the end of their
+-- line; otherwise 0
 abbrev pub up_to_symbol : ℕ → List ℕ → ℕ
 up_to_symbol n [] = 0
 up_to_symbol n (x ∷ text) =
     if is_symbol Standard x && reaches_line_end text then n
     else (if is_run_blank x then up_to_symbol (1 + n) text else 0)
 
--- the size of a break between two symbols: a line end (a line feed, or a carriage return and one), and blanks after
--- it; 0 if the text does not begin with such a break and symbols that reach to the end of their line. So the first
--- word of the line after base64 does not belong to it: that of `cn: x` in LDIF, of `tls.key: x` in YAML
+-- the size of a break between two symbols: a line end (a line feed, or a carriage return and a line feed), and blanks
+-- after it; 0 if the text does not begin with such a break and symbols that reach to the end of their line. So the
+-- first word of the line after base64 does not belong to it: `cn` of `cn: x` in LDIF, `tls` of `tls.key: x` in YAML
 abbrev pub break_size : List ℕ → ℕ
 break_size [] = 0
 break_size (x ∷ []) = 0
 break_size (x ∷ y ∷ text) =
     if x == 10 then up_to_symbol 1 (y ∷ text) else (if (x == 13) && (y == 10) then up_to_symbol 2 text else 0)
 
--- a stretch of symbols: how many they are, and how many characters they take with the breaks between them
+-- a stretch of symbols: the number of symbols, and the number of characters that they take with the breaks between them
 pub record Stretch : Type 0 where
   pub symbols : ℕ
   pub size : ℕ
@@ -51,18 +51,18 @@ symbol_before more = record { symbols = 1 + more.symbols; size = 1 + more.size }
 abbrev pub break_before : Stretch → Stretch
 break_before more = record { symbols = more.symbols; size = 1 + more.size }
 
--- the stretch of symbols with which a text begins, after so many characters that are still of a break
+-- the stretch of symbols that a text begins with, after this number of characters that still belong to a break
 abbrev pub stretch_after : ℕ → List ℕ → Stretch
 stretch_after n [] = no_symbol
 stretch_after zero (x ∷ text) =
     if is_symbol Standard x then symbol_before (stretch_after (break_size text) text) else no_symbol
 stretch_after (suc n) (x ∷ text) = break_before (stretch_after n text)
 
--- the stretch of symbols with which a text begins
+-- the stretch of symbols that a text begins with
 abbrev pub stretch_of : List ℕ → Stretch
 stretch_of text = stretch_after 0 text
 
--- how much padding begins a text: one or two of `=`, or none
+-- the size of the padding that a text begins with: one or two `=`, or none
 abbrev pub padding_size : List ℕ → ℕ
 padding_size [] = 0
 padding_size (x ∷ []) = if x == 61 then 1 else 0
@@ -73,8 +73,7 @@ abbrev pub IsAfterNoSymbol : List ℕ → ℕ → Type 0
 IsAfterNoSymbol text zero = Unit {0}
 IsAfterNoSymbol text (suc k) = is_symbol Standard (slice_index text k) ≡ false
 
--- the first run of a text, of 40 symbols or more, begins after so many characters; the rest is what comes after its
--- padding
+-- the first run of a text, of 40 or more symbols, begins after `start` characters; the rest comes after its padding
 pub record IsFirstRun (text : List ℕ) (start : ℕ) (run rest : List ℕ) : Type 0 where
   pub spelled : drop start text ≡ run ++ rest
   pub long : 40 ≤ (stretch_of (drop start text)).symbols

@@ -1,7 +1,7 @@
 -- What is read from a text.
 use Rattle.std.specs.Prelude.{ℕ, ◌-◌, List, [], ◌∷◌, ◌++◌, length, Option, Some, None}
 
--- octets that are read from a text, and the rest of it, which begins with what is refused
+-- octets that are read from a text, and the rest of it, which begins with the refused character
 pub record TextRead : Type 0 where
   pub octets : List ℕ
   pub rest : List ℕ
@@ -10,11 +10,11 @@ pub record TextRead : Type 0 where
 abbrev pub octets_then : List ℕ → TextRead → TextRead
 octets_then octets more = record more { octets = octets ++ more.octets }
 
--- nothing is read, and this is left
+-- nothing is read, and `rest` is left
 abbrev pub nothing_read : List ℕ → TextRead
 nothing_read rest = record { octets = []; rest = rest }
 
--- how many characters come before what is refused, if anything is
+-- the number of characters before what is refused, if anything is
 abbrev pub refused_at : List ℕ → List ℕ → Option ℕ
 refused_at text [] = None
 refused_at text (x ∷ rest) = Some (length text - length (x ∷ rest))

@@ -1,4 +1,4 @@
--- Octets as tokens of a source text: `0x30`, `0x3` or `\x30`, as arrays and strings of C, Rust, Go and Python have
+-- Octets as tokens of a source text: `0x30`, `0x3` or `\x30`, as arrays and strings of C, Rust, Go and Python write
 -- them.
 use Rattle.std.specs.Prelude.{ℕ, zero, suc, ◌+◌, ◌==◌, Bool, true, false, ◌&&◌, ◌||◌, not, nat_le, if◌then◌else◌}
 use Rattle.std.specs.Prelude.{List, [], ◌∷◌, Option, Some, None}
@@ -23,7 +23,7 @@ abbrev pub ends_escape : List ℕ → Bool
 ends_escape [] = true
 ends_escape (x ∷ text) = (x == 92) || is_quote x || is_white x
 
--- a token has an octet, and so many more characters come after its first
+-- a token has an octet, and this number of characters comes after its first
 abbrev pub token_of : ℕ → ℕ → Token
 token_of octet more = record { octet = octet; more = more }
 
@@ -53,8 +53,8 @@ begins_hex_number before x y = (x == 48) && ((y == 120) || (y == 88)) && not (is
 abbrev pub begins_escape : ℕ → ℕ → ℕ → Bool
 begins_escape before x y = (x == 92) && (y == 120) && (is_white before || is_quote before)
 
--- the token with which a text begins; the first argument is the character before, which is a space at the start of a
--- text and after a token
+-- the token that a text begins with; the first argument is the character before the text, which is a space at the
+-- start of a text and after a token
 abbrev pub token_at : ℕ → List ℕ → Option Token
 token_at before [] = None
 token_at before (x ∷ []) = None
@@ -62,7 +62,7 @@ token_at before (x ∷ y ∷ text) =
     if begins_hex_number before x y then number_token text
     else (if begins_escape before x y then escape_token text else None)
 
--- the start of a token and a hexadecimal digit. Where no token begins, an octet is written there that would be lost
+-- the start of a token and a hexadecimal digit. Where this is no token, it stands for an octet that would be lost
 abbrev pub begins_like_token : ℕ → List ℕ → Bool
 begins_like_token before [] = false
 begins_like_token before (x ∷ []) = false
@@ -70,19 +70,19 @@ begins_like_token before (x ∷ y ∷ []) = false
 begins_like_token before (x ∷ y ∷ z ∷ text) =
     (begins_hex_number before x y || begins_escape before x y) && is_hex_digit z
 
--- from the left, a text is tokens, each with its octet; starts of tokens that are none; and other characters. The last
--- two have the text after the character
+-- from the left, a text consists of tokens, each with its octet; starts of tokens that are none; and other
+-- characters. The last two have the text after the character
 pub data Piece : Type 0 where
   token : ℕ → Piece
   broken : ℕ → List ℕ → Piece
   other : ℕ → List ℕ → Piece
 
--- the second argument is whether the text begins like a token
+-- the second argument says whether the text begins like a token
 abbrev pub piece_of : Option Token → Bool → ℕ → List ℕ → Piece
 piece_of (Some t) begins x text = Piece.token t.octet
 piece_of None begins x text = if begins then Piece.broken x text else Piece.other x text
 
--- how many characters of the token are still to come
+-- the number of characters of the token that are still to come
 abbrev pub inside_after : Option Token → ℕ
 inside_after (Some t) = t.more
 inside_after None = 0
@@ -92,7 +92,7 @@ abbrev pub before_after : Option Token → ℕ → ℕ
 before_after (Some t) x = 32
 before_after None x = x
 
--- the pieces of a text; the first argument is how many of its characters belong to a token that began before
+-- the pieces of a text; the first argument is the number of its characters that belong to a token that began before
 abbrev pub pieces : ℕ → ℕ → List ℕ → List Piece
 pieces inside before [] = []
 pieces (suc n) before (x ∷ text) = pieces n before text
@@ -104,7 +104,7 @@ pieces zero before (x ∷ text) =
 abbrev pub pieces_of : List ℕ → List Piece
 pieces_of text = pieces 0 32 text
 
--- how many of the pieces are tokens
+-- the number of pieces that are tokens
 abbrev pub tokens_in : List Piece → ℕ
 tokens_in [] = 0
 tokens_in (Piece.token octet ∷ more) = 1 + tokens_in more
@@ -114,9 +114,9 @@ tokens_in (Piece.other x text ∷ more) = tokens_in more
 abbrev pub token_count : List ℕ → ℕ
 token_count text = tokens_in (pieces_of text)
 
--- the octets of tokens, in order; the first argument is whether a token came before. A start of a token that is none is
--- refused wherever it stands, and a word character between two tokens. Before the first token and after the last one
--- anything else may stand.
+-- the octets of tokens, in order; the first argument says whether a token came before. The start of a token that is
+-- none is refused anywhere; a word character is refused between two tokens. Anything else may stand before the first
+-- token and after the last.
 abbrev pub pieces_read : Bool → List Piece → TextRead
 pieces_read begun [] = nothing_read []
 pieces_read begun (Piece.token octet ∷ more) = octets_then (octet ∷ []) (pieces_read true more)

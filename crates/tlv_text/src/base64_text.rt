@@ -12,7 +12,7 @@ use base64::DecodeAllocError;
 use base64::engine::general_purpose::{STANDARD_NO_PAD, URL_SAFE_NO_PAD};
 use std::alloc::{AllocError, Global};
 
-/// How many symbols are decoded at once: whole groups of four.
+/// The number of symbols that are decoded at once: whole groups of four.
 const SYMBOLS: usize = 4096;
 
 /// The last two of the 64 symbols.
@@ -24,9 +24,10 @@ pub enum Alphabet {
     UrlSafe,
 }
 
-/// The octets of a text that is base64, with padding or without (RFC 4648, sections 3.2, 4 and 5). White space, quotes,
-/// `>` and the pairs `\n` and `\r` are left out, wherever they stand, and so is a backslash before `/`. A text that is
-/// base64 of no octets is refused after its last symbol; the octets are then those of whole groups of four symbols.
+/// Decodes a text that is base64, with padding or without (RFC 4648, sections 3.2, 4 and 5). White space, quotes, `>`
+/// and the pairs `\n` and `\r` are left out, wherever they stand, and so is a backslash before `/`. A text that is
+/// not the base64 of any octets is refused after its last symbol; the result then has the octets of the whole groups
+/// of four symbols.
 ///
 /// # Errors
 ///
@@ -46,7 +47,8 @@ pub fn decode_base64(alloc: Global, alphabet: Alphabet, text: &[u8]) -> Result<D
     }
 }
 
-/// Takes symbols from the front of a text, up to 4096 of them or to the first character that is none and not left out.
+/// Takes at most 4096 symbols from the front of a text, up to the first character that is neither a symbol nor left
+/// out.
 fn take_symbols(alphabet: Alphabet, rest: &mut &[u8], symbols: &mut ArrayVec<u8, SYMBOLS>)
     requires { symbols.old.items ≡ [] }
     ensures symbols { AreSymbols alphabet symbols.new.items }
@@ -72,7 +74,7 @@ fn take_symbols(alphabet: Alphabet, rest: &mut &[u8], symbols: &mut ArrayVec<u8,
     }
 }
 
-/// Takes the symbols with which a text begins, as many of them as there is room for.
+/// Takes the leading symbols of a text, as many as there is room for.
 fn take_run(alphabet: Alphabet, rest: &mut &[u8], symbols: &mut ArrayVec<u8, SYMBOLS>)
     requires symbols { AreSymbols alphabet symbols.old.items }
     requires few { length symbols.old.items ≤ 4096 }
@@ -92,7 +94,7 @@ fn take_run(alphabet: Alphabet, rest: &mut &[u8], symbols: &mut ArrayVec<u8, SYM
     *rest = &rest[count..];
 }
 
-/// Whether this is left out.
+/// Whether this character is left out.
 #[inline(always)]
 fn is_left_out(character: u8) -> bool
     ensures { result ≡ is_left_out character }
@@ -103,7 +105,7 @@ fn is_left_out(character: u8) -> bool
     )
 }
 
-/// Whether this is a line feed or a carriage return as JSON and C have it.
+/// Whether this is a line feed or a carriage return as JSON and C write it.
 #[inline(always)]
 fn is_escaped_line_end(first: u8, second: u8) -> bool
     ensures { result ≡ is_escaped_line_end first second }
@@ -111,7 +113,7 @@ fn is_escaped_line_end(first: u8, second: u8) -> bool
     first == b'\\' && matches!(second, b'n' | b'r')
 }
 
-/// Whether this is a slash as JSON may have it.
+/// Whether this is a slash as JSON may write it.
 #[inline(always)]
 fn is_escaped_slash(first: u8, second: u8) -> bool
     ensures { result ≡ is_escaped_slash first second }
@@ -128,12 +130,12 @@ fn add_groups(alphabet: Alphabet, symbols: &[u8], octets: &mut Vec<u8>) -> Resul
     match decode(alphabet, symbols, octets) {
         Ok(()) => Ok(()),
         Err(DecodeAllocError::OutOfMemory) => Err(AllocError),
-        // Whole groups of symbols are decoded.
+        // Whole groups of symbols always decode.
         Err(DecodeAllocError::DecodeError(_)) => unreachable!(),
     }
 }
 
-/// Adds the octets of symbols. If there is an error, none is added.
+/// Adds the octets of symbols. On an error, adds none.
 fn decode(alphabet: Alphabet, symbols: &[u8], octets: &mut Vec<u8>) -> Result<(), DecodeAllocError>
     ensures added { OnOk result (AreAdded alphabet symbols.now octets.old.items octets.new.items) }
     ensures same { OnErr result (octets.new.items ≡ octets.old.items) }
@@ -172,8 +174,8 @@ fn finish(
     })
 }
 
-/// Adds the octets of the last symbols of a text, unless what follows is not their padding or they are the base64 of
-/// no octets.
+/// Adds the octets of the last symbols of a text, unless what follows is not their padding or they are not the base64
+/// of any octets.
 fn add_last(
     alphabet: Alphabet,
     symbols: &[u8],
@@ -197,7 +199,7 @@ fn add_last(
     }
 }
 
-/// How much padding a text is, if it is nothing else but what is left out.
+/// The amount of padding in a text, if the text has nothing else but left-out characters.
 fn padding_of(text: &[u8]) -> Option<usize>
     ensures { result ≡ padding_of text.now }
 {
@@ -217,7 +219,7 @@ fn padding_of(text: &[u8]) -> Option<usize>
     }
 }
 
-/// Whether so much padding may follow so many symbols.
+/// Whether `padding` characters of padding may follow `count` symbols.
 fn fits_after(count: usize, padding: Option<usize>) -> bool
     ensures { result ≡ fits_after count padding }
 {

@@ -18,16 +18,16 @@ pub enum Form {
     Runs,
 }
 
-/// What is to be said of a block beside its octets.
+/// The state of a block, beside its octets.
 #[derive(Clone, Copy, Debug, PartialEq, Eq)]
 pub enum BlockState {
-    /// Nothing.
+    /// Nothing is wrong: all of the block is decoded.
     Whole,
     /// It is PEM, and the text ends before its end marker.
     Unended,
     /// It is PEM, and its headers say that it is encrypted. It has no octets.
     Encrypted,
-    /// The text is refused in this line, the first being 1. The octets are those before that place.
+    /// The text is refused in this line, counted from 1. The block has the octets decoded before that place.
     Refused(usize),
     /// The text has no block of the form.
     Absent,
@@ -36,12 +36,12 @@ pub enum BlockState {
 /// Octets that are written in a text in one form.
 #[derive(Debug, Drop)]
 pub struct Block {
-    /// The line at which the block begins, the first being 1. Of a form that has one block it is 1.
+    /// The line at which the block begins, counted from 1. It is 1 for a form that has one block.
     pub line: usize,
-    /// Of PEM the label; otherwise it is empty.
+    /// The label of a block of PEM; otherwise empty.
     pub label: ArrayVec<u8, 64>,
     /// The octets.
     pub octets: Vec<u8>,
-    /// What is to be said beside.
+    /// The state of the block.
     pub state: BlockState,
 }

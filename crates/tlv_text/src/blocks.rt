@@ -14,12 +14,12 @@ use runs::run_blocks;
 use single::{absent_block, base64_block, dump_block, hex_block, numbers_block};
 use std::alloc::{AllocError, Global};
 
-/// The most octets of a block.
+/// The maximum number of octets in a block.
 const LIMIT: usize = 1_073_741_824;
 
-/// The blocks of a text in a form, in order, each with its octets decoded. Of dumps, hexadecimal, numbers and base64
-/// there is one. If a text has no block of PEM, no run of base64 or no list of numbers, there is one block that says
-/// so.
+/// Returns the blocks of a text in a form, in order, each with its octets decoded. A dump, hexadecimal, numbers and
+/// base64 have one block. If a text has no block of PEM, no run of base64 or no list of numbers, there is one block
+/// that says so.
 ///
 /// # Errors
 ///
@@ -63,7 +63,7 @@ fn or_absent(alloc: Global, blocks: Vec<Block>) -> Result<Vec<Block>, AllocError
     }
 }
 
-/// A block alone.
+/// A list of one block.
 fn one_block(alloc: Global, block: Block) -> Result<Vec<Block>, AllocError>
     ensures { IfOk result (λ blocks. map block_value blocks.items ≡ block_value block ∷ []) }
 {

@@ -5,7 +5,7 @@ ghost use Rattle.tlv_text.specs.PemBody.{is_escaped_line_feed, is_escaped_return
 
 use memchr::{memchr, memmem};
 
-/// What the headers of an encrypted block have.
+/// The word that the headers of an encrypted block contain.
 const ENCRYPTED: &[u8; 9] = b"ENCRYPTED";
 
 /// What the body of a block of PEM holds.
@@ -17,8 +17,9 @@ pub enum PemBody<'a> {
     Base64(&'a [u8]),
 }
 
-/// What a body holds: base64 alone, or, if it has a colon, headers, a blank line and then base64 (RFC 7468; RFC 1421,
-/// section 4.4). Line ends may be those of JSON and C, a backslash and n. With no blank line there is no base64.
+/// Returns what a body holds: only base64, or, if it has a colon, headers, a blank line and then base64 (RFC 7468;
+/// RFC 1421, section 4.4). A line end may also be a backslash and n, as in JSON and C. Without a blank line there is
+/// no base64.
 pub fn pem_body(body: &[u8]) -> PemBody<'_>
     ensures { IsHeldBy body.now result }
 {
@@ -62,7 +63,7 @@ fn after_line(text: &[u8]) -> &[u8]
     }
 }
 
-/// How many characters the lines up to the first blank one take, with that line and its end.
+/// The number of characters in the lines up to the first blank line, including that line and its end.
 fn headers_size(text: &[u8]) -> usize
     ensures size { result ≡ headers_size true text.now }
     ensures within { result ≤ length text.now }
@@ -96,7 +97,7 @@ fn headers_size(text: &[u8]) -> usize
     text.len() - rest.len()
 }
 
-/// Whether a line that has been blank so far, or not, is blank with one more character.
+/// Whether a line is still blank with one more character.
 #[inline(always)]
 fn stays_blank(blank: bool, character: u8) -> bool
     ensures { result ≡ (blank && does_not_count character) }
@@ -104,7 +105,7 @@ fn stays_blank(blank: bool, character: u8) -> bool
     blank && matches!(character, b' ' | b'\t' | b'\r' | b'"' | b'\'' | b'>')
 }
 
-/// Whether this is a carriage return as JSON and C have it.
+/// Whether this is a carriage return as JSON and C write it.
 #[inline(always)]
 fn is_escaped_return(first: u8, second: u8) -> bool
     ensures { result ≡ is_escaped_return first second }
@@ -112,7 +113,7 @@ fn is_escaped_return(first: u8, second: u8) -> bool
     first == b'\\' && second == b'r'
 }
 
-/// Whether this is a line feed as JSON and C have it.
+/// Whether this is a line feed as JSON and C write it.
 #[inline(always)]
 fn is_escaped_line_feed(first: u8, second: u8) -> bool
     ensures { result ≡ is_escaped_line_feed first second }

@@ -7,13 +7,13 @@ use std::alloc::{Allocator, Global};
 /// What is decoded from a text.
 #[derive(Debug, Drop)]
 pub struct Decoded<A: Allocator = Global> {
-    /// The octets; if the text is refused, those before the place where it is.
+    /// The octets; if the text is refused, the octets before the refused place.
     pub octets: Vec<u8, A>,
-    /// Where the text is refused, if it is: how many characters come before.
+    /// The number of characters before the place where the text is refused, if it is refused.
     pub refused: Option<usize>,
 }
 
-/// How many characters come before the rest of a text, unless that is empty.
+/// The number of characters before the rest of a text; `None` if the rest is empty.
 pub(crate) fn refused_at(text: &[u8], rest: &[u8]) -> Option<usize>
     requires { length rest.now ≤ length text.now }
     ensures { result ≡ refused_at text.now rest.now }

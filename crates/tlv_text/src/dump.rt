@@ -31,13 +31,13 @@ use std::alloc::{AllocError, Global};
 pub(crate) struct Reading {
     /// The octets.
     pub(crate) output: Output,
-    /// If the text is refused, how many characters of it are left from there on.
+    /// If the text is refused, the number of characters left from that place on.
     pub(crate) left: Option<usize>,
 }
 
-/// The octets of a hex dump with offsets, as xxd, hexdump, od, Wireshark, tcpdump, Format-Hex and OpenSSL write it. A
-/// text is refused at the first line that does not fit. Offsets are hexadecimal; but octal, if that of the first row
-/// has seven octal digits and no colon after it, as od writes it, and the text is not refused so.
+/// Decodes a hex dump with offsets, as xxd, hexdump, od, Wireshark, tcpdump, Format-Hex and OpenSSL write it. A text
+/// is refused at the first line that does not fit. Offsets are hexadecimal. They are octal if the offset of the first
+/// row has seven octal digits and no colon after it, as od writes it, and the text read so is not refused.
 ///
 /// # Errors
 ///
@@ -60,7 +60,7 @@ pub fn decode_dump(alloc: Global, text: &[u8]) -> Result<Decoded, TextFault>
     })
 }
 
-/// How many characters come before the place where a text is refused, if it is.
+/// The number of characters before the place where a text is refused, if it is refused.
 fn refused_in(text: &[u8], left: Option<usize>) -> Option<usize>
     ensures { result ≡ refused_in text.now left }
 {
@@ -103,7 +103,7 @@ fn read_lines(alloc: Global, radix: Radix, text: &[u8]) -> Result<Reading, Alloc
     Ok(refused(alloc, 0))
 }
 
-/// Nothing is read, and the text is refused; so many characters of it are left.
+/// The reading of a refused text: nothing is read, and `left` characters are left.
 fn refused(alloc: Global, left: usize) -> Reading
     ensures { Reads (refused_with left) result }
 {
@@ -113,7 +113,7 @@ fn refused(alloc: Global, left: usize) -> Reading
     }
 }
 
-/// Reads a dump from its first row on. `rest` comes after the row, and `left` is how many characters are left from the
+/// Reads a dump from its first row on. `rest` comes after the row, and `left` is the number of characters from the
 /// row on.
 fn read_from(
     alloc: Global,
@@ -131,7 +131,7 @@ fn read_from(
     }
 }
 
-/// Reads a dump of rows with so many octets from its first row on.
+/// Reads a dump, whose rows have `size` octets, from its first row on.
 fn read_among(
     alloc: Global,
     radix: Radix,
@@ -159,7 +159,7 @@ fn read_among(
     Ok(Reading { output, left })
 }
 
-/// Reads a dump of a row alone.
+/// Reads a dump that is a single row.
 fn read_alone(
     alloc: Global,
     radix: Radix,
@@ -182,7 +182,7 @@ fn read_alone(
     Ok(Reading { output, left })
 }
 
-/// Adds the octets of a row that is alone, if it fits.
+/// Adds the octets of a single row, if it fits.
 fn add_single(alloc: Global, row: RowLine<'_>, output: &mut Output) -> Result<bool, AllocError>
     ensures { IfOk result (λ fits. IsFirstRow (single_row_octets (row_seen row.entry)) fits output.old output.new) }
 {
@@ -194,7 +194,7 @@ fn add_single(alloc: Global, row: RowLine<'_>, output: &mut Output) -> Result<bo
     Ok(!begins_digit(rest))
 }
 
-/// Adds the octets of the pairs of a row that is alone. Answers the rest after them.
+/// Adds the octets of the pairs of a single row. Returns the rest after them.
 fn add_pairs<'a>(
     alloc: Global,
     gap: Gap,
@@ -219,7 +219,7 @@ fn add_pairs<'a>(
     }
 }
 
-/// Reads the lines after the first row. If one does not fit, answers how many characters are left from it on.
+/// Reads the lines after the first row. If a line does not fit, returns the number of characters from that line on.
 fn read_rows(
     alloc: Global,
     radix: Radix,
@@ -248,7 +248,7 @@ fn read_rows(
     Ok(left_in(last.phase))
 }
 
-/// A repeat after which no row comes does not fit.
+/// A repeat with no row after it does not fit.
 fn left_in(phase: Phase) -> Option<usize>
     ensures { result ≡ left_in phase }
 {

@@ -1,5 +1,5 @@
-//! Octets that are written in a text, as people have them: pairs of hexadecimal digits, tokens of a source text,
-//! decimal numbers, hex dumps, base64, PEM; and marks at the start of a text.
+//! Octets that are written in a text, in the forms that people use: pairs of hexadecimal digits, tokens of a source
+//! text, decimal numbers, hex dumps, base64, PEM; and marks at the start of a text.
 #![tactic(auto)]
 
 mod base64_text;

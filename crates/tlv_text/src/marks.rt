@@ -4,7 +4,7 @@ ghost use Rattle.tlv_text.specs.Marks.{after_mark, ascii_of_pair, ascii_of_units
 
 use std::alloc::{AllocError, Global};
 
-/// The text after the mark of UTF-8 (`ef bb bf`), or all of it if it has none.
+/// Returns the text after the mark of UTF-8 (`ef bb bf`), or all of it if it has none.
 pub fn after_mark(text: &[u8]) -> &[u8]
     ensures { result.now ≡ after_mark text.now }
 {
@@ -14,8 +14,8 @@ pub fn after_mark(text: &[u8]) -> &[u8]
     }
 }
 
-/// The ASCII characters of a text in UTF-16 that begins with its mark (`ff fe` or `fe ff`). `None` if it does not, or
-/// if a character of it is not ASCII.
+/// Returns the ASCII characters of a text in UTF-16 that begins with its mark (`ff fe` or `fe ff`). `None` if the
+/// octets do not begin with a mark, or if a character is not ASCII.
 ///
 /// # Errors
 ///
@@ -30,7 +30,7 @@ pub fn ascii_of_utf16(alloc: Global, octets: &[u8]) -> Result<Option<Vec<u8>>, A
     }
 }
 
-/// The ASCII characters of units of UTF-16, if all are such: of each unit the low octet is first, or the high one.
+/// The ASCII characters of units of UTF-16, if all are ASCII. In each unit the low octet is first if `low_first`.
 fn ascii_of_units(
     alloc: Global,
     low_first: bool,
@@ -54,7 +54,7 @@ fn ascii_of_units(
     }
 }
 
-/// The ASCII character of a unit of UTF-16 with these two octets: the low one is the first of them, or the second.
+/// The ASCII character of a unit of UTF-16 with these two octets. The low octet is the first if `low_first`.
 fn ascii_of_pair(low_first: bool, x: u8, y: u8) -> Option<u8>
     ensures { result ≡ ascii_of_pair low_first x y }
 {

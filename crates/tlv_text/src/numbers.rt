@@ -14,7 +14,7 @@ use std::alloc::{AllocError, Global};
 pub(crate) struct Digits {
     /// Their value.
     pub(crate) value: u16,
-    /// How many come after the first.
+    /// The number of digits after the first.
     pub(crate) more: usize,
 }
 
@@ -23,14 +23,14 @@ pub(crate) struct Digits {
 pub(crate) struct Number {
     /// Its octet.
     pub(crate) octet: u8,
-    /// How many characters of it come after the first.
+    /// The number of its characters after the first.
     pub(crate) more: usize,
 }
 
 /// A place in a list of numbers.
 #[derive(Clone, Copy, Debug, PartialEq, Eq)]
 pub(crate) enum Place {
-    /// After its opening.
+    /// After the opening of the list.
     AtStart,
     /// After a number.
     AfterNumber,
@@ -51,9 +51,9 @@ pub(crate) enum Step {
     Fails,
 }
 
-/// The octets of a text with one list of two or more decimal numbers from -128 to 255, in brackets or in braces, with
-/// commas between them and perhaps one after the last. `None` if the text has no such list, or two of them. What is
-/// around the list may be anything. The time is linear, since no list has a second opening in it.
+/// Returns the octets of the only list in a text: two or more decimal numbers from -128 to 255, in brackets or in
+/// braces, with commas between them and perhaps one after the last. `None` if the text has no such list, or more than
+/// one. Anything may stand around the list. The time is linear, since no list has a second opening in it.
 ///
 /// # Errors
 ///
@@ -69,7 +69,7 @@ pub fn numbers_of(alloc: Global, text: &[u8]) -> Result<Option<Vec<u8>>, AllocEr
     Ok(octets)
 }
 
-/// The octets of the first list of a text. What comes after its opening is left, or nothing if there is none.
+/// The octets of the first list of a text. Leaves what comes after its opening, or nothing if there is no list.
 fn first_list(alloc: Global, text: &mut &[u8]) -> Result<Option<Vec<u8>>, AllocError>
     ensures octets { IfOk result (λ r. option_map (λ octets. octets.items) r ≡ first_list text.old.now) }
     ensures rest { IfOk result (λ r. text.new.now ≡ after_opening text.old.now) }
@@ -85,7 +85,7 @@ fn first_list(alloc: Global, text: &mut &[u8]) -> Result<Option<Vec<u8>>, AllocE
     Ok(None)
 }
 
-/// The octets of the list with which a text begins.
+/// The octets of the list that a text begins with.
 fn list_at(alloc: Global, text: &[u8]) -> Result<Option<Vec<u8>>, AllocError>
     ensures { IfOk result (λ r. option_map (λ octets. octets.items) r ≡ list_at text.now) }
 {
@@ -171,7 +171,7 @@ fn after_number(close: u8, text: &[u8]) -> Step
     }
 }
 
-/// The number with which a text begins.
+/// The number that a text begins with.
 fn number_at(text: &[u8]) -> Option<Number>
     ensures number { result ≡ number_at text.now }
     ensures within { MatchOption result Unit (λ n. 1 + n.more ≤ length text.now) }
@@ -200,7 +200,7 @@ fn number_at(text: &[u8]) -> Option<Number>
     }
 }
 
-/// The digits with which a text begins, three of them at most.
+/// The digits that a text begins with, at most three.
 fn digits_at(text: &[u8]) -> Option<Digits>
     ensures digits { result ≡ digits_at text.now }
     ensures within { MatchOption result Unit (λ d. 1 + d.more ≤ length text.now) }

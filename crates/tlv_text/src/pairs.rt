@@ -19,8 +19,8 @@ static BETWEEN: [u8; 256] = *b"\
     @@@@@@@@@@@@@@@@@@@@@@@@@@@@@@@@\
     @@@@@@@@@@@@@@@@@@@@@@@@@@@@@@@@";
 
-/// The octets of a text that is pairs of hexadecimal digits in either case, with white space, colons, commas, hyphens
-/// and quotes between them. A text is refused at the first character that is neither between pairs nor begins one.
+/// Decodes a text of pairs of hexadecimal digits in either case, with white space, colons, commas, hyphens and quotes
+/// between them. A text is refused at the first character that may not stand between pairs and does not begin a pair.
 ///
 /// # Errors
 ///
@@ -51,7 +51,7 @@ pub fn decode_pairs(alloc: Global, text: &[u8]) -> Result<Decoded, AllocError>
     }
 }
 
-/// Takes pairs with which a text begins, four at a time, and adds their octets: together they cost less than one by
+/// Takes the leading pairs of a text, four at a time, and adds their octets: four at a time cost less than one by
 /// one.
 fn take_four_pairs(text: &mut &[u8], octets: &mut Vec<u8>) -> Result<(), AllocError>
     ensures read { OnOk result (octets_then octets.old.items (pairs_read text.old.now)
@@ -72,8 +72,7 @@ fn take_four_pairs(text: &mut &[u8], octets: &mut Vec<u8>) -> Result<(), AllocEr
     Ok(())
 }
 
-/// Takes pairs that come after one character between pairs each, with that character, four at a time, and adds their
-/// octets.
+/// Takes pairs, each with one character before it that may be between pairs, four at a time, and adds their octets.
 fn take_four_separated(text: &mut &[u8], octets: &mut Vec<u8>) -> Result<(), AllocError>
     ensures read { OnOk result (octets_then octets.old.items (pairs_read text.old.now)
         ≡ octets_then octets.new.items (pairs_read text.new.now)) }
@@ -97,7 +96,7 @@ fn take_four_separated(text: &mut &[u8], octets: &mut Vec<u8>) -> Result<(), All
     Ok(())
 }
 
-/// Takes pairs that come after one character between pairs each, with that character, and adds their octets.
+/// Takes pairs, each with one character before it that may be between pairs, and adds their octets.
 fn take_separated(text: &mut &[u8], octets: &mut Vec<u8>) -> Result<(), AllocError>
     ensures read { OnOk result (octets_then octets.old.items (pairs_read text.old.now)
         ≡ octets_then octets.new.items (pairs_read text.new.now)) }

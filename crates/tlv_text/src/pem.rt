@@ -12,13 +12,13 @@ const BEGIN_MARKER: &[u8; 11] = b"-----BEGIN ";
 /// What comes after a label, and where a body ends.
 const DASHES: &[u8; 5] = b"-----";
 
-/// The most characters of a label.
+/// The maximum number of characters in a label.
 const LABEL_LIMIT: usize = 64;
 
 /// A block of PEM in a text.
 #[derive(Clone, Copy, Debug, PartialEq, Eq)]
 pub struct PemBlock<'a> {
-    /// How many characters of the text come before its marker.
+    /// The number of characters of the text before its marker.
     pub start: usize,
     /// Its label: 1 to 64 printable characters, none of them a hyphen.
     pub label: &'a [u8],
@@ -29,8 +29,8 @@ pub struct PemBlock<'a> {
     pub rest: &'a [u8],
 }
 
-/// The first block of PEM in a text (RFC 7468), wherever in a line it begins: `-----BEGIN `, a label, `-----`, and a
-/// body up to the next `-----`.
+/// Returns the first block of PEM in a text (RFC 7468), wherever in a line it begins: `-----BEGIN `, a label,
+/// `-----`, and a body up to the next `-----`.
 pub fn first_block(text: &[u8]) -> Option<PemBlock<'_>>
     ensures { MatchOption result (HasNoBlock text.now)
         (λ b. IsFirstBlock text.now b.start b.label.now b.body.now b.rest.now) }
@@ -54,7 +54,7 @@ pub fn first_block(text: &[u8]) -> Option<PemBlock<'_>>
     None
 }
 
-/// How many characters the label has with which the text begins and which five hyphens follow.
+/// The number of characters of the label that the text begins with, if five hyphens follow it.
 fn label_length(text: &[u8]) -> Option<usize>
     ensures { MatchOption result (BeginsNoLabel text.now) (BeginsLabel text.now) }
 {
@@ -64,7 +64,7 @@ fn label_length(text: &[u8]) -> Option<usize>
     }
 }
 
-/// Whether the first characters are a label, and five hyphens follow.
+/// Whether the first `count` characters are a label, and five hyphens follow.
 fn is_label_before_dashes(text: &[u8], count: usize) -> bool
     requires { count ≤ length text.now }
     ensures { result ≡ (is_label (take count text.now) && begin_dashes (drop count text.now)) }
@@ -72,7 +72,7 @@ fn is_label_before_dashes(text: &[u8], count: usize) -> bool
     is_label(&text[..count]) && begin_dashes(&text[count..])
 }
 
-/// Whether five hyphens begin the text.
+/// Whether the text begins with five hyphens.
 fn begin_dashes(text: &[u8]) -> bool
     ensures { result ≡ begin_dashes text.now }
 {
@@ -86,7 +86,7 @@ fn is_label(label: &[u8]) -> bool
     !label.is_empty() && label.len() <= LABEL_LIMIT && are_label_characters(label)
 }
 
-/// Whether all of these may be in a label.
+/// Whether all of these characters may be in a label.
 fn are_label_characters(label: &[u8]) -> bool
     ensures { result ≡ list_all is_label_character label.now }
 {

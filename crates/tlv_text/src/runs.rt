@@ -7,13 +7,13 @@ ghost use Rattle.tlv_text.specs.declared.base64_text.Alphabet.TheVariants.{Stand
 
 use crate::{Alphabet, symbols};
 
-/// The fewest symbols of a run.
+/// The minimum number of symbols in a run.
 const FEWEST: usize = 40;
 
 /// A run of base64 in a text.
 #[derive(Clone, Copy, Debug, PartialEq, Eq)]
 pub struct Base64Run<'a> {
-    /// How many characters of the text come before it.
+    /// The number of characters of the text before it.
     pub start: usize,
     /// From its first symbol to its last one or to its padding.
     pub text: &'a [u8],
@@ -28,10 +28,10 @@ struct Stretch {
     size: usize,
 }
 
-/// The first run of base64 in a text: 40 symbols or more of the standard alphabet (RFC 4648, section 4), the first of
-/// them not after a symbol. Between two of them may be a line end and blanks after it, if the symbols after these reach
-/// to the end of their line: to the end of the text, a line feed, a carriage return, `=`, `<` or a quote. One or two of
-/// `=` may follow.
+/// Returns the first run of base64 in a text: at least 40 symbols of the standard alphabet (RFC 4648, section 4),
+/// with no symbol right before them. A line end and blanks after it may stand between two symbols, if the symbols
+/// after them reach to the end of their line: to the end of the text, a line feed, a carriage return, `=`, `<` or a
+/// quote. One or two `=` may follow.
 pub fn first_run(text: &[u8]) -> Option<Base64Run<'_>>
     ensures { MatchOption result (HasNoRun text.now) (λ r. IsFirstRun text.now r.start r.text.now r.rest.now) }
 {
@@ -53,7 +53,7 @@ pub fn first_run(text: &[u8]) -> Option<Base64Run<'_>>
     None
 }
 
-/// The stretch of symbols with which a text begins.
+/// The stretch of symbols that a text begins with.
 fn stretch_of(text: &[u8]) -> Stretch
     ensures symbols { result.symbols ≡ (stretch_of text.now).symbols }
     ensures size { result.size ≡ (stretch_of text.now).size }
@@ -87,7 +87,8 @@ fn break_size(text: &[u8]) -> usize
     }
 }
 
-/// So many characters and then blanks, if symbols stand after them that reach to the end of their line; otherwise 0.
+/// The size of `before` characters and the blanks after them, if symbols follow that reach to the end of their line;
+/// otherwise 0.
 fn up_to_symbol(before: usize, text: &[u8]) -> usize
     requires { before ≤ 2 }
     ensures size { result ≡ up_to_symbol before text.now }
@@ -107,7 +108,7 @@ fn up_to_symbol(before: usize, text: &[u8]) -> usize
     }
 }
 
-/// Whether the symbols with which a text begins reach to the end of their line.
+/// Whether the leading symbols of a text reach to the end of their line.
 fn reaches_line_end(text: &[u8]) -> bool
     ensures { result ≡ reaches_line_end text.now }
 {
@@ -121,7 +122,7 @@ fn reaches_line_end(text: &[u8]) -> bool
     true
 }
 
-/// Whether symbols that this comes after reach to the end of their line.
+/// Whether symbols before this character reach to the end of their line.
 #[inline(always)]
 fn ends_symbols(character: u8) -> bool
     ensures { result ≡ ends_symbols character }
@@ -145,7 +146,7 @@ fn is_symbol(character: u8) -> bool
     symbols::is_symbol(Alphabet::Standard, character)
 }
 
-/// How much padding begins a text: one or two of `=`, or none.
+/// The size of the padding that a text begins with: one or two `=`, or none.
 fn padding_size(text: &[u8]) -> usize
     ensures size { result ≡ padding_size text.now }
     ensures within { result ≤ length text.now }

@@ -27,7 +27,7 @@ static URL_SAFE: [u8; 256] = *b"\
     @@@@@@@@@@@@@@@@@@@@@@@@@@@@@@@@\
     @@@@@@@@@@@@@@@@@@@@@@@@@@@@@@@@";
 
-/// How many symbols a text begins with.
+/// The number of symbols at the start of a text.
 pub(crate) fn symbols_before(alphabet: Alphabet, text: &[u8]) -> usize
     ensures count { result ≡ prefix_len (is_symbol alphabet) text.now }
     ensures within { result ≤ length text.now }
@@ -35,7 +35,7 @@ pub(crate) fn symbols_before(alphabet: Alphabet, text: &[u8]) -> usize
     text.len() - after_symbols(alphabet, after_eights(alphabet, text)).len()
 }
 
-/// A text after the groups of eight symbols with which it begins: together they cost less than one by one.
+/// The text after its leading groups of eight symbols: eight at a time cost less than one by one.
 fn after_eights(alphabet: Alphabet, text: &[u8]) -> &[u8]
     ensures symbols { length text.now + prefix_len (is_symbol alphabet) result.now
         ≡ length result.now + prefix_len (is_symbol alphabet) text.now }
@@ -59,7 +59,7 @@ fn after_eights(alphabet: Alphabet, text: &[u8]) -> &[u8]
     rest
 }
 
-/// A text after the symbols with which it begins.
+/// The text after its leading symbols.
 fn after_symbols(alphabet: Alphabet, text: &[u8]) -> &[u8]
     ensures symbols { length text.now ≡ length result.now + prefix_len (is_symbol alphabet) text.now }
 {

@@ -5,7 +5,7 @@ use thiserror::Error;
 /// Why a text is not decoded.
 #[derive(Clone, Copy, Debug, PartialEq, Eq, Error)]
 pub enum TextFault {
-    /// The octets would be more than 2^30.
+    /// There would be more than 2^30 octets.
     #[error("text too long")]
     TooLong,
     /// Memory was refused.

@@ -19,14 +19,14 @@ use std::alloc::{AllocError, Global};
 pub(crate) struct Token {
     /// Its octet.
     pub(crate) octet: u8,
-    /// How many characters of it come after the first.
+    /// The number of its characters after the first.
     pub(crate) more: usize,
 }
 
-/// The octets of a text that has them as tokens: `0x30`, `0x3` or `\x30`. Before the first token and after the last one
-/// anything else may stand; between two of them no letter, no digit and no `_`: a text is refused at the first such
-/// character. It is refused too, wherever that is, at what begins like a token and is none: `0x30u8`, or `\x03` before
-/// `ab`. The time is linear: whether another token comes is asked once at most.
+/// Decodes a text whose octets are written as tokens: `0x30`, `0x3` or `\x30`. Anything else may stand before the
+/// first token and after the last. Between two tokens there may be no letter, no digit and no `_`: a text is refused
+/// at the first such character. It is also refused, anywhere, at what begins like a token and is none: `0x30u8`, or
+/// `\x03` before `ab`. The time is linear: the search for another token runs at most once.
 ///
 /// # Errors
 ///
@@ -132,7 +132,7 @@ fn token_from(place: usize, before: u8, text: &[u8]) -> Option<Token>
     }
 }
 
-/// The token with which a text begins. `before` is the character before the text: a space at its start and after a
+/// The token that a text begins with. `before` is the character before the text: a space at its start and after a
 /// token.
 fn token_at(before: u8, text: &[u8]) -> Option<Token>
     ensures token { result ≡ token_at before text.now }
@@ -145,8 +145,7 @@ fn token_at(before: u8, text: &[u8]) -> Option<Token>
     }
 }
 
-/// Whether a text begins as a token does, and a hexadecimal digit comes then. `before` is the character before the
-/// text.
+/// Whether a text begins like a token and a hexadecimal digit comes next. `before` is the character before the text.
 fn begins_like_token(before: u8, text: &[u8]) -> bool
     ensures { result ≡ begins_like_token before text.now }
 {

@@ -1,7 +1,7 @@
 -- A list of offsets, as the option `--inside` takes it.
 use Rattle.std.specs.Prelude.{ℕ, Bool, if◌then◌else◌, List, [], ◌∷◌, ◌++◌, decimal, length, ◌==◌}
 
--- what follows an offset, by whether it is the last: a line feed, or a comma
+-- what follows an offset: a line feed after the last, a comma after any other
 abbrev pub offset_end : Bool → ℕ
 offset_end is_last = if is_last then 10 else 44
 

@@ -1,4 +1,4 @@
--- What reading all that a source gives comes to, and what is reported if its octets cannot be had.
+-- The result of reading all that a source gives, and what is reported if the input cannot be read into memory.
 use Rattle.std.specs.Prelude.{◌≡◌, ℕ, ◌<◌, ◌≤◌, List, length, Result, Ok, Err, codes}
 use Rattle.std.specs.List.{concat}
 use Rattle.std.specs.Io.KnownBytes.{IsAtEnd}
@@ -20,7 +20,7 @@ pub record IsWithoutMemory {old new : SourceState} (pieces : Pieces old new) : T
   pub gave_some : 0 < length pieces.last
   pub in_limit : length (octets_given pieces) ≤ input_limit
 
--- why no more was read, by what is returned
+-- why reading stopped, for each result
 abbrev pub GivesWhole : {old new : SourceState} → Pieces old new → Result (List ℕ) InputFault → Type 0
 GivesWhole pieces (Ok octets) = IsWholeInput pieces octets
 GivesWhole {old} {new} pieces (Err ReadFailed) = new.last ≡ failed
@@ -39,7 +39,7 @@ pub record ReadsWhole (old new : SourceState) (result : Result (List ℕ) InputF
   pub gives : GivesWhole pieces result
   pub failures : new.failures ≡ input_failures_after result old.failures
 
--- the report of an input whose octets cannot be had
+-- the report for an input that cannot be read into memory
 abbrev pub input_report : InputFault → ReportValue
 input_report ReadFailed = device_report device.ReadFailed
 input_report TooLong = device_report device.InputTooLong

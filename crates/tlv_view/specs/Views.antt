@@ -1,4 +1,4 @@
--- What comes of octets in memory if the strings that hold encodings are opened.
+-- The view of octets in memory if the strings that hold encodings are opened.
 use Rattle.std.specs.Prelude.{◌≡◌, ℕ, Bool, true, false, List, [], Option, Some, None}
 use Rattle.tlv_io.specs.Device.{DrainState, SourceState, new_source}
 use Rattle.tlv_walk.specs.declared.framing.Framing.{Framing}
@@ -22,8 +22,8 @@ use Rattle.tlv_view.specs.declared.view_call.View.TheVariants.{Dump, Check, Extr
 abbrev pub dump_options : Rules → Option ℕ → Bool → Framing → Options
 dump_options rules limit pure framing = record { rules = rules; limit = limit; pure = pure; framing = framing }
 
--- what a view wants of an input in which strings are named as the framing says: what the command wants; a dump may have
--- text beside pairs of digits, which that of the command has not
+-- the job of a view of an input in which strings are named as the framing says: the job of the command, but a dump
+-- may have text beside pairs of digits, which the dump of the command does not have
 abbrev pub job_of_view : View → Framing → NamesValue → Job ReportValue
 job_of_view (Dump rules limit pure text) framing names =
     job_with_report outcome_report (dump_job_with text (dump_options rules limit pure framing) names)
@@ -31,18 +31,18 @@ job_of_view (Check rules) framing names = command_job (command.Check rules frami
 job_of_view (Extract offset contents) framing names =
     command_job (command.Extract offset contents framing None) names
 
--- the offsets of the strings that are opened: none, if all are to stay closed
+-- the offsets of the opened strings: none, if all are to stay closed
 abbrev pub AreOpenedUnless : Bool → Bool → List ℕ → List ℕ → Type 0
 AreOpenedUnless true padding octets offsets = offsets ≡ []
 AreOpenedUnless false padding octets offsets = AreOpened padding octets offsets
 
--- the strings that are broken: none, if all are to stay closed
+-- the broken strings: none, if all are to stay closed
 abbrev pub AreBrokenUnless : Bool → Bool → List ℕ → List BrokenString → Type 0
 AreBrokenUnless true padding octets broken = broken ≡ []
 AreBrokenUnless false padding octets broken = AreBroken padding octets broken
 
--- the view is what the command writes and reports, with these strings named, of these octets: the source has them,
--- nothing of it was read before, and no read of it failed
+-- the view is what the command writes and reports for these octets with these strings named: the source has the
+-- octets, nothing of it was read before, and no read of it failed
 pub record Views
     (view : View) (names : NamesValue) (closed padding : Bool) (octets : List ℕ) (old new : DrainState)
     (report : ReportValue)
@@ -51,7 +51,7 @@ pub record Views
   pub are_opened : AreOpenedUnless closed padding octets offsets
   -- the source after the run
   pub source : SourceState
-  -- so it is not reported that a read failed (E1)
+  -- so no failed read (E1) is reported
   pub no_failures : source.failures ≡ 0
   pub runs :
       RunsAndReports (job_of_view view (opened_framing padding offsets) names)

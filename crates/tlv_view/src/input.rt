@@ -9,7 +9,7 @@ use std::alloc::Allocator;
 use tlv_run::{Report, device_report};
 use tlv_walk::{DeviceFault, INPUT_LIMIT, Source};
 
-/// Why the octets of an input cannot be had.
+/// Why an input cannot be read into memory.
 #[derive(Clone, Copy, Debug, PartialEq, Eq)]
 pub enum InputFault {
     /// E1: a read failed.
@@ -20,13 +20,13 @@ pub enum InputFault {
     Memory,
 }
 
-/// Reads the source to its end, and returns its octets. A read gives at most 4096 octets. The memory asked for is
-/// doubled as the octets come.
+/// Reads the source to its end, and returns its octets. Each read gives at most 4096 octets. The allocated memory
+/// doubles as the octets come.
 ///
 /// # Errors
 ///
-/// `ReadFailed` exactly if a read failed, and `TooLong` once the source gave more than 2^40 octets. `Memory` after any
-/// read that gave octets, if memory for them is refused. Nothing is read after these, and nothing after the end.
+/// `ReadFailed` if and only if a read failed. `TooLong` once the source gave more than 2^40 octets. `Memory` after
+/// any read that gave octets, if memory for them is refused. Reads nothing after an error or after the end.
 pub fn read_whole<A: Allocator, S: Source>(
     alloc: A,
     source: &mut S,
@@ -53,7 +53,7 @@ pub fn read_whole<A: Allocator, S: Source>(
     }
 }
 
-/// The report if the octets of an input cannot be had.
+/// Returns the report for an input that cannot be read into memory.
 pub fn input_report(fault: InputFault) -> Report
     ensures { report_value_of result ≡ input_report fault }
 {

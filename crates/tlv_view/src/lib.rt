@@ -1,5 +1,5 @@
-//! What a person sees of octets in memory: a dump, a check or one element, with the strings opened that hold encodings.
-//! And an input that is read into memory.
+//! A view of octets in memory: a dump, a check or one element, with the strings opened that hold encodings. Also
+//! reads an input into memory.
 #![tactic(auto)]
 
 mod input;

@@ -20,7 +20,7 @@ pub enum View {
     Dump {
         /// The rules by which findings are shown.
         rules: Rules,
-        /// The most rows of a value, or all.
+        /// The maximum number of rows of a value, or `None` for all.
         limit: Option<u32>,
         /// Whether the first columns and the lines of findings are left out.
         pure: bool,
@@ -29,19 +29,19 @@ pub enum View {
     },
     /// The findings alone.
     Check {
-        /// The rules by which they are shown.
+        /// The rules by which the findings are shown.
         rules: Rules,
     },
     /// The octets of one element.
     Extract {
-        /// Where its first octet is, in octets from the start.
+        /// The offset of its first octet, in octets from the start.
         offset: u64,
-        /// Whether its contents alone are written.
+        /// Whether only its contents are written.
         contents: bool,
     },
 }
 
-/// What a view came to.
+/// The result of a view.
 #[derive(Debug, Drop)]
 pub struct Viewed {
     /// What is reported.
@@ -50,14 +50,14 @@ pub struct Viewed {
     pub broken: Vec<BrokenString>,
 }
 
-/// Writes a view of the octets to the drain, and returns the report: what `run` writes and reports for the same command
-/// over these octets, if the strings are named that hold encodings; a dump may have text beside pairs of digits. Returns
-/// the broken strings, too. With `closed` no string is named, and none is looked at. With `padding`, octets `00` are
-/// allowed before, between and after the encodings.
+/// Writes a view of the octets to the drain, and returns the report and the broken strings. It writes and reports
+/// what `run` does for the same command over these octets if the strings that hold encodings are named; a dump may
+/// also have text beside pairs of digits. With `closed`, no string is named, and none is looked at. With `padding`,
+/// octets `00` are allowed before, between and after the encodings.
 ///
 /// # Errors
 ///
-/// `AllocError` if memory for the lists of strings is refused. Nothing was written then.
+/// `AllocError` if memory for the lists of strings is refused. In that case nothing is written.
 pub fn view_octets<N: FiniteNames, D: Drain>(
     alloc: Global,
     view: &View,
@@ -86,7 +86,7 @@ pub fn view_octets<N: FiniteNames, D: Drain>(
     })
 }
 
-/// The strings that are opened and those that are broken: none, if all are to stay closed.
+/// The opened strings and the broken strings; none if all are to stay closed.
 fn strings_unless(
     alloc: Global,
     closed: bool,

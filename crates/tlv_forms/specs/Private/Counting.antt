@@ -10,7 +10,7 @@ use Rattle.tlv_text.specs.declared.block.Form.TheVariants.{Hex, Pem, Runs}
 use Rattle.tlv_text.specs.declared.text_fault.TextFault.{TextFault}
 use Rattle.tlv_text.specs.declared.text_fault.TextFault.TheVariants.{Memory}
 
--- a block is in fewer layers of base64 than so many, and is no longer than an input may be
+-- a block is in fewer than `layers` layers of base64, and is no longer than an input may be
 pub record IsBounded (layers : ℕ) (t : Taken) : Type 0 where
   pub few : length t.layers.items < layers
   pub within : length t.block.octets.items ≤ input_limit
@@ -21,23 +21,23 @@ IsFittingForm Pem bs = Unit {0}
 IsFittingForm Runs bs = Unit {0}
 IsFittingForm form bs = length bs ≡ 1
 
--- a block counts in a form of which each block counts for itself
+-- a block counts, in a form in which each block counts by itself
 abbrev pub is_kept : Form → BlockValue → Bool
 is_kept Pem b = is_present b.state
 is_kept Hex b = is_complete b && not (begins_with_zeros b.octets)
 is_kept form b = is_complete b
 
--- why what these blocks count as cannot be had
+-- why the result for these blocks cannot be returned
 pub data IsFaultAmong (bs : List BlockValue) : TextFault → Type 0 where
   no_memory : IsFaultAmong bs Memory
   inside : {fault : TextFault} (before after : List BlockValue) (b : BlockValue) → bs ≡ before ++ b ∷ after
       → IsTakingFault b.octets fault → IsFaultAmong bs fault
 
--- why the blocks of a text cannot be had, whatever input it is the text of
+-- why the blocks of a text cannot be returned, whatever input has this text
 abbrev pub IsTextFault : List ℕ → TextFault → Type 0
 IsTextFault text fault = (octets : List ℕ) → text_of octets ≡ text → IsTakingFault octets fault
 
--- the blocks, or if there is none the octets as they stand
+-- the blocks, or the octets as they stand if there are no blocks
 abbrev pub or_octets : List ℕ → List TakenValue → List TakenValue
 or_octets octets [] = taken_octets octets ∷ []
 or_octets octets (t ∷ ts) = t ∷ ts

@@ -16,19 +16,19 @@ pub record IsKept (old new : FoundStrings) : Type 0 where
   pub more : FoundStrings
   pub added : new ≡ found_in_turn old more
 
--- where the elements at a spot are, so many octets further on
+-- the place of the elements at a spot, `offset` octets further on
 abbrev pub place_among : Spot → ℕ → Place
 place_among s offset = record (place_at offset s.depth) { padding = s.padding }
 
--- an extent says whether the octets begin with sound elements, and of how many octets; where padding may be, it may be
--- silent
+-- an extent says whether the octets begin with sound elements, and their size in octets; where padding is allowed, an
+-- extent that is not sound says nothing
 pub record SaysSound (s : Spot) (offset : ℕ) (end_octets : Bool) (octets : List ℕ) (e : Extent) : Type 0 where
   pub sound : e.sound ≡ true → BeginsWithElements (place_among s offset) s.likely end_octets octets e.size
   pub unsound : s.padding ≡ false → e.sound ≡ false
       → BeginsWithNoElements (place_at offset s.depth) s.likely end_octets octets
 
--- of the elements with which the octets begin: what is found in them is added to what was found before, and the extent
--- is theirs
+-- what is found in the elements that the octets begin with is added to what was found before, and the extent is the
+-- extent of these elements
 pub record AddsElements
     (s : Spot) (offset : ℕ) (end_octets : Bool) (octets : List ℕ) (old new : FoundStrings) (e : Extent)
     : Type 0 where
@@ -37,7 +37,7 @@ pub record AddsElements
   pub kept : IsKept old new
   pub within : e.size ≤ length octets
 
--- the same of the first of them
+-- the same for the first element alone
 pub record AddsElement
     (s : Spot) (offset : ℕ) (end_octets : Bool) (octets : List ℕ) (old new : FoundStrings) (e : Extent)
     : Type 0 where
@@ -47,8 +47,8 @@ pub record AddsElement
   pub some : 0 < e.size
   pub within : e.size ≤ length octets
 
--- the octets, which begin with a header that has these fields and so many of them, begin with a primitive of n octets
--- that is no OCTET STRING and no BIT STRING, and nothing more is asked
+-- the octets begin with a header that has these fields and `count` octets. The element is a primitive of n octets
+-- that is neither an OCTET STRING nor a BIT STRING, and nothing more is asked
 pub record IsPlain (octets : List ℕ) (fields : HeaderFields) (count : ℕ) (likely : Bool) (n : ℕ) : Type 0 where
   pub unasked : likely ≡ false
   pub primitive : fields.constructed ≡ false
@@ -58,14 +58,14 @@ pub record IsPlain (octets : List ℕ) (fields : HeaderFields) (count : ℕ) (li
   pub size : n ≡ count + announced
   pub no_string : (contents : List ℕ) → inner_octets (new_header fields (take count octets)) contents ≡ None
 
--- the octets are a header, and as many others as it announces
+-- the octets are a header and as many further octets as it announces
 pub record IsAllOfPrimitive (octets : List ℕ) (offset : ℕ) : Type 0 where
   pub fields : HeaderFields
   pub count : ℕ
   pub begins : BeginsWithFields octets offset false fields count
   pub whole : announced_length fields.size ≡ length (drop count octets)
 
--- what is found in the primitive that the octets are, whatever its header, is added
+-- what is found in the primitive that these octets encode is added, whatever its header
 abbrev pub AddsAt : Spot → Bool → List ℕ → ℕ → FoundStrings → FoundStrings → Type 0
 AddsAt s is_value octets offset old new = (fields : HeaderFields) (count : ℕ)
     → BeginsWithFields octets offset false fields count → fields.constructed ≡ false
@@ -77,7 +77,7 @@ pub record AddsHeld (s : Spot) (start offset : ℕ) (octets : List ℕ) (old new
   pub adds : AddsAll (spot_held s start) 0 false octets
       (found_in_turn old (record { opened = offset ∷ []; broken = [] })) new size
 
--- if they are encodings; and else nothing is
+-- the same if the octets are encodings; otherwise nothing is added
 abbrev pub Tries : Spot → ℕ → ℕ → List ℕ → FoundStrings → FoundStrings → Bool → Type 0
 Tries s start offset octets old new true = AddsHeld s start offset octets old new
 Tries s start offset octets old new false = new ≡ old

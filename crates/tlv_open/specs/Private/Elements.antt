@@ -1,4 +1,4 @@
--- Sound elements with which octets begin.
+-- Sound elements that octets begin with.
 use Rattle.std.specs.Prelude.{◌≡◌, ℕ, Bool, true, false, eqb, ◌&&◌, List, [], ◌∷◌, ◌++◌, length}
 use Rattle.tlv_walk.specs.Forest.{Forest, Holder, NoMore, Primitive, spelling}
 use Rattle.tlv_walk.specs.Place.{Place}
@@ -6,7 +6,7 @@ use Rattle.tlv_walk.specs.Reading.{IsSound}
 use Rattle.tlv_open.specs.declared.extent.Extent.{Extent}
 use Rattle.tlv_open.specs.Held.{AreLikely, place_by_itself}
 
--- so many octets further on among elements that are read by themselves
+-- the place `offset` octets further on among elements that are read by themselves
 abbrev pub place_at : ℕ → ℕ → Place
 place_at offset depth = record (place_by_itself depth) { offset = offset }
 
@@ -16,7 +16,7 @@ is_one_element (Primitive h contents NoMore) = true
 is_one_element (Holder h children NoMore) = true
 is_one_element f = false
 
--- if that is asked, the outermost elements are likely to be encodings
+-- if `likely`, the outermost elements are likely to be encodings
 abbrev pub AreLikelyIf : Bool → Forest → Type 0
 AreLikelyIf likely f = likely ≡ true → AreLikely f
 
@@ -30,7 +30,7 @@ pub record BeginsWithElement (p : Place) (likely : Bool) (octets : List ℕ) (n 
   pub spelled : spelling element ++ rest ≡ octets
   pub size : length (spelling element) ≡ n
 
--- they begin with none
+-- the octets begin with no such element
 abbrev pub BeginsWithNoElement : Place → Bool → List ℕ → Type 0
 BeginsWithNoElement p likely octets = (n : ℕ) → BeginsWithElement p likely octets n → ⊥
 
@@ -51,16 +51,16 @@ pub record BeginsWithElements (p : Place) (likely end_octets : Bool) (octets : L
   pub spelled : spelling elements ++ rest ≡ octets
   pub size : length (spelling elements) ≡ n
 
--- they do not
+-- the octets begin with no such elements
 abbrev pub BeginsWithNoElements : Place → Bool → Bool → List ℕ → Type 0
 BeginsWithNoElements p likely end_octets octets = (n : ℕ) → BeginsWithElements p likely end_octets octets n → ⊥
 
--- the first of sound octets, and the second of others
+-- the first if sound, otherwise the second
 abbrev pub IfSound : Bool → Type 0 → Type 0 → Type 0
 IfSound true this other = this
 IfSound false this other = other
 
--- an extent says whether the octets begin with a sound element, and of how many octets
+-- an extent says whether the octets begin with a sound element, and its size in octets
 abbrev pub SaysElement : Place → Bool → List ℕ → Extent → Type 0
 SaysElement p likely octets e =
     IfSound e.sound (BeginsWithElement p likely octets e.size) (BeginsWithNoElement p likely octets)

@@ -15,7 +15,7 @@ use Rattle.tlv_open.specs.Private.Elements.{is_elements_end}
 abbrev pub where_of : Spot → Where
 where_of s = record { start = s.start; depth = s.depth; may_open = s.may_open }
 
--- strings that are found: those that are opened, and those that break
+-- the strings found: the opened strings, and the strings that break
 pub record FoundStrings : Type 0 where
   pub opened : List ℕ
   pub broken : List BrokenString
@@ -32,7 +32,7 @@ pub record Finds (s : Spot) (f : Forest) (found : FoundStrings) : Type 0 where
   pub opens : Opens (where_of s) f found.opened
   pub breaks : Breaks (where_of s) s.in_extension f found.broken
 
--- inside an element with this header, which holds these others, and which has its end if `ended`
+-- the spot inside an element with this header and these children; `ended` says whether the element has its end
 abbrev pub spot_inside : Spot → HeaderValue → Forest → Bool → Spot
 spot_inside s h children ended = record {
   start = s.start;
@@ -43,7 +43,7 @@ spot_inside s h children ended = record {
   padding = false;
 }
 
--- inside an element with this header that lacks octets
+-- the spot inside an element with this header that lacks octets
 abbrev pub spot_lacking : Spot → HeaderValue → Spot
 spot_lacking s h = record {
   start = s.start;
@@ -54,7 +54,7 @@ spot_lacking s h = record {
   padding = false;
 }
 
--- in a string that begins there
+-- the spot inside a string whose inner octets begin at `start`
 abbrev pub spot_held : Spot → ℕ → Spot
 spot_held s start = record {
   start = start;
@@ -65,7 +65,8 @@ spot_held s start = record {
   padding = false;
 }
 
--- elements that are followed by these octets: if they do not end there, what is last among them is no extension's value
+-- the spot of elements that are followed by these octets: if they do not end there, the last of them is not the value
+-- of an extension
 abbrev pub spot_before : Spot → Bool → List ℕ → Spot
 spot_before s end_octets rest = record s { in_extension = s.in_extension && is_elements_end end_octets rest }
 
@@ -75,7 +76,7 @@ pub record EndsBefore (end_octets : Bool) (f : Forest) (rest : List ℕ) : Type 
   pub whole : is_whole f ≡ true
   pub end : is_elements_end true rest ≡ true
 
--- f is what octets are read as at a place, up to the octets `rest`
+-- f is the reading of the octets at a place, up to the octets `rest`
 pub record IsReadAt
     (p : Place) (f : Forest) (depth offset : ℕ) (end_octets : Bool) (octets rest : List ℕ)
     : Type 0 where
@@ -87,8 +88,8 @@ pub record IsReadAt
   pub spelled : spelling f ++ rest ≡ octets
   pub end : (rest ≡ []) ⊎ EndsBefore end_octets f rest
 
--- of the elements f that octets are read as, what is found in the first n octets: there others go on, or the last has
--- not ended
+-- what is found in the first n octets of the elements f that the octets are read as: other elements follow there, or
+-- the last element has not ended
 pub data FindsUpTo
     (s : Spot) (p : Place) (f : Forest) (offset : ℕ) (end_octets : Bool) (octets rest : List ℕ) (found : FoundStrings)
     (n : ℕ)
@@ -100,7 +101,7 @@ pub data FindsUpTo
   stops : Finds s f found → is_whole f ≡ false → n ≡ length octets
       → FindsUpTo s p f offset end_octets octets rest found n
 
--- it is added to what was found before
+-- what is found up to there is added to what was found before
 pub record AddsUpTo
     (s : Spot) (p : Place) (f : Forest) (offset : ℕ) (end_octets : Bool) (octets rest : List ℕ)
     (old new : FoundStrings) (n : ℕ)
@@ -109,7 +110,7 @@ pub record AddsUpTo
   pub added : new ≡ found_in_turn old found
   pub finds : FindsUpTo s p f offset end_octets octets rest found n
 
--- whatever the octets are read as
+-- the same, whatever the octets are read as
 abbrev pub AddsFirst : Spot → ℕ → Bool → List ℕ → FoundStrings → FoundStrings → ℕ → Type 0
 AddsFirst s offset end_octets octets old new n = (p : Place) (f : Forest) (rest : List ℕ)
     → IsReadAt p f s.depth offset end_octets octets rest
@@ -123,13 +124,13 @@ pub record AddsStrings (s : Spot) (f : Forest) (octets : List ℕ) (old new : Fo
   pub size : is_whole f ≡ true → length (spelling f) ≡ n
   pub unfinished : is_whole f ≡ false → is_elements_end true (drop n octets) ≡ false
 
--- whatever the octets are read as
+-- the same, whatever the octets are read as
 abbrev pub AddsAll : Spot → ℕ → Bool → List ℕ → FoundStrings → FoundStrings → ℕ → Type 0
 AddsAll s offset end_octets octets old new n = (p : Place) (f : Forest) (rest : List ℕ)
     → IsReadAt p f s.depth offset end_octets octets rest
     → AddsStrings (spot_before s end_octets rest) f octets old new n
 
--- the same spot, where the elements are those of an extension, or not
+-- the same spot, where the elements are the elements of an extension, or not
 abbrev pub spot_with : Spot → Bool → Spot
 spot_with s in_extension = record s { in_extension = in_extension }
 
@@ -143,7 +144,7 @@ pub record AddsPrimitive
       → Finds (spot_with s e) g others
       → Finds (spot_with s e) (Primitive h contents g) (found_in_turn found others)
 
--- what there is, as a list
+-- an option as a list
 abbrev pub list_of : Option BrokenString → List BrokenString
 list_of None = []
 list_of (Some x) = x ∷ []

@@ -1,4 +1,4 @@
--- A walk over an input that is at hand.
+-- A walk over an input in memory.
 use Rattle.std.specs.Prelude.{◌≡◌, ℕ, List, ◌++◌}
 use Rattle.tlv_walk.specs.declared.framing.Framing.{Framing}
 use Rattle.tlv_walk.specs.Events.{EventValue}

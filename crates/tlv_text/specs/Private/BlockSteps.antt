@@ -8,7 +8,7 @@ pub record IsLineIn (text : List ℕ) (here : LinePlace) : Type 0 where
   pub within : here.place ≤ length text
   pub line : here.line ≡ line_at text here.place
 
--- what is refused, if anything is, comes after no more characters than these
+-- the refused place, if there is one, has no more characters before it than these
 abbrev pub IsRefusedWithin : ℕ → Option ℕ → Type 0
 IsRefusedWithin size None = Unit {0}
 IsRefusedWithin size (Some place) = place ≤ size

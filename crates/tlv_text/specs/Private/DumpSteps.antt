@@ -1,4 +1,4 @@
--- What the code of dumps stands for.
+-- What the values in the code of dumps stand for.
 use Rattle.std.specs.Prelude.{◌≡◌, ◌<◌, ◌≤◌, ℕ, Bool, true, false, ◌&&◌, ◌||◌, ◌==◌, nat_le, List, ◌++◌, length, Option, Some, None}
 use Rattle.tlv_text.specs.Dump.{DumpRead, DumpPlace, Step, dump_limit}
 use Rattle.tlv_text.specs.DumpLines.{LineKind, OffsetRead, RowRead, ends_offset, is_dump_blank, offset_read}
@@ -11,7 +11,7 @@ use Rattle.tlv_text.specs.declared.dump.lines.RowLine.{RowLine}
 use Rattle.tlv_text.specs.declared.dump.output.Output.{Output}
 use Rattle.tlv_text.specs.declared.dump.rows.LastRow.{LastRow}
 
--- a colon or a blank, one of which each row with a pair has, or an asterisk, as each repeat has
+-- a colon or a blank (every row with a pair has one of them), or an asterisk (every repeat has one)
 abbrev pub is_row_sign : ℕ → Bool
 is_row_sign x = (x == 58) || is_dump_blank x || (x == 42)
 
@@ -36,17 +36,17 @@ dump_kind_of DumpLine.Other = LineKind.other
 abbrev pub dump_place_of : LastRow → DumpPlace
 dump_place_of row = record { phase = row.phase; offset = row.offset; octets = pair_octets row.digits.items }
 
--- the output is these octets, or they are too many
+-- the output is these octets, or there are too many of them
 pub record RowHolds (out : Output) (octets : List ℕ) : Type 0 where
   pub are : out.over ≡ false → out.octets.items ≡ octets
   pub fit : out.over ≡ false → length octets ≤ dump_limit
   pub too_many : out.over ≡ true → dump_limit < length octets
 
--- the octets come after those that the output was
+-- the octets are added after the octets of the output
 abbrev pub IsAdded : List ℕ → Output → Output → Type 0
 IsAdded more old new = (octets : List ℕ) → RowHolds old octets → RowHolds new (octets ++ more)
 
--- the step is taken, if there is one; if not, the output stays
+-- the step is taken, if there is one; otherwise the output stays
 abbrev pub IsTaken : Option Step → Bool → LastRow → Output → Output → Type 0
 IsTaken (Some s) true row old new = (dump_place_of row ≡ s.place) × IsAdded s.octets old new
 IsTaken (Some s) false row old new = ⊥
@@ -60,7 +60,7 @@ IsFirstRow (Some octets) false old new = ⊥
 IsFirstRow None true old new = ⊥
 IsFirstRow None false old new = Unit {0}
 
--- a reading is what is read
+-- a reading has what is read
 pub record Reads (read : DumpRead) (reading : Reading) : Type 0 where
   pub output : RowHolds reading.output read.octets
   pub left : reading.left ≡ read.left

@@ -15,27 +15,27 @@ AreSymbols alphabet symbols = AllPass (is_symbol alphabet) symbols
 abbrev pub symbols_then : List ℕ → SymbolsRead → SymbolsRead
 symbols_then symbols more = record more { symbols = symbols ++ more.symbols }
 
--- the octets that these symbols are the base64 of come after the others
+-- the octets that these symbols encode come after the others
 pub record AreAdded (alphabet : Alphabet) (symbols old new : List ℕ) : Type 0 where
   pub more : List ℕ
   pub are_octets : IsBytes more
   pub symbols_of : base64_of alphabet more ≡ symbols
   pub added : new ≡ old ++ more
 
--- these symbols are the base64 of no octets
+-- these symbols are not the base64 of any octets
 abbrev pub IsOfNone : Alphabet → List ℕ → Type 0
 IsOfNone alphabet symbols = (octets : List ℕ) → IsBytes octets → base64_of alphabet octets ≡ symbols → ⊥
 
--- an error of their decoder: either memory is refused or they are the base64 of no octets
+-- an error of the decoder: memory is refused, or the symbols are not the base64 of any octets
 abbrev pub IsFailure : Alphabet → List ℕ → DecodeAllocError → Type 0
 IsFailure alphabet symbols (DecodeError error) = IsOfNone alphabet symbols
 IsFailure alphabet symbols OutOfMemory = Unit {0}
 
--- so much padding may follow them
+-- the padding in `rest` may follow these symbols
 abbrev pub PaddingFits : List ℕ → List ℕ → Type 0
 PaddingFits symbols rest = fits_after (length symbols) (padding_of rest) ≡ true
 
--- these symbols come after them, as the last of the text
+-- these symbols come after the base64 of the octets, as the last of the text
 pub record IsAtEnd (alphabet : Alphabet) (text octets symbols rest : List ℕ) : Type 0 where
   pub read : symbols_read alphabet text
       ≡ symbols_then (base64_of alphabet octets) (symbols_then symbols (no_symbols rest))

@@ -4,8 +4,8 @@ use Rattle.memchr.specs.Find.{OccursAt}
 use Rattle.tlv_text.specs.Tokens.{token_at}
 use Rattle.tlv_text.specs.declared.tokens.Token.{Token}
 
--- the token that begins at this place of a text, if no token begins before; the second argument is the character before
--- the text
+-- the token that begins at this place of a text, if no token begins before it; the second argument is the character
+-- before the text
 abbrev pub token_from : ℕ → ℕ → List ℕ → Option Token
 token_from zero before text = token_at before text
 token_from (suc n) before [] = None

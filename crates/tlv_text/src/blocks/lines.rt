@@ -5,22 +5,22 @@ ghost use Rattle.tlv_text.specs.Private.BlockSteps.{IsLineIn, IsRefusedWithin};
 
 use crate::BlockState;
 
-/// The characters of a part whose line feeds are counted in an octet: fewer than 256, in whole vectors of 32.
+/// The number of characters in a part whose line feeds are counted in one octet: under 256, in whole vectors of 32.
 const PART: usize = 224;
 
 /// A place in a text.
 #[derive(Clone, Copy)]
 pub(super) struct LinePlace {
-    /// How many characters come before it.
+    /// The number of characters before it.
     pub(super) place: usize,
-    /// The number of its line, the first being 1.
+    /// The number of its line, counted from 1.
     pub(super) line: usize,
 }
 
 /// Where a text begins.
 pub(super) const TEXT_START: LinePlace = LinePlace { place: 0, line: 1 };
 
-/// The place in a text before which so many characters come, from an earlier one on. Only what is between them is read.
+/// The place in a text with `place` characters before it, given an earlier place. Reads only what is between them.
 pub(super) fn line_from(text: &[u8], from: LinePlace, place: usize) -> LinePlace
     requires from { IsLineIn text.now from }
     requires order { from.place ≤ place }
@@ -34,7 +34,7 @@ pub(super) fn line_from(text: &[u8], from: LinePlace, place: usize) -> LinePlace
     }
 }
 
-/// How many line feeds a text has, counted part by part.
+/// The number of line feeds in a text, counted part by part.
 fn line_feeds(text: &[u8]) -> usize
     ensures value { result ≡ line_feeds text.now }
     ensures within { result ≤ length text.now }
@@ -49,8 +49,8 @@ fn line_feeds(text: &[u8]) -> usize
     count + usize::from(few_line_feeds(rest))
 }
 
-/// How many line feeds a short text has. An octet holds the number, so that many characters are compared and counted at
-/// a time, which costs less than a search for each line feed.
+/// The number of line feeds in a short text. It fits in an octet, so many characters are compared and counted at a
+/// time, which costs less than a search for each line feed.
 fn few_line_feeds(text: &[u8]) -> u8
     requires { length text.now ≤ 224 }
     ensures { result ≡ line_feeds text.now }
@@ -64,8 +64,8 @@ fn few_line_feeds(text: &[u8]) -> u8
     count
 }
 
-/// The state of octets that are refused at a place in a text, if they are: so many characters come before the place in
-/// the part that is decoded, and so many more before that part. Lines are counted from an earlier place on.
+/// The state of octets that are refused at a place in a text, if they are: `refused` characters come before it in the
+/// decoded part, and `before` characters come before that part. Lines are counted from an earlier place on.
 pub(super) fn state_at_place(
     text: &[u8],
     from: LinePlace,

@@ -59,7 +59,7 @@ fn pem_block(
     }
 }
 
-/// A label of its own.
+/// An owned copy of a label.
 fn label_of(label: &[u8]) -> ArrayVec<u8, 64>
     requires { length label.now ≤ 64 }
     ensures { result.items ≡ label.now }
@@ -69,7 +69,7 @@ fn label_of(label: &[u8]) -> ArrayVec<u8, 64>
     copy
 }
 
-/// The state of a block that this comes after: with nothing after it, it is not ended.
+/// The state of a block, given the text after it: a block with nothing after it is not ended.
 fn state_with_end(rest: &[u8], state: BlockState) -> BlockState
     ensures { result ≡ state_with_end rest.now state }
 {

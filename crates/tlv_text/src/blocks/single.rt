@@ -1,4 +1,4 @@
-//! Texts of which all is one block.
+//! Texts that are one block as a whole.
 ghost use Rattle.std.specs.Prelude.{◌≡◌, IfErr, IfOk, length};
 ghost use Rattle.tlv_text.specs.Blocks.{IsBase64Block, absent_block, alphabet_of, block_value, dump_block, hex_block};
 ghost use Rattle.tlv_text.specs.Blocks.{hex_read, numbers_block, only_block, state_at_place};
@@ -65,7 +65,7 @@ pub(super) fn base64_block(alloc: Global, text: &[u8]) -> Result<Block, AllocErr
     Ok(decoded_block(text, decoded))
 }
 
-/// The alphabet of a text: that with `-` and `_` if it has one of them.
+/// The alphabet of a text: `UrlSafe` if the text has `-` or `_`, otherwise `Standard`.
 fn alphabet_of(text: &[u8]) -> Alphabet
     ensures { result ≡ alphabet_of text.now }
 {
@@ -82,7 +82,7 @@ pub(super) fn absent_block(alloc: Global) -> Block
     only_block(Vec::new(alloc), BlockState::Absent)
 }
 
-/// All of a text that is decoded.
+/// The block of a text that is decoded as a whole.
 fn decoded_block(text: &[u8], decoded: Decoded) -> Block
     requires { IsRefusedWithin (length text.now) decoded.refused }
     ensures { block_value result ≡ only_block decoded.octets.items (state_at_place text.now 0 decoded.refused) }

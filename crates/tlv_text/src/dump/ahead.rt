@@ -1,4 +1,4 @@
-//! What the lines of a hex dump say of it before they are read.
+//! What the lines of a hex dump tell about it before they are read.
 ghost use Rattle.std.specs.List.{list_any};
 ghost use Rattle.std.specs.Prelude.{◌≡◌, ◌<◌, ◌≤◌, MatchOption};
 ghost use Rattle.tlv_text.specs.Dump.{dump_in, has_pair, is_octal_first, size_by, size_in};
@@ -10,7 +10,7 @@ use super::lines::{DumpLine, Radix, RowLine, has_od_offset, line_of, split_line}
 use super::pairs::{before_pairs, begins_pair};
 use memchr::{memchr, memchr3};
 
-/// A text from its first line on that is a row with a pair, or a repeat, with hexadecimal offsets.
+/// The text from the first line that is a row with a pair, or a repeat, with hexadecimal offsets.
 pub(super) fn from_first_row(text: &[u8]) -> &[u8]
     ensures read { dump_in Hexadecimal result.now ≡ dump_in Hexadecimal text.now }
     ensures octal { is_octal_first (dump_lines result.now) ≡ is_octal_first (dump_lines text.now) }
@@ -30,8 +30,8 @@ pub(super) fn from_first_row(text: &[u8]) -> &[u8]
     rest
 }
 
-/// Whether a text has a colon, a space or a tab, one of which each row with a pair has, or an asterisk, as each repeat
-/// has. A text that has none of them need not be read line by line.
+/// Whether a text has a colon, a space or a tab (every row with a pair has one of them), or an asterisk (every repeat
+/// has one). A text with none of them need not be read line by line.
 fn has_row_sign(text: &[u8]) -> bool
     ensures { result ≡ list_any is_row_sign text.now }
 {
@@ -62,7 +62,8 @@ pub(super) fn has_pair(row: RowLine<'_>) -> bool
     begins_pair(before_pairs(row.rest))
 }
 
-/// The octets of a row by the lines after the first, which has this offset; `None` if it is alone.
+/// The number of octets in a row, given the lines after the first row, which has this offset; `None` for a single
+/// row.
 pub(super) fn size_in(radix: Radix, first: u64, text: &[u8]) -> Option<usize>
     ensures value { result ≡ size_in radix first (dump_lines text.now) }
     ensures range { MatchOption result Unit (λ size. (0 < size) × (size ≤ 256)) }
@@ -79,7 +80,7 @@ pub(super) fn size_in(radix: Radix, first: u64, text: &[u8]) -> Option<usize>
     None
 }
 
-/// The octets of a row by the difference of two offsets.
+/// The number of octets in a row, given the difference of two offsets.
 fn size_by(difference: u64) -> usize
     ensures value { result ≡ size_by difference }
     ensures some { 0 < result }

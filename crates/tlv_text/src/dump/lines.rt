@@ -20,12 +20,12 @@ pub(crate) enum Radix {
     Octal,
 }
 
-/// Digits with which a text begins.
+/// Digits that a text begins with.
 #[derive(Clone, Copy, Debug)]
 pub(crate) struct Offset<'a> {
-    /// How many they are, at most 16.
+    /// The number of digits, at most 16.
     pub(crate) count: usize,
-    /// Their number.
+    /// The value of the digits.
     pub(crate) number: u64,
     /// What comes after them.
     pub(crate) rest: &'a [u8],
@@ -34,7 +34,7 @@ pub(crate) struct Offset<'a> {
 /// A row of a dump.
 #[derive(Clone, Copy, Debug)]
 pub(crate) struct RowLine<'a> {
-    /// How many digits its offset has.
+    /// The number of digits of its offset.
     pub(crate) digits: usize,
     /// Its offset.
     pub(crate) offset: u64,
@@ -95,7 +95,7 @@ fn without_return(line: &[u8]) -> &[u8]
     }
 }
 
-/// What a line is, from its first character on that is no blank.
+/// What a line is, given its text from the first character that is not a blank.
 #[inline(always)]
 fn kind_from(radix: Radix, text: &[u8]) -> DumpLine<'_>
     ensures { dump_kind_of result ≡ kind_from radix text.now }
@@ -110,7 +110,7 @@ fn kind_from(radix: Radix, text: &[u8]) -> DumpLine<'_>
     }
 }
 
-/// The row that begins with its offset here, if it is one.
+/// The row whose offset begins here, if this is a row.
 #[inline(always)]
 fn row_at(radix: Radix, text: &[u8]) -> Option<RowLine<'_>>
     ensures { option_map row_seen result ≡ row_at radix text.now }
@@ -130,8 +130,8 @@ fn row_at(radix: Radix, text: &[u8]) -> Option<RowLine<'_>>
     })
 }
 
-/// Whether the third character is a digit, as in each row, with `0x` before its offset or without. In lines of pairs
-/// with spaces between them it is none, and they need not be looked at further.
+/// Whether the third character is a digit, as in every row, with or without `0x` before its offset. In lines of pairs
+/// with spaces between them it is not a digit, and they need not be looked at further.
 #[inline(always)]
 fn has_third_digit(radix: Radix, text: &[u8]) -> bool
     ensures { result ≡ false → None ≡ row_at radix text.now }
@@ -158,7 +158,7 @@ fn begins_offset(radix: Radix, text: &[u8]) -> bool
     count >= 4 && ends_offset(rest)
 }
 
-/// The digits with which a text begins, at most 16.
+/// The digits that a text begins with, at most 16.
 fn read_offset(radix: Radix, text: &[u8]) -> Offset<'_>
     ensures { offset_seen result ≡ offset_read radix 0 0 text.now }
 {
@@ -204,7 +204,7 @@ fn is_digit_of(radix: Radix, character: u8) -> bool
     }
 }
 
-/// A text after `0x` or `0X`, if it begins with it.
+/// The text after a leading `0x` or `0X`, if it has one.
 fn after_prefix(text: &[u8]) -> &[u8]
     ensures { result.now ≡ after_prefix text.now }
 {
@@ -221,7 +221,7 @@ fn ends_offset(text: &[u8]) -> bool
     matches!(text, [] | [b':' | b' ' | b'\t', ..])
 }
 
-/// Whether a colon comes first.
+/// Whether a text begins with a colon.
 pub(super) fn begins_colon(text: &[u8]) -> bool
     ensures { result ≡ begins_colon text.now }
 {
@@ -248,7 +248,7 @@ pub(super) fn are_blanks(text: &[u8]) -> bool
     true
 }
 
-/// A text after the blanks with which it begins.
+/// The text after its leading blanks.
 pub(super) fn after_blanks(text: &[u8]) -> &[u8]
     ensures { result.now ≡ after_blanks text.now }
 {

@@ -1,4 +1,4 @@
-//! Octets of a hex dump that are decoded so far.
+//! The octets decoded so far from a hex dump.
 ghost use Rattle.std.specs.Prelude.{◌≡◌, ◌<◌, ◌≤◌, ◌↔◌, ◌+◌, ◌*◌, [], IsTrue, OnOk};
 ghost use Rattle.tlv_text.specs.Dump.{octets_repeated};
 ghost use Rattle.tlv_text.specs.Private.DumpSteps.{RowHolds, IsAdded};
@@ -6,15 +6,15 @@ ghost use Rattle.tlv_text.specs.Private.PairSteps.{AreWholePairs, pair_octets};
 
 use std::alloc::{AllocError, Global};
 
-/// The most octets of a dump.
+/// The maximum number of octets in a dump.
 const LIMIT: usize = 1_073_741_824;
 
-/// The octets so far, unless they are more than 2^30.
+/// The octets so far, unless there are more than 2^30.
 #[derive(Debug, Drop)]
 pub(crate) struct Output {
     /// The octets.
     pub(crate) octets: Vec<u8>,
-    /// Whether they are too many; then `octets` has not all of them.
+    /// Whether there are too many octets; then `octets` does not have all of them.
     pub(crate) over: bool,
 }
 
@@ -28,7 +28,7 @@ pub(super) fn no_octets(alloc: Global) -> Output
     }
 }
 
-/// Adds the octets of pairs of digits, so many times.
+/// Adds the octets of pairs of digits, repeated `times` times.
 pub(super) fn add_octets(
     alloc: Global,
     digits: &[u8],
@@ -45,7 +45,7 @@ pub(super) fn add_octets(
         output.over = true;
         return Ok(());
     }
-    // Pairs of digits are decoded, unless memory is refused.
+    // Decoding pairs of digits fails only if memory is refused.
     let Ok(row) = hex::decode(alloc, digits) else {
         return Err(AllocError);
     };
@@ -55,7 +55,7 @@ pub(super) fn add_octets(
     Ok(())
 }
 
-/// Whether a dump may have so many octets, and then a row of so many so many times.
+/// Whether a dump may have `count` octets and then, `times` times, a row of `row` octets.
 fn fits(count: usize, row: usize, times: u64) -> bool
     ensures { IsTrue result ↔ (count + times * row ≤ 1073741824) }
 {

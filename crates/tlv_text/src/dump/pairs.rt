@@ -10,19 +10,19 @@ use super::lines::{after_blanks, begins_colon, is_blank};
 use crate::digits::is_digit;
 use arrayvec::ArrayVec;
 
-/// The most digits of a row.
+/// The maximum number of digits in a row.
 pub(super) const DIGITS: usize = 512;
 
 /// What may be between two pairs of a row, besides a hyphen.
 #[derive(Clone, Copy, Debug)]
 pub(crate) struct Gap {
-    /// So many blanks at most.
+    /// The maximum number of blanks.
     pub(crate) blanks: usize,
-    /// Whether it may be nothing.
+    /// Whether the gap may be empty.
     pub(crate) joined: bool,
 }
 
-/// Takes the digits of a row among others, if it fits; a row has so many octets, and the last may have fewer.
+/// Takes the digits of a row among others, if it fits; a row has `size` octets, and the last row may have fewer.
 pub(super) fn row_digits(size: usize, rest: &[u8], digits: &mut ArrayVec<u8, DIGITS>) -> bool
     requires none { digits.old.items ≡ [] }
     requires some { 0 < size }
@@ -39,14 +39,14 @@ pub(super) fn row_digits(size: usize, rest: &[u8], digits: &mut ArrayVec<u8, DIG
     !has_more_digits(digits.len() / 2 == size, after)
 }
 
-/// Whether a digit follows pairs at once; or after as many as a row has, a lone pair follows after one blank.
+/// Whether a digit follows the pairs at once, or, after a full row, a lone pair follows after one blank.
 fn has_more_digits(full: bool, rest: &[u8]) -> bool
     ensures { result ≡ begins_digit rest.now || full && begins_lone_pair (after_few 1 rest.now) }
 {
     begins_digit(rest) || full && begins_lone_pair(after_few(1, rest))
 }
 
-/// The gap of a row, by what comes after its offset, with so many blanks at most.
+/// The gap of a row, given what comes after its offset, with at most `blanks` blanks.
 pub(super) fn gap_of(blanks: usize, rest: &[u8]) -> Gap
     ensures { result ≡ gap_of blanks rest.now }
 {
@@ -69,14 +69,14 @@ pub(super) fn take_first(rest: &mut &[u8], digits: &mut ArrayVec<u8, DIGITS>)
     *rest = more;
 }
 
-/// A text after blanks, a colon, a hyphen and blanks.
+/// The text after leading blanks, a colon, a hyphen and blanks.
 pub(super) fn before_pairs(rest: &[u8]) -> &[u8]
     ensures { result.now ≡ before_pairs rest.now }
 {
     after_blanks(after_one(b'-', after_one(b':', after_blanks(rest))))
 }
 
-/// A text without this character, if it comes first.
+/// The text without this character, if it comes first.
 fn after_one(character: u8, text: &[u8]) -> &[u8]
     ensures { result.now ≡ after_one character text.now }
 {
@@ -86,8 +86,8 @@ fn after_one(character: u8, text: &[u8]) -> &[u8]
     }
 }
 
-/// Takes so many pairs at most, each after a gap, as long as there is room for their digits. Answers how many of them
-/// are left.
+/// Takes at most `most` pairs, each after a gap, as long as there is room for their digits. Returns `most` minus the
+/// number of pairs taken.
 pub(super) fn take_pairs(
     most: usize,
     gap: Gap,
@@ -115,7 +115,7 @@ pub(super) fn take_pairs(
     left
 }
 
-/// A text after what may be between two pairs; without it, nothing.
+/// The text after what may be between two pairs; empty if the text does not begin so.
 fn after_gap(gap: Gap, text: &[u8]) -> &[u8]
     ensures { result.now ≡ after_gap gap text.now }
 {
@@ -126,7 +126,7 @@ fn after_gap(gap: Gap, text: &[u8]) -> &[u8]
     }
 }
 
-/// A text after so many blanks at most.
+/// The text after at most `most` leading blanks.
 fn after_few(most: usize, text: &[u8]) -> &[u8]
     ensures { result.now ≡ after_few most text.now }
 {
@@ -142,7 +142,7 @@ fn after_few(most: usize, text: &[u8]) -> &[u8]
     rest
 }
 
-/// Whether a pair that a blank or the end follows comes first.
+/// Whether the text begins with a pair that a blank or the end follows.
 fn begins_lone_pair(text: &[u8]) -> bool
     ensures { result ≡ begins_lone_pair text.now }
 {

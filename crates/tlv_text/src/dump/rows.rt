@@ -17,7 +17,7 @@ use std::alloc::{AllocError, Global};
 pub(crate) enum Phase {
     /// A row.
     Row,
-    /// A repeat; so many characters of the text are left from it on.
+    /// A repeat, with the number of characters of the text from it on.
     Repeat(usize),
     /// The end: nothing but blank lines may come.
     End,
@@ -34,7 +34,7 @@ pub(crate) struct LastRow {
     pub(crate) digits: ArrayVec<u8, DIGITS>,
 }
 
-/// Reads a line after the first row, if it fits. `left` is how many characters are left from it on.
+/// Reads a line after the first row, if it fits. `left` is the number of characters from the line on.
 pub(super) fn take_line(
     alloc: Global,
     size: usize,
@@ -112,7 +112,7 @@ fn take_row(
     Ok(true)
 }
 
-/// How many times the row before is repeated in front of a row with this offset; `None` if that does not fit.
+/// The number of times the row before is repeated ahead of a row with this offset; `None` if the offset does not fit.
 fn times_before(size: usize, last: &LastRow, offset: u64) -> Option<u64>
     requires some { 0 < size }
     requires pairs { AreWholePairs last.now.digits.items }
@@ -134,7 +134,7 @@ fn at_row(phase: Phase) -> bool
     matches!(phase, Phase::Row)
 }
 
-/// Whether the last row has as many octets as a row has.
+/// Whether the last row is full, with `size` octets.
 fn is_full(size: usize, last: &LastRow) -> bool
     requires { AreWholePairs last.now.digits.items }
     ensures { result ≡ is_full size (dump_place_of last.now) }
