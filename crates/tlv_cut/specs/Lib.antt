@@ -1,10 +1,5 @@
-pub mod ExtractText
+pub mod Extract
 pub mod ExtractStep
-pub mod ExtractJob
-pub mod ExtractLaws
-pub mod IndefText
+pub mod Laws
+pub mod Indef
 pub mod IndefStep
-pub mod IndefJob
-pub mod IndefReading
-pub mod IndefRun
-pub mod IndefLaws

@@ -1,6 +1,6 @@
 //! The call `extract`: it reads a source and writes to a drain.
 ghost use Rattle.tlv_walk.specs.Job.{Runs, device_states};
-ghost use Rattle.tlv_cut.specs.ExtractJob.{extract_job};
+ghost use Rattle.tlv_cut.specs.Extract.{extract_job};
 
 use crate::Extract;
 use tlv_walk::{DeviceFault, Drain, Ending, Framing, Source, drive};

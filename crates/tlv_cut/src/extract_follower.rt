@@ -1,6 +1,6 @@
 //! The follower of `extract`: it writes one element, or its contents.
 ghost use Rattle.std.specs.Prelude.{◌≡◌};
-ghost use Rattle.tlv_walk.specs.HasEffect.{ReturnsEffect};
+ghost use Rattle.tlv_walk.specs.Follow.{ReturnsEffect};
 ghost use Rattle.tlv_io.specs.Out.{Puts};
 ghost use Rattle.tlv_cut.specs.ExtractStep.{extract_begin_step_at, extract_contents_step, extract_end_step};
 ghost use Rattle.tlv_cut.specs.ExtractStep.{has_found, new_extract, extract_octet_step};

@@ -1,6 +1,6 @@
 //! The call `indef`: it reads a source and writes to a drain.
 ghost use Rattle.tlv_walk.specs.Job.{device_states};
-ghost use Rattle.tlv_cut.specs.IndefRun.{RunsIndef};
+ghost use Rattle.tlv_cut.specs.Indef.{RunsIndef};
 
 use crate::Indef;
 use tlv_walk::{DeviceFault, Drain, Ending, Framing, Inside, Source, drive};

@@ -1,6 +1,6 @@
 //! Laws of the definitions: each is the contract of a function that does nothing.
 
-ghost use Rattle.tlv_cut.specs.ExtractLaws.{
+ghost use Rattle.tlv_cut.specs.Laws.{
   EnoughComesAtEnds,
   ExtractMakesItsText,
   ExtractTextGoesOn,
@@ -8,7 +8,7 @@ ghost use Rattle.tlv_cut.specs.ExtractLaws.{
   FoundElementsStay,
   WholeElementsStay,
 };
-ghost use Rattle.tlv_cut.specs.IndefLaws.{
+ghost use Rattle.tlv_cut.specs.Laws.{
   IndefMakesItsText,
   IndefTextGoesOn,
   IndefTextIsDone,

@@ -8,7 +8,7 @@ use Rattle.std.proofs.lemmas.List.Elements.{All-push}
 use Rattle.tlv_forms.specs.Private.Counting.{IsBounded}
 use Rattle.tlv_forms.specs.Taken.{TakenValue, taken_value}
 use Rattle.tlv_forms.specs.declared.taken.Taken.{Taken}
-use Rattle.tlv_head.specs.InputLimit.{input_limit}
+use Rattle.tlv_head.specs.Limits.{input_limit}
 use Rattle.tlv_text.specs.Blocks.{block_value, is_too_long}
 use Rattle.tlv_text.specs.Dump.{dump_limit}
 use Rattle.tlv_text.specs.declared.block.Block.{Block}

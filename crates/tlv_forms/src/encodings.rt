@@ -1,7 +1,7 @@
 //! Which octets are taken for encodings.
 ghost use Rattle.std.specs.Prelude.{◌≡◌, ◌≤◌, ◌↔◌, IsTrue, length, option_map};
 ghost use Rattle.tlv_forms.specs.Taken.{AreEncodings, AreTakenAsEncodings, IsSoundInput, begins_as_sequence};
-ghost use Rattle.tlv_head.specs.InputLimit.{input_limit};
+ghost use Rattle.tlv_head.specs.Limits.{input_limit};
 ghost use Rattle.tlv_text.specs.Marks.{ascii_of_utf16};
 
 use tlv_open::ending_of;

@@ -2,7 +2,7 @@
 ghost use Rattle.std.specs.Prelude.{◌≡◌, ◌≤◌, [], ◌∷◌, All, IfErr, IfOk, length, map};
 ghost use Rattle.tlv_forms.specs.Private.Counting.{or_octets};
 ghost use Rattle.tlv_forms.specs.Taken.{IsTakenAs, IsTakenFor, IsTakingFault, taken_octets, taken_value};
-ghost use Rattle.tlv_head.specs.InputLimit.{input_limit};
+ghost use Rattle.tlv_head.specs.Limits.{input_limit};
 ghost use Rattle.tlv_text.specs.declared.text_fault.TextFault.TheVariants.{Memory};
 
 use crate::Taken;

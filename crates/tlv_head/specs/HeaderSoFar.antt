@@ -2,7 +2,7 @@
 use Rattle.std.specs.Prelude.{◌≡◌, ℕ, ◌+◌, ◌^◌, ◌-◌, ◌<◌, ◌≤◌, Bool, true, false, List, [], length}
 use Rattle.tlv_head.specs.Header.{IsIdentifier, value_of}
 use Rattle.tlv_head.specs.Refusal.{IsLengthPrefix, IsNumberPrefix}
-use Rattle.tlv_head.specs.HeadReaderState.{HeadReaderState}
+use Rattle.tlv_head.specs.HeadReader.{HeadReaderState}
 use Rattle.tlv_head.specs.declared.next_octet.IdentifierFields.{IdentifierFields}
 use Rattle.tlv_head.specs.declared.next_octet.Part.{Part}
 use Rattle.tlv_head.specs.declared.next_octet.Part.TheVariants.{Start, Number, Identifier, Length, Whole}

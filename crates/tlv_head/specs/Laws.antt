@@ -3,8 +3,7 @@ use Rattle.std.specs.Prelude.{◌≡◌, ◌≢◌, ◌⊎◌, ℕ, ◌<◌, ◌
 use Rattle.tlv_head.specs.declared.fault.FaultCode.{FaultCode}
 use Rattle.tlv_head.specs.Header.{HeaderValue, IsHeader, identifier_octet, octets_of}
 use Rattle.tlv_head.specs.declared.head_reader.Head.{Head}
-use Rattle.tlv_head.specs.HeadReaderState.{HeadReaderState}
-use Rattle.tlv_head.specs.Push.{Pushes}
+use Rattle.tlv_head.specs.HeadReader.{HeadReaderState, Pushes}
 use Rattle.tlv_head.specs.declared.header.HeaderFields.{HeaderFields}
 use Rattle.tlv_head.specs.ReadHeader.{BeginsWithFields}
 use Rattle.tlv_head.specs.Refusal.{CannotBecomeHeader, BeginsWith, BeginsWithNoHeader, IsHeaderPrefix, IsRefusedOctet}

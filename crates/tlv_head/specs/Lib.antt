@@ -1,5 +1,4 @@
-pub mod InputLimit
-pub mod DepthLimit
+pub mod Limits
 pub mod UniversalTypes
 pub mod Header
 pub mod StoredHeader
@@ -9,8 +8,7 @@ pub mod TypeTable
 pub mod Kind
 pub mod Tag
 pub mod Refusal
-pub mod HeadReaderState
-pub mod Push
+pub mod HeadReader
 pub mod HeaderSoFar
 pub mod ReadHeader
 pub mod Laws

@@ -1,7 +1,7 @@
 //! Reads a header, one octet at a time.
 ghost use Rattle.std.specs.Prelude.{◌≡◌, ◌≢◌, ◌↔◌, [], ◌∷◌, false, IsTrue, Some};
 ghost use Rattle.tlv_head.specs.Header.{fields_hold};
-ghost use Rattle.tlv_head.specs.HeadReaderState.{ContentsFit};
+ghost use Rattle.tlv_head.specs.HeadReader.{ContentsFit};
 
 use crate::next_octet::{Next, Part, header_fields, read_octet};
 use crate::{Fault, FaultCode, Header, HeaderFields, Size};
@@ -29,7 +29,7 @@ pub struct HeadReader {
 }
 
 impl Model for HeadReader {
-    ghost use Rattle.tlv_head.specs.HeadReaderState.{HeadReaderState};
+    ghost use Rattle.tlv_head.specs.HeadReader.{HeadReaderState};
 
     ghost Value = { HeadReaderState };
 
@@ -43,8 +43,7 @@ impl Model for HeadReader {
 impl HeadReader {
     ghost use Rattle.std.specs.Prelude.{true};
     ghost use Rattle.tlv_head.specs.Header.{HeaderValue};
-    ghost use Rattle.tlv_head.specs.Push.{Completes, FitsThere, Pushes};
-    ghost use Rattle.tlv_head.specs.HeadReaderState.{CanPush};
+    ghost use Rattle.tlv_head.specs.HeadReader.{Completes, FitsThere, Pushes, CanPush};
 
     /// A reader of the header whose first octet is at `offset`. `named` says that the user named this offset as the
     /// offset of a string that holds encodings ([`Header::wraps`]).

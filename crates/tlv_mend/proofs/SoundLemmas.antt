@@ -3,7 +3,7 @@ use Rattle.std.proofs.Common.{◌≡◌, ◌≤◌, ℕ, List, [], ◌∷◌, �
 use Rattle.std.proofs.Common.{append-nil, length-append}
 use Rattle.std.proofs.lemmas.List.{take_all}
 use Rattle.std.specs.Prelude.{◌↔◌, Some, Result, Ok, Err}
-use Rattle.tlv_head.specs.InputLimit.{input_limit}
+use Rattle.tlv_head.specs.Limits.{input_limit}
 use Rattle.tlv_io.specs.Device.{DrainState, SourceState, failures_after, new_source, octets_given}
 use Rattle.tlv_run.proofs.KnownDevices.{at_end, left_of, take_prefix}
 use Rattle.tlv_walk.specs.declared.ending.Ending.{Ending}

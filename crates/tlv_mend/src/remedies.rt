@@ -1,6 +1,6 @@
 //! What may be done with an input that does not parse, in lines.
 ghost use Rattle.std.specs.Prelude.{◌≡◌, ◌≤◌, IfOk, IfSome, List, OnErr, Option, length, ℕ};
-ghost use Rattle.tlv_head.specs.InputLimit.{input_limit};
+ghost use Rattle.tlv_head.specs.Limits.{input_limit};
 ghost use Rattle.tlv_io.specs.Out.{Puts, Sends};
 ghost use Rattle.tlv_mend.specs.NextStart.{IsNextStart};
 ghost use Rattle.tlv_mend.specs.Remedies.{AreRemedies, IsTextChange, change_line, changes_lines};

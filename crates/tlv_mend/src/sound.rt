@@ -1,6 +1,6 @@
 //! Whether octets are sound.
 ghost use Rattle.std.specs.Prelude.{◌≡◌, ◌≤◌, ◌↔◌, IsTrue, length};
-ghost use Rattle.tlv_head.specs.InputLimit.{input_limit};
+ghost use Rattle.tlv_head.specs.Limits.{input_limit};
 ghost use Rattle.tlv_open.specs.Opens.{closed_framing};
 ghost use Rattle.tlv_walk.specs.Reading.{IsSoundList};
 

@@ -5,7 +5,7 @@ ghost use Rattle.std.specs.Str.TwoWay.{IsFirst};
 ghost use Rattle.tlv_head.specs.declared.fault.FaultCode.TheVariants.{StrayEnd};
 ghost use Rattle.tlv_head.specs.declared.header.Size.TheVariants.{Definite, Indefinite};
 ghost use Rattle.tlv_head.specs.Header.{definite_length};
-ghost use Rattle.tlv_head.specs.InputLimit.{input_limit};
+ghost use Rattle.tlv_head.specs.Limits.{input_limit};
 ghost use Rattle.tlv_mend.specs.NextStart.{BeginsWithEncodings, IsNextStart, IsStart, SeemsRight};
 ghost use Rattle.tlv_open.specs.Opens.{closed_framing};
 ghost use Rattle.tlv_walk.specs.Ending.{IsEnding, fault_ending};

@@ -1,6 +1,6 @@
 //! Which change that programs make to texts was made to an input.
 ghost use Rattle.std.specs.Prelude.{◌≤◌, IfOk, length};
-ghost use Rattle.tlv_head.specs.InputLimit.{input_limit};
+ghost use Rattle.tlv_head.specs.Limits.{input_limit};
 ghost use Rattle.tlv_mend.specs.Remedies.{IsTextChange};
 
 use crate::text_copies::{undone_line_ends, undone_utf8};

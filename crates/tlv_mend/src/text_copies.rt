@@ -1,6 +1,6 @@
 //! What programs do to octets that they take for a text, and whether undoing it makes an input sound.
 ghost use Rattle.std.specs.Prelude.{◌≡◌, ◌<◌, ◌≤◌, ◌↔◌, IfOk, IsTrue, MatchOption, None, length, option_map};
-ghost use Rattle.tlv_head.specs.InputLimit.{input_limit};
+ghost use Rattle.tlv_head.specs.Limits.{input_limit};
 ghost use Rattle.tlv_mend.specs.TextCopies.{IsSoundWithLfAlone, IsSoundWithoutUtf8, is_latin1_pair};
 ghost use Rattle.tlv_mend.specs.TextCopies.{latin1_of_utf8, octet_and, with_lf_alone};
 

@@ -1,7 +1,7 @@
 -- Which strings of an input look like encodings, are not opened, and break when they are read as encodings.
 use Rattle.std.specs.Prelude.{◌≡◌, ◌≤◌, ◌<◌, ℕ, zero, suc, ◌+◌, ◌-◌, ◌*◌, Bool, true, false, ◌&&◌, ◌||◌, eqb, List, []}
 use Rattle.std.specs.Prelude.{◌∷◌, ◌++◌, length, slice_index, Some}
-use Rattle.tlv_head.specs.InputLimit.{input_limit}
+use Rattle.tlv_head.specs.Limits.{input_limit}
 use Rattle.tlv_head.specs.UniversalTypes as universal
 use Rattle.tlv_head.specs.declared.fault.Fault.{Fault}
 use Rattle.tlv_head.specs.declared.header.Size.TheVariants.{Definite}

@@ -1,9 +1,8 @@
 //! Adds the strings found among elements, and returns whether the elements are sound.
 ghost use Rattle.std.specs.Prelude.{◌≡◌, ◌≢◌, ◌≤◌, ◌+◌, ◌<◌, ◌↔◌, IfOk, IsTrue, List, OnOk, ℕ};
 ghost use Rattle.std.specs.Prelude.{Some, false, length, slice_index, true};
-ghost use Rattle.tlv_head.specs.DepthLimit.{depth_limit};
+ghost use Rattle.tlv_head.specs.Limits.{depth_limit, input_limit};
 ghost use Rattle.tlv_head.specs.Header.{HeaderValue};
-ghost use Rattle.tlv_head.specs.InputLimit.{input_limit};
 ghost use Rattle.tlv_head.specs.ReadHeader.{BeginsWithFields};
 ghost use Rattle.tlv_open.specs.Held.{HoldsEncodings, inner_octets};
 ghost use Rattle.tlv_open.specs.Private.Adds.{AddsAt, AddsElement, AddsElements, IsKept, Tries};

@@ -1,6 +1,6 @@
 //! Strings that look like encodings, and where they break when they are read as encodings.
 ghost use Rattle.std.specs.Prelude.{◌≡◌, ◌≤◌, ◌+◌, ◌↔◌, ◌++◌, IsTrue, MatchOption, OnOk, length, slice_index};
-ghost use Rattle.tlv_head.specs.InputLimit.{input_limit};
+ghost use Rattle.tlv_head.specs.Limits.{input_limit};
 ghost use Rattle.tlv_open.specs.Breaks.{BeginsAs, BreaksAt, HaveAnnouncedSize, IsBrokenString, LooksEncoded};
 ghost use Rattle.tlv_open.specs.Breaks.{octets_around};
 ghost use Rattle.tlv_open.specs.Private.Finds.{list_of};

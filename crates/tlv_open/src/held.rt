@@ -1,6 +1,6 @@
 //! What a string holds.
 ghost use Rattle.std.specs.Prelude.{◌≡◌, ◌↔◌, ◌<◌, ◌≤◌, IfSome, IsTrue, List, MatchOption, ℕ, Some, None, length};
-ghost use Rattle.tlv_head.specs.DepthLimit.{depth_limit};
+ghost use Rattle.tlv_head.specs.Limits.{depth_limit};
 ghost use Rattle.tlv_head.specs.Header.{HeaderValue};
 ghost use Rattle.tlv_open.specs.Held.{HoldsEncodings, inner_octets};
 ghost use Rattle.tlv_open.specs.Private.Held.{inner_octets_of};

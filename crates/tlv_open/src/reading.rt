@@ -1,12 +1,12 @@
 //! How much of an input is read.
 ghost use Rattle.std.specs.Prelude.{◌≡◌, ◌≤◌, ◌+◌, Bool, IsTrue, length};
-ghost use Rattle.tlv_head.specs.InputLimit.{input_limit};
+ghost use Rattle.tlv_head.specs.Limits.{input_limit};
 ghost use Rattle.tlv_open.specs.Opens.{closed_framing};
 ghost use Rattle.tlv_open.specs.Private.Walks.{HasWalkedOver, WalksOverMore};
 ghost use Rattle.tlv_walk.specs.Ending.{IsEnding};
 ghost use Rattle.tlv_walk.specs.Forest.{Forest, spelling};
 ghost use Rattle.tlv_walk.specs.Reading.{IsReading, IsSoundList};
-ghost use Rattle.tlv_walk.specs.WalkerState.{IsWithinInputLimit, new_walker};
+ghost use Rattle.tlv_walk.specs.Walker.{IsWithinInputLimit, new_walker};
 
 use crate::elements::elements_size;
 use tlv_walk::{Ending, Framing, Inside, Step, Walker};

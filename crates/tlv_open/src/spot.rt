@@ -1,6 +1,6 @@
 //! The position of elements that are read by themselves, and what is searched for among them.
 ghost use Rattle.std.specs.Prelude.{◌≡◌, ◌<◌, ◌+◌, ◌&&◌, ◌||◌, Bool, List, false, true, ℕ};
-ghost use Rattle.tlv_head.specs.DepthLimit.{depth_limit};
+ghost use Rattle.tlv_head.specs.Limits.{depth_limit};
 ghost use Rattle.tlv_head.specs.HeaderFields.{new_header};
 ghost use Rattle.tlv_head.specs.UniversalTypes.{bit_string, octet_string};
 ghost use Rattle.tlv_open.specs.Breaks.{begin_extension, is_extension, names_extension};

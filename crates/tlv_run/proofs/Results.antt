@@ -5,10 +5,8 @@ use Rattle.std.proofs.lemmas.Bool.{true≢false}
 use Rattle.tlv_cut.proofs.ExtractLemmas.LongerInputs.{extract_text_goes_on, same_extract_text, same_found, same_whole}
 use Rattle.tlv_cut.proofs.IndefLemmas.LongerInputs.{indef_text_goes_on}
 use Rattle.tlv_cut.proofs.IndefLemmas.SecondReading.{indef_text_is_done, indef_text_is_read_back}
-use Rattle.tlv_cut.specs.ExtractText.{extract_text, has_element_at}
-use Rattle.tlv_cut.specs.IndefJob.{indef_framing}
-use Rattle.tlv_cut.specs.IndefReading.{indef_reading}
-use Rattle.tlv_cut.specs.IndefText.{indef_text}
+use Rattle.tlv_cut.specs.Extract.{extract_text, has_element_at}
+use Rattle.tlv_cut.specs.Indef.{indef_framing, indef_reading, indef_text}
 use Rattle.tlv_show.proofs.DumpLemmas.LongerInputs.{checks_on, dumps_on}
 use Rattle.tlv_value.specs.Names.{NamesValue}
 use Rattle.tlv_walk.proofs.GrammarLemmas.Endings.{ending, is-ending}

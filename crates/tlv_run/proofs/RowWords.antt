@@ -7,8 +7,7 @@ use Rattle.std.specs.FinMap as finite
 use Rattle.std.specs.Ordering.{nat_cmp}
 use Prim.Native.String.{String}
 use Rattle.tlv_head.specs.declared.fault.FaultCode.{FaultCode}
-use Rattle.tlv_show.specs.DumpJob.{top_layout}
-use Rattle.tlv_show.specs.ShowJob.{show_job}
+use Rattle.tlv_show.specs.ShowJob.{top_layout, show_job}
 use Rattle.tlv_show.specs.Texts.{item_text}
 use Rattle.tlv_show.specs.declared.options.Options.{Options}
 use Rattle.tlv_show.specs.declared.rules.Rules.{Rules}

@@ -1,10 +1,9 @@
 -- Which status an input comes to.
 use Rattle.std.proofs.Common.{◌≡◌, ◌==◌, ℕ, Bool, true, false, if◌then◌else◌, ◌++◌, refl, sym, ap, ◌∙◌, subst}
 use Rattle.std.specs.Prelude.{Option, Some, None, codes, decimal}
-use Rattle.tlv_cut.specs.ExtractText.{has_element_at}
+use Rattle.tlv_cut.specs.Extract.{has_element_at}
 use Rattle.tlv_show.specs.declared.outcome.Outcome.{Outcome}
-use Rattle.tlv_show.specs.CheckJob.{check_job}
-use Rattle.tlv_show.specs.DumpJob.{dump_job}
+use Rattle.tlv_show.specs.ShowJob.{check_job, dump_job}
 use Rattle.tlv_value.specs.Names.{NamesValue}
 use Rattle.tlv_walk.proofs.GrammarLemmas.Endings.{done-sound, sound-done}
 use Rattle.tlv_walk.proofs.GrammarLemmas.OneEnding.{ending-unique}

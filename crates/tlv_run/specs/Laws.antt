@@ -11,7 +11,7 @@ use Rattle.tlv_run.specs.Results.{CommandResult, IsCommandResult, IsSettled, com
 use Rattle.tlv_run.specs.RunsAndReports.{RunsAndReports}
 use Rattle.tlv_run.specs.declared.command.Command.{Command}
 use Rattle.tlv_run.specs.declared.command.Command.TheVariants.{Indef}
-use Rattle.tlv_head.specs.InputLimit.{input_limit}
+use Rattle.tlv_head.specs.Limits.{input_limit}
 
 -- an input has exactly one result
 abbrev pub InputsHaveOneResult : Type 0

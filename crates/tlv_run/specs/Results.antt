@@ -1,9 +1,8 @@
 -- The result of a command for an input.
 use Rattle.std.specs.Prelude.{◌≡◌, ◌⊎◌, ℕ, true, List}
-use Rattle.tlv_cut.specs.ExtractJob.{extract_job}
-use Rattle.tlv_cut.specs.IndefJob.{indef_job}
-use Rattle.tlv_show.specs.CheckJob.{check_job}
-use Rattle.tlv_show.specs.DumpJob.{dump_job}
+use Rattle.tlv_cut.specs.Extract.{extract_job}
+use Rattle.tlv_cut.specs.Indef.{indef_job}
+use Rattle.tlv_show.specs.ShowJob.{check_job, dump_job}
 use Rattle.tlv_value.specs.Names.{NamesValue}
 use Rattle.tlv_walk.specs.declared.ending.Ending.{Ending}
 use Rattle.tlv_walk.specs.Forest.{Forest}

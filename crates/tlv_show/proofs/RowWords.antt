@@ -5,8 +5,7 @@ use Rattle.tlv_value.specs.declared.layout.Layout.{Layout}
 use Rattle.tlv_value.specs.Value.{no_names}
 use Rattle.tlv_walk.specs.declared.framing.Framing.{Framing}
 use Rattle.tlv_walk.proofs.GrammarLemmas.Readings.{reading}
-use Rattle.tlv_show.specs.CheckJob.{check_job}
-use Rattle.tlv_show.specs.ShowJob.{show_job}
+use Rattle.tlv_show.specs.ShowJob.{check_job, show_job}
 use Rattle.tlv_show.specs.declared.rules.Rules.{Rules}
 use Rattle.tlv_show.specs.Texts.{finding_count, item_text}
 

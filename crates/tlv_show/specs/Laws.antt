@@ -6,8 +6,7 @@ use Rattle.tlv_show.specs.Items.{Item, FindingAt, OpeningLine, ClosingLine, Prim
 use Rattle.tlv_show.specs.Items.{OpenPrimitiveLines, PaddingLine, items}
 use Rattle.tlv_show.specs.Site.{top_site}
 use Rattle.tlv_show.specs.declared.rules.Rules.TheVariants.{Ber}
-use Rattle.tlv_show.specs.CheckJob.{check_job}
-use Rattle.tlv_show.specs.DumpJob.{dump_job_with, top_layout}
+use Rattle.tlv_show.specs.ShowJob.{check_job, dump_job_with, top_layout}
 use Rattle.tlv_show.specs.FinderState.{new_check}
 use Rattle.tlv_show.specs.Texts.{check_line, finding_count}
 use Rattle.tlv_show.specs.CheckStep.{check_step}
@@ -30,7 +29,7 @@ use Rattle.tlv_show.specs.DumpStep.{DumpState, dump_step, finding_lines}
 use Rattle.tlv_show.specs.FinderState.{finder_begin_step}
 use Rattle.tlv_show.specs.NestingState.{depth_in}
 use Rattle.tlv_show.specs.ShownFindings.{contents_findings, is_shown}
-use Rattle.tlv_head.specs.InputLimit.{input_limit}
+use Rattle.tlv_head.specs.Limits.{input_limit}
 
 -- the text of a longer input, of at most 2^40 octets, begins with the text of the shorter input
 abbrev pub TextGoesOn : {A : Type 0} → Job A → Type 0

@@ -1,6 +1,6 @@
 pub mod HolderLines
 pub mod LinesStep
-pub mod DumpJob
+pub mod ShowJob
 pub mod Site
 pub mod Conditions
 pub mod ShownFindings
@@ -12,8 +12,6 @@ pub mod FinderState
 pub mod FindingLines
 pub mod CheckStep
 pub mod DumpStep
-pub mod ShowJob
 pub mod Laws
-pub mod CheckJob
 pub mod Spellings
 pub mod Private

@@ -1,7 +1,7 @@
 -- What is kept of the open elements that hold others: for each a frame, which says what the element held so far.
 use Rattle.std.specs.Prelude.{ℕ, ◌+◌, ◌-◌, Bool, true, false, ◌&&◌, ◌||◌, not, ◌==◌, nat_lt, if◌then◌else◌}
 use Rattle.std.specs.Prelude.{List, [], ◌∷◌, length, min}
-use Rattle.tlv_head.specs.DepthLimit.{depth_limit}
+use Rattle.tlv_head.specs.Limits.{depth_limit}
 use Rattle.tlv_head.specs.Header.{HeaderValue, announced_length}
 use Rattle.tlv_head.specs.UniversalTypes as universal
 use Rattle.tlv_value.specs.Types.{has_segments, is_a, is_primitive}

@@ -1,5 +1,6 @@
 -- What a call of `dump` or of `check` is to do.
-use Rattle.std.specs.Prelude.{ℕ, false, List, flat_map}
+use Rattle.std.specs.Prelude.{ℕ, false, List, flat_map, Bool}
+use Rattle.std.specs.FinMap as finite
 use Rattle.tlv_walk.specs.declared.framing.Framing.{Framing}
 use Rattle.tlv_walk.specs.Job.{Job}
 use Rattle.tlv_walk.specs.Wrappers.{first_without_wrapper}
@@ -7,8 +8,11 @@ use Rattle.tlv_show.specs.declared.outcome.Outcome.{Outcome}
 use Rattle.tlv_show.specs.declared.rules.Rules.{Rules}
 use Rattle.tlv_show.specs.Items.{Item, items}
 use Rattle.tlv_show.specs.Site.{top_site}
-use Rattle.tlv_show.specs.Texts.{finding_count}
-use Rattle.tlv_head.specs.InputLimit.{input_limit}
+use Rattle.tlv_show.specs.Texts.{check_line, finding_count, item_text}
+use Rattle.tlv_head.specs.Limits.{input_limit}
+use Rattle.tlv_value.specs.declared.layout.Layout.{Layout}
+use Rattle.tlv_value.specs.Names.{NamesValue}
+use Rattle.tlv_show.specs.declared.options.Options.{Options}
 
 -- the items of all elements are written, each with this text, and the findings are counted, whether they are written
 -- or not
@@ -24,3 +28,20 @@ show_job rules framing text_of = record {
     unused = first_without_wrapper framing.inside f;
   };
 }
+
+-- how the lines of the outermost elements are laid out
+abbrev pub top_layout : Options → Layout
+top_layout options = record { level = 0; limit = options.limit; pure = options.pure }
+
+-- all elements, as lines, with the lines of findings. The first argument says whether text is beside pairs of digits
+abbrev pub dump_job_with : Bool → Options → NamesValue → Job Outcome
+dump_job_with with_text options names =
+    show_job options.rules options.framing (item_text with_text (finite.get names) (top_layout options))
+
+-- the same without text
+abbrev pub dump_job : Options → NamesValue → Job Outcome
+dump_job options names = dump_job_with false options names
+
+-- the findings of all elements, listed
+abbrev pub check_job : Rules → Framing → Job Outcome
+check_job rules framing = show_job rules framing check_line

@@ -1,6 +1,6 @@
 //! `check`, over a source and a drain.
 ghost use Rattle.tlv_walk.specs.Job.{Runs, device_states};
-ghost use Rattle.tlv_show.specs.CheckJob.{check_job};
+ghost use Rattle.tlv_show.specs.ShowJob.{check_job};
 
 use crate::outcome::Outcome;
 use crate::{Check, Rules};

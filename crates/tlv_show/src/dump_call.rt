@@ -1,6 +1,6 @@
 //! `dump`, over a source and a drain.
 ghost use Rattle.tlv_walk.specs.Job.{Runs, device_states};
-ghost use Rattle.tlv_show.specs.DumpJob.{dump_job, dump_job_with};
+ghost use Rattle.tlv_show.specs.ShowJob.{dump_job, dump_job_with};
 
 use crate::{Dump, FiniteNames, Options, Outcome};
 use tlv_walk::{DeviceFault, Drain, Source, drive};

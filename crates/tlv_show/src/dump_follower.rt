@@ -2,12 +2,12 @@
 ghost use Rattle.std.specs.Prelude.{◌≡◌, ◌≤◌, length, refl};
 ghost use Rattle.tlv_walk.proofs.FollowerLemmas.FollowedEvents.{each_octet-goes_on, each_octet-joins};
 ghost use Rattle.tlv_walk.specs.Events.{Begin, Bytes, Close, End, Enter, event_value_of};
-ghost use Rattle.tlv_walk.specs.HasEffect.{HasEffect};
+ghost use Rattle.tlv_walk.specs.Follow.{HasEffect};
 ghost use Rattle.tlv_show.specs.DumpStep.{dump_octet_step, dump_padding_step, dump_step, findings_before};
 ghost use Rattle.tlv_show.specs.DumpStep.{new_dump, new_dump_with};
 ghost use Rattle.tlv_show.specs.FinderState.{finder_open_step};
 ghost use Rattle.tlv_show.specs.LinesStep.{lines_open_step};
-ghost use Rattle.tlv_show.specs.DumpJob.{top_layout};
+ghost use Rattle.tlv_show.specs.ShowJob.{top_layout};
 
 use crate::contents::contents_in;
 use crate::finder::Finder;

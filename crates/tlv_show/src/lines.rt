@@ -2,8 +2,7 @@
 ghost use Rattle.std.specs.FinMap as finite;
 ghost use Rattle.std.specs.Prelude.{◌≡◌, ◌≤◌, OnOk, length};
 ghost use Rattle.tlv_walk.specs.Events.{Unused};
-ghost use Rattle.tlv_walk.specs.Follow.{each_octet};
-ghost use Rattle.tlv_walk.specs.HasEffect.{HasEffect};
+ghost use Rattle.tlv_walk.specs.Follow.{each_octet, HasEffect};
 ghost use Rattle.tlv_io.specs.Out.{Puts};
 ghost use Rattle.tlv_head.specs.Header.{HasAllContents};
 ghost use Rattle.tlv_value.specs.ValueLines.{whole_lines_with};

@@ -27,7 +27,7 @@ pub(crate) struct Nesting {
 
 impl Model for Nesting {
     ghost use Rattle.std.specs.Prelude.{◌≤◌, ◌-◌};
-    ghost use Rattle.tlv_head.specs.DepthLimit.{depth_limit};
+    ghost use Rattle.tlv_head.specs.Limits.{depth_limit};
     ghost use Rattle.tlv_show.specs.NestingState.{NestingState};
     ghost use Rattle.tlv_show.specs.Private.Nesting.{HasFramesInStrings, HaveRisingFloors, all_frames};
     ghost use Rattle.tlv_show.specs.Private.Nesting.{innermost_frame, outer_frames};

@@ -5,7 +5,7 @@ mod refusals;
 mod short_headers;
 mod texts;
 
-ghost use Rattle.tlv_head.specs.DepthLimit.{depth_limit};
+ghost use Rattle.tlv_head.specs.Limits.{depth_limit};
 ghost use Rattle.std.specs.Prelude.{◌≤◌};
 
 use self::octets::{OFFSET, Place, REFUSALS, SHAPES, Shape, TOP};

@@ -1,6 +1,6 @@
 //! Reads that are followed one by one.
 ghost use Rattle.std.specs.Prelude.{◌≤◌};
-ghost use Rattle.tlv_walk.specs.Stands.{IsReady};
+ghost use Rattle.tlv_walk.specs.WalkerReads.{IsReady};
 ghost use Rattle.tlv_walk.specs.OneTurn.{CanTurn};
 
 use crate::expect::expect_eq;

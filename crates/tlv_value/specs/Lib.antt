@@ -5,7 +5,6 @@ pub mod Arcs
 pub mod Times
 pub mod RowSizes
 pub mod Rows
-pub mod OpenRow
 pub mod Units
 pub mod Layout
 pub mod Value

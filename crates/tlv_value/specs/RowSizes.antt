@@ -1,6 +1,6 @@
--- The sizes by which the octets of long contents are cut into rows. `IsCut` of tlv_io says which rows are then a cut.
-use Rattle.std.specs.Prelude.{ℕ, if◌then◌else◌}
-use Rattle.tlv_io.specs.Cuts.{utf8_length}
+-- How octets are cut into rows: `IsCut` of tlv_io says which rows are a cut.
+use Rattle.std.specs.Prelude.{ℕ, if◌then◌else◌, ◌<◌, List, length}
+use Rattle.tlv_io.specs.Cuts.{SplitsNone, utf8_length}
 use Rattle.tlv_head.specs.declared.kind.Kind.{Kind}
 use Rattle.tlv_head.specs.declared.kind.Kind.TheVariants.{Utf8}
 use Rattle.tlv_head.specs.Kind.{is_text}
@@ -13,3 +13,8 @@ row_size kind = if is_text kind then 64 else 16
 abbrev pub character_length : Kind → ℕ → ℕ
 character_length Utf8 x = utf8_length x
 character_length _ x = 1
+
+-- the row has fewer octets than a row has room for, and splits no octets that must be kept in one row
+pub record IsOpenRow (kind : Kind) (row : List ℕ) : Type 0 where
+  pub short : length row < row_size kind
+  pub splits_none : SplitsNone (row_size kind) (character_length kind) row

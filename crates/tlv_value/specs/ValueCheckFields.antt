@@ -3,7 +3,7 @@ use Rattle.std.specs.Prelude.{◌<◌, ◌≤◌, ◌∷◌, [], take}
 use Rattle.tlv_value.specs.declared.value_check.ValueCheck.TheInside.{Inside}
 use Rattle.tlv_head.specs.declared.kind.Kind.TheVariants.{Utf8}
 use Rattle.tlv_value.specs.ValueCheckState.{ValueCheckState}
-use Rattle.tlv_value.specs.OpenRow.{IsOpenRow}
+use Rattle.tlv_value.specs.RowSizes.{IsOpenRow}
 
 abbrev pub value_check_state_of : Inside → ValueCheckState
 value_check_state_of t = record {

@@ -2,7 +2,7 @@
 use Rattle.std.specs.Prelude.{◌≡◌, ◌+◌, ◌≤◌, true, false, length, []}
 use Rattle.tlv_head.specs.declared.kind.Kind.TheVariants.{Bits}
 use Rattle.tlv_value.specs.declared.value_text.ValueText.TheInside.{Inside}
-use Rattle.tlv_value.specs.OpenRow.{IsOpenRow}
+use Rattle.tlv_value.specs.RowSizes.{IsOpenRow}
 use Rattle.tlv_value.specs.ValueTextState.{ValueTextState, is_long_primitive}
 
 abbrev pub value_text_state_of : Inside → ValueTextState

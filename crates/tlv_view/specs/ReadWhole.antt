@@ -2,7 +2,7 @@
 use Rattle.std.specs.Prelude.{◌≡◌, ℕ, ◌<◌, ◌≤◌, List, length, Result, Ok, Err, codes}
 use Rattle.std.specs.List.{concat}
 use Rattle.std.specs.Io.KnownBytes.{IsAtEnd}
-use Rattle.tlv_head.specs.InputLimit.{input_limit}
+use Rattle.tlv_head.specs.Limits.{input_limit}
 use Rattle.tlv_io.specs.Device.{Pieces, SourceState, failed, gave, next_count, octets_given}
 use Rattle.tlv_walk.specs.declared.run.DeviceFault.TheVariants as device
 use Rattle.tlv_run.specs.Report.{ReportValue, device_report, report_with}

@@ -1,6 +1,6 @@
 //! A view of octets in memory.
 ghost use Rattle.std.specs.Prelude.{◌≡◌, ◌≤◌, IfOk, OnErr, length, true};
-ghost use Rattle.tlv_head.specs.InputLimit.{input_limit};
+ghost use Rattle.tlv_head.specs.Limits.{input_limit};
 ghost use Rattle.tlv_walk.specs.Inside.{are_rising};
 ghost use Rattle.tlv_walk.specs.Job.{device_states};
 ghost use Rattle.tlv_run.specs.Report.{report_value_of};

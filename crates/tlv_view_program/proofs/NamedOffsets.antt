@@ -3,7 +3,7 @@ use Rattle.std.proofs.Common.{◌≡◌, ◌+◌, ◌^◌, ◌<◌, ◌≤◌, �
 use Rattle.std.specs.Prelude.{length, nat_lt}
 use Rattle.std.specs.List.{filter}
 use Rattle.std.proofs.lemmas.Bool.{ltb-true}
-use Rattle.tlv_head.specs.InputLimit.{input_limit}
+use Rattle.tlv_head.specs.Limits.{input_limit}
 use Rattle.tlv_walk.specs.Inside.{are_rising}
 use Rattle.tlv_walk.specs.Reading.{AreOctets}
 use Rattle.tlv_walk.proofs.EventLemmas.NamedOffsets.{AreRising, rising-from, rising-to}

@@ -1,6 +1,6 @@
 //! What comes after the messages of a block: the reasons of its fault.
 ghost use Rattle.std.specs.Prelude.{◌≡◌, ◌≤◌, length};
-ghost use Rattle.tlv_head.specs.InputLimit.{input_limit};
+ghost use Rattle.tlv_head.specs.Limits.{input_limit};
 ghost use Rattle.tlv_run.specs.Report.{report_value_of};
 ghost use Rattle.tlv_view_program.specs.Private.BlockParts.{block_contents, contents_fit};
 ghost use Rattle.tlv_view_program.specs.ShowsBlock.{explained_in, octets_of_contents, reasons_report};

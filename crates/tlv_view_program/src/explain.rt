@@ -1,7 +1,7 @@
 //! Why octets do not parse, and what may be done, if that is wanted.
 ghost use Rattle.std.specs.Prelude.{◌≡◌, ◌≤◌, ◌++◌, IfOk, [], length};
 ghost use Rattle.tlv_show.specs.declared.rules.Rules.TheVariants.{Ber, Der};
-ghost use Rattle.tlv_head.specs.InputLimit.{input_limit};
+ghost use Rattle.tlv_head.specs.Limits.{input_limit};
 ghost use Rattle.tlv_io.specs.Out.{Puts, Sends};
 ghost use Rattle.tlv_run.specs.Report.{report_value_of};
 ghost use Rattle.tlv_view.specs.Views.{AreBrokenUnless};

@@ -1,6 +1,6 @@
 //! What is shown of octets.
 ghost use Rattle.std.specs.Prelude.{◌≡◌, ◌≤◌, ◌↔◌, [], IsTrue, None, Some, length};
-ghost use Rattle.tlv_head.specs.InputLimit.{input_limit};
+ghost use Rattle.tlv_head.specs.Limits.{input_limit};
 ghost use Rattle.tlv_run.specs.Report.{report_value_of};
 ghost use Rattle.tlv_value.specs.Names.{NamesValue};
 ghost use Rattle.tlv_open.specs.Opens.{closed_framing};

@@ -1,6 +1,6 @@
 //! Why octets do not parse, or a string in them, and what may be done.
 ghost use Rattle.std.specs.Prelude.{◌≡◌, ◌≤◌, ◌+◌, ◌++◌, IfOk, List, length, map, true, ℕ};
-ghost use Rattle.tlv_head.specs.InputLimit.{input_limit};
+ghost use Rattle.tlv_head.specs.Limits.{input_limit};
 ghost use Rattle.tlv_io.specs.Out.{Puts, Sends};
 ghost use Rattle.tlv_open.specs.Opens.{AreOpened, closed_framing};
 ghost use Rattle.tlv_why.specs.Facts.{AreFacts};

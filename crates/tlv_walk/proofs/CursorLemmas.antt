@@ -3,7 +3,7 @@ use Rattle.std.proofs.Common.{◌≡◌, ◌+◌, ◌<◌, ◌≤◌, ℕ, zero,
 use Rattle.std.proofs.Common.{take, refl, sym, subst, ap, ◌∙◌, arith, ne_eqb}
 use Rattle.std.proofs.Math.Bool.{or-false}
 use Rattle.std.proofs.lemmas.Bool.{leb-false}
-use Rattle.tlv_head.specs.InputLimit.{input_limit}
+use Rattle.tlv_head.specs.Limits.{input_limit}
 use Rattle.tlv_walk.specs.declared.cursor.Cursor.{Cursor}
 use Rattle.tlv_walk.specs.Inside.{are_rising, is_among}
 use Rattle.tlv_walk.specs.Private.Cursor.{IsCursorAt, least_above, no_offset_mark}

@@ -1,7 +1,7 @@
 -- The offsets that a user may name.
 use Rattle.std.specs.Prelude.{ℕ, ◌+◌, Bool, true, ◌&&◌, eqb, nat_le, List, [], ◌∷◌, length}
 use Rattle.std.specs.List.{list_any}
-use Rattle.tlv_head.specs.InputLimit.{input_limit}
+use Rattle.tlv_head.specs.Limits.{input_limit}
 
 -- each offset is larger than the one before, none is below `least`, and none is above 2^40
 abbrev pub are_rising : ℕ → List ℕ → Bool

@@ -1,7 +1,7 @@
 -- The result of one read of a source and the following of its octets.
 use Rattle.std.specs.Prelude.{◌≡◌, ◌≢◌, ℕ, ◌<◌, ◌≤◌, List, [], ◌++◌, length, take, Result, Ok, Err, ⊤}
 use Rattle.std.specs.Io.KnownBytes.{Consumes, IsAtEnd}
-use Rattle.tlv_head.specs.InputLimit.{input_limit}
+use Rattle.tlv_head.specs.Limits.{input_limit}
 use Rattle.tlv_walk.specs.declared.follow.Go.{Go}
 use Rattle.tlv_walk.specs.declared.follow.Go.TheVariants as go
 use Rattle.tlv_walk.specs.declared.run.DeviceFault.{DeviceFault}
@@ -14,14 +14,12 @@ use Rattle.tlv_io.specs.Device.{read_limit}
 use Rattle.tlv_walk.specs.DriveJob.{enough_run, run_over}
 use Rattle.tlv_walk.specs.Ending.{IsEnding, IsFinalEnding}
 use Rattle.tlv_walk.specs.Events.{EventValue, octets_of_events}
-use Rattle.tlv_walk.specs.Follow.{Effect, effect_of}
-use Rattle.tlv_walk.specs.FollowsEvents.{FollowsEvents}
+use Rattle.tlv_walk.specs.Follow.{Effect, effect_of, FollowsEvents}
 use Rattle.tlv_walk.specs.Job.{DeviceStates, device_states, drain_result, source_result}
-use Rattle.tlv_walk.specs.WalkerState.{WalkerState}
+use Rattle.tlv_walk.specs.Walker.{WalkerState}
 use Rattle.tlv_io.specs.Out.{Sends}
 use Rattle.tlv_walk.specs.Reading.{AreOctets, IsPrefixOf}
-use Rattle.tlv_walk.specs.HasRead.{StandsAtEnd}
-use Rattle.tlv_walk.specs.Stands.{IsReady, HasEvents, IfStands, IsIdle, Stands}
+use Rattle.tlv_walk.specs.WalkerReads.{StandsAtEnd, IsReady, HasEvents, IfStands, IsIdle, Stands}
 
 -- the octets that the last read gave, as the array holds them after the read
 abbrev pub last_octets : LastReadValue → List ℕ → List ℕ

@@ -2,7 +2,7 @@
 use Rattle.std.specs.Prelude.{◌≡◌, ◌≢◌, ℕ, ◌+◌, ◌<◌, ◌≤◌, Bool, true, false, List, [], ◌∷◌, length, Option}
 use Rattle.std.specs.Prelude.{Some, None, IfSome}
 use Rattle.std.specs.Option.{is_none, option_map_or}
-use Rattle.tlv_head.specs.DepthLimit.{depth_limit}
+use Rattle.tlv_head.specs.Limits.{depth_limit}
 use Rattle.tlv_head.specs.declared.header.Size.{Size}
 use Rattle.tlv_head.specs.declared.header.Size.TheVariants.{Definite}
 use Rattle.tlv_head.specs.Header.{HeaderValue, IsHeader, announced_length, definite_length, holds, octets_of}

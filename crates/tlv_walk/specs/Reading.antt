@@ -1,6 +1,6 @@
 -- The reading of an input, and which inputs are sound.
 use Rattle.std.specs.Prelude.{◌≡◌, ℕ, ◌<◌, ◌≤◌, true, false, List, ◌++◌, All, length}
-use Rattle.tlv_head.specs.DepthLimit.{depth_limit}
+use Rattle.tlv_head.specs.Limits.{depth_limit}
 use Rattle.tlv_head.specs.declared.header.Size.TheVariants.{Definite}
 use Rattle.tlv_walk.specs.declared.framing.Framing.{Framing}
 use Rattle.tlv_walk.specs.Forest.{Forest, Holder, NoMore, PaddingOctet, Primitive, extent}

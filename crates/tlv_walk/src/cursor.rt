@@ -1,6 +1,6 @@
 //! Where a walk is among the named offsets.
 ghost use Rattle.std.specs.Prelude.{◌≡◌, ◌≤◌, false, get_or, slice_get, true};
-ghost use Rattle.tlv_head.specs.InputLimit.{input_limit};
+ghost use Rattle.tlv_head.specs.Limits.{input_limit};
 ghost use Rattle.tlv_walk.specs.Inside.{are_rising, is_among};
 ghost use Rattle.tlv_walk.specs.Private.Cursor.{IsCursorAt, no_offset_mark};
 

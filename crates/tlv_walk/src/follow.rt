@@ -3,7 +3,7 @@ ghost use Rattle.std.specs.Prelude.{◌≡◌, true};
 ghost use Rattle.tlv_head.specs.HeaderFields.{IsHeaderSized, new_header};
 ghost use Rattle.tlv_walk.specs.Events.{Bytes, Enter, EventValue, Open, Pad, event_value_of};
 ghost use Rattle.tlv_walk.specs.Follow.{Effect, GoesOn, IgnoresEmpty, IsWholeElement, Joins, whole_effect};
-ghost use Rattle.tlv_walk.specs.HasEffect.{HasEffectOrNone, ReturnsEffect};
+ghost use Rattle.tlv_walk.specs.Follow.{HasEffectOrNone, ReturnsEffect};
 
 use crate::{Drain, Event, Out, WriteFault};
 use tlv_head::{Header, HeaderFields};

@@ -1,5 +1,5 @@
 //! A stack of frames.
-ghost use Rattle.tlv_head.specs.DepthLimit.{depth_limit};
+ghost use Rattle.tlv_head.specs.Limits.{depth_limit};
 ghost use Rattle.std.specs.Prelude.{◌≡◌, ◌<◌, ◌≤◌, ◌↔◌, ◌∷◌, IsTrue, MatchOption, [], length};
 
 use arrayvec::ArrayVec;
@@ -13,7 +13,7 @@ pub struct Frames<T> {
 
 impl<T> Model for Frames<T> {
     ghost use Rattle.std.specs.Prelude.{◌≤◌, List, length, reverse};
-    ghost use Rattle.tlv_head.specs.DepthLimit.{depth_limit};
+    ghost use Rattle.tlv_head.specs.Limits.{depth_limit};
 
     ghost Value = { List T };
 

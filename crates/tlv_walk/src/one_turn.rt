@@ -1,12 +1,12 @@
 //! One read of a source, and the following of its octets.
 ghost use Rattle.std.specs.Prelude.{◌≡◌, [], IfOk};
-ghost use Rattle.tlv_walk.specs.HasEffect.{ReturnsEffect};
+ghost use Rattle.tlv_walk.specs.Follow.{ReturnsEffect};
 ghost use Rattle.tlv_walk.specs.Private.ResultOfPause.{IsResultOfPause, run_of};
 ghost use Rattle.tlv_walk.specs.Private.FollowsPiece.{FollowsAndFlushes, FollowsOneOrNone, FollowsPiece};
 ghost use Rattle.tlv_walk.specs.Private.FollowsPiece.{FollowsPrefix, follow_states};
 ghost use Rattle.tlv_walk.specs.Private.WalkerCalls.{CanPass};
-ghost use Rattle.tlv_walk.specs.Stands.{IsReady};
-ghost use Rattle.tlv_walk.specs.WalkerState.{IsWithinInputLimit};
+ghost use Rattle.tlv_walk.specs.WalkerReads.{IsReady};
+ghost use Rattle.tlv_walk.specs.Walker.{IsWithinInputLimit};
 ghost use Rattle.tlv_io.specs.Out.{held_octets, drain_of};
 ghost use Rattle.tlv_walk.specs.Events.{event_value_of};
 ghost use Rattle.tlv_walk.specs.OneTurn.{CanTurn, FollowsOneRead, turn_states};

@@ -1,5 +1,5 @@
 //! The open elements that hold other elements.
-ghost use Rattle.tlv_head.specs.DepthLimit.{depth_limit};
+ghost use Rattle.tlv_head.specs.Limits.{depth_limit};
 ghost use Rattle.std.specs.Prelude.{◌≡◌, ◌≢◌, ◌<◌, ◌≤◌, ◌↔◌, ◌∷◌, IfSome, IsTrue, None, [], length};
 ghost use Rattle.std.specs.Prelude.{drop, true};
 ghost use Rattle.tlv_walk.specs.Stack.{IsInIndefinite, IsInWrapper, bound_of};

@@ -1,6 +1,6 @@
 //! A machine that takes the octets of an input in pieces, and keeps a frame for each open element
 //! that holds others.
-ghost use Rattle.tlv_head.specs.DepthLimit.{depth_limit};
+ghost use Rattle.tlv_head.specs.Limits.{depth_limit};
 ghost use Rattle.std.specs.Prelude.{◌≡◌, ◌≤◌, ◌↔◌, IsTrue, length};
 
 mod contents;
@@ -56,13 +56,13 @@ pub struct Walker<'f> {
 }
 
 impl<'f> Model for Walker<'f> {
-    ghost use Rattle.tlv_walk.specs.WalkerState.{WalkerState};
+    ghost use Rattle.tlv_walk.specs.Walker.{WalkerState};
 
     ghost Value = { WalkerState };
 
     ghost use Rattle.tlv_walk.specs.Private.Cursor.{IsCursorAt};
     ghost use Rattle.tlv_walk.specs.WalkerFields.{walker_state_of};
-    ghost use Rattle.tlv_walk.specs.WalkerState.{IsWalkerState};
+    ghost use Rattle.tlv_walk.specs.Walker.{IsWalkerState};
 
     ghost view = { walker_state_of };
 
@@ -71,16 +71,13 @@ impl<'f> Model for Walker<'f> {
 
 impl<'f> Walker<'f> {
     ghost use Rattle.std.specs.Prelude.{[], false};
-    ghost use Rattle.tlv_walk.specs.Phase.{Between, Refused};
-    ghost use Rattle.tlv_walk.specs.WalkerState.{IfRefused, IsWithinInputLimit, new_walker, unused_offset};
+    ghost use Rattle.tlv_walk.specs.Walker.{Between, Refused, IfRefused, IsWithinInputLimit, new_walker, unused_offset};
     ghost use Rattle.tlv_walk.specs.Ending.{HasEnding, fault_at};
-    ghost use Rattle.tlv_walk.specs.Depth.{depth_of};
-    ghost use Rattle.tlv_walk.specs.Stands.{IsReady, IsIdle, Stands};
+    ghost use Rattle.tlv_walk.specs.WalkerReads.{depth_of, IsReady, IsIdle, Stands, RefusesAgain, StepsTo, IfAtEnd};
+    ghost use Rattle.tlv_walk.specs.WalkerReads.{IfRead};
     ghost use Rattle.tlv_walk.specs.Wrappers.{first_without_wrapper};
-    ghost use Rattle.tlv_walk.specs.StepsTo.{RefusesAgain, StepsTo};
-    ghost use Rattle.tlv_walk.specs.HasRead.{IfAtEnd, IfRead};
     ghost use Rattle.tlv_walk.specs.Private.Yields.{Steps};
-    ghost use Rattle.tlv_head.specs.InputLimit.{input_limit};
+    ghost use Rattle.tlv_head.specs.Limits.{input_limit};
 
     /// A walker that has taken nothing. It borrows the framing.
     pub fn new(framing: &'f Framing<'_>) -> Walker<'f>

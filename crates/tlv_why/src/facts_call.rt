@@ -1,7 +1,7 @@
 //! Walks over octets, and says why they do not parse and what is open where their reading ends.
 ghost use Rattle.std.specs.Prelude.{◌≡◌, ◌≤◌, drop, length, slice_index};
-ghost use Rattle.tlv_head.specs.InputLimit.{input_limit};
-ghost use Rattle.tlv_walk.specs.WalkerState.{IsWithinInputLimit};
+ghost use Rattle.tlv_head.specs.Limits.{input_limit};
+ghost use Rattle.tlv_walk.specs.Walker.{IsWithinInputLimit};
 ghost use Rattle.tlv_why.specs.Facts.{AreFacts, IsElementThere, ending_by};
 ghost use Rattle.tlv_why.specs.Private.Tracking.{HasTracked, IsNewWalker, MakesFacts, begun_element, count_read};
 ghost use Rattle.tlv_why.specs.Private.Tracking.{new_tracker, open_end_offset, unfinished_at, unfinished_entered};

@@ -11,7 +11,7 @@ use Rattle.clap.specs.Words.{Text}
 use Rattle.tlv_walk.specs.Inside.{can_name}
 use Rattle.tlv_show.specs.declared.rules.Rules.{Rules}
 use Rattle.tlv_show.specs.declared.rules.Rules.TheVariants.{Ber, Cer, Der}
-use Rattle.tlv_head.specs.InputLimit.{input_limit}
+use Rattle.tlv_head.specs.Limits.{input_limit}
 
 -- ---- numbers
 

@@ -10,7 +10,7 @@ use Rattle.tlv_walk.specs.Forest.{OpenBitString, OpenHeader, OpenEndOctets}
 use Rattle.tlv_walk.specs.Forest.{end_octets, extent, is_whole, lead, opening, spelling}
 use Rattle.tlv_walk.specs.Place.{IsHeaderAt, ObeysGrammar, Place, place_after, place_of_children}
 use Rattle.tlv_walk.proofs.GrammarLemmas.Spellings.{append_assoc-3, append_assoc-4}
-use Rattle.tlv_cut.specs.ExtractText.{contents_so_far, element_at, octets_so_far}
+use Rattle.tlv_cut.specs.Extract.{contents_so_far, element_at, octets_so_far}
 
 -- ---- the octets so far of elements
 

@@ -15,7 +15,7 @@ use Rattle.tlv_walk.specs.Forest.{end_octets, extent, is_whole, lead, opening, l
 use Rattle.tlv_walk.specs.Place.{ObeysGrammar, Place, place_after, place_of_children}
 use Rattle.tlv_walk.proofs.FollowerLemmas.FollowedEvents.{followed-more, followed-one}
 use Rattle.tlv_cut.specs.declared.extract_follower.Position.TheVariants as position
-use Rattle.tlv_cut.specs.ExtractText.{octets_so_far}
+use Rattle.tlv_cut.specs.Extract.{octets_so_far}
 use Rattle.tlv_cut.specs.ExtractStep.{ExtractState, extract_begin_step, extract_end_step, extract_step, has_found}
 use Rattle.tlv_cut.specs.ExtractStep.{wanted_octets}
 use Rattle.tlv_cut.proofs.ExtractLemmas.Contents.{all_contents, wanted_octets-none}

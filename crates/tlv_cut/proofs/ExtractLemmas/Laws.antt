@@ -12,8 +12,8 @@ use Rattle.tlv_walk.proofs.FollowerLemmas.FollowedEvents.{each_octet-goes_on}
 use Rattle.tlv_walk.proofs.GrammarLemmas.Spellings.{append_assoc-3}
 use Rattle.tlv_cut.specs.declared.extract_follower.Position.{Position}
 use Rattle.tlv_cut.specs.declared.extract_follower.Position.TheVariants as position
-use Rattle.tlv_cut.specs.ExtractText.{contents_so_far, element_at, extract_text, octets_so_far}
-use Rattle.tlv_cut.specs.ExtractLaws.{ExtractTextIsInTheInput, EnoughComesAtEnds, ExtractMakesItsText}
+use Rattle.tlv_cut.specs.Extract.{contents_so_far, element_at, extract_text, octets_so_far}
+use Rattle.tlv_cut.specs.Laws.{ExtractTextIsInTheInput, EnoughComesAtEnds, ExtractMakesItsText}
 use Rattle.tlv_cut.specs.ExtractStep.{ExtractState, extract_begin_step, extract_octet_step, outer_octets}
 use Rattle.tlv_cut.specs.ExtractStep.{extract_step_to}
 use Rattle.tlv_cut.proofs.ExtractLemmas.Elements.{makes_text}

@@ -10,7 +10,7 @@ use Rattle.tlv_walk.specs.Follow.{Effect, effect_of, effect_with}
 use Rattle.tlv_walk.specs.Forest.{Forest, NoMore, PaddingOctet, Primitive, Holder, OpenPrimitive, OpenHolder}
 use Rattle.tlv_walk.specs.Forest.{OpenBitString, OpenHeader, OpenEndOctets}
 use Rattle.tlv_walk.specs.Forest.{lead, opening, spelling, lead_by}
-use Rattle.tlv_cut.specs.IndefText.{indef_text, indefinite_header, with_indefinite_lengths}
+use Rattle.tlv_cut.specs.Indef.{indef_text, indefinite_header, with_indefinite_lengths}
 use Rattle.tlv_cut.specs.IndefStep.{IndefState, indef_event_text, indef_step}
 
 -- the octets that are put for events

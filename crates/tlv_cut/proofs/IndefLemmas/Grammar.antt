@@ -10,8 +10,7 @@ use Rattle.tlv_walk.specs.Forest.{Forest, NoMore, PaddingOctet, Primitive, Holde
 use Rattle.tlv_walk.specs.Forest.{OpenBitString, OpenHeader, OpenEndOctets}
 use Rattle.tlv_walk.specs.Forest.{extent, has_element, is_whole, lead, opening, spelling, lead_by}
 use Rattle.tlv_walk.specs.Place.{Fits, IsHeaderAt, ObeysGrammar, Place, place_after, place_of_children}
-use Rattle.tlv_cut.specs.IndefText.{with_indefinite_lengths, indefinite_header}
-use Rattle.tlv_cut.specs.IndefReading.{with_offsets_from}
+use Rattle.tlv_cut.specs.Indef.{with_indefinite_lengths, indefinite_header, with_offsets_from}
 use Rattle.tlv_cut.proofs.IndefLemmas.Offsets.{constructed_at, is_named, spelling-with_offsets_from}
 
 -- elements that have all ended have ended at any offset

@@ -15,11 +15,8 @@ use Rattle.tlv_walk.specs.Job.{Runs, device_states}
 use Rattle.tlv_walk.specs.Reading.{IsReading}
 use Rattle.tlv_walk.proofs.FollowerLemmas.Enough.{comes_to-result}
 use Rattle.tlv_walk.proofs.FollowerLemmas.Jobs as jobs
-use Rattle.tlv_cut.specs.IndefText.{indef_text}
+use Rattle.tlv_cut.specs.Indef.{indef_text, indef_job, indef_framing, IsReadBack, RunsIndef}
 use Rattle.tlv_cut.specs.IndefStep.{IndefState, indef_step}
-use Rattle.tlv_cut.specs.IndefJob.{indef_job, indef_framing}
-use Rattle.tlv_cut.specs.IndefReading.{IsReadBack}
-use Rattle.tlv_cut.specs.IndefRun.{RunsIndef}
 use Rattle.tlv_cut.proofs.IndefLemmas.Elements.{followed-events, followed-indef_step}
 use Rattle.tlv_cut.proofs.IndefLemmas.SecondReading.{indef_text_is_done, indef_text_is_read_back}
 

@@ -4,7 +4,7 @@ use Rattle.tlv_walk.specs.Events.{AreEqualJoined, EventValue, events}
 use Rattle.tlv_walk.specs.Follow.{Effect}
 use Rattle.tlv_walk.proofs.FollowerLemmas.FollowedEvents.{followed-alike}
 use Rattle.tlv_walk.proofs.EventLemmas.LongerInputs.{events-prefix}
-use Rattle.tlv_cut.specs.IndefLaws.{IndefTextGoesOn}
+use Rattle.tlv_cut.specs.Laws.{IndefTextGoesOn}
 use Rattle.tlv_cut.specs.IndefStep.{IndefState, indef_step, new_indef}
 use Rattle.tlv_cut.proofs.IndefLemmas.Elements.{events_text-append, followed-indef_step, events_text}
 use Rattle.tlv_cut.proofs.IndefLemmas.Elements.{events_text-events}

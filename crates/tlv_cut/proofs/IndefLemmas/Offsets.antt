@@ -9,8 +9,7 @@ use Rattle.tlv_walk.specs.Forest.{OpenBitString, OpenHeader, OpenEndOctets}
 use Rattle.tlv_walk.specs.Forest.{end_octets, extent, lead, opening, spelling}
 use Rattle.tlv_walk.specs.Inside.{is_among}
 use Rattle.tlv_walk.specs.Place.{IsHeaderAt, Place}
-use Rattle.tlv_cut.specs.IndefText.{indef_text, indefinite_header, with_indefinite_lengths}
-use Rattle.tlv_cut.specs.IndefReading.{with_offsets_from}
+use Rattle.tlv_cut.specs.Indef.{indef_text, indefinite_header, with_indefinite_lengths, with_offsets_from}
 
 -- ---- an element that holds others is constructed if no string is read as encodings
 

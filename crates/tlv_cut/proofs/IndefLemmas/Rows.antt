@@ -9,10 +9,8 @@ use Rattle.tlv_walk.specs.Ending.{fault_ending}
 use Rattle.tlv_walk.specs.Events.{Open, Close, Enter, Unused, Leave}
 use Rattle.tlv_walk.proofs.GrammarLemmas.Readings.{reading}
 use Rattle.tlv_walk.proofs.GrammarLemmas.Endings.{ending}
-use Rattle.tlv_cut.specs.IndefText.{indef_text, with_indefinite_lengths}
+use Rattle.tlv_cut.specs.Indef.{indef_text, with_indefinite_lengths, indef_framing, with_offsets_from}
 use Rattle.tlv_cut.specs.IndefStep.{indef_event_text}
-use Rattle.tlv_cut.specs.IndefJob.{indef_framing}
-use Rattle.tlv_cut.specs.IndefReading.{with_offsets_from}
 
 -- what `indef` writes for an input
 abbrev indef_output : Bool → List ℕ → List ℕ

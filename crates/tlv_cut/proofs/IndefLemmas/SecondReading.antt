@@ -8,9 +8,7 @@ use Rattle.tlv_walk.specs.Reading.{IsReading, IsSoundList}
 use Rattle.tlv_walk.proofs.GrammarLemmas.Endings.{done-sound, sound-reading}
 use Rattle.tlv_walk.proofs.GrammarLemmas.Readings.{Going, reading-unique, run-reading}
 use Rattle.tlv_walk.proofs.GrammarLemmas.SoundElements.{sound-whole}
-use Rattle.tlv_cut.specs.IndefText.{indef_text, with_indefinite_lengths}
-use Rattle.tlv_cut.specs.IndefJob.{indef_framing}
-use Rattle.tlv_cut.specs.IndefReading.{IsReadBack, indef_reading}
+use Rattle.tlv_cut.specs.Indef.{indef_text, with_indefinite_lengths, indef_framing, IsReadBack, indef_reading}
 use Rattle.tlv_cut.proofs.IndefLemmas.Grammar.{IsFree, obeys_grammar, offsets-has_element, offsets-whole}
 use Rattle.tlv_cut.proofs.IndefLemmas.Offsets.{indef_text-again, spelling-with_offsets_from}
 

@@ -3,7 +3,7 @@ use Rattle.std.specs.Prelude.{◌≡◌, ℕ, ◌<◌, ◌≤◌, ◌&&◌, Bool
 use Rattle.tlv_forms.specs.Taken.{IsTakingFault, TakenValue, begins_with_zeros, is_complete, is_present}
 use Rattle.tlv_forms.specs.Taken.{taken_octets, text_of}
 use Rattle.tlv_forms.specs.declared.taken.Taken.{Taken}
-use Rattle.tlv_head.specs.InputLimit.{input_limit}
+use Rattle.tlv_head.specs.Limits.{input_limit}
 use Rattle.tlv_text.specs.Blocks.{BlockValue}
 use Rattle.tlv_text.specs.declared.block.Form.{Form}
 use Rattle.tlv_text.specs.declared.block.Form.TheVariants.{Hex, Pem, Runs}

@@ -7,10 +7,9 @@ use Rattle.tlv_head.specs.declared.header.Size.TheVariants.{Definite, Indefinite
 use Rattle.tlv_head.specs.declared.head_reader.Head.{Head}
 use Rattle.tlv_head.specs.declared.head_reader.Head.TheVariants.{Whole, Refused}
 use Rattle.tlv_head.specs.Header.{HeaderValue, holds}
-use Rattle.tlv_head.specs.HeadReaderState.{ContentsFit, HeadReaderState}
+use Rattle.tlv_head.specs.HeadReader.{ContentsFit, HeadReaderState, Completes, FitsThere, IsRefusedPush, Pushes, more}
+use Rattle.tlv_head.specs.HeadReader.{no_room, overrun, refused, refused_octet, too_deep, whole}
 use Rattle.tlv_head.specs.Refusal.{IsHeaderPrefix, IsRefusedOctet}
-use Rattle.tlv_head.specs.Push.{Completes, FitsThere, IsRefusedPush, Pushes, more, no_room, overrun, refused}
-use Rattle.tlv_head.specs.Push.{refused_octet, too_deep, whole}
 use Rattle.tlv_head.proofs.GrammarLemmas.Headers.{prefix-no_header}
 use Rattle.tlv_head.proofs.GrammarLemmas.RefusedOctets.{one-refusal, refused-none}
 use Rattle.tlv_head.proofs.GrammarLemmas.Scan.{same-header}

@@ -4,9 +4,8 @@ use Rattle.std.proofs.Common.{[], ◌∷◌, ◌++◌, length, Option, Some, ref
 use Rattle.std.proofs.Common.{append_assoc, lit<, take, drop}
 use Rattle.std.proofs.lemmas.Bool.{cases_eq}
 use Rattle.tlv_head.specs.Header.{HeaderValue, IsHeader, is_wrapper}
-use Rattle.tlv_head.specs.HeadReaderState.{ContentsFit, HeadReaderState}
+use Rattle.tlv_head.specs.HeadReader.{ContentsFit, HeadReaderState, Completes, IsRefusedPush, overrun, too_deep}
 use Rattle.tlv_head.specs.Refusal.{IsHeaderPrefix}
-use Rattle.tlv_head.specs.Push.{Completes, IsRefusedPush, overrun, too_deep}
 use Rattle.tlv_head.specs.HeaderSoFar.{Carries, CarriesNumber, CarriesIdentifier, CarriesLength, is_whole_header}
 use Rattle.tlv_head.specs.Private.NextOctet.{MakesHeader}
 use Rattle.tlv_head.specs.declared.fault.FaultCode.TheVariants.{TooDeep, Overrun}

@@ -11,12 +11,10 @@ use Rattle.tlv_walk.specs.declared.framing.Framing.{Framing}
 use Rattle.tlv_walk.specs.Ending.{IsEnding, empty, short, done, refused}
 use Rattle.tlv_walk.specs.Events.{EventValue, event_value_of}
 use Rattle.tlv_walk.specs.Forest.{Forest, spelling}
-use Rattle.tlv_walk.specs.HasRead.{StandsAtEnd, refused_one, took_all}
-use Rattle.tlv_walk.specs.Phase.{Refused}
+use Rattle.tlv_walk.specs.WalkerReads.{StandsAtEnd, refused_one, took_all, IsIdle, Stands, RefusesNext, StepsTo}
+use Rattle.tlv_walk.specs.WalkerReads.{UsesUpPiece, YieldsNext}
+use Rattle.tlv_walk.specs.Walker.{Refused, WalkerState}
 use Rattle.tlv_walk.specs.Reading.{IsReading}
-use Rattle.tlv_walk.specs.Stands.{IsIdle, Stands}
-use Rattle.tlv_walk.specs.StepsTo.{RefusesNext, StepsTo, UsesUpPiece, YieldsNext}
-use Rattle.tlv_walk.specs.WalkerState.{WalkerState}
 use Rattle.tlv_walk.proofs.GrammarLemmas.Readings.{reading-unique}
 use Rattle.tlv_walk.proofs.WalkerLemmas.HasRead.{never_refused}
 use Rattle.tlv_open.specs.Private.Walks.{HasWalkedOver}

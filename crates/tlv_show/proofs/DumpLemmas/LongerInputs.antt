@@ -8,11 +8,10 @@ use Rattle.tlv_walk.proofs.FollowerLemmas.FollowedEvents.{each_octet-goes_on, ea
 use Rattle.tlv_walk.proofs.FollowerLemmas.FollowedEvents.{followed-more}
 use Rattle.tlv_walk.proofs.EventLemmas.LongerInputs.{events-prefix}
 use Rattle.tlv_show.specs.CheckStep.{check_octet_step, check_step}
-use Rattle.tlv_show.specs.DumpJob.{top_layout}
+use Rattle.tlv_show.specs.ShowJob.{top_layout, show_job}
 use Rattle.tlv_show.specs.DumpStep.{DumpState, dump_octet_step, dump_padding_step, dump_step, new_dump_with}
 use Rattle.tlv_show.specs.FinderState.{CheckState, new_check}
 use Rattle.tlv_show.specs.Items.{Item}
-use Rattle.tlv_show.specs.ShowJob.{show_job}
 use Rattle.tlv_show.specs.Texts.{check_line, item_text}
 use Rattle.tlv_show.specs.declared.rules.Rules.{Rules}
 use Rattle.tlv_show.specs.Laws.{ChecksGoOn, DumpsGoOn, TextGoesOn}

@@ -25,7 +25,7 @@ use Rattle.tlv_walk.proofs.GrammarLemmas.Spellings.{length-holder, length-openin
 use Rattle.tlv_show.specs.declared.holder_frame.HolderFrame.{HolderFrame}
 use Rattle.tlv_show.specs.declared.rules.Rules.{Rules}
 use Rattle.tlv_show.specs.declared.finding_lines.Style.TheVariants.{Check}
-use Rattle.tlv_show.specs.CheckJob.{check_job}
+use Rattle.tlv_show.specs.ShowJob.{check_job}
 use Rattle.tlv_show.specs.CheckStep.{check_step}
 use Rattle.tlv_show.specs.FindingLines.{styled_lines}
 use Rattle.tlv_show.specs.Conditions.{end_conditions, header_conditions, segments_of, surroundings_of}

@@ -1,5 +1,5 @@
 //! Octets that are refused, and others in their place.
-ghost use Rattle.tlv_head.specs.DepthLimit.{depth_limit};
+ghost use Rattle.tlv_head.specs.Limits.{depth_limit};
 ghost use Rattle.std.specs.Prelude.{◌≤◌};
 
 use super::octets::{OFFSET, Place, REFUSALS, Refusal, Shape, TOP};

@@ -1,6 +1,6 @@
 //! Dumps walked turn by turn, and up to a limit of octets.
 ghost use Rattle.std.specs.Prelude.{◌≤◌};
-ghost use Rattle.tlv_head.specs.InputLimit.{input_limit};
+ghost use Rattle.tlv_head.specs.Limits.{input_limit};
 
 use super::plain;
 use crate::expect::expect_eq;

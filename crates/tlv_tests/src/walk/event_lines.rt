@@ -1,7 +1,7 @@
 //! `EventLines`, a follower that writes each event as a line of text.
 ghost use Rattle.std.specs.Prelude.{◌≡◌, ◌+◌, ◌*◌, ◌≤◌, ◌++◌, length};
 ghost use Rattle.arrayvec.specs.ArrayVec.{array_vec_len};
-ghost use Rattle.tlv_walk.specs.HasEffect.{ReturnsEffect};
+ghost use Rattle.tlv_walk.specs.Follow.{ReturnsEffect};
 ghost use Rattle.tlv_tests.specs.EventLinesStep.{close_event_line, end_step, header_line};
 ghost use Rattle.tlv_tests.specs.EventLinesStep.{offset_text, pads, pair, pairs};
 ghost use Rattle.tlv_io.specs.Out.{Puts};

@@ -12,9 +12,8 @@ use Rattle.std.proofs.lemmas.List.Elements.{All-head, All-tail}
 use Rattle.tlv_io.specs.Cuts.{AreFull, IsFull, IsRow, last_rows}
 use Rattle.tlv_io.proofs.CutOf.{nil-or}
 use Rattle.tlv_head.specs.declared.kind.Kind.{Kind}
-use Rattle.tlv_value.specs.RowSizes.{character_length, row_size}
+use Rattle.tlv_value.specs.RowSizes.{character_length, row_size, IsOpenRow}
 use Rattle.tlv_value.specs.Laws.{RowsHaveOneCut}
-use Rattle.tlv_value.specs.OpenRow.{IsOpenRow}
 use Rattle.tlv_value.specs.Private.Room.{HaveRoom}
 use Rattle.tlv_value.proofs.RowLemmas.FilledRows.{row_begun, rows-filled, rows_filled}
 use Rattle.tlv_value.specs.Rows.{cut_of_contents, full_rows, full_rows_in, open_row, open_row_in, rows_of}

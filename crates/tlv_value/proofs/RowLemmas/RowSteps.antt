@@ -9,9 +9,8 @@ use Rattle.tlv_io.proofs.CutOf.{character-fits, fit-more, room-first, row-some}
 use Rattle.tlv_head.specs.declared.kind.Kind.{Kind}
 use Rattle.tlv_head.specs.declared.kind.Kind.TheVariants.{Octets, Boolean, Integer, Bits, Object, Relative, Text, Utf8}
 use Rattle.tlv_head.specs.declared.kind.Kind.TheVariants.{Ucs2, Ucs4}
-use Rattle.tlv_value.specs.RowSizes.{character_length, row_size}
+use Rattle.tlv_value.specs.RowSizes.{character_length, row_size, IsOpenRow}
 use Rattle.tlv_head.specs.Kind.{is_text}
-use Rattle.tlv_value.specs.OpenRow.{IsOpenRow}
 use Rattle.tlv_value.specs.Private.Room.{HaveRoom, has_room}
 use Rattle.tlv_value.proofs.RowLemmas.FilledRows.{row_begun, rows_filled}
 

@@ -2,7 +2,7 @@
 ghost use Rattle.std.specs.List.{list_all};
 ghost use Rattle.std.specs.Prelude.{◌≡◌, ◌+◌, ◌≤◌, ◌++◌, [], length};
 ghost use Rattle.std.specs.Str.{is_utf8};
-ghost use Rattle.tlv_value.specs.OpenRow.{IsOpenRow};
+ghost use Rattle.tlv_value.specs.RowSizes.{IsOpenRow};
 ghost use Rattle.tlv_value.specs.Rows.{full_rows, open_row};
 
 use super::both;

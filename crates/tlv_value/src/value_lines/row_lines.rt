@@ -6,7 +6,7 @@ ghost use Rattle.tlv_io.specs.Cuts.{last_rows};
 ghost use Rattle.tlv_io.specs.LineTexts.{HasRoomFor};
 ghost use Rattle.tlv_io.specs.Out.{Puts};
 ghost use Rattle.tlv_value.specs.Layout.{inner_line, row_line};
-ghost use Rattle.tlv_value.specs.OpenRow.{IsOpenRow};
+ghost use Rattle.tlv_value.specs.RowSizes.{IsOpenRow};
 ghost use Rattle.tlv_value.specs.Private.Rows.{pair_row_line, pair_row_lines, row_indent};
 ghost use Rattle.tlv_value.specs.Rows.{full_rows, open_row, rows_of};
 ghost use Rattle.tlv_value.specs.Value.{row_text};

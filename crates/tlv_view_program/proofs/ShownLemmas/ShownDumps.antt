@@ -8,7 +8,7 @@ use Rattle.std.specs.Option.{option_map_or}
 use Rattle.std.specs.Io.KnownBytes.{Consumes}
 use Rattle.std.proofs.lemmas.Bool.{cases_Bool}
 use Rattle.std.proofs.lemmas.List.Elements.{All-append, All-cons, All-head, All-map, All-nil, All-tail, All-take}
-use Rattle.tlv_head.specs.InputLimit.{input_limit}
+use Rattle.tlv_head.specs.Limits.{input_limit}
 use Rattle.tlv_head.specs.Header.{HeaderValue, announced_length, octets_of}
 use Rattle.tlv_head.specs.Tag.{tag_text}
 use Rattle.tlv_head.specs.declared.header.Class.{Class}
@@ -29,7 +29,7 @@ use Rattle.tlv_value.specs.Layout.{row_line, spaces}
 use Rattle.tlv_value.specs.Value.{NameOf, Value, is_long, row_text, whole_value}
 use Rattle.tlv_value.specs.ValueLines.{element_line, element_prefix, has_line, header_kind, open_lines_with}
 use Rattle.tlv_value.specs.ValueLines.{row_lines, value_lines, whole_lines_with}
-use Rattle.tlv_show.specs.DumpJob.{top_layout}
+use Rattle.tlv_show.specs.ShowJob.{top_layout}
 use Rattle.tlv_show.specs.HolderLines.{closing_line, dump_opening_line, opening_word, padding_line}
 use Rattle.tlv_show.specs.HolderLines.{size_text, text_line}
 use Rattle.tlv_show.specs.Items.{ClosingLine, FindingAt, Item, OpenPrimitiveLines, OpeningLine, PaddingLine}

@@ -20,8 +20,7 @@ use Rattle.tlv_open.specs.BrokenLine.{broken_line, suspicion_text}
 use Rattle.tlv_open.specs.declared.strings.BrokenString.{BrokenString}
 use Rattle.tlv_open.specs.declared.strings.Suspicion.{Suspicion}
 use Rattle.tlv_open.specs.declared.strings.Suspicion.TheVariants as suspicion
-use Rattle.tlv_show.specs.CheckJob.{check_job}
-use Rattle.tlv_show.specs.DumpJob.{dump_job_with}
+use Rattle.tlv_show.specs.ShowJob.{check_job, dump_job_with}
 use Rattle.tlv_show.specs.declared.outcome.Outcome.{Outcome}
 use Rattle.tlv_text.specs.declared.text_fault.TextFault.{TextFault}
 use Rattle.tlv_text.specs.declared.text_fault.TextFault.TheVariants as text

@@ -1,6 +1,6 @@
 -- What the functions below `show_files` return and keep, without the place where it is kept.
 use Rattle.std.specs.Prelude.{ℕ, ◌≤◌, All, List, Option, Some, None, Result, Ok, Err, Vec, length, map}
-use Rattle.tlv_head.specs.InputLimit.{input_limit}
+use Rattle.tlv_head.specs.Limits.{input_limit}
 use Rattle.tlv_run.specs.BorrowedText.{text_in}
 use Rattle.tlv_run.specs.Report.{ReportValue, unopened_report}
 use Rattle.tlv_view.specs.ReadWhole.{input_report}

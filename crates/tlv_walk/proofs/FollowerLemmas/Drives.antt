@@ -19,15 +19,14 @@ use Rattle.std.specs.List.{concat}
 use Rattle.tlv_io.specs.Device.{DrainState, LastReadValue, SourceState, failed, failures_after, gave, GaveLast}
 use Rattle.tlv_walk.specs.DriveJob.{Drives, drive_job, drive_states, enough_run, run_over}
 use Rattle.tlv_walk.specs.Events.{AreEqualJoined, EventValue, events}
-use Rattle.tlv_walk.specs.Follow.{Effect, effect_of, followed_events, had_enough}
-use Rattle.tlv_walk.specs.FollowsEvents.{FollowsEvents}
+use Rattle.tlv_walk.specs.Follow.{Effect, effect_of, followed_events, had_enough, FollowsEvents}
 use Rattle.tlv_walk.specs.Forest.{Forest, spelling}
 use Rattle.tlv_walk.specs.Ending.{IsFinalEnding}
 use Rattle.tlv_walk.specs.Job.{ComesTo, EndsWith, Runs, WantMore, device_states, drain_result, read_failed}
 use Rattle.tlv_walk.specs.Job.{source_result, too_long, write_failed}
 use Rattle.tlv_io.specs.Out.{Sends}
 use Rattle.tlv_walk.specs.Reading.{AreOctets, IsReading}
-use Rattle.tlv_walk.specs.Stands.{Stands}
+use Rattle.tlv_walk.specs.WalkerReads.{Stands}
 use Rattle.tlv_walk.specs.OneTurn.{EndsIn, FollowsMore, FollowsOneRead, LastReadWas, LastReadGaveUpTo, HasEnoughIn}
 use Rattle.tlv_walk.specs.OneTurn.{TurnStates, TurnsTo, WalkEnds, at_enough, at_fault, at_input_end, last_octets}
 use Rattle.tlv_walk.specs.Wrappers.{first_not_among}

@@ -12,20 +12,15 @@ use Rattle.tlv_walk.specs.declared.one_turn.Pause.{Pause}
 use Rattle.tlv_walk.specs.declared.one_turn.Pause.TheVariants as pause
 use Rattle.tlv_io.specs.Device.{DrainState}
 use Rattle.tlv_walk.specs.Events.{AreEqualJoined, EventValue, events, single_octets}
-use Rattle.tlv_walk.specs.Follow.{Effect, and_then, effect_of, followed_events}
-use Rattle.tlv_walk.specs.FollowsEvents.{FollowsEvents}
-use Rattle.tlv_walk.specs.HasEffect.{ReturnsEffect}
+use Rattle.tlv_walk.specs.Follow.{Effect, and_then, effect_of, followed_events, FollowsEvents, ReturnsEffect}
 use Rattle.tlv_walk.specs.Private.FollowsPiece.{Follows, FollowsPiece, BeginEventsOf, FollowStates, WalksOver}
 use Rattle.tlv_walk.specs.Private.FollowsPiece.{WalksToFault}
 use Rattle.tlv_walk.specs.Private.FollowsPiece.{follow_states}
 use Rattle.tlv_walk.specs.Forest.{Forest}
-use Rattle.tlv_walk.specs.Phase.{IsAfterEvent}
-use Rattle.tlv_walk.specs.WalkerState.{WalkerState}
+use Rattle.tlv_walk.specs.Walker.{IsAfterEvent, WalkerState}
 use Rattle.tlv_io.specs.Out.{Puts}
 use Rattle.tlv_walk.specs.Reading.{IsReading}
-use Rattle.tlv_walk.specs.Stands.{Stands, waiting_events}
-use Rattle.tlv_walk.specs.StepsTo.{StepsTo}
-use Rattle.tlv_walk.specs.HasRead.{StandsRefused}
+use Rattle.tlv_walk.specs.WalkerReads.{Stands, waiting_events, StepsTo, StandsRefused}
 use Rattle.tlv_walk.proofs.FollowerLemmas.FollowedEvents.{events_more, events_one, followed-more, followed-one}
 use Rattle.tlv_walk.proofs.EventLemmas.JoinedEvents.{apart-before, apart-from_joined, joined-from_apart}
 use Rattle.tlv_walk.proofs.EventLemmas.LongerInputs.{events-prefix}

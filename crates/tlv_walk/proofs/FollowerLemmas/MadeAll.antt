@@ -3,8 +3,7 @@ use Rattle.std.proofs.Common.{◌≡◌, ℕ, List, [], ◌∷◌, ◌++◌, fla
 use Rattle.tlv_walk.specs.declared.follow.Go.{Go}
 use Rattle.tlv_walk.specs.declared.follow.Go.TheVariants as go
 use Rattle.tlv_walk.specs.Events.{AreEqualJoined, Bytes, EventValue, Pad, event_octets, events}
-use Rattle.tlv_walk.specs.Follow.{Effect, GoesOn, Joins, IgnoresEmpty, effect_of, followed_events}
-use Rattle.tlv_walk.specs.FollowsEvents.{FollowsEvents}
+use Rattle.tlv_walk.specs.Follow.{Effect, GoesOn, Joins, IgnoresEmpty, effect_of, followed_events, FollowsEvents}
 use Rattle.tlv_walk.specs.Forest.{Forest}
 use Rattle.tlv_walk.specs.Wrappers.{entered_offsets}
 use Rattle.tlv_walk.proofs.FollowerLemmas.FollowedEvents.{events_enough, followed-alike, followed-enough, kept-alike}

@@ -14,13 +14,12 @@ use Rattle.tlv_walk.specs.Private.FollowsPiece.{BeginEventsOf}
 use Rattle.tlv_walk.specs.Private.FollowsPiece.{Pauses, FollowStates, WalksToFault, follow_states}
 use Rattle.tlv_walk.specs.Forest.{Forest, spelling}
 use Rattle.tlv_walk.specs.declared.framing.Framing.{Framing}
-use Rattle.tlv_walk.specs.HasRead.{IsRefusedAfter}
-use Rattle.tlv_walk.specs.WalkerState.{WalkerState, unused_offset}
+use Rattle.tlv_walk.specs.WalkerReads.{IsRefusedAfter, Stands, waiting_events}
+use Rattle.tlv_walk.specs.Walker.{WalkerState, unused_offset}
 use Rattle.tlv_walk.specs.Wrappers.{first_without_wrapper}
 use Rattle.tlv_io.specs.Out.{Puts, held_octets, drain_of}
 use Rattle.tlv_walk.specs.Place.{top_place}
 use Rattle.tlv_walk.specs.Reading.{AreOctets, IsReading}
-use Rattle.tlv_walk.specs.Stands.{Stands, waiting_events}
 use Rattle.tlv_walk.proofs.FollowerLemmas.FollowSteps.{walked_goes_on}
 use Rattle.tlv_io.proofs.Puts.{puts_failed_last, puts_then_as}
 use Rattle.tlv_io.proofs.Sends.{sends_flushed, sends_puts}

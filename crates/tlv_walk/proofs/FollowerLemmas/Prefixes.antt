@@ -14,10 +14,8 @@ use Rattle.tlv_walk.specs.declared.walker.short_way.WholePrimitive.{WholePrimiti
 use Rattle.tlv_io.specs.Device.{DrainState}
 use Rattle.tlv_walk.specs.Events.{EventValue}
 use Rattle.tlv_walk.specs.Follow.{Effect, effect_of, followed_events, events_if_more, effect_if_more, whole_effect}
-use Rattle.tlv_walk.specs.Follow.{whole_events}
-use Rattle.tlv_walk.specs.FollowsEvents.{FollowsEvents}
-use Rattle.tlv_walk.specs.HasEffect.{HasEffect, HasEffectOrNone}
-use Rattle.tlv_walk.specs.WalkerState.{WalkerState}
+use Rattle.tlv_walk.specs.Follow.{whole_events, FollowsEvents, HasEffect, HasEffectOrNone}
+use Rattle.tlv_walk.specs.Walker.{WalkerState}
 use Rattle.tlv_io.specs.Out.{Puts}
 use Rattle.tlv_walk.specs.Private.FollowsPiece.{FollowsPrefix, FollowsPiece, BeginEventsOf, TakesNone, TakesPrefix}
 use Rattle.tlv_walk.specs.Private.FollowsPiece.{TakesPrefixOrNone, FollowStates, WalksOver}

@@ -17,11 +17,10 @@ use Rattle.tlv_walk.specs.Private.ResultOfPause.{run_of}
 use Rattle.tlv_walk.specs.Private.FollowsPiece.{FollowsToFault, FollowsToEnough, FollowsAll, FollowStates, WalksOver}
 use Rattle.tlv_walk.specs.Private.FollowsPiece.{WalksToFault, follow_states}
 use Rattle.tlv_walk.specs.Forest.{Forest, spelling}
-use Rattle.tlv_walk.specs.WalkerState.{WalkerState, unused_offset}
+use Rattle.tlv_walk.specs.Walker.{WalkerState, unused_offset}
 use Rattle.tlv_io.specs.Out.{Sends}
 use Rattle.tlv_walk.specs.Reading.{IsReading}
-use Rattle.tlv_walk.specs.Stands.{Stands}
-use Rattle.tlv_walk.specs.HasRead.{refused_one, took_all}
+use Rattle.tlv_walk.specs.WalkerReads.{Stands, refused_one, took_all}
 use Rattle.tlv_walk.specs.OneTurn.{EndsIn, HasEnoughIn, StandsAfter, TurnStates}
 use Rattle.tlv_walk.specs.Wrappers.{first_not_among, first_without_wrapper, entered_offsets}
 use Rattle.tlv_walk.proofs.FollowerLemmas.FollowSteps.{walked_goes_on}

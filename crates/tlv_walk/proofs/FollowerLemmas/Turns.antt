@@ -26,8 +26,7 @@ use Rattle.tlv_walk.specs.Private.FollowsPiece.{FollowsAndFlushes, Pauses, Walks
 use Rattle.tlv_walk.specs.Forest.{Forest}
 use Rattle.tlv_io.specs.Out.{Sends, drain_of}
 use Rattle.tlv_walk.specs.Reading.{AreOctets, IsReading}
-use Rattle.tlv_walk.specs.Stands.{Stands}
-use Rattle.tlv_walk.specs.HasRead.{IfAtEnd, took_all}
+use Rattle.tlv_walk.specs.WalkerReads.{Stands, IfAtEnd, took_all}
 use Rattle.tlv_walk.specs.OneTurn.{EndsIn, HasEnoughIn, StandsAfter, TurnStates, TurnsTo, at_enough, at_fault}
 use Rattle.tlv_walk.specs.OneTurn.{at_input_end}
 use Rattle.tlv_walk.proofs.GrammarLemmas.FinalFaults.{refused-final}

@@ -11,12 +11,11 @@ use Rattle.tlv_walk.specs.declared.run.DeviceFault.{DeviceFault}
 use Rattle.std.specs.List.{concat}
 use Rattle.tlv_io.specs.Device.{DrainState, GaveLast, LastReadValue, SourceState, failed, gave, never}
 use Rattle.tlv_walk.specs.Events.{Begin, Bytes, Close, End, Enter, EventValue, Leave, Open, Pad, Unused}
-use Rattle.tlv_walk.specs.Follow.{Effect, effect_of}
-use Rattle.tlv_walk.specs.FollowsEvents.{FollowsEvents}
+use Rattle.tlv_walk.specs.Follow.{Effect, effect_of, FollowsEvents}
 use Rattle.tlv_walk.specs.Reading.{AreOctets}
-use Rattle.tlv_walk.specs.WalkerState.{new_walker}
+use Rattle.tlv_walk.specs.Walker.{new_walker}
 use Rattle.tlv_io.specs.Out.{Sends}
-use Rattle.tlv_walk.specs.Stands.{IsIdle, Stands}
+use Rattle.tlv_walk.specs.WalkerReads.{IsIdle, Stands}
 use Rattle.tlv_walk.specs.OneTurn.{LastReadGaveUpTo, TurnStates, last_octets, turn_states}
 use Rattle.tlv_walk.specs.Wrappers.{entered_offsets}
 use Rattle.tlv_walk.proofs.FollowerLemmas.FollowSteps.{made_none}

@@ -3,14 +3,13 @@ use Rattle.std.proofs.Common.{◌≡◌, ℕ, ◌+◌, ◌<◌, Bool, true, fals
 use Rattle.std.proofs.Common.{Option, refl, sym, ap, ◌∙◌, subst, arith, append-nil, length-append}
 use Rattle.tlv_head.specs.declared.header.Size.TheVariants.{Definite}
 use Rattle.tlv_head.specs.Header.{HeaderValue, IsHeader, announced_length, holds, octets_of}
-use Rattle.tlv_head.specs.HeadReaderState.{HeadReaderState}
+use Rattle.tlv_head.specs.HeadReader.{HeadReaderState}
 use Rattle.tlv_head.specs.Refusal.{IsHeaderPrefix}
-use Rattle.tlv_walk.specs.Phase.{Between, InBitString, InHeader, InPrimitive}
+use Rattle.tlv_walk.specs.Walker.{Between, InBitString, InHeader, InPrimitive, WalkerState}
 use Rattle.tlv_walk.specs.Events.{AreEqualJoined, Begin, Bytes, Enter, EventValue, Open, Unused, events, opening_events}
 use Rattle.tlv_walk.specs.Events.{opening_event, single_octets}
 use Rattle.tlv_walk.specs.Forest.{Forest, NoMore, OpenBitString, lead, lead_by, opening, spelling}
 use Rattle.tlv_walk.specs.Inside.{is_among}
-use Rattle.tlv_walk.specs.WalkerState.{WalkerState}
 use Rattle.tlv_walk.specs.Private.WalkerCalls.{after_header}
 use Rattle.tlv_walk.specs.Place.{Fits, IsAnnouncedAt, IsHeaderAt, ObeysGrammar, IsWithin, Place}
 use Rattle.tlv_walk.specs.Stack.{FrameValue, bound_of}

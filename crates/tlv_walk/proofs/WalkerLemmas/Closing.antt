@@ -6,14 +6,13 @@ use Rattle.std.proofs.lemmas.Bool.{false_from_ne_true, true≢false}
 use Rattle.tlv_head.specs.declared.header.Size.{Size}
 use Rattle.tlv_head.specs.declared.header.Size.TheVariants.{Definite, Indefinite}
 use Rattle.tlv_head.specs.Header.{AllowsSize, HeaderValue, announced_length, octets_of}
-use Rattle.tlv_walk.specs.Phase.{Between, InEndOctets}
+use Rattle.tlv_walk.specs.Walker.{Between, InEndOctets, WalkerState}
 use Rattle.tlv_walk.specs.Events.{AreEqualJoined, Close, EventValue, Leave, closing_event, end_offset, events}
 use Rattle.tlv_walk.specs.Events.{opening_events, single_octets}
 use Rattle.tlv_walk.specs.Forest.{Forest, Holder, NoMore, OpenEndOctets, contents_length, end_octets, extent, is_whole}
 use Rattle.tlv_walk.specs.Forest.{opening, spelling}
 use Rattle.tlv_walk.specs.Wrappers.{entered_offsets}
 use Rattle.std.proofs.lemmas.Bool.{cases_Bool}
-use Rattle.tlv_walk.specs.WalkerState.{WalkerState}
 use Rattle.tlv_walk.specs.Private.WrapperCount.{wrapper_count_after}
 use Rattle.tlv_walk.specs.Place.{Fits, IsAnnouncedAt, ObeysGrammar, IsWithin, Place, bound_in, is_indefinite}
 use Rattle.tlv_walk.specs.Place.{place_after}
@@ -24,7 +23,7 @@ use Rattle.tlv_walk.specs.Private.Yields.{Continues}
 use Rattle.tlv_walk.specs.Private.Zipper.{AreWhole, NoTail, HasZipper, EndOctetsTail, Layer, Tail, Zipper}
 use Rattle.tlv_walk.specs.Private.Zipper.{events_of_layers, events_of_tail, frame_at, frames_of, place_in, place_of}
 use Rattle.tlv_walk.specs.Private.Zipper.{spelling_of_layers, spelling_of_tail}
-use Rattle.tlv_walk.specs.Stands.{filled_end_event}
+use Rattle.tlv_walk.specs.WalkerReads.{filled_end_event}
 use Rattle.tlv_walk.proofs.WalkerLemmas.ZipperGrowth.{element-began, between_tail, closed_here, continues_both}
 use Rattle.tlv_walk.proofs.WalkerLemmas.ZipperGrowth.{lone_tail}
 use Rattle.tlv_walk.proofs.WalkerLemmas.ZipperGrowth.{phase_at, tail_state, yielded_more, with_layers, with_tail}

@@ -6,13 +6,11 @@ use Rattle.tlv_walk.specs.declared.ending.Ending.TheVariants as ending
 use Rattle.tlv_walk.specs.Ending.{HasEnding, IsEnding}
 use Rattle.tlv_walk.specs.Events.{EventValue}
 use Rattle.tlv_walk.specs.Forest.{Forest}
-use Rattle.tlv_walk.specs.WalkerState.{WalkerState, unused_offset}
-use Rattle.tlv_walk.specs.Depth.{depth_of}
-use Rattle.tlv_walk.specs.Phase.{PhaseValue, Refused}
+use Rattle.tlv_walk.specs.Walker.{WalkerState, unused_offset, PhaseValue, Refused}
+use Rattle.tlv_walk.specs.WalkerReads.{depth_of, IsIdle, Stands, HasRead, StandsAtEnd, refused_one, refused, took}
+use Rattle.tlv_walk.specs.WalkerReads.{took_all}
 use Rattle.tlv_walk.specs.Place.{Place}
 use Rattle.tlv_walk.specs.Private.Zipper.{IsPhaseOf, Tail, place_of}
-use Rattle.tlv_walk.specs.Stands.{IsIdle, Stands}
-use Rattle.tlv_walk.specs.HasRead.{HasRead, StandsAtEnd, refused_one, refused, took, took_all}
 use Rattle.tlv_walk.specs.Wrappers.{first_without_wrapper}
 use Rattle.tlv_walk.proofs.WalkerLemmas.Depths.{state-depth}
 use Rattle.tlv_walk.proofs.GrammarLemmas.Readings.{reading-unique}

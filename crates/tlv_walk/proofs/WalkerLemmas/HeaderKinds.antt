@@ -7,13 +7,12 @@ use Rattle.tlv_head.specs.declared.header.HeaderFields.{HeaderFields}
 use Rattle.tlv_head.specs.declared.header.Size.TheVariants.{Definite}
 use Rattle.tlv_head.specs.HeaderFields.{new_header}
 use Rattle.tlv_head.specs.Header.{HeaderValue, announced_length, fields_wrap, holds, is_wrapper, octets_of}
-use Rattle.tlv_head.specs.HeadReaderState.{HeadReaderState}
+use Rattle.tlv_head.specs.HeadReader.{HeadReaderState}
 use Rattle.tlv_walk.specs.declared.walker.headers.HeaderKind.{HeaderKind}
 use Rattle.tlv_walk.specs.declared.walker.headers.HeaderKind.TheVariants as kind
-use Rattle.tlv_walk.specs.Phase.{Between, InBitString, InPrimitive, PhaseValue}
+use Rattle.tlv_walk.specs.Walker.{Between, InBitString, InPrimitive, PhaseValue, WalkerState}
 use Rattle.tlv_walk.specs.Events.{Begin, Enter, EventValue, Open}
 use Rattle.tlv_walk.specs.Forest.{NoMore, lead, lead_by}
-use Rattle.tlv_walk.specs.WalkerState.{WalkerState}
 use Rattle.tlv_walk.specs.Private.Stack.{frame_with}
 use Rattle.tlv_walk.specs.Private.WalkerCalls.{TakesHeader, after_header}
 use Rattle.tlv_walk.specs.Private.WrapperCount.{next_wrapper_count, wrapper_count_after}

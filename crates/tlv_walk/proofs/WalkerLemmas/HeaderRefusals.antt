@@ -9,17 +9,15 @@ use Rattle.tlv_head.specs.declared.header.Size.TheVariants.{Definite, Indefinite
 use Rattle.tlv_head.specs.Header.{HeaderValue, IsIdentifier, announced_length, holds, octets_of}
 use Rattle.tlv_head.specs.Refusal.{IsRefusedOctet, tag_too_long, reserved_length, indefinite_primitive}
 use Rattle.tlv_head.specs.Refusal.{length_too_large}
-use Rattle.tlv_head.specs.HeadReaderState.{ContentsFit, HeadReaderState}
-use Rattle.tlv_head.specs.Push as push
-use Rattle.tlv_head.specs.Push.{Completes, IsRefusedPush}
+use Rattle.tlv_head.specs.HeadReader.{ContentsFit, HeadReaderState, Completes, IsRefusedPush}
+use Rattle.tlv_head.specs.HeadReader as push
 use Rattle.tlv_head.proofs.ReaderLemmas.Prefix.{header-two}
-use Rattle.tlv_walk.specs.Phase.{InHeader}
+use Rattle.tlv_walk.specs.Walker.{InHeader, WalkerState}
 use Rattle.tlv_walk.specs.Ending.{IsEnding, IsRefusedAt, fault_ending, no_room, open_end, overrun, refused_octet}
 use Rattle.tlv_walk.specs.Ending.{too_deep}
 use Rattle.tlv_walk.specs.Forest.{OpenHeader}
 use Rattle.tlv_walk.specs.Events.{EventValue}
 use Rattle.tlv_walk.specs.Inside.{is_among}
-use Rattle.tlv_walk.specs.WalkerState.{WalkerState}
 use Rattle.tlv_walk.specs.Place.{Fits, IsHeaderAt, IsWithin, Place}
 use Rattle.tlv_walk.specs.Private.HandsOver.{HandsOver}
 use Rattle.tlv_walk.specs.Stack.{FrameValue, bound_of}

@@ -9,15 +9,13 @@ use Rattle.tlv_head.specs.declared.header.Size.{Size}
 use Rattle.tlv_head.specs.declared.header.Size.TheVariants.{Definite, Indefinite}
 use Rattle.tlv_head.specs.HeaderFields.{new_header}
 use Rattle.tlv_head.specs.Header.{HeaderValue, announced_length, octets_of}
-use Rattle.tlv_head.specs.HeadReaderState.{ContentsFit, HeadReaderState, with_octet}
-use Rattle.tlv_head.specs.Push.{Completes, FitsThere}
+use Rattle.tlv_head.specs.HeadReader.{ContentsFit, HeadReaderState, with_octet, Completes, FitsThere}
 use Rattle.tlv_head.specs.Refusal.{IsHeaderPrefix}
 use Rattle.tlv_walk.specs.declared.walker.headers.HeaderKind.{HeaderKind}
 use Rattle.tlv_walk.specs.declared.walker.headers.HeaderKind.TheVariants as kind
-use Rattle.tlv_walk.specs.Phase.{Between, InHeader, PhaseValue}
+use Rattle.tlv_walk.specs.Walker.{Between, InHeader, PhaseValue, WalkerState}
 use Rattle.tlv_walk.specs.Events.{EventValue}
 use Rattle.tlv_walk.specs.declared.framing.Framing.{Framing}
-use Rattle.tlv_walk.specs.WalkerState.{WalkerState}
 use Rattle.tlv_walk.specs.Private.WalkerCalls.{CanTakeHeader, TakesHeader}
 use Rattle.tlv_walk.specs.Private.WrapperCount.{wrapper_count_after}
 use Rattle.tlv_walk.specs.Wrappers.{entered_offsets}

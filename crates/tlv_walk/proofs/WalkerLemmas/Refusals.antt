@@ -6,12 +6,11 @@ use Rattle.tlv_head.specs.declared.fault.FaultCode.{FaultCode}
 use Rattle.tlv_head.specs.declared.fault.FaultCode.TheVariants.{StrayEnd, BadEnd, MissingEnd, BadInside}
 use Rattle.tlv_walk.specs.declared.ending.Ending.TheVariants as ending
 use Rattle.tlv_head.specs.declared.fault.Fault.{Fault}
-use Rattle.tlv_walk.specs.Phase.{Between, InBitString, InEndOctets, PhaseValue}
+use Rattle.tlv_walk.specs.Walker.{Between, InBitString, InEndOctets, PhaseValue, WalkerState}
 use Rattle.tlv_walk.specs.Ending.{IsEnding, IsRefusedAt, bad_end, bad_inside, fault_at, fault_ending, missing_end}
 use Rattle.tlv_walk.specs.Ending.{no_end}
 use Rattle.tlv_walk.specs.Ending.{stray_end}
 use Rattle.tlv_walk.specs.Events.{EventValue}
-use Rattle.tlv_walk.specs.WalkerState.{WalkerState}
 use Rattle.tlv_walk.proofs.WalkerLemmas.Waiting.{EventWaits, EventWaitsIn, none_waits-idle}
 use Rattle.tlv_walk.specs.Stack.{IsInIndefinite, bound_of}
 use Rattle.tlv_walk.specs.Place.{IsWithin}

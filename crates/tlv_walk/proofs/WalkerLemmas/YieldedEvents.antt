@@ -4,10 +4,9 @@ use Rattle.std.proofs.Common.{append_assoc, append-nil, length-append}
 use Rattle.std.proofs.lemmas.List.{map-append}
 use Rattle.tlv_head.specs.declared.header.Size.TheVariants.{Definite, Indefinite}
 use Rattle.tlv_head.specs.Header.{HeaderValue, octets_of}
-use Rattle.tlv_walk.specs.Phase.{Between, InEndOctets, InPrimitive}
+use Rattle.tlv_walk.specs.Walker.{Between, InEndOctets, InPrimitive, WalkerState}
 use Rattle.tlv_walk.specs.Events.{Begin, Bytes, End, EventValue, single_octets}
 use Rattle.tlv_walk.specs.Forest.{NoMore, Primitive, spelling}
-use Rattle.tlv_walk.specs.WalkerState.{WalkerState}
 use Rattle.tlv_walk.specs.Place.{Fits, IsWithin, Place, is_indefinite, place_after}
 use Rattle.tlv_walk.specs.Stack.{FrameValue, IsInIndefinite, bound_of}
 use Rattle.tlv_walk.specs.Private.Zipper.{NoTail, HasZipper, PrimitiveTail, EndOctetsTail, IsContents, Layer, Zipper}

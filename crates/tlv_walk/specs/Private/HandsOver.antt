@@ -1,13 +1,11 @@
 -- How a walker continues a header, octet by octet.
 use Rattle.std.specs.Prelude.{◌≡◌, ◌⊎◌, ℕ, true, List, [], ◌∷◌}
 use Rattle.tlv_head.specs.Header.{HeaderValue}
-use Rattle.tlv_head.specs.HeadReaderState.{HeadReaderState}
-use Rattle.tlv_head.specs.Push.{Completes}
+use Rattle.tlv_head.specs.HeadReader.{HeadReaderState, Completes}
 use Rattle.tlv_walk.specs.declared.event.Step.{Step}
-use Rattle.tlv_walk.specs.Phase.{Between, InHeader}
+use Rattle.tlv_walk.specs.Walker.{Between, InHeader, WalkerState}
 use Rattle.tlv_walk.specs.Events.{EventValue}
 use Rattle.tlv_walk.specs.Inside.{is_among}
-use Rattle.tlv_walk.specs.WalkerState.{WalkerState}
 use Rattle.tlv_walk.specs.Private.Yields.{Continues, YieldsStep}
 
 -- a reader of the header that begins where the walker is

@@ -10,8 +10,8 @@ use Rattle.tlv_walk.specs.declared.run.Turn.TheVariants.{Again, Ended}
 use Rattle.tlv_walk.specs.declared.one_turn.Pause.{Pause}
 use Rattle.tlv_walk.specs.declared.one_turn.Pause.TheVariants as pause
 use Rattle.tlv_walk.specs.Ending.{IsEnding}
-use Rattle.tlv_walk.specs.WalkerState.{WalkerState, unused_offset}
-use Rattle.tlv_walk.specs.HasRead.{IfAtEnd}
+use Rattle.tlv_walk.specs.Walker.{WalkerState, unused_offset}
+use Rattle.tlv_walk.specs.WalkerReads.{IfAtEnd}
 
 -- the run of a walker, with this ending
 abbrev pub run_of : WalkerState → Ending → Bool → Run

@@ -1,10 +1,10 @@
 -- What the walker's own functions require and return.
 use Rattle.std.specs.Prelude.{◌≡◌, ◌≢◌, ◌⊎◌, ℕ, ◌+◌, ◌<◌, ◌≤◌, Bool, true, false, eqb, if◌then◌else◌}
 use Rattle.std.specs.Prelude.{List, [], ◌∷◌, length, take, Option, Some, None}
-use Rattle.tlv_head.specs.DepthLimit.{depth_limit}
+use Rattle.tlv_head.specs.Limits.{depth_limit, input_limit}
 use Rattle.tlv_head.specs.declared.fault.Fault.{Fault}
 use Rattle.tlv_head.specs.Header.{HeaderValue, IsHeader, announced_length, holds, octets_of}
-use Rattle.tlv_head.specs.HeadReaderState.{HeadReaderState}
+use Rattle.tlv_head.specs.HeadReader.{HeadReaderState}
 use Rattle.tlv_head.specs.Header.{fields_hold, fields_wrap}
 use Rattle.tlv_head.specs.HeaderFields.{new_header}
 use Rattle.tlv_head.specs.ReadHeader.{BeginsWithFields}
@@ -22,15 +22,14 @@ use Rattle.tlv_walk.specs.declared.walker.short_way.HolderEnd.{HolderEnd}
 use Rattle.tlv_walk.specs.declared.walker.short_way.HolderEnd.TheVariants as end
 use Rattle.tlv_walk.specs.declared.walker.short_way.WholePrimitive.{WholePrimitive}
 use Rattle.tlv_walk.specs.Inside.{is_among}
-use Rattle.tlv_walk.specs.Phase.{Between, InBitString, InEndOctets, InHeader, InPrimitive, PhaseValue, Refused}
+use Rattle.tlv_walk.specs.Walker.{Between, InBitString, InEndOctets, InHeader, InPrimitive, PhaseValue, Refused}
+use Rattle.tlv_walk.specs.Walker.{HasYieldedEvent, WalkerState, least_octets}
 use Rattle.tlv_walk.specs.Stack.{FrameValue, bound_of}
 use Rattle.tlv_walk.specs.Place.{IsWithin}
 use Rattle.tlv_walk.specs.Private.Stack.{frame_with, room_in}
 use Rattle.tlv_walk.specs.Private.WrapperCount.{next_wrapper_count}
-use Rattle.tlv_walk.specs.Stands.{IsReady}
+use Rattle.tlv_walk.specs.WalkerReads.{IsReady}
 use Rattle.tlv_walk.specs.Events.{IsNoEmptyPart}
-use Rattle.tlv_walk.specs.WalkerState.{HasYieldedEvent, WalkerState, least_octets}
-use Rattle.tlv_head.specs.InputLimit.{input_limit}
 
 -- an event was yielded, and the walker is at this offset
 pub record CountsAt (old new : WalkerState) (end : ℕ) : Type 0 where

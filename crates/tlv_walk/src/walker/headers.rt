@@ -1,11 +1,10 @@
 //! How a walker takes headers.
 ghost use Rattle.std.specs.Prelude.{◌≡◌, ◌≢◌, ◌+◌, ◌^◌, ◌<◌, ◌≤◌, [], IsTrue, Some, length, true};
-ghost use Rattle.tlv_head.specs.DepthLimit.{depth_limit};
+ghost use Rattle.tlv_head.specs.Limits.{depth_limit, input_limit};
 ghost use Rattle.tlv_head.specs.HeaderFields.{IsHeaderSized, new_header};
 ghost use Rattle.tlv_head.specs.Header.{announced_length, holds, octets_of};
-ghost use Rattle.tlv_walk.specs.Phase.{Between};
+ghost use Rattle.tlv_walk.specs.Walker.{Between, IsWithinInputLimit, least_octets};
 ghost use Rattle.tlv_walk.specs.Events.{IsNoEmptyPart, event_value_of};
-ghost use Rattle.tlv_walk.specs.WalkerState.{IsWithinInputLimit, least_octets};
 ghost use Rattle.tlv_walk.specs.Private.WalkerCalls.{CanTakeHeader, CanRead, CanReadOn, CountsStep};
 ghost use Rattle.tlv_walk.specs.Private.WalkerCalls.{TakesHeader, CountsAt};
 ghost use Rattle.tlv_walk.specs.Private.WrapperCount.{next_wrapper_count};
@@ -13,7 +12,6 @@ ghost use Rattle.tlv_walk.specs.Private.HandsOver.{YieldsFrom, YieldsHeader};
 ghost use Rattle.tlv_walk.specs.Stack.{bound_of};
 ghost use Rattle.tlv_walk.specs.Place.{IsWithin};
 ghost use Rattle.tlv_walk.specs.Private.Yields.{Steps};
-ghost use Rattle.tlv_head.specs.InputLimit.{input_limit};
 
 use super::{Phase, Walker};
 use crate::stack::room_to;

@@ -2,7 +2,7 @@
 ghost use Rattle.std.specs.Prelude.{◌≡◌, IfNone, IfSome, take, true};
 ghost use Rattle.tlv_head.specs.HeaderFields.{IsHeaderSized};
 ghost use Rattle.tlv_walk.specs.Follow.{whole_events};
-ghost use Rattle.tlv_walk.specs.WalkerState.{IsWithinInputLimit};
+ghost use Rattle.tlv_walk.specs.Walker.{IsWithinInputLimit};
 ghost use Rattle.tlv_walk.specs.Private.WalkerCalls.{CanPass, HasNoContents, HasOpenPrimitive, Passes};
 ghost use Rattle.tlv_walk.specs.Private.WalkerCalls.{end_event_if_taken, enter_event_if_taken, header_at};
 ghost use Rattle.tlv_walk.specs.Private.WalkerCalls.{open_event_if_taken, unused_event_if_taken};

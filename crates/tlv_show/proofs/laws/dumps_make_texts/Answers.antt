@@ -1,5 +1,5 @@
 use Rattle.tlv_walk.specs.Events.{events}
-use Rattle.tlv_show.specs.DumpJob.{top_layout}
+use Rattle.tlv_show.specs.ShowJob.{top_layout}
 use Rattle.tlv_show.specs.DumpStep.{new_dump_with}
 use Rattle.tlv_show.proofs.DumpLemmas.DumpFolds.{count-made, text-made}
 use Rattle.tlv_show.proofs.DumpLemmas.DumpSteps.{all_on}

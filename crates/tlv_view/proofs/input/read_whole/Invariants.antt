@@ -1,5 +1,5 @@
 use Rattle.std.proofs.Common.{◌≡◌, ◌-◌, ◌≤◌, length}
-use Rattle.tlv_head.specs.InputLimit.{input_limit}
+use Rattle.tlv_head.specs.Limits.{input_limit}
 use Rattle.tlv_value.proofs.NamesLemmas.Reads.{OctetsSoFar}
 use Rattle.tlv_view.proofs.input.read_whole.Given as goal
 

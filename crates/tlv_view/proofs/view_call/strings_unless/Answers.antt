@@ -1,6 +1,6 @@
 use Rattle.std.proofs.Common.{◌≡◌, ℕ, ◌≤◌, Bool, true, List, length}
 use Rattle.std.proofs.lemmas.Result.{IfOk-weaker}
-use Rattle.tlv_head.specs.InputLimit.{input_limit}
+use Rattle.tlv_head.specs.Limits.{input_limit}
 use Rattle.tlv_walk.specs.Inside.{are_rising}
 use Rattle.tlv_walk.specs.Reading.{AreOctets}
 use Rattle.tlv_walk.proofs.GrammarLemmas.Readings.{is-reading, reading}

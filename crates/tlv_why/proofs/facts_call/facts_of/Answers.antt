@@ -1,6 +1,6 @@
 use Rattle.std.proofs.Common.{◌≡◌, ap, subst}
 use Rattle.tlv_walk.specs.declared.framing.Framing.{Framing}
-use Rattle.tlv_walk.specs.WalkerState.{WalkerState}
+use Rattle.tlv_walk.specs.Walker.{WalkerState}
 use Rattle.tlv_why.specs.Facts.{AreFacts}
 use Rattle.tlv_why.proofs.TrackLemmas.MadeFacts.{facts-made}
 use Rattle.tlv_why.proofs.facts_call.facts_of.Goals as goal

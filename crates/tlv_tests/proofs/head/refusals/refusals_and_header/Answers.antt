@@ -1,8 +1,7 @@
 use Rattle.std.proofs.Common.{◌∙◌, ℕ, ◌^◌, ◌≤◌, [], ◌∷◌, None, ap, arith, length-append, length, refl, subst, sym}
 use Rattle.std.proofs.lemmas.Bool.{true≢false}
 use Rattle.tlv_head.specs.declared.head_reader.Head.TheVariants.{More}
-use Rattle.tlv_head.specs.HeadReaderState.{CanPush, HeadReaderState}
-use Rattle.tlv_head.specs.Push.{Pushes, more, refused}
+use Rattle.tlv_head.specs.HeadReader.{CanPush, HeadReaderState, Pushes, more, refused}
 use Rattle.tlv_tests.proofs.head.refusals.refusals_and_header.Goals as goal
 use Rattle.tlv_tests.proofs.head.refusals.refusals_and_header.Goals.{in-More, in_default}
 

@@ -3,7 +3,7 @@ use Rattle.std.specs.List.{list_all}
 use Rattle.std.proofs.Common.{◌≡◌, ◌+◌, length}
 use Rattle.std.specs.Prelude.{◌&&◌}
 use Rattle.tlv_head.specs.declared.kind.Kind.TheVariants.{Utf8}
-use Rattle.tlv_value.specs.OpenRow.{IsOpenRow}
+use Rattle.tlv_value.specs.RowSizes.{IsOpenRow}
 use Rattle.tlv_value.proofs.RowLemmas.FilledRows.{row_begun, rows_filled}
 use Rattle.tlv_value.specs.Rows.{full_rows, open_row}
 use Rattle.tlv_value.proofs.value_check.utf8_rows.take_rows.Given as goal

@@ -1,6 +1,6 @@
 use Rattle.std.proofs.Common.{◌≡◌, ℕ, ◌+◌, ◌≤◌, ◌++◌, List, length}
 use Rattle.tlv_io.proofs.Puts.{HasPut}
-use Rattle.tlv_value.specs.OpenRow.{IsOpenRow}
+use Rattle.tlv_value.specs.RowSizes.{IsOpenRow}
 use Rattle.tlv_value.proofs.RowLemmas.FilledRows.{row_begun, rows_filled}
 use Rattle.tlv_value.specs.Rows.{full_rows, open_row}
 use Rattle.tlv_value.specs.ValueLines.{row_lines}

@@ -1,5 +1,5 @@
 use Rattle.std.proofs.Common.{rules, ◌≡◌, ◌∙◌}
-use Rattle.tlv_walk.specs.WalkerState.{unused_offset}
+use Rattle.tlv_walk.specs.Walker.{unused_offset}
 use Rattle.tlv_walk.proofs.WalkerLemmas.HasRead.{read_unused}
 use Rattle.tlv_walk.proofs.walker.Walker.unused.Goals as goal
 

@@ -1,15 +1,37 @@
 -- What contracts see of a `Walker`, which takes octets and yields events.
-use Rattle.std.specs.Prelude.{◌≡◌, ◌≢◌, ℕ, ◌+◌, ◌≤◌, Bool, true, false, slice_get, List, [], length, Option}
-use Rattle.tlv_head.specs.DepthLimit.{depth_limit}
+use Rattle.std.specs.Prelude.{ℕ, ◌≡◌, ◌≢◌, ◌+◌, ◌≤◌, Bool, true, false, slice_get, List, [], length, Option}
 use Rattle.tlv_head.specs.declared.fault.Fault.{Fault}
-use Rattle.tlv_head.specs.HeadReaderState.{HeadReaderState}
+use Rattle.tlv_head.specs.HeadReader.{HeadReaderState}
+use Rattle.tlv_head.specs.Limits.{depth_limit, input_limit}
 use Rattle.tlv_walk.specs.declared.framing.Framing.{Framing}
 use Rattle.tlv_walk.specs.Inside.{are_rising}
-use Rattle.tlv_walk.specs.Phase.{Between, InBitString, InEndOctets, InHeader, InPrimitive, IsAfterEvent, PhaseValue}
-use Rattle.tlv_walk.specs.Phase.{Refused}
 use Rattle.tlv_walk.specs.Stack.{FrameValue, IsInIndefinite, IsInWrapper, IsNested, bound_of}
 use Rattle.tlv_walk.specs.Place.{IsWithin}
-use Rattle.tlv_head.specs.InputLimit.{input_limit}
+
+-- what the next octet of an input belongs to
+pub data PhaseValue : Type 0 where
+  -- a new element, or the end of the innermost one
+  Between : PhaseValue
+  -- a header that has begun
+  InHeader : (reader : HeadReaderState) → PhaseValue
+  -- a primitive's contents, with this many octets still to come
+  InPrimitive : (left : ℕ) → PhaseValue
+  -- a wrapping BIT STRING, whose first contents octet is still to come
+  InBitString : PhaseValue
+  -- the end of an indefinite element, whose first 00 has come
+  InEndOctets : PhaseValue
+  -- nothing: an octet was refused
+  Refused : (fault : Fault) → PhaseValue
+
+-- a phase in which each octet taken belongs to a yielded event: neither a header nor end-of-contents octets have
+-- begun, and no octet was refused
+abbrev pub IsAfterEvent : PhaseValue → Type 0
+IsAfterEvent Between = Unit {0}
+IsAfterEvent (InHeader r) = ⊥
+IsAfterEvent (InPrimitive left) = Unit {0}
+IsAfterEvent InBitString = Unit {0}
+IsAfterEvent InEndOctets = ⊥
+IsAfterEvent (Refused fault) = ⊥
 
 -- the state of a walker
 pub record WalkerState : Type 0 where

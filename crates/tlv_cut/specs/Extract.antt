@@ -1,11 +1,13 @@
--- What `extract` writes: an element, or only its contents.
-use Rattle.std.specs.Prelude.{ℕ, Bool, false, ◌==◌, if◌then◌else◌, List, [], ◌++◌}
-use Rattle.std.specs.Prelude.{Option, Some, None}
+-- What `extract` writes of an input.
+use Rattle.std.specs.Prelude.{ℕ, Bool, false, ◌==◌, if◌then◌else◌, List, [], ◌++◌, Option, Some, None}
 use Rattle.std.specs.Option.{is_some, option_map_or, option_or}
 use Rattle.tlv_head.specs.Header.{octets_of}
-use Rattle.tlv_walk.specs.Forest.{Forest, NoMore, PaddingOctet, Primitive, Holder, OpenPrimitive, OpenHolder}
-use Rattle.tlv_walk.specs.Forest.{OpenBitString}
-use Rattle.tlv_walk.specs.Forest.{end_octets, is_whole, lead, opening}
+use Rattle.tlv_walk.specs.Forest.{Forest, Holder, NoMore, OpenBitString, OpenHolder, OpenPrimitive, PaddingOctet}
+use Rattle.tlv_walk.specs.Forest.{Primitive, end_octets, is_whole, lead, opening}
+use Rattle.tlv_walk.specs.declared.framing.Framing.{Framing}
+use Rattle.tlv_walk.specs.Job.{Job}
+use Rattle.tlv_cut.specs.declared.extract_call.Cut.{Cut}
+use Rattle.tlv_head.specs.Limits.{input_limit}
 
 -- the element whose header begins at the offset n, by itself, if its header is complete. No two elements begin at one
 -- offset
@@ -58,3 +60,13 @@ element_text contents_only e = if contents_only then contents_so_far e else octe
 -- what `extract` writes: the element at the offset n, or only its contents. Nothing if there is no such element
 abbrev pub extract_text : ℕ → Bool → Forest → List ℕ
 extract_text n contents_only f = option_map_or (element_text contents_only) (element_at n f) []
+
+-- write the element at the offset, or only its contents. After its end nothing more is wanted
+abbrev pub extract_job : ℕ → Bool → Framing → Job Cut
+extract_job offset contents_only framing = record {
+  framing = framing;
+  limit = input_limit;
+  text = extract_text offset contents_only;
+  is_enough = has_whole_element_at offset;
+  result = λ f e. record { ending = e; found = has_element_at offset f };
+}

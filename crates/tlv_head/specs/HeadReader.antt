@@ -1,14 +1,40 @@
--- Reading a header, one octet at a time: what `HeadReader` returns.
-use Rattle.std.specs.Prelude.{◌≡◌, ◌≢◌, ℕ, ◌+◌, ◌<◌, ◌≤◌, true, List, [], ◌∷◌, ◌++◌, length, Option, Some}
+-- What contracts see of a `HeadReader`, and what `push` returns.
+use Rattle.std.specs.Prelude.{◌≡◌, ◌≢◌, ℕ, ◌<◌, ◌≤◌, Bool, false, List, [], ◌∷◌, ◌++◌, Option, Some, IfSome, ◌+◌, true}
+use Rattle.std.specs.Prelude.{length}
+use Rattle.tlv_head.specs.declared.header.Size.{Size}
+use Rattle.tlv_head.specs.declared.header.Size.TheVariants.{Definite, Indefinite}
+use Rattle.tlv_head.specs.Limits.{depth_limit, input_limit}
 use Rattle.tlv_head.specs.declared.fault.Fault.{Fault}
 use Rattle.tlv_head.specs.declared.fault.FaultCode.{FaultCode}
 use Rattle.tlv_head.specs.declared.fault.FaultCode.TheVariants.{TooDeep, Overrun}
 use Rattle.tlv_head.specs.declared.head_reader.Head.{Head}
 use Rattle.tlv_head.specs.declared.head_reader.Head.TheVariants.{More, Whole, Refused}
-use Rattle.tlv_head.specs.DepthLimit.{depth_limit}
 use Rattle.tlv_head.specs.Header.{HeaderValue, IsHeader, holds, octets_of}
-use Rattle.tlv_head.specs.HeadReaderState.{ContentsFit, HeadReaderState, with_octet}
 use Rattle.tlv_head.specs.Refusal.{IsHeaderPrefix, IsRefusedOctet}
+
+-- where the header begins, whether that offset is named, its octets so far (none once it is whole), and whether it is
+-- whole
+pub record HeadReaderState : Type 0 where
+  pub offset : ℕ
+  pub named : Bool
+  pub octets : List ℕ
+  pub done : Bool
+
+-- what `push` requires of the next octet x, with `room` octets up to the bound, this one included
+pub record CanPush (r : HeadReaderState) (x : ℕ) (room : Option ℕ) (depth : ℕ) : Type 0 where
+  pub unfinished : r.done ≡ false
+  pub first : r.octets ≡ [] → (x ≢ 0) × (room ≢ Some 0)
+  pub shallow : depth ≤ depth_limit
+  pub limit : r.offset ≤ input_limit
+
+-- the reader with another octet
+abbrev pub with_octet : HeadReaderState → ℕ → HeadReaderState
+with_octet r x = record { offset = r.offset; named = r.named; octets = r.octets ++ x ∷ []; done = false }
+
+-- contents of this size end within the bound: `room` counts from the last octet of the header on
+abbrev pub ContentsFit : Size → Option ℕ → Type 0
+ContentsFit (Definite n) room = IfSome room (λ r. n < r)
+ContentsFit Indefinite room = IfSome room (λ r. 0 < r)
 
 -- the reader's octets followed by these octets are this header, complete
 pub record Completes (r : HeadReaderState) (added : List ℕ) (h : HeaderValue) : Type 0 where
