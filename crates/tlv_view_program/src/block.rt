@@ -98,7 +98,8 @@ impl Task<'_> {
         requires { contents_fit contents.now }
         ensures { WritesReasons self.now.request.now.padding (octets_of_contents (block_contents contents.now))
             (D.state drain.old) (D.state drain.new)
-            (explained_in self.now.request.now.wanted (report_value_of shown.now.report) shown.now.broken.items) result }
+            (explained_in self.now.request.now.wanted (report_value_of shown.now.report) shown.now.broken.items)
+            result }
     {
         let explained = explained_in(&self.request.wanted, shown);
         write_explained(

@@ -85,7 +85,8 @@ fn write_parsing<D: Drain>(
     drain: &mut D,
 ) -> Result<(), WriteFault>
     ensures { Sends (D.state drain.old) (D.state drain.new) (why_lines octets.now facts.now
-        ++ findings_line (report_value_of found.now.ber.report).message (report_value_of found.now.der).message) result }
+        ++ findings_line (report_value_of found.now.ber.report).message (report_value_of found.now.der).message)
+        result }
 {
     write_why(octets, facts, drain)?;
     write_findings(
