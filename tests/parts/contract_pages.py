@@ -3,7 +3,7 @@ import os
 import re
 
 CRATES = ("tlv_head", "tlv_io", "tlv_walk", "tlv_value", "tlv_show", "tlv_cut", "tlv_run", "tlv_words", "tlv_program", "tlv_open",
-          "tlv_view", "tlv_text", "tlv_forms", "tlv_why", "tlv_mend", "tlv_view_words", "tlv_view_program")
+          "tlv_view", "tlv_text", "tlv_forms", "tlv_why", "tlv_mend", "tlv_view_words", "tlv_view_program", "tlv_host")
 BEGINNING = """# What each public call promises
 
 `tests/make-contracts` makes this page of the sources: change the comments and clauses there, and run it. Each public item of

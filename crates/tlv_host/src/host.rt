@@ -1,0 +1,42 @@
+//! The system of a program, and its files.
+ghost use Rattle.tlv_program.specs.System.{unknown_system};
+
+use std::fs;
+use std::io::{Eprint, Print};
+use std::rt::Files;
+use tlv_program::System;
+use tlv_walk::ReadSource;
+
+/// The system on which a program runs. What it does is not known before it does it.
+#[derive(Drop)]
+pub struct Host<'a, R: Files + Print + Eprint> {
+    rt: &'a R,
+}
+
+impl<'a, R: Files + Print + Eprint> Host<'a, R> {
+    /// The system of this runtime.
+    pub fn new(rt: &'a R) -> Host<'a, R> {
+        Host { rt }
+    }
+}
+
+impl<R: Files + Print + Eprint> System for Host<'_, R> {
+    type File = ReadSource<R::File>;
+
+    ghost allows = { unknown_system };
+
+    fn open(&mut self, name: &str) -> Option<ReadSource<R::File>> {
+        match fs::open(self.rt, name) {
+            Ok(file) => Some(ReadSource::new(file)),
+            Err(_) => None,
+        }
+    }
+
+    fn close(&mut self, file: ReadSource<R::File>) {
+        drop(file);
+    }
+
+    fn print(&mut self, error: &clap::Error) -> bool {
+        error.print(self.rt).is_ok()
+    }
+}

@@ -1,0 +1,8 @@
+//! The system on which the programs run: their arguments, the files that they open, and what `clap` prints.
+#![tactic(auto)]
+
+mod host;
+mod words;
+
+pub use host::Host;
+pub use words::words_of;
