@@ -200,9 +200,9 @@ fn add_in_holder(
     })
 }
 
-/// [`add_in_holder`], if the length is indefinite. Separate, so that [`add_strings`] stays small enough to be inlined.
+/// [`add_in_holder`], if the length is indefinite.
 #[cycle(find)]
-#[inline(never)]
+#[inline(always)]
 fn add_in_indefinite(
     octets: &[u8],
     offset: u64,
