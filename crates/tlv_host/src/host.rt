@@ -10,14 +10,8 @@ use tlv_walk::ReadSource;
 /// The system on which a program runs. What it does is not known before it does it.
 #[derive(Drop)]
 pub struct Host<'a, R: Files + Print + Eprint> {
-    rt: &'a R,
-}
-
-impl<'a, R: Files + Print + Eprint> Host<'a, R> {
-    /// The system of this runtime.
-    pub fn new(rt: &'a R) -> Host<'a, R> {
-        Host { rt }
-    }
+    /// The runtime that opens files and prints.
+    pub rt: &'a R,
 }
 
 impl<R: Files + Print + Eprint> System for Host<'_, R> {

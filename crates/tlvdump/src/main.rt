@@ -14,7 +14,7 @@ fn main(rt: HostRuntime) -> ExitCode {
     let report = run_program(
         rt.alloc(),
         &words,
-        &mut Host::new(&rt),
+        &mut Host { rt: &rt },
         &mut input,
         &mut output,
     );

@@ -18,7 +18,7 @@ const PLACES: [&str; 2] = ["../share/tlvdump/names.txt", "../../../data/names.tx
 fn main(rt: HostRuntime) -> ExitCode {
     let (words, places) = words_and_places(&rt);
     let mut streams = Streams {
-        system: Host::new(&rt),
+        system: Host { rt: &rt },
         input: ReadSource::new(rt.stdin()),
         output: WriteDrain::new(rt.stdout()),
         messages: WriteDrain::new(rt.stderr()),
