@@ -1,18 +1,20 @@
 -- Blocks that follow one another, and their places.
 use Rattle.std.proofs.Common.{◌≡◌, ℕ, zero, suc, ◌+◌, ◌-◌, ◌==◌, ◌<◌, ◌≤◌, Bool, true, false, List, [], ◌∷◌, ◌++◌}
 use Rattle.std.proofs.Common.{Option, Some, None, Result, Ok, Err, refl, sym, ap, ◌∙◌, arith, drop, length, lt-ltb}
-use Rattle.std.proofs.Common.{map, nat_le, subst}
+use Rattle.std.proofs.Common.{inl, inr, map, nat_le, subst}
 use Rattle.std.specs.List.{list_any}
-use Rattle.std.specs.Prelude.{IfErr, if◌then◌else◌}
+use Rattle.std.specs.Prelude.{IfErr, if◌then◌else◌, is_some}
 use Rattle.std.specs.Result.{IsErrAnd}
-use Rattle.std.proofs.lemmas.Bool.{and_parts, leb-true}
+use Rattle.std.proofs.lemmas.Bool.{and_parts, cases_Bool, leb-true}
 use Rattle.std.proofs.lemmas.List.{append-nil, append_assoc, length-append, length-drop, map-append}
 use Rattle.tlv_text.specs.Base64.{ReadsBase64, is_symbol}
 use Rattle.tlv_text.proofs.BodyLemmas.{true-not}
 use Rattle.memchr.specs.Find.{Passes, is_byte2}
 use Rattle.tlv_text.specs.Blocks.{AreBlocks, ArePemBlocks, AreRunBlocks, BlockValue, IsBase64Block, IsBlocksFault}
-use Rattle.tlv_text.specs.Blocks.{IsPemBlock, alphabet_of, block_value, dump_block, hex_block, is_too_long}
-use Rattle.tlv_text.specs.Blocks.{is_url_symbol, line_at, only_block}
+use Rattle.tlv_text.specs.Blocks.{IsPemBlock, alphabet_of, block_value, dump_block, hex_block, hex_read}
+use Rattle.tlv_text.specs.Pairs.{pairs_read}
+use Rattle.tlv_text.proofs.TokenPlaceLemmas.{no-token-in_pairs}
+use Rattle.tlv_text.specs.Blocks.{is_too_long, is_url_symbol, line_at, only_block}
 use Rattle.tlv_text.specs.Blocks.{numbers_block, or_absent, place_in_text, state_at_place, state_with_end}
 use Rattle.tlv_text.specs.Dump.{dump_limit, dump_read}
 use Rattle.tlv_text.specs.DumpFault.{IsFault}
@@ -21,6 +23,7 @@ use Rattle.tlv_text.specs.Pem.{HasNoBlock, IsFirstBlock, begin_marker, dashes}
 use Rattle.tlv_text.specs.PemBody.{after_line, base64_part, has_headers, is_encrypted, is_escaped_line_feed}
 use Rattle.tlv_text.specs.PemBody.{size_of_headers}
 use Rattle.tlv_text.specs.TextRead.{refused_at}
+use Rattle.tlv_text.specs.Tokens.{token_count}
 use Rattle.tlv_text.specs.Private.BlockSteps.{IsRefusedWithin}
 use Rattle.tlv_text.specs.Runs.{HasNoRun, IsFirstRun, Stretch, break_size, no_symbol, stretch_after}
 use Rattle.tlv_text.specs.Runs.{symbol_before}
@@ -44,6 +47,25 @@ refused-within alphabet text octets refused (ReadsBase64.refused none are of) = 
 pub within-more : (m n : ℕ) (refused : Option ℕ) → m ≤ n → IsRefusedWithin m refused → IsRefusedWithin n refused
 within-more m n None less within = tt
 within-more m n (Some place) less within = omega (arith, within)
+
+-- ---- hexadecimal
+
+-- a text that is pairs to its end has no token
+pub hex-of_pairs : (text : List ℕ) (refused : Option ℕ) → refused ≡ refused_at text (pairs_read text).rest
+    → is_some refused ≡ false → hex_read text ≡ pairs_read text
+hex-of_pairs text refused e whole =
+    rw (no-token-in_pairs 32 text (nothing-refused (pairs_read text).rest (rw e at whole))) refl
+  where
+    nothing-refused : (rest : List ℕ) → is_some (refused_at text rest) ≡ false → rest ≡ []
+    nothing-refused [] whole = refl
+    nothing-refused (x ∷ rest) whole = absurd (cc whole)
+
+pub hex-without_tokens : (text : List ℕ) → (2 ≤ token_count text → ⊥) → hex_read text ≡ pairs_read text
+hex-without_tokens text none =
+    elim (cases_Bool (nat_le 2 (token_count text))) [
+      | inl two ↦ absurd (none (leb-true 2 (token_count text) two))
+      | inr few ↦ rw few refl
+    ]
 
 -- ---- PEM
 

@@ -1,7 +1,8 @@
 -- The symbols with which a text begins.
 use Rattle.std.proofs.Common.{◌≡◌, ℕ, ◌+◌, ◌<◌, ◌≤◌, Bool, true, false, List, [], ◌∷◌, ◌++◌, length, take, drop, get_or}
-use Rattle.std.proofs.Common.{slice_index, refl, ap, sym, ◌∙◌, arith, subst}
-use Rattle.std.specs.List.{AllPass, prefix_len}
+use Rattle.std.proofs.Common.{slice_index, refl, ap, ap₂, sym, ◌∙◌, arith, subst}
+use Rattle.std.specs.List.{AllPass, list_all, prefix_len}
+use Rattle.std.proofs.lemmas.Bool.{and_parts}
 use Rattle.std.proofs.lemmas.List.{get_or-drop, get_or-take, length-take-le, take-append-drop, take-take}
 use Rattle.std.proofs.lemmas.List.Elements.{All-from_get_or, All-head, All-tail}
 use Rattle.std.proofs.lemmas.List.Folds.{length-prefix_len}
@@ -45,6 +46,21 @@ prefix-passes p xs =
     (λ i less.
     let below : i < prefix_len p xs = omega (arith, less, length-prefix_len p xs) in
     ap p (get_or-take (prefix_len p xs) xs i 0 below) ∙ prefix_len_passes p xs i 0 below)
+
+all-counted : (p : ℕ → Bool) (xs ys : List ℕ) → list_all p xs ≡ true
+    → prefix_len p (xs ++ ys) ≡ length xs + prefix_len p ys
+all-counted p [] ys all = omega arith
+all-counted p (x ∷ xs) ys all =
+    let parts = and_parts (p x) (list_all p xs) all in
+    rw parts.0 (omega (arith, all-counted p xs ys parts.1))
+
+-- in a text that begins with a block of symbols
+pub block-counted : (p : ℕ → Bool) (front back text : List ℕ) (n : ℕ) → front ≡ take n text → back ≡ drop n text
+    → list_all p front ≡ true → prefix_len p text ≡ length front + prefix_len p back
+block-counted p front back text n f b all =
+    ap (prefix_len p) (sym (take-append-drop n text))
+    ∙ ap₂ (λ (xs ys : List ℕ). prefix_len p (xs ++ ys)) (sym f) (sym b)
+    ∙ all-counted p front back all
 
 -- those before the first character that is none, among so many
 pub run-passes : (alphabet : Alphabet) (text : List ℕ) (room n : ℕ) → n ≤ room

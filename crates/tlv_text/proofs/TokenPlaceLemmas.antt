@@ -1,14 +1,17 @@
 -- Places of tokens: each begins with one of three marks.
 use Rattle.std.proofs.Common.{◌≡◌, ℕ, zero, suc, ◌+◌, ◌-◌, ◌==◌, ◌<◌, ◌≤◌, Bool, true, false, ◌&&◌, ◌||◌, not, min}
 use Rattle.std.proofs.Common.{List, [], ◌∷◌, length, drop, take, refl, ap, sym, ◌∙◌, arith, Option, Some, None}
-use Rattle.std.proofs.Common.{slice_index, inl, inr, subst}
+use Rattle.std.proofs.Common.{◌⊎◌, slice_index, inl, inr, rules, subst}
 use Rattle.std.specs.Prelude.{if◌then◌else◌, is_some}
 use Rattle.std.proofs.lemmas.Bool.{and_parts, cases_Bool, cases_lt, eqb-true}
 use Rattle.std.proofs.lemmas.List.{get_or-drop, get_or-take, length-drop, length-take}
 use Rattle.std.proofs.Math.Seq.{drop-drop}
 use Rattle.memchr.specs.Find.{FindsNeedle, IsFirstByte, OccursAt, is_byte2}
+use Rattle.hex.specs.Hex.{is_hex_digit}
 use Rattle.tlv_text.proofs.Slices.{from-on, slice_from}
 use Rattle.tlv_text.proofs.TokenLemmas.{pieces-cons, token-first}
+use Rattle.tlv_text.specs.Pairs.{is_between_pairs, pair_octet, pairs_read}
+use Rattle.tlv_text.specs.TextRead.{nothing_read, octets_then}
 use Rattle.tlv_text.specs.Private.TokenSteps.{IsTokenOrEnd, NoneMarked, token_from}
 use Rattle.tlv_text.specs.Tokens.{Piece, begins_like_token, piece_of, pieces, token_at, tokens_in}
 use Rattle.tlv_text.specs.declared.tokens.Token.{Token}
@@ -155,6 +158,55 @@ no-token-without_x before text none =
     (none-before before text (length text) (length text) (length text) (omega arith) (omega arith)
     (none-without_x small_mark before text refl refl none) (none-without_x large_mark before text refl refl none)
     (none-without_x escape_mark before text refl refl none))
+
+-- ---- pairs have no token
+
+-- what may be in a text of pairs is no x
+no-x-between : (x : ℕ) → is_between_pairs x ≡ true → is_byte2 120 88 x ≡ false
+no-x-between x e = search rules
+
+no-x-digit : (x : ℕ) → is_hex_digit x ≡ true → is_byte2 120 88 x ≡ false
+no-x-digit x e = search rules
+
+last-between : (between : Bool) (x : ℕ) → (if between then nothing_read [] else nothing_read (x ∷ [])).rest ≡ []
+    → between ≡ true
+last-between true x e = refl
+last-between false x e = absurd (omega (arith, ap length e))
+
+-- if nothing is left, the first character is between pairs or begins one, and nothing is left after it
+first-of_pairs : (between digits : Bool) (x y octet : ℕ) (text : List ℕ)
+    → (if between then pairs_read (y ∷ text)
+    else (if digits then octets_then (octet ∷ []) (pairs_read text) else nothing_read (x ∷ y ∷ text))).rest ≡ []
+    → ((between ≡ true) × ((pairs_read (y ∷ text)).rest ≡ [])) ⊎ ((digits ≡ true) × ((pairs_read text).rest ≡ []))
+first-of_pairs true digits x y octet text e = inl (refl, e)
+first-of_pairs false true x y octet text e = inr (refl, e)
+first-of_pairs false false x y octet text e = absurd (omega (arith, ap length e))
+
+no-x-at : (text : List ℕ) → (pairs_read text).rest ≡ [] → (i : ℕ) → i < length text
+    → is_byte2 120 88 (slice_index text i) ≡ false
+no-x-at [] e i less = absurd (omega (arith, less))
+no-x-at (x ∷ []) e zero less = no-x-between x (last-between (is_between_pairs x) x e)
+no-x-at (x ∷ []) e (suc i) less = absurd (omega (arith, less))
+no-x-at (x ∷ y ∷ text) e zero less =
+    elim (first-of_pairs (is_between_pairs x) (is_hex_digit x && is_hex_digit y) x y (pair_octet x y) text e) [
+      | inl between ↦ no-x-between x between.0
+      | inr digits ↦ no-x-digit x (and_parts _ _ digits.0).0
+    ]
+no-x-at (x ∷ y ∷ text) e (suc zero) less =
+    elim (first-of_pairs (is_between_pairs x) (is_hex_digit x && is_hex_digit y) x y (pair_octet x y) text e) [
+      | inl between ↦ no-x-at (y ∷ text) between.1 zero (omega arith)
+      | inr digits ↦ no-x-digit y (and_parts _ _ digits.0).1
+    ]
+no-x-at (x ∷ y ∷ text) e (suc (suc i)) less =
+    elim (first-of_pairs (is_between_pairs x) (is_hex_digit x && is_hex_digit y) x y (pair_octet x y) text e) [
+      | inl between ↦ no-x-at (y ∷ text) between.1 (suc i) (omega (arith, less))
+      | inr digits ↦ no-x-at text digits.1 i (omega (arith, less))
+    ]
+
+pub no-token-in_pairs : (before : ℕ) (text : List ℕ) → (pairs_read text).rest ≡ []
+    → tokens_in (pieces 0 before text) ≡ 0
+no-token-in_pairs before text e =
+    no-token-without_x before text (λ i _ less has. absurd (cc (has, no-x-at text e i less)))
 
 -- ---- the search for a mark, in the first `last` characters of a text
 

@@ -40,11 +40,12 @@ fn decode_hex(alloc: Global, text: &[u8]) -> Result<Decoded, AllocError>
     ensures octets { IfOk result (λ d. d.octets.items ≡ (hex_read text.now).octets) }
     ensures refused { IfOk result (λ d. d.refused ≡ refused_at text.now (hex_read text.now).rest) }
 {
-    if has_tokens(text) {
-        decode_tokens(alloc, text)
-    } else {
-        decode_pairs(alloc, text)
+    let pairs = decode_pairs(alloc, text)?;
+    // A text that is pairs to its end has no token, so it need not be searched.
+    if pairs.refused.is_none() || !has_tokens(text) {
+        return Ok(pairs);
     }
+    decode_tokens(alloc, text)
 }
 
 /// The block of decimal numbers.

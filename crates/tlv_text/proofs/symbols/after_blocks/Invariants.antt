@@ -1,7 +1,7 @@
 use Rattle.std.proofs.Common.{◌≡◌, ◌+◌, ◌≤◌, length}
 use Rattle.std.specs.List.{prefix_len}
 use Rattle.tlv_text.specs.Base64.{is_symbol}
-use Rattle.tlv_text.proofs.symbols.after_eights.Given as goal
+use Rattle.tlv_text.proofs.symbols.after_blocks.Given as goal
 
 abbrev pub invariant-loop-rest : goal.invariant-loop-rest
 invariant-loop-rest l = record {
