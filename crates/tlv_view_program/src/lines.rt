@@ -1,9 +1,11 @@
 //! The lines that are written beside views.
+ghost use Rattle.std.specs.List.{list_all};
 ghost use Rattle.std.specs.Prelude.{◌≡◌, ◌++◌, decimal, flat_map};
 ghost use Rattle.tlv_forms.specs.Taken.{taken_value};
 ghost use Rattle.tlv_io.specs.Out.{Puts, Sends};
 ghost use Rattle.tlv_open.specs.BrokenLine.{broken_line};
 ghost use Rattle.tlv_run.specs.BorrowedText.{text_in};
+ghost use Rattle.tlv_value.specs.Units.{is_printable};
 ghost use Rattle.tlv_view_program.specs.Lines.{block_line, block_start, block_title, file_words, number_words};
 ghost use Rattle.tlv_view_program.specs.Lines.{place_words, placed_line, printable_name, printable_octet, shown_name};
 ghost use Rattle.tlv_view_program.specs.Notes.{note_line};
@@ -110,10 +112,26 @@ fn put_shown_name<D: Drain>(file: Option<&str>, out: &mut Out<'_, D>) -> Result<
 fn put_printable<D: Drain>(name: &str, out: &mut Out<'_, D>) -> Result<(), WriteFault>
     ensures { Puts D.state out.old out.new (printable_name name.now) result }
 {
+    // Nearly all names are, and a text may have thousands of blocks.
+    if are_printable(name.as_bytes()) {
+        return out.put(name.as_bytes());
+    }
     for octet in name.as_bytes() {
         out.put(&printable_octet(*octet))?;
     }
     Ok(())
+}
+
+/// Whether all of these are printable ASCII.
+fn are_printable(octets: &[u8]) -> bool
+    ensures { result ≡ list_all is_printable octets.now }
+{
+    for octet in octets {
+        if !matches!(*octet, b' '..=b'~') {
+            return false;
+        }
+    }
+    true
 }
 
 /// The octet, or a question mark if it is not printable ASCII.
