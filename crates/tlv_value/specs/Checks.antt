@@ -151,7 +151,8 @@ type_conditions number facts =
           && nat_le 1 (first_octet facts) && nat_le (first_octet facts) 7,
       B15,
     )
-    -- X.680 41: a string of characters has only characters that its type allows
+    -- X.680 41: a string of characters has only characters that its type allows. Of a BMPString and a UniversalString
+    -- only the length is looked at: it is that of whole characters
     ∷ (is_number_of character_types number && not facts.is_allowed, B18)
     -- X.680 46, 47: a time follows the grammar of its type
     ∷ (is_short_time number facts && not (times.has_form (time_form number) facts.time), B19)
