@@ -145,10 +145,11 @@ length_as_primitive h segments =
     let bits = bits_octet_count (is_a universal.bit_string h) in
     bits + sum_by (λ (g : HeaderValue). announced_length g.size - bits) segments
 
--- whether the last of the elements is a primitive without contents octets; `empty` says so of the element before them
-abbrev pub ends_empty : Bool → List HeaderValue → Bool
-ends_empty empty [] = empty
-ends_empty empty (h ∷ hs) = ends_empty (is_primitive h && announced_length h.size == 0) hs
+-- whether the last of the elements is a primitive without contents octets
+abbrev pub ends_empty : List HeaderValue → Bool
+ends_empty [] = false
+ends_empty (h ∷ []) = is_primitive h && announced_length h.size == 0
+ends_empty (h ∷ g ∷ hs) = ends_empty (g ∷ hs)
 
 -- what an element held, as far as the conditions depend on it
 pub record Segments : Type 0 where
@@ -167,7 +168,7 @@ segments_of h children = record {
   in_string = has_segments h;
   all_primitive = list_all is_primitive children;
   length_as_primitive = length_as_primitive h children;
-  ends_empty = ends_empty false children;
+  ends_empty = ends_empty children;
 }
 
 -- by the rules of CER

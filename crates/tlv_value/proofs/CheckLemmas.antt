@@ -4,5 +4,6 @@ pub mod EachNoted
 pub mod Utf8ByRow
 pub mod Forms
 pub mod Noting
+pub mod LastAndPadded
 pub mod NestedForms
 pub mod ClearStrings

@@ -12,25 +12,31 @@ use Rattle.tlv_head.specs.UniversalTypes as universal
 use Rattle.tlv_value.specs.declared.finding.Finding.{Finding}
 use Rattle.tlv_value.specs.declared.finding.Finding.TheVariants.{B06, B07, B08, B09, B10, B11, B12, B13, B14}
 use Rattle.tlv_value.specs.declared.finding.Finding.TheVariants.{B15, B18, B19, S02, S03, S04}
+use Rattle.tlv_value.specs.Arcs.{parts_of}
 use Rattle.tlv_value.specs.Times as times
 use Rattle.tlv_value.specs.Types.{character_types, integer_types, is_number_of, object_types, time_types}
 use Rattle.tlv_value.specs.Types.{type_number}
 use Rattle.tlv_value.specs.Units.{is_printable}
 
-abbrev pub last_octet : ℕ → List ℕ → ℕ
-last_octet previous [] = previous
-last_octet previous (x ∷ xs) = last_octet x xs
+-- the last octet, or 0 if there is none
+abbrev pub last_octet : List ℕ → ℕ
+last_octet [] = 0
+last_octet (x ∷ []) = x
+last_octet (x ∷ y ∷ ys) = last_octet (y ∷ ys)
 
 -- 8.3.2: the first nine bits are all equal
 abbrev pub is_padded_integer : List ℕ → Bool
 is_padded_integer (x ∷ y ∷ ys) = (eqb x 0 && nat_lt y 128) || (eqb x 255 && nat_le 128 y)
 is_padded_integer octets = false
 
--- 8.19.2, 8.20.2: an octet 80 begins a subidentifier: it follows an octet with bit 8 clear. The first octet begins
--- one too, since the octet before it is taken to be 0
-abbrev pub is_padded_after : ℕ → List ℕ → Bool
-is_padded_after previous [] = false
-is_padded_after previous (x ∷ xs) = (nat_lt previous 128 && eqb x 128) || is_padded_after x xs
+-- the first octet is this one
+abbrev pub begins_with : ℕ → List ℕ → Bool
+begins_with octet [] = false
+begins_with octet (x ∷ xs) = eqb x octet
+
+-- 8.19.2, 8.20.2: a subidentifier begins with 80
+abbrev pub has_padded_part : List ℕ → Bool
+has_padded_part contents = list_any (begins_with 0x80) (parts_of contents)
 
 abbrev pub is_digit_or_space : ℕ → Bool
 is_digit_or_space x = eqb x 32 || is_ascii_digit x
@@ -77,7 +83,7 @@ pub record ContentsFacts : Type 0 where
   pub first_octets : List ℕ
   -- the last octet, or 0 if there is none
   pub last : ℕ
-  -- 8.19.2, 8.20.2: whether an octet 80 begins a subidentifier
+  -- 8.19.2, 8.20.2: whether a subidentifier begins with 80
   pub is_padded : Bool
   -- X.680 41: whether the type allows the characters
   pub is_allowed : Bool
@@ -89,8 +95,8 @@ abbrev pub facts_of : ℕ → List ℕ → ContentsFacts
 facts_of number contents = record {
   size = length contents;
   first_octets = contents;
-  last = last_octet 0 contents;
-  is_padded = is_padded_after 0 contents;
+  last = last_octet contents;
+  is_padded = has_padded_part contents;
   is_allowed = allows number contents;
   time = contents;
 }
@@ -151,7 +157,8 @@ type_conditions number facts =
           && nat_le 1 (first_octet facts) && nat_le (first_octet facts) 7,
       B15,
     )
-    -- X.680 41: a string of characters has only characters that its type allows
+    -- X.680 41: a string of characters has only characters that its type allows. Of a BMPString and a UniversalString
+    -- only the length is looked at: it is that of whole characters
     ∷ (is_number_of character_types number && not facts.is_allowed, B18)
     -- X.680 46, 47: a time follows the grammar of its type
     ∷ (is_short_time number facts && not (times.has_form (time_form number) facts.time), B19)

@@ -98,7 +98,8 @@ generalized_zone = mark 90 or (sign then hour then maybe minute)
 abbrev pub generalized_tail : Form
 generalized_tail = maybe fraction then maybe generalized_zone
 
--- X.680 46.2
+-- X.680 46.3. The grammar alone is looked at, and each number of two digits by itself: the days 29 to 31 of each month,
+-- hour 24 with any minute, also in a difference, and second 60 of any minute are taken. They are taken in a UTCTime too
 abbrev pub generalized_time_form : Form
 generalized_time_form =
     generalized_hour then maybe (minute then maybe second) then generalized_tail

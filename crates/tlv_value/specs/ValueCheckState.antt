@@ -1,14 +1,13 @@
 -- What must be kept of the contents of a primitive so that the findings on them can be reported at their end.
 use Rattle.std.specs.List.{list_all}
-use Rattle.std.specs.Prelude.{ℕ, ◌-◌, Bool, true, false, ◌&&◌, ◌||◌, not, eqb, if◌then◌else◌, List, []}
-use Rattle.std.specs.Prelude.{◌∷◌, ◌++◌, length, take}
+use Rattle.std.specs.Prelude.{ℕ, ◌-◌, Bool, true, false, ◌&&◌, ◌||◌, not, eqb, nat_lt, if◌then◌else◌, List}
+use Rattle.std.specs.Prelude.{[], ◌∷◌, ◌++◌, length, take}
 use Rattle.std.specs.Str.{is_utf8}
 use Rattle.tlv_head.specs.UniversalTypes as universal
 use Rattle.tlv_head.specs.Header.{HeaderValue, announced_length}
 use Rattle.tlv_head.specs.declared.kind.Kind.TheVariants.{Utf8}
 use Rattle.tlv_value.specs.declared.finding.Finding.{Finding}
-use Rattle.tlv_value.specs.Checks.{ContentsFacts, allows_octet, are_whole_characters, findings_by, is_padded_after}
-use Rattle.tlv_value.specs.Checks.{last_octet, type_conditions}
+use Rattle.tlv_value.specs.Checks.{ContentsFacts, allows_octet, are_whole_characters, findings_by, type_conditions}
 use Rattle.tlv_value.specs.Rows.{full_rows, open_row}
 use Rattle.tlv_value.specs.Types.{is_number_of, object_types, tested_string_types, time_types, type_number}
 
@@ -68,6 +67,17 @@ notes_each number =
 abbrev pub notes_time : ℕ → Bool
 notes_time number = is_number_of time_types number
 
+-- the last of these octets, or `previous` if there are none
+abbrev pub last_octet_after : ℕ → List ℕ → ℕ
+last_octet_after previous [] = previous
+last_octet_after previous (x ∷ xs) = last_octet_after x xs
+
+-- 8.19.2, 8.20.2: one of these octets is 80, and begins a subidentifier: bit 8 of the octet before it is clear. Before
+-- the first of these octets is `previous`
+abbrev pub is_padded_after : ℕ → List ℕ → Bool
+is_padded_after previous [] = false
+is_padded_after previous (x ∷ xs) = (nat_lt previous 128 && eqb x 128) || is_padded_after x xs
+
 -- whether a subidentifier begins with 80, in the octets before or in these
 abbrev pub is_padded_with : Bool → ℕ → List ℕ → Bool
 is_padded_with is_padded previous octets = is_padded || is_padded_after previous octets
@@ -76,7 +86,7 @@ is_padded_with is_padded previous octets = is_padded || is_padded_after previous
 abbrev pub with_first_noted : ValueCheckState → List ℕ → ValueCheckState
 with_first_noted s octets = record s {
   first_octets = take 2 (s.first_octets ++ octets);
-  last = last_octet s.last octets;
+  last = last_octet_after s.last octets;
 }
 
 abbrev pub with_each_noted : ValueCheckState → List ℕ → ValueCheckState
@@ -88,7 +98,7 @@ with_each_noted s octets = record s {
       then s.are_full_rows_utf8 && list_all is_utf8 (full_rows Utf8 s.row octets)
       else s.are_full_rows_utf8;
   row = if eqb s.number universal.utf8_string then open_row Utf8 s.row octets else s.row;
-  last = last_octet s.last octets;
+  last = last_octet_after s.last octets;
 }
 
 abbrev pub with_time_noted : ValueCheckState → List ℕ → ValueCheckState

@@ -1,5 +1,4 @@
--- The lines of a primitive that is whole, and of one whose contents are still to come. A first argument `with_text`
--- says whether text is shown beside pairs of digits.
+-- The lines of a primitive that is whole, and of one whose contents are still to come.
 use Rattle.std.specs.Prelude.{ℕ, ◌+◌, ◌&&◌, Bool, true, false, if◌then◌else◌, List, [], ◌∷◌, ◌++◌, decimal}
 use Rattle.tlv_head.specs.declared.header.Class.{Class}
 use Rattle.tlv_head.specs.Header.{HeaderValue, announced_length}
@@ -25,35 +24,38 @@ abbrev pub element_line : Layout → ℕ → Class → ℕ → ℕ → List ℕ 
 element_line layout offset class number size text =
     element_prefix layout offset class number size ++ text ++ 10 ∷ []
 
--- the lines of rows in order; the first row has this number
-abbrev pub row_lines : Bool → Kind → Layout → ℕ → List (List ℕ) → List ℕ
-row_lines with_text kind layout i [] = []
-row_lines with_text kind layout i (row ∷ rows) =
-    row_line layout i (row_text with_text kind row) ++ row_lines with_text kind layout (i + 1) rows
-
--- the element's line, and the lines of its rows
-abbrev pub value_lines : Bool → HeaderValue → Layout → Value → List ℕ
-value_lines with_text h layout value =
-    element_line layout h.offset h.class h.number (announced_length h.size) value.text
-    ++ row_lines with_text (header_kind h) layout 0 value.rows
-
--- the lines of a primitive that is whole, and the same without text beside pairs
-abbrev pub whole_lines_with : Bool → NameOf → HeaderValue → Layout → List ℕ → List ℕ
-whole_lines_with with_text name_of h layout octets =
-    value_lines with_text h layout (whole_value with_text name_of (header_kind h) octets)
-
-abbrev pub whole_lines : NameOf → HeaderValue → Layout → List ℕ → List ℕ
-whole_lines name_of h layout octets = whole_lines_with false name_of h layout octets
-
 -- the line of a long value is known from its header; for a BIT STRING, from its first contents octet
 abbrev pub has_line : Kind → List ℕ → Bool
 has_line Bits [] = false
 has_line kind octets = true
 
--- the lines of a primitive of whose contents these octets have come, and others are still to come: for a long value,
--- the lines that are known
-abbrev pub open_lines_with : Bool → HeaderValue → Layout → List ℕ → List ℕ
-open_lines_with with_text h layout octets =
-    if is_long (header_kind h) (announced_length h.size) && has_line (header_kind h) octets
-    then value_lines with_text h layout (long_value false (header_kind h) (announced_length h.size) octets)
-    else []
+-- the argument says whether text is shown beside pairs of digits
+module _ (with_text : Bool) where
+  -- the lines of rows in order; the first row has this number
+  abbrev pub row_lines : Kind → Layout → ℕ → List (List ℕ) → List ℕ
+  row_lines kind layout i [] = []
+  row_lines kind layout i (row ∷ rows) =
+      row_line layout i (row_text with_text kind row) ++ row_lines kind layout (i + 1) rows
+
+  -- the element's line, and the lines of its rows
+  abbrev pub value_lines : HeaderValue → Layout → Value → List ℕ
+  value_lines h layout value =
+      element_line layout h.offset h.class h.number (announced_length h.size) value.text
+      ++ row_lines (header_kind h) layout 0 value.rows
+
+  -- the lines of a primitive that is whole
+  abbrev pub whole_lines_with : NameOf → HeaderValue → Layout → List ℕ → List ℕ
+  whole_lines_with name_of h layout octets =
+      value_lines h layout (whole_value with_text name_of (header_kind h) octets)
+
+  -- the lines of a primitive of whose contents these octets have come, and others are still to come: for a long value,
+  -- the lines that are known
+  abbrev pub open_lines_with : HeaderValue → Layout → List ℕ → List ℕ
+  open_lines_with h layout octets =
+      if is_long (header_kind h) (announced_length h.size) && has_line (header_kind h) octets
+      then value_lines h layout (long_value false (header_kind h) (announced_length h.size) octets)
+      else []
+
+-- the lines of a primitive that is whole, without text beside pairs
+abbrev pub whole_lines : NameOf → HeaderValue → Layout → List ℕ → List ℕ
+whole_lines name_of h layout octets = whole_lines_with false name_of h layout octets

@@ -1,7 +1,7 @@
 //! A short look at all of the contents of a primitive.
 ghost use Rattle.std.specs.Prelude.{◌≡◌, ◌||◌, ◌==◌, [], IsTrue, eqb, false, length, nat_le, true};
-ghost use Rattle.tlv_head.specs.UniversalTypes.{bit_string, boolean};
-ghost use Rattle.tlv_value.specs.Checks.{all_contents_findings, is_padded_after, is_padded_integer, last_octet};
+ghost use Rattle.tlv_head.specs.UniversalTypes.{bit_string, boolean, generalized_time, utc_time};
+ghost use Rattle.tlv_value.specs.Checks.{all_contents_findings, has_padded_part, is_padded_integer, last_octet};
 ghost use Rattle.tlv_value.specs.Checks.{type_findings};
 ghost use Rattle.tlv_value.specs.Private.TimeFindings.{generalized_time_findings, utc_time_findings};
 ghost use Rattle.tlv_head.specs.TypeTable.{are_constructed, has_encodings};
@@ -89,6 +89,7 @@ fn is_shortest(contents: &[u8]) -> bool
 
 /// Whether there is a number of unused bits, and there are that many bits, all 0 (8.6.2, 11.2.1).
 #[inline(always)]
+#[tactic(auto, using(crate::proofs::CheckLemmas::LastAndPadded::of_all))]
 fn has_clear_bits(contents: &[u8]) -> bool
     ensures { IsTrue result → type_findings bit_string contents.now ≡ [] }
 {
@@ -102,9 +103,10 @@ fn has_clear_bits(contents: &[u8]) -> bool
 
 /// Whether each subidentifier begins and ends as it has to (8.19.2, 8.20.2).
 #[inline(always)]
+#[tactic(auto, using(crate::proofs::CheckLemmas::LastAndPadded::of_all))]
 fn are_subidentifiers(contents: &[u8]) -> bool
-    ensures unpadded { IsTrue result → is_padded_after 0 contents.now ≡ false }
-    ensures finished { IsTrue result → nat_le 128 (last_octet 0 contents.now) ≡ false }
+    ensures unpadded { IsTrue result → has_padded_part contents.now ≡ false }
+    ensures finished { IsTrue result → nat_le 128 (last_octet contents.now) ≡ false }
 {
     last_octet(0, contents) < 128 && !is_padded_after(0, contents)
 }
@@ -113,7 +115,8 @@ fn are_subidentifiers(contents: &[u8]) -> bool
 #[inline(never)]
 #[tactic(auto, using(crate::proofs::CheckLemmas::NestedForms::utc_clear))]
 fn is_utc_clear(time: &[u8]) -> bool
-    ensures { result ≡ eqb (length (utc_time_findings time.now)) 0 }
+    ensures clear { result ≡ eqb (length (utc_time_findings time.now)) 0 }
+    ensures contents { IsTrue result → type_findings utc_time time.now ≡ [] }
 {
     // A canonical time follows the grammar of its type.
     utc_canonical(time)
@@ -123,7 +126,8 @@ fn is_utc_clear(time: &[u8]) -> bool
 #[inline(never)]
 #[tactic(auto, using(crate::proofs::CheckLemmas::NestedForms::generalized_clear))]
 fn is_generalized_clear(time: &[u8]) -> bool
-    ensures { result ≡ eqb (length (generalized_time_findings time.now)) 0 }
+    ensures clear { result ≡ eqb (length (generalized_time_findings time.now)) 0 }
+    ensures contents { IsTrue result → type_findings generalized_time time.now ≡ [] }
 {
     // A canonical time follows the grammar of its type.
     general_canonical(time)

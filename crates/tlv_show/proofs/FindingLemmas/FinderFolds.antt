@@ -1,6 +1,6 @@
 -- The frame after all elements, and what is found by it with the end of what holds them.
 use Rattle.std.proofs.Common.{◌≡◌, ℕ, ◌+◌, ◌-◌, ◌&&◌, ◌||◌, ◌==◌, not, Bool, true, false, min, if◌then◌else◌, List, []}
-use Rattle.std.proofs.Common.{length, refl, sym, ap, ap₂, ◌∙◌, arith, nat_le}
+use Rattle.std.proofs.Common.{◌∷◌, length, refl, sym, ap, ap₂, ◌∙◌, arith, nat_le}
 use Rattle.std.proofs.Math.Bool.{and_assoc}
 use Rattle.std.proofs.lemmas.Bool.{true≢false}
 use Rattle.std.specs.List.{fold, list_all}
@@ -135,13 +135,27 @@ not-constructed false wraps e = refl
 abbrev value_length_after : ℕ → ℕ → List HeaderValue → ℕ
 value_length_after bits n hs = fold (λ (m : ℕ) (g : HeaderValue). m + (announced_length g.size - bits)) n hs
 
+-- whether the last of the elements is a primitive without contents octets; `empty` says so of the element before them
+abbrev ends_empty_after : Bool → List HeaderValue → Bool
+ends_empty_after empty [] = empty
+ends_empty_after empty (h ∷ hs) = ends_empty_after (is_primitive h && announced_length h.size == 0) hs
+
+last-empty : (empty : Bool) (h : HeaderValue) (hs : List HeaderValue)
+    → ends_empty_after empty (h ∷ hs) ≡ ends_empty (h ∷ hs)
+last-empty empty h [] = refl
+last-empty empty h (g ∷ hs) = last-empty (is_primitive h && announced_length h.size == 0) g hs
+
+all-empty : (hs : List HeaderValue) → ends_empty_after false hs ≡ ends_empty hs
+all-empty [] = refl
+all-empty (h ∷ hs) = last-empty false h hs
+
 record SumsUp (w : HolderFrame) (n : ℕ) (f : Forest) : Type 0 where
   pub segments : (frame_after_segments w f).has_segments ≡ w.has_segments
   pub bits : (frame_after_segments w f).is_bit_string ≡ w.is_bit_string
   pub all : (frame_after_segments w f).all_primitive ≡ (w.all_primitive && list_all is_primitive (headers f))
   pub value_length : (frame_after_segments w f).value_length
       ≡ min (value_length_after (bits_octet_count w.is_bit_string) n (headers f)) 1001
-  pub empty : (frame_after_segments w f).ends_empty ≡ ends_empty w.ends_empty (headers f)
+  pub empty : (frame_after_segments w f).ends_empty ≡ ends_empty_after w.ends_empty (headers f)
 
 and-true : (a : Bool) → a ≡ (a && true)
 and-true true = refl
@@ -173,7 +187,8 @@ sums-up p w n (Primitive h c rest) v e o =
           r.all ∙ and_assoc w.all_primitive true (list_all is_primitive (headers rest))
           ∙ ap (λ (b : Bool). w.all_primitive && (b && list_all is_primitive (headers rest))) (sym k);
       value_length = r.value_length;
-      empty = r.empty ∙ ap (λ (b : Bool). ends_empty (b && announced_length h.size == 0) (headers rest)) (sym k);
+      empty =
+          r.empty ∙ ap (λ (b : Bool). ends_empty_after (b && announced_length h.size == 0) (headers rest)) (sym k);
     }
 sums-up p w n (Holder h inside rest) v e o =
     let d : ℕ = announced_length h.size - bits_octet_count w.is_bit_string in
@@ -206,9 +221,10 @@ segments-summed rules p h inside v e =
     let all : Bool = list_all is_primitive (headers inside) in
     let few : Bool → ℕ → Bool = λ bits octets. nat_le (bits_octet_count bits + octets) 1000 in
     ap₂ (λ (x y : Bool). ends_by rules x w.all_primitive (few y w.value_length) w.ends_empty) r.segments r.bits
-    ∙ ap₂ (λ (x y : Bool). ends_by rules k x (few (k && b) w.value_length) y) r.all r.empty
-    ∙ ap (λ (n : ℕ). ends_by rules k all (few (k && b) n) (ends_empty false (headers inside))) r.value_length
-    ∙ end-by rules k b all (ends_empty false (headers inside)) (λ (n : ℕ). value_length_after n 0 (headers inside))
+    ∙ ap₂ (λ (x y : Bool). ends_by rules k x (few (k && b) w.value_length) y) r.all
+    (r.empty ∙ all-empty (headers inside))
+    ∙ ap (λ (n : ℕ). ends_by rules k all (few (k && b) n) (ends_empty (headers inside))) r.value_length
+    ∙ end-by rules k b all (ends_empty (headers inside)) (λ (n : ℕ). value_length_after n 0 (headers inside))
 
 -- outside of strings nothing is found with an end
 no-ends : (rules : Rules) (w : HolderFrame) → w.has_segments ≡ false → end_findings rules (segments_in w) ≡ []

@@ -8,17 +8,18 @@ use Rattle.std.specs.Str.{is_utf8}
 use Rattle.tlv_head.specs.Header.{HeaderValue, announced_length}
 use Rattle.tlv_head.specs.declared.kind.Kind.TheVariants.{Utf8}
 use Rattle.tlv_value.specs.CheckLaws.{ChecksJoin, FindingsEnd}
-use Rattle.tlv_value.specs.ValueCheckState.{ValueCheckState, new_value_check, value_check_for}
+use Rattle.tlv_value.specs.ValueCheckState.{ValueCheckState, is_padded_after, last_octet_after, new_value_check}
 use Rattle.tlv_value.specs.ValueCheckState.{new_value_check_of, notes_each, notes_first, facts_in, notes_time}
+use Rattle.tlv_value.specs.ValueCheckState.{value_check_for}
 use Rattle.tlv_value.specs.ValueCheckState.{with_each_noted, with_first_noted, with_octets_noted, with_time_noted}
-use Rattle.tlv_value.specs.Checks.{ContentsFacts, allows_octet, findings_by, is_padded_after, last_octet}
-use Rattle.tlv_value.specs.Checks.{type_conditions}
+use Rattle.tlv_value.specs.Checks.{ContentsFacts, allows_octet, findings_by, type_conditions}
 use Rattle.tlv_value.specs.Types.{is_number_of, object_types, type_number}
 use Rattle.tlv_value.specs.Rows.{full_rows, open_row}
 use Rattle.tlv_value.proofs.CheckLemmas.NotedFacts.{noted-same}
 use Rattle.tlv_value.proofs.RowLemmas.OneCut.{rows-join}
 
-last-join : (previous : ℕ) (x y : List ℕ) → last_octet (last_octet previous x) y ≡ last_octet previous (x ++ y)
+last-join : (previous : ℕ) (x y : List ℕ)
+    → last_octet_after (last_octet_after previous x) y ≡ last_octet_after previous (x ++ y)
 last-join previous [] y = refl
 last-join previous (z ∷ x) y = last-join z x y
 
@@ -31,10 +32,11 @@ or-assoc true b c = refl
 or-assoc false b c = refl
 
 padded-join : (previous : ℕ) (x y : List ℕ)
-    → (is_padded_after previous x || is_padded_after (last_octet previous x) y) ≡ is_padded_after previous (x ++ y)
+    → (is_padded_after previous x || is_padded_after (last_octet_after previous x) y)
+    ≡ is_padded_after previous (x ++ y)
 padded-join previous [] y = refl
 padded-join previous (z ∷ x) y =
-    or-assoc (nat_lt previous 128 && eqb z 128) (is_padded_after z x) (is_padded_after (last_octet z x) y)
+    or-assoc (nat_lt previous 128 && eqb z 128) (is_padded_after z x) (is_padded_after (last_octet_after z x) y)
     ∙ ap (λ (b : Bool). (nat_lt previous 128 && eqb z 128) || b) (padded-join z x y)
 
 utf8-join : (rows more : List (List ℕ))
@@ -54,11 +56,12 @@ take-join n prefix x y = take-twice n (prefix ++ x) y ∙ ap (take n) (append_as
 
 padded-at : (b is_padded : Bool) (previous : ℕ) (x y : List ℕ)
     → (if b
-    then (if b then is_padded || is_padded_after previous x else is_padded) || is_padded_after (last_octet previous x) y
+    then (if b then is_padded || is_padded_after previous x else is_padded)
+    || is_padded_after (last_octet_after previous x) y
     else (if b then is_padded || is_padded_after previous x else is_padded))
     ≡ (if b then is_padded || is_padded_after previous (x ++ y) else is_padded)
 padded-at true is_padded previous x y =
-    or-assoc is_padded (is_padded_after previous x) (is_padded_after (last_octet previous x) y)
+    or-assoc is_padded (is_padded_after previous x) (is_padded_after (last_octet_after previous x) y)
     ∙ ap (λ (b : Bool). is_padded || b) (padded-join previous x y)
 padded-at false is_padded previous x y = refl
 
@@ -120,14 +123,15 @@ join-by true e t s x y =
     let l : s.left - length x - length y ≡ s.left - length (x ++ y) = omega (arith, length-append x y) in
     state_with-eq s (s.left - length x - length y) (s.left - length (x ++ y))
     (take 2 (take 2 (s.first_octets ++ x) ++ y))
-    (take 2 (s.first_octets ++ (x ++ y))) (last_octet (last_octet s.last x) y) (last_octet s.last (x ++ y))
+    (take 2 (s.first_octets ++ (x ++ y)))
+    (last_octet_after (last_octet_after s.last x) y) (last_octet_after s.last (x ++ y))
     s.are_octets_allowed s.are_octets_allowed s.is_padded s.is_padded s.are_full_rows_utf8 s.are_full_rows_utf8
     s.row s.row s.time s.time
     l (take-join 2 s.first_octets x y) (last-join s.last x y) refl refl refl refl refl
 join-by false true t s x y =
     let l : s.left - length x - length y ≡ s.left - length (x ++ y) = omega (arith, length-append x y) in
     state_with-eq s (s.left - length x - length y) (s.left - length (x ++ y)) s.first_octets s.first_octets
-    (last_octet (last_octet s.last x) y) (last_octet s.last (x ++ y))
+    (last_octet_after (last_octet_after s.last x) y) (last_octet_after s.last (x ++ y))
     (with_each_noted (with_each_noted s x) y).are_octets_allowed (with_each_noted s (x ++ y)).are_octets_allowed
     (with_each_noted (with_each_noted s x) y).is_padded (with_each_noted s (x ++ y)).is_padded
     (with_each_noted (with_each_noted s x) y).are_full_rows_utf8 (with_each_noted s (x ++ y)).are_full_rows_utf8

@@ -6,8 +6,9 @@ use Rattle.std.specs.List.{list_all}
 use Rattle.std.specs.Prelude.{◌&&◌, ◌||◌, eqb}
 use Rattle.std.proofs.lemmas.Bool.Decides.{nat_tests}
 use Rattle.tlv_value.specs.Types.{is_number_of, object_types}
-use Rattle.tlv_value.specs.ValueCheckState.{ValueCheckState, notes_each, with_each_noted}
-use Rattle.tlv_value.specs.Checks.{allows_octet, is_padded_after, last_octet}
+use Rattle.tlv_value.specs.ValueCheckState.{ValueCheckState, is_padded_after, last_octet_after, notes_each}
+use Rattle.tlv_value.specs.ValueCheckState.{with_each_noted}
+use Rattle.tlv_value.specs.Checks.{allows_octet}
 use Rattle.tlv_head.specs.declared.kind.Kind.TheVariants.{Utf8}
 use Rattle.tlv_value.specs.Rows.{full_rows, open_row}
 use Rattle.tlv_value.proofs.CheckLemmas.Noting.{all-other}
@@ -24,7 +25,7 @@ nothing-noted s octets none =
 
 -- an object identifier
 pub object-noted : (s : ValueCheckState) (octets : List ℕ) → is_number_of object_types s.number ≡ true
-    → record s { is_padded = s.is_padded || is_padded_after s.last octets; last = last_octet s.last octets }
+    → record s { is_padded = s.is_padded || is_padded_after s.last octets; last = last_octet_after s.last octets }
     ≡ with_each_noted s octets
 object-noted s octets object =
     let all : list_all (allows_octet s.number) octets ≡ true =
@@ -40,7 +41,7 @@ pub text-noted : (s : ValueCheckState) (octets : List ℕ) → s.number ≡ 12
           s.are_full_rows_utf8 && list_all is_utf8 (full_rows Utf8 s.row octets);
       row =
           open_row Utf8 s.row octets;
-      last = last_octet s.last octets;
+      last = last_octet_after s.last octets;
     }
     ≡ with_each_noted s octets
 text-noted s octets is_text =
@@ -56,7 +57,7 @@ pub characters-noted : (s : ValueCheckState) (octets : List ℕ) → is_number_o
     → eqb s.number 12 ≡ false
     → record s {
       are_octets_allowed = s.are_octets_allowed && list_all (allows_octet s.number) octets;
-      last = last_octet s.last octets;
+      last = last_octet_after s.last octets;
     }
     ≡ with_each_noted s octets
 characters-noted s octets object text = rw (object, text) refl

@@ -1,6 +1,6 @@
 -- What is found by what was noted of contents is what is found by the whole contents.
 use Rattle.std.proofs.Common.{◌≡◌, ℕ, Bool, true, false, ◌&&◌, ◌||◌, ◌==◌, ◌%◌, ◌^◌, not, eqb, nat_le, nat_lt}
-use Rattle.std.proofs.Common.{if◌then◌else◌, List, [], ◌∷◌, ◌++◌, length, take, refl, sym, ap, ◌∙◌, subst}
+use Rattle.std.proofs.Common.{if◌then◌else◌, List, [], ◌∷◌, ◌++◌, length, take, refl, sym, ap, ap₂, ◌∙◌, subst}
 use Rattle.std.proofs.lemmas.Bool.{eqb-true, leb-true}
 use Rattle.std.proofs.lemmas.List.{take_all}
 use Rattle.std.specs.List.{list_all}
@@ -8,14 +8,15 @@ use Rattle.std.specs.Prelude.{slice_index}
 use Rattle.tlv_value.specs.declared.finding.Finding.{Finding}
 use Rattle.tlv_value.specs.declared.finding.Finding.TheVariants.{B06, B07, B08, B13, B14, B15, B18, B19, S02, S03, S04}
 use Rattle.tlv_value.specs.Checks.{ContentsFacts, allows, allows_octet, are_whole_characters, facts_of, finding_if}
-use Rattle.tlv_value.specs.Checks.{findings_by, is_padded_integer, last_octet, type_conditions, type_findings}
+use Rattle.tlv_value.specs.Checks.{findings_by, is_padded_integer, type_conditions}
 use Rattle.tlv_value.specs.Types.{character_types, is_number_of}
-use Rattle.tlv_value.specs.ValueCheckState.{facts_in, is_allowed, new_value_check_of, notes_each}
-use Rattle.tlv_value.specs.ValueCheckState.{with_each_noted, with_octets_noted}
+use Rattle.tlv_value.specs.ValueCheckState.{facts_in, is_allowed, is_padded_after, last_octet_after}
+use Rattle.tlv_value.specs.ValueCheckState.{new_value_check_of, notes_each, with_each_noted, with_octets_noted}
 use Rattle.tlv_value.specs.Rows.{full_rows, open_row}
 use Rattle.tlv_head.specs.declared.kind.Kind.TheVariants.{Utf8}
 use Rattle.std.specs.Str.{is_utf8}
 use Rattle.tlv_value.proofs.CheckLemmas.EachNoted.{nothing-noted}
+use Rattle.tlv_value.proofs.CheckLemmas.LastAndPadded.{last_of_all, padded_of_all}
 use Rattle.tlv_value.proofs.CheckLemmas.Utf8ByRow.{rows-formed_at}
 use Rattle.tlv_value.specs.Times.{Form, canonical_generalized_time_form, canonical_utc_time_form, generalized_time_form}
 use Rattle.tlv_value.specs.Times.{has_form, utc_time_form}
@@ -24,9 +25,20 @@ use Rattle.tlv_value.specs.Times.{has_form, utc_time_form}
 abbrev pub noted_facts : ℕ → List ℕ → ContentsFacts
 noted_facts number c = facts_in (with_octets_noted (new_value_check_of number (length c)) c)
 
+-- what is known of all contents, with this last octet and this padding
+abbrev facts_with : ℕ → List ℕ → ℕ → Bool → ContentsFacts
+facts_with number c last is_padded = record (facts_of number c) { last = last; is_padded = is_padded }
+
+-- the last octet and the padding as they are kept
+abbrev kept_facts : ℕ → List ℕ → ContentsFacts
+kept_facts number c = facts_with number c (last_octet_after 0 c) (is_padded_after 0 c)
+
+facts-kept : (number : ℕ) (c : List ℕ) → facts_of number c ≡ kept_facts number c
+facts-kept number c = sym (ap₂ (facts_with number c) (last_of_all c) (padded_of_all c))
+
 -- what is found by it is what is found by the whole contents
 abbrev Same : ℕ → List ℕ → Type 0
-Same n c = type_findings n c ≡ findings_by (type_conditions n (noted_facts n c))
+Same n c = findings_by (type_conditions n (kept_facts n c)) ≡ findings_by (type_conditions n (noted_facts n c))
 
 first-noted : (c : List ℕ) → slice_index c 0 ≡ slice_index (take 2 c) 0
 first-noted [] = refl
@@ -55,7 +67,7 @@ bits-same c =
     ap (λ (x : ℕ).
     finding_if (length c == 0) B13
     ++ (finding_if (nat_lt 7 x) B14 ++ (finding_if (length c == 1 && nat_le 1 x && nat_le x 7) B15
-    ++ (finding_if (nat_le 2 (length c) && nat_le x 7 && not (last_octet 0 c % 2 ^ x == 0)) S03 ++ []))))
+    ++ (finding_if (nat_le 2 (length c) && nat_le x 7 && not (last_octet_after 0 c % 2 ^ x == 0)) S03 ++ []))))
     (first-noted c)
 
 -- a time of at most 64 octets is noted as it is
@@ -115,7 +127,7 @@ other-same : (n : ℕ) (c : List ℕ) → eqb n 1 ≡ false → eqb n 2 ≡ fals
     → eqb n 6 ≡ false → eqb n 10 ≡ false → eqb n 13 ≡ false → eqb n 23 ≡ false → eqb n 24 ≡ false
     → Same n c
 other-same n c e1 e2 e3 e5 e6 e10 e13 e23 e24 =
-    other-by n (facts_of n c) e1 e2 e3 e5 e6 e10 e13 e23 e24
+    other-by n (kept_facts n c) e1 e2 e3 e5 e6 e10 e13 e23 e24
     ∙ ap (on_characters n) (sym (other-allowed n c e1 e2 e3 e10 e23 e24))
     ∙ sym (other-by n (noted_facts n c) e1 e2 e3 e5 e6 e10 e13 e23 e24)
 
@@ -167,5 +179,8 @@ from-1 n c true e = by-number n 1 c (boolean-same c) e
 from-1 n c false e = from-2 n c (eqb n 2) refl e
 
 -- of the type with this number
-pub noted-same : (n : ℕ) (c : List ℕ) → Same n c
-noted-same n c = from-1 n c (eqb n 1) refl
+pub noted-same : (n : ℕ) (c : List ℕ)
+    → findings_by (type_conditions n (facts_of n c)) ≡ findings_by (type_conditions n (noted_facts n c))
+noted-same n c =
+    ap (λ (facts : ContentsFacts). findings_by (type_conditions n facts)) (facts-kept n c)
+    ∙ from-1 n c (eqb n 1) refl

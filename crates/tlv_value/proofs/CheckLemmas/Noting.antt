@@ -7,7 +7,8 @@ use Rattle.std.proofs.lemmas.Bool.Decides.{nat_tests}
 use Rattle.std.proofs.Math.Seq.{take-append-add}
 use Rattle.std.proofs.lemmas.List.{drop_more, take_min}
 use Rattle.std.specs.Str.{is_utf8}
-use Rattle.tlv_value.specs.Checks.{allows_octet, is_padded_after, last_octet}
+use Rattle.tlv_value.specs.Checks.{allows_octet}
+use Rattle.tlv_value.specs.ValueCheckState.{is_padded_after, last_octet_after}
 
 allows-other : (number x : ℕ) → (number ≡ 18 → ⊥) → (number ≡ 19 → ⊥) → (number ≡ 22 → ⊥) → (number ≡ 26 → ⊥)
     → allows_octet number x ≡ true
@@ -40,11 +41,12 @@ all-next all next test xs i h e k =
     ∙ ap (λ (l : List ℕ). all && list_all test l) (sym (drop_more xs i 0 h)) ∙ k
 
 -- the last octet
-pub last-at : (previous x : ℕ) (xs : List ℕ) → last_octet previous (x ∷ xs) ≡ get_or (x ∷ xs) (length xs) 0
+pub last-at : (previous x : ℕ) (xs : List ℕ) → last_octet_after previous (x ∷ xs) ≡ get_or (x ∷ xs) (length xs) 0
 last-at previous x [] = refl
 last-at previous x (y ∷ xs) = last-at x y xs
 
-pub last-some : (previous : ℕ) (xs : List ℕ) → 1 ≤ length xs → get_or xs (length xs - 1) 0 ≡ last_octet previous xs
+pub last-some : (previous : ℕ) (xs : List ℕ) → 1 ≤ length xs
+    → get_or xs (length xs - 1) 0 ≡ last_octet_after previous xs
 last-some previous [] h = absurd (omega arith)
 last-some previous (x ∷ xs) h =
     let e : length (x ∷ xs) - 1 ≡ length xs = omega arith in

@@ -1,7 +1,7 @@
 //! What is noted of contents octets while they come.
 ghost use Rattle.std.specs.Prelude.{◌≡◌, ◌++◌, take};
-ghost use Rattle.tlv_value.specs.ValueCheckState.{is_padded_with, notes_each, notes_first, notes_time};
-ghost use Rattle.tlv_value.specs.Checks.{is_padded_after, last_octet};
+ghost use Rattle.tlv_value.specs.ValueCheckState.{is_padded_after, is_padded_with, last_octet_after, notes_each};
+ghost use Rattle.tlv_value.specs.ValueCheckState.{notes_first, notes_time};
 
 use arrayvec::ArrayVec;
 use tlv_head::universal;
@@ -45,7 +45,7 @@ pub(super) fn notes_time(number: u64) -> bool
 
 /// The last of the octets, or `previous` if there are none.
 pub(crate) fn last_octet(previous: u8, octets: &[u8]) -> u8
-    ensures { result ≡ last_octet previous octets.now }
+    ensures { result ≡ last_octet_after previous octets.now }
 {
     match octets {
         [.., last] => *last,

@@ -1,5 +1,5 @@
 use Rattle.std.proofs.Common.{◌≡◌, drop}
-use Rattle.tlv_value.specs.Checks.{is_padded_after}
+use Rattle.tlv_value.specs.ValueCheckState.{is_padded_after}
 use Rattle.tlv_value.proofs.value_check.notes.is_padded_after.Given as goal
 
 abbrev pub invariant-loop-octet : goal.invariant-loop-octet
