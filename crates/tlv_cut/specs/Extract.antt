@@ -1,9 +1,8 @@
 -- What `extract` writes of an input.
 use Rattle.std.specs.Prelude.{ℕ, Bool, false, ◌==◌, if◌then◌else◌, List, [], ◌++◌, Option, Some, None}
 use Rattle.std.specs.Option.{is_some, option_map_or, option_or}
-use Rattle.tlv_head.specs.Header.{octets_of}
 use Rattle.tlv_walk.specs.Forest.{Forest, Holder, NoMore, OpenBitString, OpenHolder, OpenPrimitive, PaddingOctet}
-use Rattle.tlv_walk.specs.Forest.{Primitive, end_octets, is_whole, lead, opening}
+use Rattle.tlv_walk.specs.Forest.{Primitive, is_whole, lead, spelling}
 use Rattle.tlv_walk.specs.declared.framing.Framing.{Framing}
 use Rattle.tlv_walk.specs.Job.{Job}
 use Rattle.tlv_cut.specs.declared.extract_call.Cut.{Cut}
@@ -32,17 +31,20 @@ has_element_at n f = is_some (element_at n f)
 abbrev pub has_whole_element_at : ℕ → Forest → Bool
 has_whole_element_at n f = option_map_or is_whole (element_at n f) false
 
--- 8.1.1.1: the octets of elements so far. The octets of an unfinished header are left out, and so
--- is the first of the end-of-contents octets without the second. Padding belongs to no element
+-- only the elements whose headers are complete. Padding, which belongs to no element, is left out, and so is what is
+-- unfinished at the end: a prefix of a header, or the first of the end-of-contents octets without the second
+abbrev pub elements_only : Forest → Forest
+elements_only (PaddingOctet rest) = elements_only rest
+elements_only (Primitive h c rest) = Primitive h c (elements_only rest)
+elements_only (Holder h children rest) = Holder h (elements_only children) (elements_only rest)
+elements_only (OpenPrimitive h c) = OpenPrimitive h c
+elements_only (OpenHolder h children) = OpenHolder h (elements_only children)
+elements_only (OpenBitString h) = OpenBitString h
+elements_only _ = NoMore
+
+-- 8.1.1.1: the octets of elements so far
 abbrev pub octets_so_far : Forest → List ℕ
-octets_so_far (PaddingOctet rest) = octets_so_far rest
-octets_so_far (Primitive h c rest) = octets_of h ++ (c ++ octets_so_far rest)
-octets_so_far (Holder h children rest) =
-    opening h ++ (octets_so_far children ++ (end_octets h.size ++ octets_so_far rest))
-octets_so_far (OpenPrimitive h c) = octets_of h ++ c
-octets_so_far (OpenHolder h children) = opening h ++ octets_so_far children
-octets_so_far (OpenBitString h) = octets_of h
-octets_so_far _ = []
+octets_so_far f = spelling (elements_only f)
 
 -- 8.1.1.1: the contents octets so far of one element, without its identifier, length and end-of-contents octets. They
 -- include the first contents octet of a BIT STRING that holds encodings

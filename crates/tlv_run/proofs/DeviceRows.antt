@@ -12,6 +12,7 @@ use Rattle.std.specs.Prelude.{◌&&◌}
 use Rattle.tlv_head.specs.declared.fault.FaultCode.TheVariants.{Overrun, Short}
 use Rattle.tlv_show.specs.declared.rules.Rules.TheVariants.{Ber, Der}
 use Rattle.tlv_walk.proofs.GrammarLemmas.Readings.{is-reading, reading, reading-unique}
+use Rattle.tlv_walk.specs.declared.ending.Ending.{Ending}
 use Rattle.tlv_walk.specs.declared.run.DeviceFault.TheVariants.{ReadFailed, WriteFailed}
 use Rattle.tlv_walk.specs.Ending.{IsFinalEnding}
 use Rattle.tlv_walk.specs.Forest.{Forest}
@@ -55,26 +56,26 @@ module _ (command : Command) (b : List ℕ) where
   abbrev Makes : CommandResult → Type 0
   Makes = IsJobResult job (take job.limit b)
 
-  ended-at : (made : CommandResult) (y : Makes made) (r : ReportValue) → length b ≤ job.limit
-      → IsReport job b false y r → r ≡ made.report
-  ended-at made y r few (at_settled_result s) = refl
-  ended-at made y r few (at_source_end f l) = refl
-  ended-at made y r few (read_failed n f l) = absurd (cc (f))
-  ended-at made y r few (too_long n less) = absurd (omega arith)
+  ended-at : (f : Forest) (e : Ending) (r : ReportValue) → length b ≤ job.limit
+      → IsReport job b false f e r → r ≡ job.result f e
+  ended-at f e r few (at_settled_result s) = refl
+  ended-at f e r few (at_source_end t l) = refl
+  ended-at f e r few (read_failed n t l) = absurd (cc (t))
+  ended-at f e r few (too_long n less) = absurd (omega arith)
 
-  settled-at : (fails : Bool) (made : CommandResult) (y : Makes made) (r : ReportValue) → IsSettled y
-      → IsReport job b fails y r → r ≡ made.report
-  settled-at fails made y r s (at_settled_result t) = refl
-  settled-at fails made y r s (at_source_end f l) = refl
-  settled-at fails made y r s (read_failed n f l) = absurd (n s)
-  settled-at fails made y r s (too_long n less) = absurd (n s)
+  settled-at : (fails : Bool) (f : Forest) (e : Ending) (r : ReportValue) → IsSettled job f e
+      → IsReport job b fails f e r → r ≡ job.result f e
+  settled-at fails f e r s (at_settled_result t) = refl
+  settled-at fails f e r s (at_source_end t l) = refl
+  settled-at fails f e r s (read_failed n t l) = absurd (n s)
+  settled-at fails f e r s (too_long n less) = absurd (n s)
 
-  read-failed-at : (made : CommandResult) (y : Makes made) (r : ReportValue) → length b ≤ job.limit
-      → (IsSettled y → ⊥) → IsReport job b true y r → r ≡ device_report ReadFailed
-  read-failed-at made y r few n (at_settled_result s) = absurd (n s)
-  read-failed-at made y r few n (at_source_end f l) = absurd (cc (f))
-  read-failed-at made y r few n (read_failed m f l) = refl
-  read-failed-at made y r few n (too_long m less) = absurd (omega arith)
+  read-failed-at : (f : Forest) (e : Ending) (r : ReportValue) → length b ≤ job.limit
+      → (IsSettled job f e → ⊥) → IsReport job b true f e r → r ≡ device_report ReadFailed
+  read-failed-at f e r few n (at_settled_result s) = absurd (n s)
+  read-failed-at f e r few n (at_source_end t l) = absurd (cc (t))
+  read-failed-at f e r few n (read_failed m t l) = refl
+  read-failed-at f e r few n (too_long m less) = absurd (omega arith)
 
   -- the octets are below 256, and no more than are read; and what is made of them
   module _ (m : CommandResult) (small : list_all (λ x. ltb x 256) b ≡ true) (whole : take job.limit b ≡ b)
@@ -88,6 +89,11 @@ module _ (command : Command) (b : List ℕ) where
         makes_unique job b made (result command b) (subst (λ (o : List ℕ). IsJobResult job o made) whole y)
         (is_result job b are)
         ∙ row
+
+    -- what the job reports of the reading and the ending
+    report-is : (made : CommandResult) (y : Makes made) → job.result y.reading made.ending ≡ m.report
+    report-is made y =
+        sym (ap (λ (n : CommandResult). n.report) y.made_is) ∙ ap (λ (n : CommandResult). n.report) (is-made made y)
 
     output-is : (fails : Bool) (room : ℕ) (w : List ℕ) (r : ReportValue)
         (x : RunsOctets job b fails room (record { written = w; report = r }))
@@ -108,7 +114,7 @@ module _ (command : Command) (b : List ℕ) where
     module _ (room : ℕ) (fits : leb (length m.output) room ≡ true) where
       report-of : (fails : Bool) (w : List ℕ) (r : ReportValue)
           (x : RunsOctets job b fails room (record { written = w; report = r }))
-          → IsReport job b fails x.is_made r
+          → IsReport job b fails x.is_made.reading x.made.ending r
       report-of fails w r x =
           x.with_room
           (subst (λ (n : CommandResult). length n.output ≤ room) (sym (is-made x.made x.is_made))
@@ -118,28 +124,30 @@ module _ (command : Command) (b : List ℕ) where
       to-end : Writes command b false room (take room m.output) m.report
       to-end w r x = (
         output-is false room w r x,
-        ended-at x.made x.is_made r (leb-true (length b) job.limit few) (report-of false w r x)
-            ∙ ap (λ (n : CommandResult). n.report) (is-made x.made x.is_made),
+        ended-at x.is_made.reading x.made.ending r (leb-true (length b) job.limit few) (report-of false w r x)
+            ∙ report-is x.made x.is_made,
       )
 
       -- a read fails, and more octets could count
-      to-failure : ((made : CommandResult) (y : Makes made) → made ≡ m → IsSettled y → ⊥)
+      to-failure : ((f : Forest) → IsSettled job f m.ending → ⊥)
           → Writes command b true room (take room m.output) (device_report ReadFailed)
       to-failure open_ w r x = (
         output-is true room w r x,
-        read-failed-at x.made x.is_made r (leb-true (length b) job.limit few)
-            (open_ x.made x.is_made (is-made x.made x.is_made)) (report-of true w r x),
+        read-failed-at x.is_made.reading x.made.ending r (leb-true (length b) job.limit few)
+            (λ s. open_ x.is_made.reading
+            (subst (λ (n : CommandResult). IsSettled job x.is_made.reading n.ending) (is-made x.made x.is_made) s))
+            (report-of true w r x),
       )
 
       -- a read fails, and no more octets could count
       to-fault : IsFinalEnding m.ending → Writes command b true room (take room m.output) m.report
-      to-fault final w r x =
-          let e = is-made x.made x.is_made in (
-            output-is true room w r x,
-            settled-at true x.made x.is_made r
-                (inr (subst (λ (n : CommandResult). IsFinalEnding n.ending) (sym e) final)) (report-of true w r x)
-                ∙ ap (λ (n : CommandResult). n.report) e,
-          )
+      to-fault final w r x = (
+        output-is true room w r x,
+        settled-at true x.is_made.reading x.made.ending r
+            (inr (subst (λ (n : CommandResult). IsFinalEnding n.ending) (sym (is-made x.made x.is_made)) final))
+            (report-of true w r x)
+            ∙ report-is x.made x.is_made,
+      )
 
       -- a read fails, and nothing more was wanted
       to-enough : job.is_enough (reading job.framing b) ≡ true
@@ -150,19 +158,18 @@ module _ (command : Command) (b : List ℕ) where
           reading-unique job.framing b (reading job.framing b) x.is_made.reading (is-reading job.framing b are)
           read in (
             output-is true room w r x,
-            settled-at true x.made x.is_made r (inl (subst (λ (f : Forest). job.is_enough f ≡ true) same enough))
-                (report-of true w r x)
-                ∙ ap (λ (n : CommandResult). n.report) (is-made x.made x.is_made),
+            settled-at true x.is_made.reading x.made.ending r
+                (inl (subst (λ (f : Forest). job.is_enough f ≡ true) same enough)) (report-of true w r x)
+                ∙ report-is x.made x.is_made,
           )
 
 -- more octets could count: a job that never has enough, at an ending that is not final
-open-yet : (command : Command) (b : List ℕ) (m : CommandResult)
+open-yet : (command : Command) (m : CommandResult)
     → ((f : Forest) → (job_of command).is_enough f ≡ true → ⊥) → (IsFinalEnding m.ending → ⊥)
-    → (made : CommandResult) (y : Makes command b made) → made ≡ m → IsSettled y → ⊥
-open-yet command b m never unfinished made y e s =
-    ⊎_elim (λ (enough : (job_of command).is_enough y.reading ≡ true). never y.reading enough)
-    (λ (final : IsFinalEnding made.ending). unfinished (subst (λ (n : CommandResult). IsFinalEnding n.ending) e final))
-    s
+    → (f : Forest) → IsSettled (job_of command) f m.ending → ⊥
+open-yet command m never unfinished f s =
+    ⊎_elim (λ (enough : (job_of command).is_enough f ≡ true). never f enough)
+    (λ (final : IsFinalEnding m.ending). unfinished final) s
 
 -- ---- rows
 
@@ -201,7 +208,7 @@ null-2 = to-end plain_dump null_element (clean_result null_lines) refl refl refl
 null-3 : Writes plain_dump null_element true 22 null_lines read_failed_report
 null-3 =
     to-failure plain_dump null_element (clean_result null_lines) refl refl refl null-made 22 refl
-    (open-yet plain_dump null_element (clean_result null_lines) never-enough (λ final. final))
+    (open-yet plain_dump (clean_result null_lines) never-enough (λ final. final))
 
 -- an octet too little room, whatever comes after the octets
 null-4 : (fails : Bool) → Writes plain_dump null_element fails 21 (codes "       0      0: NULL") write_failed_report
@@ -234,7 +241,7 @@ unfinished-1 = to-end plain_dump unfinished unfinished_result refl refl refl unf
 unfinished-2 : Writes plain_dump unfinished true 28 sequence_line read_failed_report
 unfinished-2 =
     to-failure plain_dump unfinished unfinished_result refl refl refl unfinished-made 28 refl
-    (open-yet plain_dump unfinished unfinished_result never-enough (λ final. final.1 refl))
+    (open-yet plain_dump unfinished_result never-enough (λ final. final.1 refl))
 
 -- contents that end beyond the bound: the fifth octet is not looked at
 abbrev overrun : List ℕ
@@ -281,7 +288,7 @@ indefinite-made = refl
 indefinite-1 : Writes der_check indefinite true 24 indefinite_lines read_failed_report
 indefinite-1 =
     to-failure der_check indefinite indefinite_result refl refl refl indefinite-made 24 refl
-    (open-yet der_check indefinite indefinite_result (λ f e. absurd (cc (e))) (λ final. final.1 refl))
+    (open-yet der_check indefinite_result (λ f e. absurd (cc (e))) (λ final. final.1 refl))
 
 -- an element that was extracted, whatever follows it
 abbrev first_element : Command

@@ -58,7 +58,7 @@ module _ (job : Job ReportValue) (stays : EnoughStays job)
 
   -- octets that have neither a fault nor enough settle nothing
   want_more-not_settled : (b : List ℕ) (made : CommandResult) → (x : IsJobResult job b made) → WantMore job b
-      → IsSettled x → ⊥
+      → IsSettled job x.reading made.ending → ⊥
   want_more-not_settled b made x s k =
       let same : x.reading ≡ s.0 = reading-unique job.framing b x.reading s.0 x.is_reading s.1.0 in
       let not_enough : job.is_enough x.reading ≡ false = ap job.is_enough same ∙ s.2 in
@@ -83,7 +83,7 @@ module _ (job : Job ReportValue) (stays : EnoughStays job)
 
     -- all was written
     whole : (made : CommandResult) (report : ReportValue) → (x : IsJobResult job limited_octets made)
-        → written ≡ made.output → IsReport job octets read_fails x report → Comes report
+        → written ≡ made.output → IsReport job octets read_fails x.reading made.ending report → Comes report
     whole made report x e s = record {
       made = made;
       is_made = x;
@@ -91,6 +91,14 @@ module _ (job : Job ReportValue) (stays : EnoughStays job)
       with_room = λ _. s;
       without_room = λ less. absurd (omega (arith, fits, ap length e, less));
     }
+
+    -- the report of the result
+    made_report : (made : CommandResult) (report : ReportValue) (x : IsJobResult job limited_octets made)
+        → made.report ≡ report → IsReport job octets read_fails x.reading made.ending (job.result x.reading made.ending)
+        → IsReport job octets read_fails x.reading made.ending report
+    made_report made report x same s =
+        subst (IsReport job octets read_fails x.reading made.ending)
+        (sym (ap (λ (m : CommandResult). m.report) x.made_is) ∙ same) s
 
     -- a prefix was written, which fills the room, and there is more
     short : (made : CommandResult) (rest : List ℕ) → (x : IsJobResult job limited_octets made)
@@ -132,14 +140,13 @@ module _ (job : Job ReportValue) (stays : EnoughStays job)
         let sent : written ≡ m.output = all_sent (job.text x.reading) x.sends in
         let prefix = take_prefix job.limit given left.0 in
         let is : limited_octets ≡ b ++ prefix.0 = ap (take job.limit) left.2 ∙ prefix.1 in
-        let final : IsSettled y → Comes report = λ (z : IsSettled y).
+        let final : IsSettled job x.reading e → Comes report = λ (z : IsSettled job x.reading e).
         let z =
         settled_stays job stays b prefix.0 m (subst AreOctets is (All-take (λ x. x < 256) job.limit octets all)) y
         z in
-        let z' : (z : IsJobResult job limited_octets m) × IsSettled z =
-        subst (λ (o : List ℕ). (z : IsJobResult job o m) × IsSettled z) (sym is) z in
-        whole m report z'.0 sent
-        (subst (λ (s : ReportValue). IsReport job octets read_fails z'.0 s) same (at_settled_result z'.1)) in
+        let z' : (z : IsJobResult job limited_octets m) × IsSettled job z.reading e =
+        subst (λ (o : List ℕ). (z : IsJobResult job o m) × IsSettled job z.reading e) (sym is) z in
+        whole m report z'.0 sent (made_report m report z'.0 same (at_settled_result z'.1)) in
         elim k.3 [
           | inl enough ↦ final (inl enough)
           | inr rest ↦ elim rest [
@@ -159,22 +166,20 @@ module _ (job : Job ReportValue) (stays : EnoughStays job)
                 let z : IsJobResult job limited_octets m =
                 subst (λ (o : List ℕ). IsJobResult job o m) (sym (ap (take job.limit) whole_given)) y in
                 whole m report z sent
-                (subst (λ (s : ReportValue). IsReport job octets read_fails z s) same
-                (at_source_end (ends (x.failures ∙ quiet) end.0) few))
+                (made_report m report z same (at_source_end (ends (x.failures ∙ quiet) end.0) few))
           ]
         ]
 
     -- of octets that settle nothing, all of them or too many, all was written
     unsettled_all : (f : Forest) (report : ReportValue) → IsReading job.framing limited_octets f
         → WantMore job limited_octets → written ≡ job.text f
-        → ((made : CommandResult) → (x : IsJobResult job limited_octets made) → (IsSettled x → ⊥)
-        → IsReport job octets read_fails x report)
+        → ((g : Forest) (e : Ending) → (IsSettled job g e → ⊥) → IsReport job octets read_fails g e report)
         → Comes report
     unsettled_all f report r s sent says =
         let one = one_made job limited_octets (All-take (λ x. x < 256) job.limit octets all) in
         let same : f ≡ one.1.reading = reading-unique job.framing limited_octets f one.1.reading r one.1.is_reading in
         whole one.0 report one.1 (sent ∙ ap job.text same ∙ sym (ap (λ (m : CommandResult). m.output) one.1.made_is))
-        (says one.0 one.1 (want_more-not_settled limited_octets one.0 one.1 s))
+        (says one.1.reading one.0.ending (want_more-not_settled limited_octets one.0 one.1 s))
 
     run_read_failed : Runs job (device_states old from) (device_states new to) (Err ReadFailed)
         → Comes (device_report ReadFailed)
@@ -195,7 +200,7 @@ module _ (job : Job ReportValue) (stays : EnoughStays job)
         (subst (λ (o : List ℕ). IsReading job.framing (take job.limit o) x.reading) (sym is_given) x.is_reading)
         (subst (WantMore job) (sym limited_is) x.wants_more)
         (all_sent (job.text x.reading) x.sends)
-        (λ (made : CommandResult) y apart. read_failed apart after.0 few)
+        (λ (g : Forest) e apart. read_failed apart after.0 few)
 
     run_long : Runs job (device_states old from) (device_states new to) (Err InputTooLong)
         → Comes (device_report InputTooLong)
@@ -211,7 +216,7 @@ module _ (job : Job ReportValue) (stays : EnoughStays job)
         (subst (λ (o : List ℕ). IsReading job.framing o x.reading) (sym is) x.is_reading)
         (subst (WantMore job) (sym is) k.1)
         (all_sent (job.text x.reading) x.sends)
-        (λ (made : CommandResult) y apart. too_long apart more)
+        (λ (g : Forest) e apart. too_long apart more)
 
     run_short : Runs job (device_states old from) (device_states new to) (Err WriteFailed)
         → Comes (device_report WriteFailed)

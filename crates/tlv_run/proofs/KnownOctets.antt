@@ -50,7 +50,7 @@ module _ (job : Job ReportValue) (stays : EnoughStays job) (octets : List ℕ) (
       } in
       let sent : Appends old.drain.octets new.drain.octets m.output =
       sends_appends old.drain new.drain (job.text x.reading) tt x.sends in
-      let final : IsSettled y → GivesReport report = λ (z : IsSettled y).
+      let final : IsSettled job x.reading e → GivesReport report = λ (z : IsSettled job x.reading e).
       let z = settled_stays job stays (take job.limit given) left.0 m (subst AreOctets is all) y z in
       (m, subst (λ (o : List ℕ). IsJobResult job o m) (sym is) z.0, sent, k.1) in
       elim k.3 [

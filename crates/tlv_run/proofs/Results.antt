@@ -91,7 +91,8 @@ module _ (job : Job ReportValue) where
       → (job.is_enough g ≡ true) × ((e : Ending) → command_result job g e ≡ command_result job f e)
 
   pub settled_stays : EnoughStays → (b c : List ℕ) (made : CommandResult) → AreOctets (b ++ c)
-      → (x : IsJobResult job b made) → IsSettled x → (y : IsJobResult job (b ++ c) made) × IsSettled y
+      → (x : IsJobResult job b made) → IsSettled job x.reading made.ending
+      → (y : IsJobResult job (b ++ c) made) × IsSettled job y.reading made.ending
   settled_stays stays b c made octets x s = elim s [
     | inl enough ↦
         let g : Forest = reading job.framing (b ++ c) in

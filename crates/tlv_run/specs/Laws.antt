@@ -25,7 +25,8 @@ InputsHaveOneResult =
 abbrev pub SettledResultsStay : Type 0
 SettledResultsStay =
     (command : Command) (names : NamesValue) (b c : List ℕ) (made : CommandResult) → AreOctets (b ++ c)
-    → (x : IsCommandResult command names b made) → IsSettled x → IsCommandResult command names (b ++ c) made
+    → (x : IsCommandResult command names b made) → IsSettled (command_job command names) x.reading made.ending
+    → IsCommandResult command names (b ++ c) made
 
 -- what is written for an input of at most 2^40 octets begins with what is written for a prefix of the input
 abbrev pub OutputsGoOn : Type 0

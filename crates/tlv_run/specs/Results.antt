@@ -55,5 +55,5 @@ abbrev pub IsCommandResult : Command → NamesValue → List ℕ → CommandResu
 IsCommandResult command names = IsJobResult (command_job command names)
 
 -- nothing that could follow the octets matters: an octet is refused, or nothing more is wanted
-abbrev pub IsSettled : {job : Job ReportValue} {b : List ℕ} {made : CommandResult} → IsJobResult job b made → Type 0
-IsSettled {job} {b} {made} x = (job.is_enough x.reading ≡ true) ⊎ IsFinalEnding made.ending
+abbrev pub IsSettled : Job ReportValue → Forest → Ending → Type 0
+IsSettled job f e = (job.is_enough f ≡ true) ⊎ IsFinalEnding e

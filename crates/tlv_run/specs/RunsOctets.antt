@@ -1,6 +1,8 @@
 -- The result of a run over octets in memory.
 use Rattle.std.specs.Prelude.{◌≡◌, ℕ, ◌<◌, ◌≤◌, Bool, true, false, List, length, take}
+use Rattle.tlv_walk.specs.declared.ending.Ending.{Ending}
 use Rattle.tlv_walk.specs.declared.run.DeviceFault.TheVariants.{ReadFailed, WriteFailed, InputTooLong}
+use Rattle.tlv_walk.specs.Forest.{Forest}
 use Rattle.tlv_walk.specs.Job.{Job}
 use Rattle.tlv_run.specs.declared.run_octets_call.OctetsRun.{OctetsRun}
 use Rattle.tlv_run.specs.Report.{ReportValue, device_report, report_value_of}
@@ -16,24 +18,23 @@ octets_run_value_of run = record { written = run.written.items; report = report_
 
 -- the job, all the octets, and whether a read fails after them
 module _ (job : Job ReportValue) (octets : List ℕ) (read_fails : Bool) where
-  -- what is reported if there was room for all of the output, by what comes after the octets that are read, one line
-  -- for each cause
-  pub data IsReport {made : CommandResult} (x : IsJobResult job (take job.limit octets) made)
-      : ReportValue → Type 0 where
+  -- what is reported if there was room for all of the output, given the reading of the octets that are read, and their
+  -- ending: by what comes after these octets, one line for each cause
+  pub data IsReport (f : Forest) (e : Ending) : ReportValue → Type 0 where
     -- nothing that could follow matters
-    at_settled_result : IsSettled x → IsReport x made.report
+    at_settled_result : IsSettled job f e → IsReport f e (job.result f e)
     -- the input ends with the octets
-    at_source_end : read_fails ≡ false → length octets ≤ job.limit → IsReport x made.report
+    at_source_end : read_fails ≡ false → length octets ≤ job.limit → IsReport f e (job.result f e)
     -- a read failed after the octets
-    read_failed : (IsSettled x → ⊥) → read_fails ≡ true → length octets ≤ job.limit
-        → IsReport x (device_report ReadFailed)
+    read_failed : (IsSettled job f e → ⊥) → read_fails ≡ true → length octets ≤ job.limit
+        → IsReport f e (device_report ReadFailed)
     -- there are too many octets
-    too_long : (IsSettled x → ⊥) → job.limit < length octets → IsReport x (device_report InputTooLong)
+    too_long : (IsSettled job f e → ⊥) → job.limit < length octets → IsReport f e (device_report InputTooLong)
 
   -- what was written, into this much room, and what is reported
   pub record RunsOctets (room : ℕ) (run : OctetsRunValue) : Type 0 where
     pub made : CommandResult
     pub is_made : IsJobResult job (take job.limit octets) made
     pub written_is : run.written ≡ take room made.output
-    pub with_room : length made.output ≤ room → IsReport is_made run.report
+    pub with_room : length made.output ≤ room → IsReport is_made.reading made.ending run.report
     pub without_room : room < length made.output → run.report ≡ device_report WriteFailed
