@@ -1,5 +1,5 @@
 -- Sound elements at another place, and where octets that begin with them break.
-use Rattle.std.proofs.Common.{◌≡◌, ℕ, ◌+◌, ◌≤◌, Bool, false, true, List, [], ◌∷◌, ◌++◌, length, ap, refl}
+use Rattle.std.proofs.Common.{◌≡◌, ℕ, ◌+◌, ◌≤◌, false, true, List, [], ◌∷◌, ◌++◌, length, ap, refl}
 use Rattle.std.proofs.Common.{◌∙◌, sym, subst, arith, IfSome}
 use Rattle.tlv_head.specs.declared.fault.FaultCode.TheVariants.{StrayEnd}
 use Rattle.tlv_head.specs.Header.{HeaderValue, definite_length, octets_of}
@@ -37,16 +37,14 @@ loose-inside p q h k a = record {
 header-at : Place → HeaderValue → HeaderValue
 header-at q h = record h { offset = q.offset }
 
-header-loose : (p q : Place) (holding : Bool) (h : HeaderValue) → AreLoose p q → IsHeaderAt p holding h
-    → IsHeaderAt q holding (header-at q h)
+header-loose : (p q : Place) (h : HeaderValue) → AreLoose p q → IsHeaderAt p h → IsHeaderAt q (header-at q h)
 unfolding header-at
-header-loose p q holding h a k =
+header-loose p q h a k =
     let named : h.named ≡ false = rw a.named at k.named in
     record {
       valid = record { identifier = k.valid.identifier; lengths = k.valid.lengths; allowed = k.valid.allowed };
       offset = refl;
       named = rw a.unnamed named;
-      form = k.form;
     }
 
 -- the same elements at another place
@@ -65,7 +63,7 @@ move p q (Primitive h c rest) a s =
     move (place_after p n) (place_after q n) rest (loose-after p q n n a) s.2 in
     record {
       forest = Primitive (header-at q h) c r.forest;
-      sound = (header-loose p q false h a s.0, s.1, r.sound);
+      sound = ((header-loose p q h a s.0.0, s.0.1), s.1, r.sound);
       spelled = ap (λ (o : List ℕ). octets_of h ++ (c ++ o)) r.spelled;
     }
 move p q (Holder h children rest) a s =
@@ -79,7 +77,7 @@ move p q (Holder h children rest) a s =
     record {
       forest = Holder k i.forest r.forest;
       sound = (
-        header-loose p q true h a s.0,
+        (header-loose p q h a s.0.0, s.0.1),
         subst (λ (o : List ℕ). IfSome (definite_length h.size) (λ n. length (lead h) + length o ≡ n)) (sym i.spelled)
             s.1,
         omega (arith, s.2, a.depth),

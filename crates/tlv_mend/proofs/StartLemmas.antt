@@ -1,5 +1,5 @@
 -- The first of sound elements with which octets begin.
-use Rattle.std.proofs.Common.{◌≡◌, ℕ, ◌+◌, ◌≤◌, Bool, false, true, List, [], ◌∷◌, ◌++◌, length, drop, take, ap, refl}
+use Rattle.std.proofs.Common.{◌≡◌, ℕ, ◌+◌, ◌≤◌, false, true, List, [], ◌∷◌, ◌++◌, length, drop, take, ap, refl}
 use Rattle.std.proofs.Common.{◌∙◌, inl, inr, sym, subst, append_assoc, arith, length-append, take-append-drop, IfSome}
 use Rattle.std.specs.Option.{option_map_or}
 use Rattle.std.specs.Prelude.{Option, Some, None, ◌⊎◌}
@@ -54,10 +54,10 @@ module _ (octets : List ℕ) (fields : HeaderFields) (count : ℕ) (b : BeginsWi
   count-is : length (octets_of (new_header fields (take count octets))) ≡ count
   count-is = ap length (take-append-drop fields.id_len (take count octets)) ∙ length-take-le count octets b.within
 
-  header-is : (holding : Bool) (h : HeaderValue) (tail : List ℕ)
-      → IsHeaderAt (top_place (closed_framing false)) holding h
+  header-is : (h : HeaderValue) (tail : List ℕ)
+      → IsHeaderAt (top_place (closed_framing false)) h
       → octets_of h ++ tail ≡ octets → (length (octets_of h) ≡ count) × (h.size ≡ fields.size)
-  header-is holding h tail k e =
+  header-is h tail k e =
       let same : h ≡ new_header fields (take count octets) =
       begun-one h (new_header fields (take count octets))
       (record { valid = k.valid; offset = k.offset; named = k.named; rest = tail; octets_are = sym e }) b.begins in
@@ -69,7 +69,7 @@ module _ (octets : List ℕ) (fields : HeaderFields) (count : ℕ) (b : BeginsWi
   by_size h children others (Definite n) z s c e =
       let e' : octets_of h ++ (spelling children ++ others) ≡ octets =
       ap (λ (x : Size). octets_of h ++ (spelling children ++ (end_octets x ++ others))) (sym z) ∙ e in
-      let i = header-is true h (spelling children ++ others) s.0 e' in
+      let i = header-is h (spelling children ++ others) s.0.0 e' in
       let a = after-header octets (octets_of h) (spelling children) others count i.0 e' in
       let none : lead h ≡ [] = lead-none h c in
       let long : IfSome (definite_length (Definite n)) (λ m. length (lead h) + length (spelling children) ≡ m) =
@@ -89,7 +89,7 @@ module _ (octets : List ℕ) (fields : HeaderFields) (count : ℕ) (b : BeginsWi
       let e' : octets_of h ++ ((contents ++ 0 ∷ 0 ∷ []) ++ others) ≡ octets =
       ap (λ (o : List ℕ). octets_of h ++ o) (append_assoc contents (0 ∷ 0 ∷ []) others)
       ∙ ap (λ (x : Size). octets_of h ++ (contents ++ (end_octets x ++ others))) (sym z) ∙ e in
-      let i = header-is true h ((contents ++ 0 ∷ 0 ∷ []) ++ others) s.0 e' in
+      let i = header-is h ((contents ++ 0 ∷ 0 ∷ []) ++ others) s.0.0 e' in
       let a = after-header octets (octets_of h) (contents ++ 0 ∷ 0 ∷ []) others count i.0 e' in
       let none : lead h ≡ [] = lead-none h c in
       let m : length (contents ++ 0 ∷ 0 ∷ []) ≡ length contents + 2 = length-append contents (0 ∷ 0 ∷ []) in
@@ -115,7 +115,7 @@ module _ (octets : List ℕ) (fields : HeaderFields) (count : ℕ) (b : BeginsWi
       let e' : octets_of h ++ (c ++ (spelling more ++ rest)) ≡ octets =
       sym (append_assoc (octets_of h) (c ++ spelling more) rest
       ∙ ap (λ (o : List ℕ). octets_of h ++ o) (append_assoc c (spelling more) rest)) ∙ e in
-      let i = header-is false h (c ++ (spelling more ++ rest)) s.0 e' in
+      let i = header-is h (c ++ (spelling more ++ rest)) s.0.0 e' in
       let a = after-header octets (octets_of h) c (spelling more ++ rest) count i.0 e' in
       of_definite (length c) (sym i.1 ∙ s.1) a.2
       (record {
@@ -126,7 +126,7 @@ module _ (octets : List ℕ) (fields : HeaderFields) (count : ℕ) (b : BeginsWi
       })
   by_forest (Holder h children more) rest s t e =
       let c : h.constructed ≡ true =
-      sym (unnamed-holds h.constructed h.named h.class h.number h.size s.0.named) ∙ s.0.form in
+      sym (unnamed-holds h.constructed h.named h.class h.number h.size s.0.0.named) ∙ s.0.1 in
       let o : opening h ≡ octets_of h =
       ap (λ (x : List ℕ). octets_of h ++ x) (lead-none h c) ∙ append-nil (octets_of h) in
       let e' : octets_of h ++ (spelling children ++ (end_octets h.size ++ (spelling more ++ rest))) ≡ octets =
@@ -153,10 +153,10 @@ encodings-headed : (f : Forest) (rest octets : List ℕ) → IsSound (top_place 
 encodings-headed NoMore rest octets s t e none = cc
 encodings-headed (PaddingOctet more) rest octets s t e none = let x : false ≡ true = s.0 in cc
 encodings-headed (Primitive h c more) rest octets s t e none =
-    none h ((c ++ spelling more) ++ rest) s.0.valid (sym e ∙ append_assoc (octets_of h) (c ++ spelling more) rest)
+    none h ((c ++ spelling more) ++ rest) s.0.0.valid (sym e ∙ append_assoc (octets_of h) (c ++ spelling more) rest)
 encodings-headed (Holder h children more) rest octets s t e none =
     let others : List ℕ = spelling children ++ (end_octets h.size ++ spelling more) in
-    none h ((lead h ++ others) ++ rest) s.0.valid
+    none h ((lead h ++ others) ++ rest) s.0.0.valid
     (sym e ∙ ap (λ (x : List ℕ). x ++ rest) (append_assoc (octets_of h) (lead h) others)
     ∙ append_assoc (octets_of h) (lead h ++ others) rest)
 encodings-headed (OpenPrimitive h c) rest octets s t e none = s

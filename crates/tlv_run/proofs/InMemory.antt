@@ -8,7 +8,7 @@ use Rattle.std.proofs.lemmas.List.{length-take, nil_from_length, take-append-le,
 use Rattle.std.proofs.Math.Seq.{take-append_seam}
 use Rattle.std.specs.Prelude.{Some, Result, Ok, Err, ⊤}
 use Rattle.std.specs.Io.KnownBytes.{IsAtEnd}
-use Rattle.tlv_walk.proofs.FollowerLemmas.Enough.{comes_to-result}
+use Rattle.tlv_walk.proofs.FollowerLemmas.Enough.{comes_to-result, ends_as_octets}
 use Rattle.tlv_walk.proofs.GrammarLemmas.Endings.{IsRefused, fault-halt}
 use Rattle.tlv_io.proofs.Puts.{more_left}
 use Rattle.tlv_io.proofs.Sends.{sends_appends}
@@ -23,7 +23,7 @@ use Rattle.tlv_io.specs.Device.{DrainState, SourceState, gave, next_count}
 use Rattle.tlv_io.specs.Device.{octets_given}
 use Rattle.tlv_walk.specs.Ending.{IsEnding, IsFinalEnding}
 use Rattle.tlv_walk.specs.Forest.{Forest, spelling}
-use Rattle.tlv_walk.specs.Job.{EndsWith, Job, Runs, WantMore, device_states}
+use Rattle.tlv_walk.specs.Job.{Job, Runs, WantMore, device_states}
 use Rattle.tlv_io.specs.Out.{Sends}
 use Rattle.tlv_walk.specs.Reading.{AreOctets, IsPrefixOf, IsReading}
 use Rattle.tlv_run.proofs.Results.{EnoughStays, one_made, settled_stays}
@@ -66,7 +66,7 @@ module _ (job : Job ReportValue) (stays : EnoughStays job)
         | inl enough ↦ true≢false (sym enough ∙ not_enough)
         | inr final ↦
             let ends : IsEnding job.framing b made.ending =
-            subst (λ (k : Bool). EndsWith job.framing b k made.ending) not_enough x.ends in
+            ends_as_octets job.framing b _ made.ending x.ends not_enough in
             spelled_on job.framing b s.0 made.ending s.1.0 s.1.1 ends final
       ]
 

@@ -9,6 +9,7 @@ use Rattle.tlv_cut.specs.Extract.{extract_text, has_element_at}
 use Rattle.tlv_cut.specs.Indef.{indef_framing, indef_reading, indef_text}
 use Rattle.tlv_show.proofs.DumpLemmas.LongerInputs.{checks_on, dumps_on}
 use Rattle.tlv_value.specs.Names.{NamesValue}
+use Rattle.tlv_walk.proofs.FollowerLemmas.Enough.{ends_as_octets, ends_done}
 use Rattle.tlv_walk.proofs.GrammarLemmas.Endings.{ending, is-ending}
 use Rattle.tlv_walk.proofs.GrammarLemmas.Readings.{is-reading, reading, reading-unique}
 use Rattle.tlv_walk.proofs.GrammarLemmas.OneEnding.{ending-unique, refused-for-good}
@@ -17,7 +18,7 @@ use Rattle.tlv_walk.specs.declared.ending.Ending.TheVariants as ending
 use Rattle.tlv_walk.specs.declared.framing.Framing.{Framing}
 use Rattle.tlv_walk.specs.Ending.{IsEnding, IsFinalEnding}
 use Rattle.tlv_walk.specs.Forest.{Forest}
-use Rattle.tlv_walk.specs.Job.{EndsWith, Job}
+use Rattle.tlv_walk.specs.Job.{EndsWith, Job, at_end, with_enough}
 use Rattle.tlv_walk.specs.Reading.{AreOctets, IsPrefixOf, IsReading}
 use Rattle.tlv_run.specs.Laws.{InputsHaveOneResult, OutputsGoOn, SecondIndefIsTheFirst, SettledResultsStay}
 use Rattle.tlv_run.specs.Report.{ReportValue, cut_report, indef_report}
@@ -32,22 +33,24 @@ end_of framing b true = ending.Done
 end_of framing b false = ending framing b
 
 is_end : (framing : Framing) (b : List ℕ) → AreOctets b → (k : Bool) → EndsWith framing b k (end_of framing b k)
-is_end framing b octets true = refl
-is_end framing b octets false = is-ending framing b octets
+is_end framing b octets true = with_enough refl
+is_end framing b octets false = at_end _ refl (is-ending framing b octets)
 
 end_unique : (framing : Framing) (b : List ℕ) (k : Bool) (e d : Ending) → EndsWith framing b k e
     → EndsWith framing b k d → e ≡ d
-end_unique framing b true e d x y = x ∙ sym y
-end_unique framing b false e d x y = ending-unique framing b e d x y
+end_unique framing b k e d (with_enough i) (with_enough j) = refl
+end_unique framing b k e d (with_enough i) (at_end _ j y) = absurd (true≢false (sym i ∙ j))
+end_unique framing b k e d (at_end _ i x) (with_enough j) = absurd (true≢false (sym j ∙ i))
+end_unique framing b k e d (at_end _ i x) (at_end _ j y) = ending-unique framing b e d x y
 
 -- an octet that is refused is so whatever follows
 final_stays : (framing : Framing) (b c : List ℕ) (f : Forest) (k : Bool) (e : Ending) → IsFinalEnding e
     → IsReading framing b f → EndsWith framing b k e
     → IsReading framing (b ++ c) f × EndsWith framing (b ++ c) k e
-final_stays framing b c f true e final r x = absurd (subst IsFinalEnding x final)
-final_stays framing b c f false ending.Done final r x = absurd final
-final_stays framing b c f false (ending.Fault k) final r x =
-    refused-for-good framing b c k.code k.offset f final.0 final.1 x r
+final_stays framing b c f enough e final r (with_enough i) = absurd final
+final_stays framing b c f enough ending.Done final r (at_end _ i x) = absurd final
+final_stays framing b c f enough (ending.Fault k) final r (at_end _ i x) =
+    let both = refused-for-good framing b c k.code k.offset f final.0 final.1 x r in (both.0, at_end _ i both.1)
 
 -- ---- any job
 
@@ -99,11 +102,11 @@ module _ (job : Job ReportValue) where
         let r : IsReading job.framing (b ++ c) g = is-reading job.framing (b ++ c) octets in
         let both = stays b c x.reading g x.is_reading r enough in
         let done : made.ending ≡ ending.Done =
-        subst (λ (k : Bool). EndsWith job.framing b k made.ending) enough x.ends in (
+        ends_done job.framing b _ made.ending x.ends enough in (
           record {
             reading = g;
             is_reading = r;
-            ends = subst (λ (k : Bool). EndsWith job.framing (b ++ c) k made.ending) (sym both.0) done;
+            ends = subst (EndsWith job.framing (b ++ c) _) (sym done) (with_enough both.0);
             made_is = x.made_is ∙ sym (both.1 made.ending);
           },
           inl both.0,
@@ -185,11 +188,13 @@ second_indef padding file names b m n x y =
       output,
       λ (done : m.ending ≡ ending.Done).
           let e : IsEnding (indef_framing padding) b ending.Done =
-          subst (IsEnding (indef_framing padding) b) done x.ends in
+          subst (IsEnding (indef_framing padding) b) done
+          (ends_as_octets (indef_framing padding) b false m.ending x.ends refl) in
           let d : IsEnding (indef_framing padding) (indef_text x.reading) ending.Done =
           indef_text_is_done padding b x.reading x.is_reading e in
           let d' : IsEnding (indef_framing padding) (indef_text x.reading) n.ending =
-          subst (λ (o : List ℕ). IsEnding (indef_framing padding) o n.ending) first y.ends in
+          ends_as_octets (indef_framing padding) (indef_text x.reading) false n.ending
+          (subst (λ (o : List ℕ). EndsWith (indef_framing padding) o false n.ending) first y.ends) refl in
           let end : n.ending ≡ m.ending =
           ending-unique (indef_framing padding) (indef_text x.reading) n.ending ending.Done d' d ∙ sym done in
           y.made_is ∙ ap (λ (e : Ending). command_result job y.reading e) end

@@ -5,13 +5,13 @@ use Rattle.tlv_cut.specs.Extract.{has_element_at}
 use Rattle.tlv_show.specs.declared.outcome.Outcome.{Outcome}
 use Rattle.tlv_show.specs.ShowJob.{check_job, dump_job}
 use Rattle.tlv_value.specs.Names.{NamesValue}
+use Rattle.tlv_walk.proofs.FollowerLemmas.Enough.{ends_as_octets}
 use Rattle.tlv_walk.proofs.GrammarLemmas.Endings.{done-sound, sound-done}
 use Rattle.tlv_walk.proofs.GrammarLemmas.OneEnding.{ending-unique}
 use Rattle.tlv_walk.specs.declared.ending.Ending.{Ending}
 use Rattle.tlv_walk.specs.declared.ending.Ending.TheVariants as ending
 use Rattle.tlv_walk.specs.Ending.{IsEnding}
 use Rattle.tlv_walk.specs.Forest.{Forest}
-use Rattle.tlv_walk.specs.Job.{EndsWith}
 use Rattle.tlv_run.specs.Laws.{StatusesShowSoundness}
 use Rattle.tlv_run.specs.Report.{clean_report, findings_report, found_report, unused_report, report_with}
 use Rattle.tlv_run.specs.Results.{CommandResult, command_job}
@@ -55,7 +55,7 @@ pub statuses_show_soundness : StatusesShowSoundness
 statuses_show_soundness command names b made x open_ =
     let job = command_job command names in
     let ends : IsEnding job.framing b made.ending =
-    subst (λ (k : Bool). EndsWith job.framing b k made.ending) open_ x.ends in
+    ends_as_octets job.framing b _ made.ending x.ends open_ in
     let status : made.report.status ≡ (job.result x.reading made.ending).status =
     ap (λ (m : CommandResult). m.report.status) x.made_is in (
       λ two sound. done_quiet command names x.reading

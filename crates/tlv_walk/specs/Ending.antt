@@ -5,7 +5,7 @@ use Rattle.tlv_head.specs.declared.fault.Fault.{Fault}
 use Rattle.tlv_head.specs.declared.fault.FaultCode.{FaultCode}
 use Rattle.tlv_head.specs.declared.fault.FaultCode.TheVariants.{Empty, Short, StrayEnd, BadEnd, MissingEnd}
 use Rattle.tlv_head.specs.declared.fault.FaultCode.TheVariants.{TooDeep, Overrun, BadInside}
-use Rattle.tlv_head.specs.Header.{HeaderValue, announced_length, holds, octets_of}
+use Rattle.tlv_head.specs.Header.{HeaderValue, holds, octets_of}
 use Rattle.tlv_head.specs.Refusal.{IsRefusedOctet}
 use Rattle.tlv_walk.specs.declared.framing.Framing.{Framing}
 use Rattle.tlv_walk.specs.declared.ending.Ending.{Ending}
@@ -14,7 +14,7 @@ use Rattle.tlv_walk.specs.declared.ending.Ending.TheVariants as ending
 use Rattle.tlv_walk.specs.Forest.{Forest, NoMore, PaddingOctet, Primitive, Holder, OpenHolder, OpenBitString}
 use Rattle.tlv_walk.specs.Forest.{OpenHeader, OpenEndOctets, extent, has_element, is_whole}
 use Rattle.tlv_walk.specs.Forest.{primitive_extent, spelling}
-use Rattle.tlv_walk.specs.Place.{Fits, IsHeaderAt, Place, place_after, place_of_children, top_place}
+use Rattle.tlv_walk.specs.Place.{Fits, IsHeaderAt, Place, announced_extent, place_after, place_of_children, top_place}
 use Rattle.tlv_walk.specs.Reading.{CannotBecomeSound, IsReading, IsSoundList, ReadsAll}
 
 -- an open end of a forest: where it begins, and what is there: nothing between encodings (`NoMore`), or an incomplete
@@ -49,12 +49,13 @@ pub data IsRefusedAt : OpenEnd → ℕ → FaultCode → Type 0 where
   refused_octet : {x : ℕ} {p : Place} {o : List ℕ} {code : FaultCode} → Fits p (length o + 1) → IsRefusedOctet o x code
       → IsRefusedAt (end_at p (OpenHeader o)) x code
   -- a limit of our own: x completes the header of an element that holds others, inside `depth_limit` such elements
-  too_deep : {x : ℕ} {p : Place} {o : List ℕ} → Fits p (length o + 1) → (h : HeaderValue) → IsHeaderAt p true h
-      → octets_of h ≡ o ++ x ∷ [] → depth_limit ≤ p.depth → IsRefusedAt (end_at p (OpenHeader o)) x TooDeep
+  too_deep : {x : ℕ} {p : Place} {o : List ℕ} → Fits p (length o + 1) → (h : HeaderValue) → IsHeaderAt p h
+      → holds h ≡ true → octets_of h ≡ o ++ x ∷ [] → depth_limit ≤ p.depth
+      → IsRefusedAt (end_at p (OpenHeader o)) x TooDeep
   -- 8.1.3.3: x completes a header whose contents end beyond the bound
-  overrun : {x : ℕ} {p : Place} {o : List ℕ} → Fits p (length o + 1) → (h : HeaderValue) → IsHeaderAt p (holds h) h
+  overrun : {x : ℕ} {p : Place} {o : List ℕ} → Fits p (length o + 1) → (h : HeaderValue) → IsHeaderAt p h
       → octets_of h ≡ o ++ x ∷ [] → (holds h ≡ true → p.depth < depth_limit)
-      → (Fits p (length (octets_of h) + announced_length h.size) → ⊥) → IsRefusedAt (end_at p (OpenHeader o)) x Overrun
+      → (Fits p (announced_extent h) → ⊥) → IsRefusedAt (end_at p (OpenHeader o)) x Overrun
   -- 8.1.5: no end-of-contents octets before the bound
   no_end : {x : ℕ} {p : Place} → p.indefinite ≡ true → (Fits p 1 → ⊥) → IsRefusedAt (end_at p NoMore) x MissingEnd
   -- 8.1.5: 00 where neither end-of-contents octets nor padding are allowed

@@ -45,10 +45,10 @@ module _ {A : Type 0} where
   drain_result (Err WriteFailed) = Err WriteFailed
   drain_result result = Ok tt
 
--- the ending: `Done` if there was enough, otherwise the ending of the octets
-abbrev pub EndsWith : Framing → List ℕ → Bool → Ending → Type 0
-EndsWith framing octets true e = e ≡ ending.Done
-EndsWith framing octets false e = IsEnding framing octets e
+-- the ending of octets in a job, by whether there was enough: `Done` if so, otherwise the ending of the octets
+pub data EndsWith (framing : Framing) (octets : List ℕ) (is_enough : Bool) : Ending → Type 0 where
+  with_enough : is_enough ≡ true → EndsWith framing octets is_enough ending.Done
+  at_end : (e : Ending) → is_enough ≡ false → IsEnding framing octets e → EndsWith framing octets is_enough e
 
 module _ {A : Type 0} (job : Job A) where
   -- the given octets that are read as encodings: no more than the limit

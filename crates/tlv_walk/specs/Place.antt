@@ -71,23 +71,29 @@ IsWithin bound offset = IfSome bound (λ b. offset ≤ b)
 abbrev pub Fits : Place → ℕ → Type 0
 Fits p n = IsWithin p.bound (p.offset + n)
 
--- 8.1.2, 8.1.3: the header of an element is there; `holding` says whether the element holds others
-pub record IsHeaderAt (p : Place) (holding : Bool) (h : HeaderValue) : Type 0 where
+-- 8.1.2, 8.1.3: the header of an element is there
+pub record IsHeaderAt (p : Place) (h : HeaderValue) : Type 0 where
   pub valid : IsHeader h
   pub offset : h.offset ≡ p.offset
   pub named : h.named ≡ is_among p.offset p.inside
-  pub form : holds h ≡ holding
 
--- 8.1.4: an element is there, and n octets of it end within the bound; if it holds others, it is inside fewer than
--- `depth_limit` such elements, a limit of our own
-pub record IsElementAt (p : Place) (holding : Bool) (h : HeaderValue) (n : ℕ) : Type 0 where
-  pub header : IsHeaderAt p holding h
-  pub shallow : holding ≡ true → p.depth < depth_limit
+-- 8.1.4: a primitive is there that holds no encodings, and n octets of it end within the bound
+pub record IsPrimitiveAt (p : Place) (h : HeaderValue) (n : ℕ) : Type 0 where
+  pub header : IsHeaderAt p h
+  pub form : holds h ≡ false
   pub fits : Fits p n
 
--- 8.1.3.3: the same for its header and all the contents octets that it announces
-abbrev pub IsAnnouncedAt : Place → Bool → HeaderValue → Type 0
-IsAnnouncedAt p holding h = IsElementAt p holding h (length (octets_of h) + announced_length h.size)
+-- 8.1.4: an element that holds encodings is there, and n octets of it end within the bound. It is inside fewer than
+-- `depth_limit` such elements, a limit of our own
+pub record IsHolderAt (p : Place) (h : HeaderValue) (n : ℕ) : Type 0 where
+  pub header : IsHeaderAt p h
+  pub form : holds h ≡ true
+  pub shallow : p.depth < depth_limit
+  pub fits : Fits p n
+
+-- 8.1.3.3: the number of octets of the header and of all the contents octets that it announces
+abbrev pub announced_extent : HeaderValue → ℕ
+announced_extent h = length (octets_of h) + announced_length h.size
 
 -- 8.1.3.3: a definite length is the length of the contents, for an element with this header that holds these elements
 abbrev pub HasItsLength : HeaderValue → Forest → Type 0
@@ -102,23 +108,22 @@ ObeysGrammar p (PaddingOctet rest) =
     ((p.padding ≡ true) × (p.indefinite ≡ false) × Fits p 1) × ObeysGrammar (place_after p 1) rest
 -- 8.1.4: a primitive with all its contents octets
 ObeysGrammar p (Primitive h c rest) =
-    (IsElementAt p false h (primitive_extent h c) × (h.size ≡ Definite (length c)))
+    (IsPrimitiveAt p h (primitive_extent h c) × (h.size ≡ Definite (length c)))
     × ObeysGrammar (place_after p (primitive_extent h c)) rest
 -- 8.1.4, 8.1.5: an element that holds others and has ended. 8.1.3.3: a definite length is the length of the contents
 ObeysGrammar p (Holder h children rest) =
-    (IsElementAt p true h (extent h children) × (is_whole children ≡ true)
-    × HasItsLength h children)
+    (IsHolderAt p h (extent h children) × (is_whole children ≡ true) × HasItsLength h children)
     × ObeysGrammar (place_of_children p h) children × ObeysGrammar (place_after p (extent h children)) rest
 -- 8.1.4: a primitive that lacks contents octets
-ObeysGrammar p (OpenPrimitive h c) = IsAnnouncedAt p false h × (length c < announced_length h.size)
+ObeysGrammar p (OpenPrimitive h c) = IsPrimitiveAt p h (announced_extent h) × (length c < announced_length h.size)
 -- 8.1.4: an element that holds others and has not ended: if all the elements that it holds are whole, and its length
 -- is definite, contents octets are missing
 ObeysGrammar p (OpenHolder h children) =
-    (IsAnnouncedAt p true h
+    (IsHolderAt p h (announced_extent h)
     × (is_whole children ≡ true → IfSome (definite_length h.size) (λ n. contents_length h children < n)))
     × ObeysGrammar (place_of_children p h) children
 -- 8.6.2.2: a wrapping BIT STRING with only its header there
-ObeysGrammar p (OpenBitString h) = IsAnnouncedAt p true h × (lead h ≡ 0 ∷ [])
+ObeysGrammar p (OpenBitString h) = IsHolderAt p h (announced_extent h) × (lead h ≡ 0 ∷ [])
 -- a prefix of a header, or the first of the end-of-contents octets, inside the bound
 ObeysGrammar p (OpenHeader octets) = (octets ≢ []) × IsHeaderPrefix octets × Fits p (length octets)
 ObeysGrammar p OpenEndOctets = (p.indefinite ≡ true) × Fits p 1

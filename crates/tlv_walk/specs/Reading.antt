@@ -2,6 +2,7 @@
 use Rattle.std.specs.Prelude.{◌≡◌, ℕ, ◌<◌, ◌≤◌, true, false, List, ◌++◌, All, length}
 use Rattle.tlv_head.specs.Limits.{depth_limit}
 use Rattle.tlv_head.specs.declared.header.Size.TheVariants.{Definite}
+use Rattle.tlv_head.specs.Header.{holds}
 use Rattle.tlv_walk.specs.declared.framing.Framing.{Framing}
 use Rattle.tlv_walk.specs.Forest.{Forest, Holder, NoMore, PaddingOctet, Primitive, extent}
 use Rattle.tlv_walk.specs.Forest.{has_element, primitive_extent, spelling}
@@ -34,10 +35,10 @@ abbrev pub IsSound : Place → Forest → Type 0
 IsSound p NoMore = Unit {0}
 IsSound p (PaddingOctet rest) = (p.padding ≡ true) × IsSound (place_after p 1) rest
 IsSound p (Primitive h c rest) =
-    IsHeaderAt p false h × (h.size ≡ Definite (length c))
+    (IsHeaderAt p h × (holds h ≡ false)) × (h.size ≡ Definite (length c))
     × IsSound (place_after p (primitive_extent h c)) rest
 IsSound p (Holder h children rest) =
-    IsHeaderAt p true h × HasItsLength h children × (p.depth < depth_limit)
+    (IsHeaderAt p h × (holds h ≡ true)) × HasItsLength h children × (p.depth < depth_limit)
     × IsSound (place_of_children p h) children × IsSound (place_after p (extent h children)) rest
 IsSound p end = ⊥
 

@@ -263,12 +263,12 @@ module _ (n : ℕ) (only : Bool) where
       (made_from before (events (Holder h inside rest)))
       (λ e.
       let k =
-      passed_on n only (place_of_children p h) 0 inside v.1 (omega arith) (omega (arith, (v.0.0.shallow refl))) in
+      passed_on n only (place_of_children p h) 0 inside v.1 (omega arith) (omega (arith, v.0.0.shallow)) in
       let all = enough-ends_all es (events rest) _ (made_from-holder h inside e v.0.0.header.valid.allowed v.0.1 k) in
       whole_text (Holder h inside NoMore) _ _ refl (holder_octets h inside)
       (ap (made_from before) (events-holder h inside rest) ∙ all))
       (λ e. passed_by p h inside rest v e
-      (makes_text (place_of_children p h) inside v.1 (omega (arith, (v.0.0.shallow refl))))
+      (makes_text (place_of_children p h) inside v.1 (omega (arith, v.0.0.shallow)))
       (makes_text (place_after p (extent h inside)) rest v.2 deep))
   makes_text p (OpenPrimitive h c) v deep =
       let es = Begin h ∷ Bytes c ∷ [] in
@@ -285,7 +285,7 @@ module _ (n : ℕ) (only : Bool) where
       (made_from before (opening_events h ++ events inside))
       (λ e.
       let k =
-      passed_on n only (place_of_children p h) 0 inside v.1 (omega arith) (omega (arith, (v.0.0.shallow refl))) in
+      passed_on n only (place_of_children p h) 0 inside v.1 (omega arith) (omega (arith, v.0.0.shallow)) in
       let all =
       then_more before (state_inside n only 0) (outer_octets only (octets_of h) ++ lead h) (opening_events h)
       (events inside) (opens_wanted h e) in
@@ -295,7 +295,7 @@ module _ (n : ℕ) (only : Bool) where
       (ap (λ (t : Effect ExtractState). t.goes) all ∙ k.goes)
       (ap (λ (t : Effect ExtractState). has_found t.state) all ∙ k.found))
       (λ e. subst (IsTextOf (element_at n inside)) (sym (opens_other h (events inside) e))
-      (makes_text (place_of_children p h) inside v.1 (omega (arith, (v.0.0.shallow refl)))))
+      (makes_text (place_of_children p h) inside v.1 (omega (arith, v.0.0.shallow))))
   makes_text p (OpenBitString h) v deep =
       text-by_test (h.offset == n) (Some (OpenBitString h)) None (made_from before (Enter h ∷ []))
       (λ e.

@@ -78,11 +78,11 @@ module _ (n : ℕ) where
         ≡ octets_of header ++ (contents_so_far e ++ (if is_whole e then end_octets header.size else []))
 
   -- it is the first of the forest
-  found-here : (p : Place) (k : Bool) (h : HeaderValue) (f e : Forest) (rest : List ℕ) → IsHeaderAt p k h
+  found-here : (p : Place) (h : HeaderValue) (f e : Forest) (rest : List ℕ) → IsHeaderAt p h
       → (h.offset == n) ≡ true → spelling f ≡ octets_so_far e ++ rest
       → octets_so_far e ≡ octets_of h ++ (contents_so_far e ++ (if is_whole e then end_octets h.size else []))
       → IsFoundIn p f e
-  found-here p k h f e rest at is octets parts = record {
+  found-here p h f e rest at is octets parts = record {
     before = [];
     after = rest;
     octets_are = octets;
@@ -154,7 +154,7 @@ module _ (n : ℕ) where
       let f = Primitive h c rest in
       found-by_test p f (h.offset == n) (Primitive h c NoMore) (element_at n rest) d
       (λ is.
-      found-here p false h f (Primitive h c NoMore) (spelling rest) v.0.0.header is
+      found-here p h f (Primitive h c NoMore) (spelling rest) v.0.0.header is
       (sym (append_assoc-3 (octets_of h) c [] (spelling rest)))
       (ap (λ (l : List ℕ). octets_of h ++ (c ++ l)) (sym (ap end_octets v.0.1))))
       (λ _ some.
@@ -168,7 +168,7 @@ module _ (n : ℕ) where
       let i = octets_so_far-prefix (place_of_children p h) inside refl v.1 in
       found-by_test p f (h.offset == n) (Holder h inside NoMore) (option_or (element_at n inside) (element_at n rest)) d
       (λ is.
-      found-here p true h f (Holder h inside NoMore) (spelling rest) v.0.0.header is
+      found-here p h f (Holder h inside NoMore) (spelling rest) v.0.0.header is
       (ap (λ (k : List ℕ). opening h ++ (k ++ (e ++ spelling rest))) (i.all v.0.1)
       ∙ sym (append_assoc-4 (opening h) (octets_so_far inside) e [] (spelling rest)))
       (holder_parts h inside))
@@ -186,7 +186,7 @@ module _ (n : ℕ) where
   found_in_input p (OpenPrimitive h c) v d some =
       found-by_test p (OpenPrimitive h c) (h.offset == n) (OpenPrimitive h c) None d
       (λ is.
-      found-here p false h (OpenPrimitive h c) (OpenPrimitive h c) [] v.0.header is
+      found-here p h (OpenPrimitive h c) (OpenPrimitive h c) [] v.0.header is
       (sym (append-nil (octets_of h ++ c)))
       (ap (λ (l : List ℕ). octets_of h ++ l) (sym (append-nil c))))
       (λ _ some. found-none p (OpenPrimitive h c) d some)
@@ -196,7 +196,7 @@ module _ (n : ℕ) where
       let i = octets_so_far-prefix (place_of_children p h) inside refl v.1 in
       found-by_test p f (h.offset == n) f (element_at n inside) d
       (λ is.
-      found-here p true h f f i.rest v.0.0.header is
+      found-here p h f f i.rest v.0.0.header is
       (ap (λ (l : List ℕ). opening h ++ l) i.octets_are ∙ sym (append_assoc (opening h) (octets_so_far inside) i.rest))
       (append_assoc (octets_of h) (lead h) (octets_so_far inside)
       ∙ ap (λ (l : List ℕ). octets_of h ++ l) (sym (append-nil (lead h ++ octets_so_far inside)))))
@@ -205,7 +205,7 @@ module _ (n : ℕ) where
       some
   found_in_input p (OpenBitString h) v d some =
       found-by_test p (OpenBitString h) (h.offset == n) (OpenBitString h) None d
-      (λ is. found-here p true h (OpenBitString h) (OpenBitString h) [] v.0.header is (sym (append-nil (octets_of h)))
+      (λ is. found-here p h (OpenBitString h) (OpenBitString h) [] v.0.header is (sym (append-nil (octets_of h)))
       (sym (append-nil (octets_of h))))
       (λ _ some. found-none p (OpenBitString h) d some)
       some

@@ -163,7 +163,7 @@ module _ (n : ℕ) (only : Bool) where
   passed_on p count (Holder h inside rest) v low deep =
       let i : IsPassedOn (suc count) inside =
       passed_on (place_of_children p h) (suc count) inside v.1 (omega (arith, low))
-      (omega (arith, (v.0.0.shallow refl))) in
+      (omega (arith, v.0.0.shallow)) in
       passed_on_after count (opening_events h ++ (events inside ++ closing_event h inside ∷ []))
       (opening h ++ (octets_so_far inside ++ end_octets h.size)) (Holder h inside rest) rest
       (holder_passed_on count h inside (omega (arith, low, deep)) v.0.0.header.valid.allowed v.0.1 i)
@@ -185,7 +185,7 @@ module _ (n : ℕ) (only : Bool) where
   passed_on p count (OpenHolder h inside) v low deep =
       let i : IsPassedOn (suc count) inside =
       passed_on (place_of_children p h) (suc count) inside v.1 (omega (arith, low))
-      (omega (arith, (v.0.0.shallow refl))) in
+      (omega (arith, v.0.0.shallow)) in
       let all = then_more (state_inside count) (state_inside (suc count)) (opening h) (opening_events h) (events inside)
       (made_from-opens (state_inside count) (state_inside (suc count)) (octets_of h) h
       (one_more count h (omega (arith, low, deep)))) in

@@ -5,11 +5,12 @@ use Rattle.std.specs.Prelude.{◌≡◌, ℕ, ◌+◌, ◌<◌, ◌≤◌, Bool,
 use Rattle.std.specs.Prelude.{◌∷◌, ◌++◌, length, Option, Some, None, IfSome}
 use Rattle.tlv_head.specs.declared.header.Size.{Size}
 use Rattle.tlv_head.specs.declared.header.Size.TheVariants.{Indefinite}
-use Rattle.tlv_head.specs.Header.{AllowsSize, HeaderValue, announced_length, definite_length, is_wrapper, octets_of}
+use Rattle.tlv_head.specs.Header.{AllowsSize, HeaderValue, definite_length, holds, is_wrapper, octets_of}
 use Rattle.tlv_walk.specs.Forest.{Forest, NoMore, PaddingOctet, Primitive, Holder, OpenPrimitive, OpenHolder}
 use Rattle.tlv_walk.specs.Forest.{OpenBitString, OpenHeader, OpenEndOctets}
 use Rattle.tlv_walk.specs.Forest.{extent, has_element, is_whole, lead, opening, spelling, lead_by}
-use Rattle.tlv_walk.specs.Place.{Fits, IsHeaderAt, ObeysGrammar, Place, place_after, place_of_children}
+use Rattle.tlv_walk.specs.Place.{Fits, IsHeaderAt, ObeysGrammar, Place, announced_extent, place_after}
+use Rattle.tlv_walk.specs.Place.{place_of_children}
 use Rattle.tlv_cut.specs.Indef.{with_indefinite_lengths, indefinite_header, with_offsets_from}
 use Rattle.tlv_cut.proofs.IndefLemmas.Offsets.{constructed_at, is_named, spelling-with_offsets_from}
 
@@ -107,23 +108,21 @@ free_inside p q h g e k = record {
 }
 
 -- the header of a primitive may be there
-primitive_at : (p q : Place) (h : HeaderValue) → IsFree p q → IsHeaderAt p false h
-    → IsHeaderAt q false (record h { offset = q.offset })
+primitive_at : (p q : Place) (h : HeaderValue) → IsFree p q → IsHeaderAt p h
+    → IsHeaderAt q (record h { offset = q.offset })
 primitive_at p q h k v = record {
   valid = record { identifier = v.valid.identifier; lengths = v.valid.lengths; allowed = v.valid.allowed };
   offset = refl;
   named = v.named ∙ is_named p.offset p.inside k.names ∙ sym (is_named q.offset q.inside k.same_names);
-  form = v.form;
 }
 
 -- the header of a constructed element, with an indefinite length, may be there
 abbrev heading_at : Place → HeaderValue → HeaderValue
 heading_at q h = record (indefinite_header h) { offset = q.offset }
 
-constructed_header : (p q : Place) (h : HeaderValue) → IsFree p q → IsHeaderAt p true h
-    → IsHeaderAt q true (heading_at q h)
-constructed_header p q h k v =
-    let constructed = constructed_at p h k.names v in
+constructed_header : (p q : Place) (h : HeaderValue) → IsFree p q → IsHeaderAt p h → h.constructed ≡ true
+    → IsHeaderAt q (heading_at q h)
+constructed_header p q h k v constructed =
     record {
       valid = record {
         identifier = v.valid.identifier;
@@ -133,8 +132,10 @@ constructed_header p q h k v =
       };
       offset = refl;
       named = v.named ∙ is_named p.offset p.inside k.names ∙ sym (is_named q.offset q.inside k.same_names);
-      form = ap (λ (c : Bool). c || is_wrapper h.named h.class c h.number Indefinite) constructed;
     }
+
+constructed_holds : (q : Place) (h : HeaderValue) → h.constructed ≡ true → holds (heading_at q h) ≡ true
+constructed_holds q h constructed = ap (λ (c : Bool). c || is_wrapper h.named h.class c h.number Indefinite) constructed
 
 -- the offsets of what an element holds do not move what follows the element
 offsets-rest_obeys_grammar : (q : Place) (h : HeaderValue) (offset : ℕ) (inside rest : Forest)
@@ -174,8 +175,7 @@ obeys_grammar p q (Primitive h c rest) k v =
       (
         record {
           header = primitive_at p q h k v.0.0.header;
-          shallow = λ e. absurd
-              (cc (e));
+          form = v.0.0.form;
           fits = free_fits p q k n;
         },
         v.0.1,
@@ -186,11 +186,13 @@ obeys_grammar p q (Holder h inside rest) k v =
     let header = heading_at q h in
     let offset = q.offset + length (opening header) in
     let n = extent header (with_indefinite_lengths inside) in
-    made_holder q h inside rest (constructed_at p h k.names v.0.0.header) (
+    let constructed = constructed_at p h k.names v.0.0.header v.0.0.form in
+    made_holder q h inside rest constructed (
       (
         record {
-          header = constructed_header p q h k v.0.0.header;
-          shallow = λ _. subst (λ (d : ℕ). d < 128) (sym k.depth) (v.0.0.shallow refl);
+          header = constructed_header p q h k v.0.0.header constructed;
+          form = constructed_holds q h constructed;
+          shallow = subst (λ (d : ℕ). d < 128) (sym k.depth) v.0.0.shallow;
           fits = free_fits p q k (extent header (with_offsets_from offset (with_indefinite_lengths inside)));
         },
         offsets-whole offset inside v.0.1,
@@ -205,26 +207,27 @@ obeys_grammar p q (Holder h inside rest) k v =
 obeys_grammar p q (OpenPrimitive h c) k v = (
   record {
     header = primitive_at p q h k v.0.header;
-    shallow = λ e. absurd (cc (e));
-    fits = free_fits p q k
-        (length (octets_of h) + announced_length h.size);
+    form = v.0.form;
+    fits = free_fits p q k (announced_extent h);
   },
   v.1,
 )
 obeys_grammar p q (OpenHolder h inside) k v =
     let header = heading_at q h in
-    made_open_holder q h inside (constructed_at p h k.names v.0.0.header) (
+    let constructed = constructed_at p h k.names v.0.0.header v.0.0.form in
+    made_open_holder q h inside constructed (
       (
         record {
-          header = constructed_header p q h k v.0.0.header;
-          shallow = λ _. subst (λ (d : ℕ). d < 128) (sym k.depth) (v.0.0.shallow refl);
+          header = constructed_header p q h k v.0.0.header constructed;
+          form = constructed_holds q h constructed;
+          shallow = subst (λ (d : ℕ). d < 128) (sym k.depth) v.0.0.shallow;
           fits = free_fits p q k (length (octets_of header) + 0);
         },
         λ w. tt,
       ),
       obeys_grammar (place_of_children p h) (place_of_children q header) inside (free_inside p q h header refl k) v.1,
     )
-obeys_grammar p q (OpenBitString h) k v = absurd (awaits h (constructed_at p h k.names v.0.header) v.1)
+obeys_grammar p q (OpenBitString h) k v = absurd (awaits h (constructed_at p h k.names v.0.header v.0.form) v.1)
   where
     awaits : (h : HeaderValue) → h.constructed ≡ true → lead h ≡ 0 ∷ [] → ⊥
     awaits h e l = cc (ap (λ (k : Bool). lead_by k (eqb h.number 3)) e, l)

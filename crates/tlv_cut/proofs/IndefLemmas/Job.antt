@@ -1,5 +1,6 @@
 -- `indef` does its job: it is a walk that an `Indef` follows, which always wants more.
-use Rattle.std.proofs.Common.{◌≡◌, ℕ, ◌^◌, ◌≤◌, Bool, false, List, ◌++◌, length, take, sym, ap, ◌∙◌, subst, append-nil}
+use Rattle.std.proofs.Common.{◌≡◌, ℕ, ◌^◌, ◌≤◌, Bool, false, List, ◌++◌, length, take, refl, sym, ap, ◌∙◌, subst}
+use Rattle.std.proofs.Common.{append-nil}
 use Rattle.std.specs.Prelude.{Ok, Err}
 use Rattle.tlv_walk.specs.declared.run.DeviceFault.{DeviceFault}
 use Rattle.tlv_walk.specs.declared.run.Run.{Run}
@@ -13,7 +14,7 @@ use Rattle.tlv_walk.specs.Follow.{Effect, effect_of, followed_events, had_enough
 use Rattle.tlv_walk.specs.Forest.{Forest}
 use Rattle.tlv_walk.specs.Job.{Runs, device_states}
 use Rattle.tlv_walk.specs.Reading.{IsReading}
-use Rattle.tlv_walk.proofs.FollowerLemmas.Enough.{comes_to-result}
+use Rattle.tlv_walk.proofs.FollowerLemmas.Enough.{comes_to-result, ends_as_octets}
 use Rattle.tlv_walk.proofs.FollowerLemmas.Jobs as jobs
 use Rattle.tlv_cut.specs.Indef.{indef_text, indef_job, indef_framing, IsReadBack, RunsIndef}
 use Rattle.tlv_cut.specs.IndefStep.{IndefState, indef_step}
@@ -44,7 +45,8 @@ module _ (padding : Bool) (s t : IndefState) (old new : SourceState) (from to : 
       subst (λ (l : List ℕ). IsReadBack padding x.reading l × IsEnding w l Done) (sym all) (
         indef_text_is_read_back padding octets x.reading x.is_reading,
         indef_text_is_done padding octets x.reading x.is_reading
-            (subst (λ (d : Ending). IsEnding w octets d) (sym k.1 ∙ done) k.2),
+            (subst (λ (d : Ending). IsEnding w octets d) (sym k.1 ∙ done)
+            (ends_as_octets w octets false k.0 k.2 refl)),
       )
 
   runs_ok : (run : Run)

@@ -3,7 +3,7 @@ use Rattle.std.proofs.Common.{◌≡◌, ℕ, ◌+◌, Bool, true, false, ◌||�
 use Rattle.std.proofs.Common.{length, refl, ap, ap₂, ◌∙◌}
 use Rattle.tlv_head.specs.declared.header.Class.{Class}
 use Rattle.tlv_head.specs.declared.header.Size.{Size}
-use Rattle.tlv_head.specs.Header.{HeaderValue, is_wrapper, octets_of}
+use Rattle.tlv_head.specs.Header.{HeaderValue, holds, is_wrapper, octets_of}
 use Rattle.tlv_walk.specs.Forest.{Forest, NoMore, PaddingOctet, Primitive, Holder, OpenPrimitive, OpenHolder}
 use Rattle.tlv_walk.specs.Forest.{OpenBitString, OpenHeader, OpenEndOctets}
 use Rattle.tlv_walk.specs.Forest.{end_octets, extent, lead, opening, spelling}
@@ -22,9 +22,10 @@ holds_by true named class number size e holds = refl
 holds_by false true class number size e holds = absurd (cc)
 holds_by false false class number size e holds = absurd (cc)
 
-pub constructed_at : (p : Place) (h : HeaderValue) → p.inside ≡ [] → IsHeaderAt p true h → h.constructed ≡ true
-constructed_at p h e header =
-    holds_by h.constructed h.named h.class h.number h.size (header.named ∙ is_named p.offset p.inside e) header.form
+pub constructed_at : (p : Place) (h : HeaderValue) → p.inside ≡ [] → IsHeaderAt p h → holds h ≡ true
+    → h.constructed ≡ true
+constructed_at p h e header form =
+    holds_by h.constructed h.named h.class h.number h.size (header.named ∙ is_named p.offset p.inside e) form
 
 -- ---- the octets do not depend on the offsets
 

@@ -66,9 +66,9 @@ element-some p likely octets n b = omega (arith, size-some p b.element b.is_one 
   where
     size-some : (p : Place) (f : Forest) → is_one_element f ≡ true → IsSound p f → 2 ≤ length (spelling f)
     size-some p (Primitive h c NoMore) o s =
-        omega (arith, header-two h s.0.valid, length-primitive h c NoMore)
+        omega (arith, header-two h s.0.0.valid, length-primitive h c NoMore)
     size-some p (Holder h inside NoMore) o s =
-        omega (arith, header-two h s.0.valid, length-holder h inside NoMore, length-opening h)
+        omega (arith, header-two h s.0.0.valid, length-holder h inside NoMore, length-opening h)
     size-some p f o s = absurd (cc)
 
 pub element-within : (p : Place) (likely : Bool) (octets : List ℕ) (n : ℕ) → BeginsWithElement p likely octets n
@@ -179,7 +179,7 @@ one-size : (p : Place) (f g : Forest) (x y : List ℕ) → p.padding ≡ false �
     → length (spelling f) ≡ length (spelling g)
 one-size p (Primitive h c NoMore) (Primitive k d NoMore) x y z o q s t e =
     let r : (h ≡ k) × (c ≡ d) × (x ≡ y) =
-    primitive-one p h k c d x y s.0 t.0 s.1 t.1
+    primitive-one p h k c d x y s.0.0 t.0.0 s.1 t.1
     (sym (regroup-3 (octets_of h) c [] x) ∙ (e ∙ regroup-3 (octets_of k) d [] y)) in
     ap₂ (λ (u : HeaderValue) (v : List ℕ). length (octets_of u ++ (v ++ []))) r.0 r.1
 one-size p (Primitive h c NoMore) (Holder k inside NoMore) x y z o q s t e = absurd
@@ -195,10 +195,10 @@ one-size p (Holder h inside NoMore) (Holder k inside2 NoMore) x y z o q s t e =
     ≡ opening k ++ (spelling inside2 ++ (end_octets k.size ++ y)) =
     sym (regroup-4 (opening h) (spelling inside) (end_octets h.size) [] x)
     ∙ (e ∙ regroup-4 (opening k) (spelling inside2) (end_octets k.size) [] y) in
-    let same : h ≡ k = (opening-one p h k _ _ s.0 t.0 e').0 in
+    let same : h ≡ k = (opening-one p h k _ _ s.0.0 t.0.0 e').0 in
     let alike : AreAlikePlaces p p = record { offset = refl; depth = refl; padding = refl; inside = refl } in
     let r : (h ≡ k) × AreOne (spelling inside) (spelling inside2) x y =
-    holder-one p h k inside inside2 x y s.0 t.0 s.1 t.1
+    holder-one p h k inside inside2 x y s.0.0 t.0.0 s.1 t.1
     (λ u v m n e''.
     one-list (place_of_children p h) (place_of_children p k) true inside inside2 u v (inside-alike p p h k alike same)
     refl s.3 t.3 m n e'')
@@ -317,10 +317,10 @@ element-zero p likely octets x more n e z b = zero-begins b.element b.is_one b.s
   where
     zero-begins : (f : Forest) → is_one_element f ≡ true → IsSound p f → spelling f ++ b.rest ≡ x ∷ more → ⊥
     zero-begins (Primitive h c NoMore) o s g =
-        zero-no_header h x ((c ++ []) ++ b.rest) more s.0.valid (sym (append_assoc (octets_of h) (c ++ []) b.rest) ∙ g)
-        z
+        zero-no_header h x ((c ++ []) ++ b.rest) more s.0.0.valid
+        (sym (append_assoc (octets_of h) (c ++ []) b.rest) ∙ g) z
     zero-begins (Holder h inside NoMore) o s g =
-        zero-no_header h x (lead h ++ ((spelling inside ++ (end_octets h.size ++ [])) ++ b.rest)) more s.0.valid
+        zero-no_header h x (lead h ++ ((spelling inside ++ (end_octets h.size ++ [])) ++ b.rest)) more s.0.0.valid
         (sym (append_assoc (octets_of h) (lead h) _) ∙ (sym (append_assoc (opening h) _ b.rest) ∙ g)) z
     zero-begins f o s g = absurd (cc)
 

@@ -42,11 +42,11 @@ length-led Indefinite l m e same = tt
 first-header : (f : Forest) (p : Place) (x octets : List ℕ) → is_one_element f ≡ true → IsSound p f
     → spelling f ++ x ≡ octets → (h : HeaderValue) × (rest : List ℕ) × IsHeader h × (octets ≡ octets_of h ++ rest)
 first-header (Primitive h c NoMore) p x octets o s e =
-    (h, (c ++ []) ++ x, s.0.valid, sym e ∙ append_assoc (octets_of h) (c ++ []) x)
+    (h, (c ++ []) ++ x, s.0.0.valid, sym e ∙ append_assoc (octets_of h) (c ++ []) x)
 first-header (Holder h inside NoMore) p x octets o s e = (
   h,
   lead h ++ ((spelling inside ++ (end_octets h.size ++ [])) ++ x),
-  s.0.valid,
+  s.0.0.valid,
   sym e ∙ (append_assoc (opening h) _ x ∙ append_assoc (octets_of h) (lead h) _),
 )
 first-header f p x octets o s e = absurd (cc)
@@ -68,20 +68,20 @@ pub data IsFirst (p : Place) (likely : Bool) (h : HeaderValue) (after : List ℕ
       → IsFirst p likely h after
 
 first-from : (p : Place) (likely : Bool) (h : HeaderValue) (after octets x : List ℕ) (f : Forest)
-    → IsHeaderAt p (holds h) h → holds h ≡ h.constructed → octets_of h ++ after ≡ octets → is_one_element f ≡ true
+    → IsHeaderAt p h → holds h ≡ h.constructed → octets_of h ++ after ≡ octets → is_one_element f ≡ true
     → IsSound p f → AreLikelyIf likely f → spelling f ++ x ≡ octets → IsFirst p likely h after
 first-from p likely h after octets x (Primitive k c NoMore) at form whole o s l e =
     let r : (k ≡ h) × (c ++ ([] ++ x) ≡ after) =
-    header-one p false (holds h) k h (c ++ ([] ++ x)) after s.0 at
+    header-one p k h (c ++ ([] ++ x)) after s.0.0 at
     (sym (regroup-3 (octets_of k) c [] x) ∙ (e ∙ sym whole)) in
-    primitive c x (sym form ∙ (ap holds (sym r.0) ∙ s.0.form)) (ap (λ (z : HeaderValue). z.size) (sym r.0) ∙ s.1) r.1
+    primitive c x (sym form ∙ (ap holds (sym r.0) ∙ s.0.1)) (ap (λ (z : HeaderValue). z.size) (sym r.0) ∙ s.1) r.1
     (λ t. subst (λ (z : HeaderValue). IsClearPrimitive z c) r.0 (l t).0)
 first-from p likely h after octets x (Holder k inside NoMore) at form whole o s l e =
     let r : (k ≡ h) × (lead k ++ (spelling inside ++ (end_octets k.size ++ ([] ++ x))) ≡ after) =
-    header-one p true (holds h) k h _ after s.0 at
+    header-one p k h _ after s.0.0 at
     (sym (append_assoc (octets_of k) (lead k) _)
     ∙ (sym (regroup-4 (opening k) (spelling inside) (end_octets k.size) [] x) ∙ (e ∙ sym whole))) in
-    let constructed : h.constructed ≡ true = sym form ∙ (ap holds (sym r.0) ∙ s.0.form) in
+    let constructed : h.constructed ≡ true = sym form ∙ (ap holds (sym r.0) ∙ s.0.1) in
     let no_lead : lead k ≡ [] =
     lead-none k (ap (λ (z : HeaderValue). z.constructed) r.0 ∙ constructed) in
     let size : IfSome (definite_length k.size) (λ n. length (spelling inside) ≡ n) =
@@ -119,12 +119,11 @@ module _ (octets : List ℕ) (offset depth : ℕ) (likely : Bool) (f : HeaderFie
   head-form : holds head ≡ f.constructed
   head-form = unnamed-holds f.constructed f.named f.class f.number f.size b.begins.named
 
-  head-at : (holding : Bool) → f.constructed ≡ holding → IsHeaderAt here holding head
-  head-at holding e = record {
+  head-at : IsHeaderAt here head
+  head-at = record {
     valid = b.begins.valid;
     offset = b.begins.offset;
     named = b.begins.named;
-    form = head-form ∙ e;
   }
 
   opening-count : f.constructed ≡ true → length (opening head) ≡ count
@@ -141,8 +140,7 @@ module _ (octets : List ℕ) (offset depth : ℕ) (likely : Bool) (f : HeaderFie
 
   first : (n : ℕ) → BeginsWithElement here likely octets n → IsFirst here likely head after
   first n e =
-      first-from here likely head after octets e.rest e.element (head-at (holds head) (sym head-form)) head-form
-      head-whole
+      first-from here likely head after octets e.rest e.element head-at head-form head-whole
       e.is_one e.sound e.probable e.spelled
 
   pub first-too_deep : f.constructed ≡ true → 128 ≤ depth → BeginsWithNoElement here likely octets
@@ -220,7 +218,7 @@ module _ (octets : List ℕ) (offset depth : ℕ) (likely : Bool) (f : HeaderFie
       record {
         element = Primitive head (take m after) NoMore;
         is_one = refl;
-        sound = (head-at false c, k ∙ ap Definite (sym all), tt);
+        sound = ((head-at, head-form ∙ c), k ∙ ap Definite (sym all), tt);
         probable = λ w. (clear w, tt);
         rest = drop m after;
         spelled =
@@ -243,7 +241,7 @@ module _ (octets : List ℕ) (offset depth : ℕ) (likely : Bool) (f : HeaderFie
         element = Holder head e.elements NoMore;
         is_one = refl;
         sound = (
-          head-at true c,
+          (head-at, head-form ∙ c),
           rw k (omega (arith, all, ap (λ (o : List ℕ). length o) (lead-none head c))),
           shallow,
           sound-alike inner (place_of_children here head) e.elements (alike-back _ _ (alike-inside c)) e.sound,
@@ -278,7 +276,7 @@ module _ (octets : List ℕ) (offset depth : ℕ) (likely : Bool) (f : HeaderFie
         element = Holder head e.elements NoMore;
         is_one = refl;
         sound = (
-          head-at true c,
+          (head-at, head-form ∙ c),
           rw k tt,
           shallow c,
           sound-alike inner (place_of_children here head) e.elements (alike-back _ _ (alike-inside c)) e.sound,

@@ -40,9 +40,9 @@ octets-there : (p : Place) (f : Forest) → p.padding ≡ false → IsSound p f 
     → length (spelling f) ≡ 0 → ⊥
 octets-there p NoMore z s e n = absurd (cc (e))
 octets-there p (PaddingOctet rest) z s e n = let w : true ≡ false = sym s.0 ∙ z in absurd (cc (w))
-octets-there p (Primitive h c rest) z s e n = omega (arith, header-two h s.0.valid, length-primitive h c rest)
+octets-there p (Primitive h c rest) z s e n = omega (arith, header-two h s.0.0.valid, length-primitive h c rest)
 octets-there p (Holder h inside rest) z s e n =
-    omega (arith, header-two h s.0.valid, length-holder h inside rest, length-opening h)
+    omega (arith, header-two h s.0.0.valid, length-holder h inside rest, length-opening h)
 octets-there p (OpenPrimitive h c) z s e n = absurd s
 octets-there p (OpenHolder h inside) z s e n = absurd s
 octets-there p (OpenBitString h) z s e n = absurd s

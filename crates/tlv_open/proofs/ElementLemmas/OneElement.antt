@@ -52,19 +52,19 @@ append-split (c ∷ a) (d ∷ b) x y l e =
     (ap₂ (λ (k : ℕ) (o : List ℕ). k ∷ o) same r.0, r.1)
 
 -- two headers at one place with which octets begin
-pub header-one : (p : Place) (a b : Bool) (h k : HeaderValue) (x y : List ℕ) → IsHeaderAt p a h → IsHeaderAt p b k
+pub header-one : (p : Place) (h k : HeaderValue) (x y : List ℕ) → IsHeaderAt p h → IsHeaderAt p k
     → octets_of h ++ x ≡ octets_of k ++ y → (h ≡ k) × (x ≡ y)
-header-one p a b h k x y i j e =
+header-one p h k x y i j e =
     let origin : origin_of h ≡ origin_of k =
     (λ t. record { offset = (i.offset ∙ sym j.offset) t; named = (i.named ∙ sym j.named) t }) in
     one-header h k x y i.valid j.valid origin e
 
 -- two primitives
-pub primitive-one : (p : Place) (h k : HeaderValue) (c d x y : List ℕ) → IsHeaderAt p false h → IsHeaderAt p false k
+pub primitive-one : (p : Place) (h k : HeaderValue) (c d x y : List ℕ) → IsHeaderAt p h → IsHeaderAt p k
     → h.size ≡ Definite (length c) → k.size ≡ Definite (length d)
     → octets_of h ++ (c ++ x) ≡ octets_of k ++ (d ++ y) → (h ≡ k) × (c ≡ d) × (x ≡ y)
 primitive-one p h k c d x y i j m n e =
-    let r : (h ≡ k) × (c ++ x ≡ d ++ y) = header-one p false false h k (c ++ x) (d ++ y) i j e in
+    let r : (h ≡ k) × (c ++ x ≡ d ++ y) = header-one p h k (c ++ x) (d ++ y) i j e in
     let sizes : h.size ≡ k.size = ap (λ (z : HeaderValue). z.size) r.0 in
     let definite : Definite (length c) ≡ Definite (length d) = sym m ∙ (sizes ∙ n) in
     let same : length c ≡ length d = cc (definite) in
@@ -72,21 +72,21 @@ primitive-one p h k c d x y i j m n e =
     (r.0, s.0, s.1)
 
 -- an element is either a primitive or holds others
-pub not-both : (p : Place) (h k : HeaderValue) (x y : List ℕ) → IsHeaderAt p false h → IsHeaderAt p true k
-    → octets_of h ++ x ≡ octets_of k ++ y → ⊥
+pub not-both : (p : Place) (h k : HeaderValue) (x y : List ℕ) → IsHeaderAt p h × (holds h ≡ false)
+    → IsHeaderAt p k × (holds k ≡ true) → octets_of h ++ x ≡ octets_of k ++ y → ⊥
 not-both p h k x y i j e =
-    let same : h ≡ k = (header-one p false true h k x y i j e).0 in
+    let same : h ≡ k = (header-one p h k x y i.0 j.0 e).0 in
     let form : holds h ≡ holds k = ap holds same in
-    let apart : false ≡ true = sym i.form ∙ (form ∙ j.form) in
+    let apart : false ≡ true = sym i.1 ∙ (form ∙ j.1) in
     absurd (cc (apart))
 
 -- what follows the opening
-pub opening-one : (p : Place) (h k : HeaderValue) (x y : List ℕ) → IsHeaderAt p true h → IsHeaderAt p true k
+pub opening-one : (p : Place) (h k : HeaderValue) (x y : List ℕ) → IsHeaderAt p h → IsHeaderAt p k
     → opening h ++ x ≡ opening k ++ y → (h ≡ k) × (x ≡ y)
 opening-one p h k x y i j e =
     let e' : octets_of h ++ (lead h ++ x) ≡ octets_of k ++ (lead k ++ y) =
     sym (append_assoc (octets_of h) (lead h) x) ∙ (e ∙ append_assoc (octets_of k) (lead k) y) in
-    let r : (h ≡ k) × (lead h ++ x ≡ lead k ++ y) = header-one p true true h k (lead h ++ x) (lead k ++ y) i j e' in
+    let r : (h ≡ k) × (lead h ++ x ≡ lead k ++ y) = header-one p h k (lead h ++ x) (lead k ++ y) i j e' in
     let s : (lead h ≡ lead k) × (x ≡ y) =
     append-split (lead h) (lead k) x y (ap (λ (z : HeaderValue). length (lead z)) r.0) r.1 in
     (r.0, s.1)
@@ -107,8 +107,8 @@ inside-one Indefinite l a b x y m k one e =
     let rest : 0 ∷ 0 ∷ x ≡ 0 ∷ 0 ∷ y = r.1 in
     (r.0, cc (rest))
 
-pub holder-one : (p : Place) (h k : HeaderValue) (f g : Forest) (x y : List ℕ) → IsHeaderAt p true h
-    → IsHeaderAt p true k → HasItsLength h f → HasItsLength k g
+pub holder-one : (p : Place) (h k : HeaderValue) (f g : Forest) (x y : List ℕ) → IsHeaderAt p h
+    → IsHeaderAt p k → HasItsLength h f → HasItsLength k g
     → ((u v : List ℕ) → is_elements_end true u ≡ true → is_elements_end true v ≡ true
     → spelling f ++ u ≡ spelling g ++ v
     → AreOne (spelling f) (spelling g) u v)
@@ -173,18 +173,18 @@ one-list p q ends f (OpenHeader octets) x y a z s t m n e = absurd t
 one-list p q ends f OpenEndOctets x y a z s t m n e = absurd t
 one-list p q ends NoMore NoMore x y a z s t m n e = (refl, e)
 one-list p q ends NoMore (Primitive k d rest) x y a z s t m n e = absurd
-    (end-no_header ends x ((d ++ spelling rest) ++ y) k m t.0.valid
+    (end-no_header ends x ((d ++ spelling rest) ++ y) k m t.0.0.valid
     (sym (append_assoc (octets_of k) (d ++ spelling rest) y) ∙ sym e))
 one-list p q ends NoMore (Holder k inside rest) x y a z s t m n e = absurd
-    (end-no_header ends x (lead k ++ ((spelling inside ++ (end_octets k.size ++ spelling rest)) ++ y)) k m t.0.valid
+    (end-no_header ends x (lead k ++ ((spelling inside ++ (end_octets k.size ++ spelling rest)) ++ y)) k m t.0.0.valid
     (sym (append_assoc (octets_of k) (lead k) _) ∙ (sym (append_assoc (opening k) _ y) ∙ sym e)))
 one-list p q ends (Primitive h c rest) NoMore x y a z s t m n e = absurd
-    (end-no_header ends y ((c ++ spelling rest) ++ x) h n s.0.valid
+    (end-no_header ends y ((c ++ spelling rest) ++ x) h n s.0.0.valid
     (sym (append_assoc (octets_of h) (c ++ spelling rest) x) ∙ e))
 one-list p q ends (Primitive h c rest) (Primitive k d rest2) x y a z s t m n e =
-    let j : IsHeaderAt p false k = header-alike q p false k (alike-back p q a) t.0 in
+    let j : IsHeaderAt p k = header-alike q p k (alike-back p q a) t.0.0 in
     let r : (h ≡ k) × (c ≡ d) × (spelling rest ++ x ≡ spelling rest2 ++ y) =
-    primitive-one p h k c d (spelling rest ++ x) (spelling rest2 ++ y) s.0 j s.1 t.1
+    primitive-one p h k c d (spelling rest ++ x) (spelling rest2 ++ y) s.0.0 j s.1 t.1
     (sym (regroup-3 (octets_of h) c (spelling rest) x) ∙ (e ∙ regroup-3 (octets_of k) d (spelling rest2) y)) in
     let same : primitive_extent h c ≡ primitive_extent k d =
     ap₂ (λ (z : HeaderValue) (o : List ℕ). length (octets_of z) + length o) r.0 r.1 in
@@ -198,27 +198,27 @@ one-list p q ends (Primitive h c rest) (Primitive k d rest2) x y a z s t m n e =
 one-list p q ends (Primitive h c rest) (Holder k inside rest2) x y a z s t m n e = absurd
     (not-both p h k ((c ++ spelling rest) ++ x)
     (lead k ++ ((spelling inside ++ (end_octets k.size ++ spelling rest2)) ++ y)) s.0
-    (header-alike q p true k (alike-back p q a) t.0)
+    (header-alike q p k (alike-back p q a) t.0.0, t.0.1)
     (sym (append_assoc (octets_of h) (c ++ spelling rest) x)
     ∙ (e ∙ (append_assoc (opening k) _ y ∙ append_assoc (octets_of k) (lead k) _))))
 one-list p q ends (Holder h inside rest) NoMore x y a z s t m n e = absurd
-    (end-no_header ends y (lead h ++ ((spelling inside ++ (end_octets h.size ++ spelling rest)) ++ x)) h n s.0.valid
+    (end-no_header ends y (lead h ++ ((spelling inside ++ (end_octets h.size ++ spelling rest)) ++ x)) h n s.0.0.valid
     (sym (append_assoc (octets_of h) (lead h) _) ∙ (sym (append_assoc (opening h) _ x) ∙ e)))
 one-list p q ends (Holder h inside rest) (Primitive k d rest2) x y a z s t m n e = absurd
     (not-both p k h ((d ++ spelling rest2) ++ y)
     (lead h ++ ((spelling inside ++ (end_octets h.size ++ spelling rest)) ++ x))
-    (header-alike q p false k (alike-back p q a) t.0) s.0
+    (header-alike q p k (alike-back p q a) t.0.0, t.0.1) s.0
     (sym (append_assoc (octets_of k) (d ++ spelling rest2) y)
     ∙ (sym e ∙ (append_assoc (opening h) _ x ∙ append_assoc (octets_of h) (lead h) _))))
 one-list p q ends (Holder h inside rest) (Holder k inside2 rest2) x y a z s t m n e =
-    let j : IsHeaderAt p true k = header-alike q p true k (alike-back p q a) t.0 in
+    let j : IsHeaderAt p k = header-alike q p k (alike-back p q a) t.0.0 in
     let e' : opening h ++ (spelling inside ++ (end_octets h.size ++ (spelling rest ++ x)))
     ≡ opening k ++ (spelling inside2 ++ (end_octets k.size ++ (spelling rest2 ++ y))) =
     sym (regroup-4 (opening h) (spelling inside) (end_octets h.size) (spelling rest) x)
     ∙ (e ∙ regroup-4 (opening k) (spelling inside2) (end_octets k.size) (spelling rest2) y) in
-    let same : h ≡ k = (opening-one p h k _ _ s.0 j e').0 in
+    let same : h ≡ k = (opening-one p h k _ _ s.0.0 j e').0 in
     let r : (h ≡ k) × AreOne (spelling inside) (spelling inside2) (spelling rest ++ x) (spelling rest2 ++ y) =
-    holder-one p h k inside inside2 (spelling rest ++ x) (spelling rest2 ++ y) s.0 j s.1 t.1
+    holder-one p h k inside inside2 (spelling rest ++ x) (spelling rest2 ++ y) s.0.0 j s.1 t.1
     (λ u v m' n' e''.
     one-list (place_of_children p h) (place_of_children q k) true inside inside2 u v (inside-alike p q h k a same)
     refl s.3 t.3 m' n' e'')

@@ -1,5 +1,5 @@
 -- Sound elements are so at each place with the same offset, depth and padding.
-use Rattle.std.proofs.Common.{◌≡◌, ℕ, ◌+◌, Bool, length, refl, sym, ap, ap₂, ◌∙◌, arith}
+use Rattle.std.proofs.Common.{◌≡◌, ℕ, ◌+◌, length, refl, sym, ap, ap₂, ◌∙◌, arith}
 use Rattle.tlv_head.specs.Header.{HeaderValue}
 use Rattle.tlv_walk.specs.Forest.{Forest, Holder, NoMore, OpenBitString, OpenEndOctets, OpenHeader, OpenHolder}
 use Rattle.tlv_walk.specs.Forest.{OpenPrimitive, PaddingOctet, Primitive, extent, opening, primitive_extent}
@@ -21,13 +21,11 @@ alike-back p q a = record {
   inside = sym a.inside;
 }
 
-pub header-alike : (p q : Place) (holding : Bool) (h : HeaderValue) → AreAlikePlaces p q → IsHeaderAt p holding h
-    → IsHeaderAt q holding h
-header-alike p q holding h a k = record {
+pub header-alike : (p q : Place) (h : HeaderValue) → AreAlikePlaces p q → IsHeaderAt p h → IsHeaderAt q h
+header-alike p q h a k = record {
   valid = k.valid;
   offset = k.offset ∙ a.offset;
   named = k.named ∙ ap₂ is_among a.offset a.inside;
-  form = k.form;
 }
 
 pub alike-after : (p q : Place) (n : ℕ) → AreAlikePlaces p q → AreAlikePlaces (place_after p n) (place_after q n)
@@ -52,13 +50,13 @@ sound-alike p q NoMore a s = tt
 sound-alike p q (PaddingOctet rest) a s =
     (sym a.padding ∙ s.0, sound-alike (place_after p 1) (place_after q 1) rest (alike-after p q 1 a) s.1)
 sound-alike p q (Primitive h c rest) a s = (
-  header-alike p q _ h a s.0,
+  (header-alike p q h a s.0.0, s.0.1),
   s.1,
   sound-alike (place_after p (primitive_extent h c)) (place_after q (primitive_extent h c)) rest
       (alike-after p q (primitive_extent h c) a) s.2,
 )
 sound-alike p q (Holder h inside rest) a s = (
-  header-alike p q _ h a s.0,
+  (header-alike p q h a s.0.0, s.0.1),
   s.1,
   omega (arith, a.depth, s.2),
   sound-alike (place_of_children p h) (place_of_children q h) inside (alike-children p q h a) s.3,

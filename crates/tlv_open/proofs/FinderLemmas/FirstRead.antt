@@ -32,10 +32,10 @@ use Rattle.tlv_open.proofs.ElementLemmas.OneElement.{end-no_header, header-one, 
 use Rattle.tlv_open.proofs.FinderLemmas.FoundBoth.{finds-open_header}
 
 -- where no string is named, an element holds others exactly if it is constructed
-pub unnamed-form : (p : Place) (holding : Bool) (h : HeaderValue) → p.inside ≡ [] → IsHeaderAt p holding h
+pub unnamed-form : (p : Place) (holding : Bool) (h : HeaderValue) → p.inside ≡ [] → IsHeaderAt p h → holds h ≡ holding
     → h.constructed ≡ holding
-unnamed-form p holding h none k =
-    sym (unnamed-holds h.constructed h.named h.class h.number h.size (k.named ∙ ap (is_among p.offset) none)) ∙ k.form
+unnamed-form p holding h none k form =
+    sym (unnamed-holds h.constructed h.named h.class h.number h.size (k.named ∙ ap (is_among p.offset) none)) ∙ form
 
 -- the element that has this header, if these octets follow it, and what follows it
 pub data IsReadFirst (p : Place) (h : HeaderValue) (after rest : List ℕ) : Forest → Type 0 where
@@ -74,7 +74,7 @@ lacks-led (Definite n) l m f = omega arith
 lacks-led Indefinite l m f = tt
 
 module _ (p : Place) (h : HeaderValue) (after octets rest : List ℕ) (depth offset : ℕ) (ends : Bool)
-    (at : IsHeaderAt p (holds h) h) (whole : octets_of h ++ after ≡ octets) where
+    (at : IsHeaderAt p h) (whole : octets_of h ++ after ≡ octets) where
   first-cases : (f : Forest) → IsReadAt p f depth offset ends octets rest → IsReadFirst p h after rest f
   first-cases NoMore r = elim r.end [
     | inl e ↦
@@ -92,21 +92,22 @@ module _ (p : Place) (h : HeaderValue) (after octets rest : List ℕ) (depth off
       absurd (zero-no_header h 0 after (spelling g ++ rest) at.valid (whole ∙ sym r.spelled) refl)
   first-cases (Primitive k c g) r =
       let s : (k ≡ h) × (c ++ (spelling g ++ rest) ≡ after) =
-      header-one p false (holds h) k h _ after r.obeys_grammar.0.0.header at
+      header-one p k h _ after r.obeys_grammar.0.0.header at
       (sym (regroup-3 (octets_of k) c (spelling g) rest) ∙ (r.spelled ∙ sym whole)) in
       subst (λ (z : HeaderValue). IsReadFirst p z after rest (Primitive k c g)) s.0
-      (first_primitive (unnamed-form p false k r.none_named r.obeys_grammar.0.0.header) r.obeys_grammar.0.1 s.1
-      r.obeys_grammar.1)
+      (first_primitive (unnamed-form p false k r.none_named r.obeys_grammar.0.0.header r.obeys_grammar.0.0.form)
+      r.obeys_grammar.0.1 s.1 r.obeys_grammar.1)
   first-cases (Holder k inside g) r =
       let s : (k ≡ h) × (lead k ++ (spelling inside ++ (end_octets k.size ++ (spelling g ++ rest))) ≡ after) =
-      header-one p true (holds h) k h _ after r.obeys_grammar.0.0.header at
+      header-one p k h _ after r.obeys_grammar.0.0.header at
       (sym (append_assoc (octets_of k) (lead k) _)
       ∙ (sym (regroup-4 (opening k) (spelling inside) (end_octets k.size) (spelling g) rest)
       ∙ (r.spelled ∙ sym whole))) in
-      let constructed : k.constructed ≡ true = unnamed-form p true k r.none_named r.obeys_grammar.0.0.header in
+      let constructed : k.constructed ≡ true =
+      unnamed-form p true k r.none_named r.obeys_grammar.0.0.header r.obeys_grammar.0.0.form in
       let none : lead k ≡ [] = lead-none k constructed in
       subst (λ (z : HeaderValue). IsReadFirst p z after rest (Holder k inside g)) s.0
-      (first_holder constructed (r.obeys_grammar.0.0.shallow refl)
+      (first_holder constructed r.obeys_grammar.0.0.shallow
       (length-led k.size (length (lead k)) (length (spelling inside)) (ap (λ (o : List ℕ). length o) none)
       r.obeys_grammar.0.2)
       r.obeys_grammar.0.1 r.obeys_grammar.1
@@ -115,30 +116,31 @@ module _ (p : Place) (h : HeaderValue) (after octets rest : List ℕ) (depth off
   first-cases (OpenPrimitive k c) r =
       let nothing : rest ≡ [] = open-last ends (OpenPrimitive k c) rest refl r.end in
       let s : (k ≡ h) × (c ++ rest ≡ after) =
-      header-one p false (holds h) k h _ after r.obeys_grammar.0.header at
+      header-one p k h _ after r.obeys_grammar.0.header at
       (sym (append_assoc (octets_of k) c rest) ∙ (r.spelled ∙ sym whole)) in
       let size : (n : ℕ) × (k.size ≡ Definite n) =
-      size-definite k r.obeys_grammar.0.header.valid r.obeys_grammar.0.header.form in
+      size-definite k r.obeys_grammar.0.header.valid r.obeys_grammar.0.form in
       subst (λ (z : HeaderValue). IsReadFirst p z after rest (OpenPrimitive k c)) s.0
-      (first_open_primitive (unnamed-form p false k r.none_named r.obeys_grammar.0.header) size.0 size.1
-      (rw size.1 at r.obeys_grammar.1)
+      (first_open_primitive (unnamed-form p false k r.none_named r.obeys_grammar.0.header r.obeys_grammar.0.form)
+      size.0 size.1 (rw size.1 at r.obeys_grammar.1)
       (sym (append-nil c) ∙ (ap (λ (o : List ℕ). c ++ o) (sym nothing) ∙ s.1)) nothing)
   first-cases (OpenHolder k inside) r =
       let nothing : rest ≡ [] = open-last ends (OpenHolder k inside) rest refl r.end in
       let s : (k ≡ h) × (lead k ++ (spelling inside ++ rest) ≡ after) =
-      header-one p true (holds h) k h _ after r.obeys_grammar.0.0.header at
+      header-one p k h _ after r.obeys_grammar.0.0.header at
       (sym (append_assoc (octets_of k) (lead k) (spelling inside ++ rest))
       ∙ (sym (append_assoc (opening k) (spelling inside) rest) ∙ (r.spelled ∙ sym whole))) in
-      let constructed : k.constructed ≡ true = unnamed-form p true k r.none_named r.obeys_grammar.0.0.header in
+      let constructed : k.constructed ≡ true =
+      unnamed-form p true k r.none_named r.obeys_grammar.0.0.header r.obeys_grammar.0.0.form in
       let none : lead k ≡ [] = lead-none k constructed in
       let fits : Fits (place_of_children p k) (length (spelling inside)) =
       spelling-fits (place_of_children p k) inside
-      (fits-inside p k r.obeys_grammar.0.0.header.form r.obeys_grammar.0.0.fits) r.obeys_grammar.1 in
+      (fits-inside p k r.obeys_grammar.0.0.form r.obeys_grammar.0.0.fits) r.obeys_grammar.1 in
       let room : (p.offset + length (opening k)) + length (spelling inside)
       ≡ ((p.offset + length (octets_of k)) + length (lead k)) + length (spelling inside) =
       omega (arith, length-opening k) in
       subst (λ (z : HeaderValue). IsReadFirst p z after rest (OpenHolder k inside)) s.0
-      (first_open_holder constructed (r.obeys_grammar.0.0.shallow refl)
+      (first_open_holder constructed r.obeys_grammar.0.0.shallow
       (within-length k.size (p.offset + length (octets_of k)) p.bound (length (lead k)) (length (spelling inside))
       (subst (IsWithin (bound_in k.size (p.offset + length (octets_of k)) p.bound)) room fits))
       (λ w. lacks-led k.size (length (lead k)) (length (spelling inside)) (r.obeys_grammar.0.1 w))
@@ -146,7 +148,8 @@ module _ (p : Place) (h : HeaderValue) (after octets rest : List ℕ) (depth off
       (sym (append-nil (spelling inside)) ∙ (ap (λ (o : List ℕ). spelling inside ++ o) (sym nothing)
       ∙ (ap (λ (o : List ℕ). o ++ (spelling inside ++ rest)) (sym none) ∙ s.1))) nothing)
   first-cases (OpenBitString k) r =
-      let constructed : k.constructed ≡ true = unnamed-form p true k r.none_named r.obeys_grammar.0.header in
+      let constructed : k.constructed ≡ true =
+      unnamed-form p true k r.none_named r.obeys_grammar.0.header r.obeys_grammar.0.form in
       let w : 0 ∷ [] ≡ [] = sym r.obeys_grammar.1 ∙ lead-none k constructed in
       absurd (cc (w))
   first-cases (OpenHeader o) r =
@@ -178,12 +181,11 @@ module _ (octets : List ℕ) (offset : ℕ) (f : HeaderFields) (count : ℕ)
   head-whole = ap (λ (o : List ℕ). o ++ drop count octets) head-front ∙ take-append-drop count octets
 
   -- the header is at the place
-  pub head-at : (p : Place) → p.offset ≡ offset → p.inside ≡ [] → IsHeaderAt p (holds head) head
+  pub head-at : (p : Place) → p.offset ≡ offset → p.inside ≡ [] → IsHeaderAt p head
   head-at p o none = record {
     valid = b.begins.valid;
     offset = b.begins.offset ∙ sym o;
     named = b.begins.named ∙ ap (is_among p.offset) (sym none);
-    form = refl;
   }
 
   pub first-read : (p : Place) (g : Forest) (depth : ℕ) (ends : Bool) (rest : List ℕ)

@@ -4,11 +4,12 @@ use Rattle.std.proofs.Common.{inl, eqb, IsTrue, MatchOption, Option, Some, None,
 use Rattle.std.proofs.Common.{refl, sym, ap, ap₂, arith, subst, append-nil, length-append, slice_index_or, ◌∙◌}
 use Rattle.std.proofs.lemmas.List.{get_or_default, take_all}
 use Rattle.std.proofs.Math.Seq.{take-append_seam}
+use Rattle.tlv_head.specs.Header.{HeaderValue}
 use Rattle.tlv_walk.specs.declared.framing.Framing.{Framing}
 use Rattle.tlv_walk.specs.Forest.{Forest, Holder, NoMore, OpenBitString, OpenEndOctets, OpenHeader, OpenHolder}
 use Rattle.tlv_walk.specs.Forest.{OpenPrimitive, PaddingOctet, Primitive, extent, opening, primitive_extent, spelling}
 use Rattle.tlv_walk.specs.Inside.{is_among}
-use Rattle.tlv_walk.specs.Place.{Place, place_after, place_of_children, top_place}
+use Rattle.tlv_walk.specs.Place.{IsHeaderAt, Place, place_after, place_of_children, top_place}
 use Rattle.tlv_walk.specs.Reading.{AreOctets, IsReading, IsSound, IsSoundList}
 use Rattle.tlv_walk.proofs.GrammarLemmas.SoundElements.{sound-obeys_grammar_top}
 use Rattle.tlv_open.specs.declared.extent.Extent.{Extent}
@@ -66,29 +67,27 @@ are-found padding octets new f m n r count a =
       record { reading = f; is_reading = r; breaks = rw s.added s.finds.breaks },
     )
 
+header-padded : (p q : Place) (h : HeaderValue) → q.offset ≡ p.offset → q.inside ≡ p.inside → IsHeaderAt p h
+    → IsHeaderAt q h
+header-padded p q h o i k = record {
+  valid = k.valid;
+  offset = k.offset ∙ sym o;
+  named = k.named ∙ ap₂ is_among (sym o) (sym i);
+}
+
 -- sound elements without padding are sound where padding is allowed
 pub sound-padded : (p q : Place) (f : Forest) → p.padding ≡ false → q.offset ≡ p.offset → q.depth ≡ p.depth
     → q.inside ≡ p.inside → IsSound p f → IsSound q f
 sound-padded p q NoMore z o d i s = tt
 sound-padded p q (PaddingOctet rest) z o d i s = let w : true ≡ false = sym s.0 ∙ z in absurd (cc (w))
 sound-padded p q (Primitive h c rest) z o d i s = (
-  record {
-    valid = s.0.valid;
-    offset = s.0.offset ∙ sym o;
-    named = s.0.named ∙ ap₂ is_among (sym o) (sym i);
-    form = s.0.form;
-  },
+  (header-padded p q h o i s.0.0, s.0.1),
   s.1,
   sound-padded (place_after p (primitive_extent h c)) (place_after q (primitive_extent h c)) rest z
       (ap (λ (n : ℕ). n + primitive_extent h c) o) d i s.2,
 )
 sound-padded p q (Holder h inside rest) z o d i s = (
-  record {
-    valid = s.0.valid;
-    offset = s.0.offset ∙ sym o;
-    named = s.0.named ∙ ap₂ is_among (sym o) (sym i);
-    form = s.0.form;
-  },
+  (header-padded p q h o i s.0.0, s.0.1),
   s.1,
   omega (arith, s.2, d),
   sound-padded (place_of_children p h) (place_of_children q h) inside refl

@@ -48,9 +48,8 @@ sound-shallow p OpenEndOctets s = refl
 abbrev place_with : Place → ℕ → Place
 place_with p depth = record p { depth = depth }
 
-header-with : (p : Place) (depth : ℕ) (holding : Bool) (h : HeaderValue) → IsHeaderAt p holding h
-    → IsHeaderAt (place_with p depth) holding h
-header-with p depth holding h k = record { valid = k.valid; offset = k.offset; named = k.named; form = k.form }
+header-with : (p : Place) (depth : ℕ) (h : HeaderValue) → IsHeaderAt p h → IsHeaderAt (place_with p depth) h
+header-with p depth h k = record { valid = k.valid; offset = k.offset; named = k.named }
 
 -- sound elements are sound at another depth, if they are shallow there
 sound-at : (p : Place) (depth : ℕ) (f : Forest) → IsSound p f → is_shallow depth f ≡ true
@@ -58,12 +57,12 @@ sound-at : (p : Place) (depth : ℕ) (f : Forest) → IsSound p f → is_shallow
 sound-at p depth NoMore s e = tt
 sound-at p depth (PaddingOctet rest) s e = (s.0, sound-at (place_after p 1) depth rest s.1 e)
 sound-at p depth (Primitive h c rest) s e =
-    (header-with p depth _ h s.0, s.1, sound-at (place_after p (primitive_extent h c)) depth rest s.2 e)
+    ((header-with p depth h s.0.0, s.0.1), s.1, sound-at (place_after p (primitive_extent h c)) depth rest s.2 e)
 sound-at p depth (Holder h inside rest) s e =
     let parts : (ltb depth 128 ≡ true) × ((is_shallow (depth + 1) inside && is_shallow depth rest) ≡ true) =
     and_parts _ _ e in
     let others : (is_shallow (depth + 1) inside ≡ true) × (is_shallow depth rest ≡ true) = and_parts _ _ parts.1 in (
-      header-with p depth _ h s.0,
+      (header-with p depth h s.0.0, s.0.1),
       s.1,
       ltb-true depth 128 parts.0,
       sound-at (place_of_children p h) (depth + 1) inside s.3 others.0,

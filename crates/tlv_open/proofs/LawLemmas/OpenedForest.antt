@@ -5,7 +5,7 @@ use Rattle.std.proofs.Common.{inl, inr, length-append, eqb-true, if◌then◌els
 use Rattle.std.proofs.lemmas.Bool.{cases_Bool}
 use Rattle.tlv_head.specs.declared.header.Class.{Class}
 use Rattle.tlv_head.specs.declared.header.Size.TheVariants.{Definite}
-use Rattle.tlv_head.specs.Header.{HeaderValue, IsHeader, is_universal, octets_of}
+use Rattle.tlv_head.specs.Header.{HeaderValue, IsHeader, holds, is_universal, octets_of}
 use Rattle.tlv_head.proofs.ReaderLemmas.Prefix.{header-two}
 use Rattle.tlv_walk.specs.Forest.{Forest, Holder, NoMore, OpenBitString, OpenEndOctets, OpenHeader, OpenHolder}
 use Rattle.tlv_walk.specs.Forest.{OpenPrimitive, PaddingOctet, Primitive, end_octets, extent, has_element, is_whole}
@@ -62,18 +62,18 @@ ArePlain o (OpenBitString h) = ⊥
 ArePlain o (OpenHeader octets) = Unit {0}
 ArePlain o OpenEndOctets = Unit {0}
 
-plain-header : (p : Place) (holding : Bool) (h : HeaderValue) → p.inside ≡ [] → IsHeaderAt p holding h
+plain-header : (p : Place) (holding : Bool) (h : HeaderValue) → p.inside ≡ [] → IsHeaderAt p h → holds h ≡ holding
     → IsPlainHeader p.offset holding h
-plain-header p holding h e k =
-    record { valid = k.valid; offset = k.offset; form = unnamed-form p holding h e k }
+plain-header p holding h e k form =
+    record { valid = k.valid; offset = k.offset; form = unnamed-form p holding h e k form }
 
 pub sound-plain : (p : Place) (f : Forest) → p.inside ≡ [] → IsSound p f → ArePlain p.offset f
 sound-plain p NoMore e s = tt
 sound-plain p (PaddingOctet rest) e s = sound-plain (place_after p 1) rest e s.1
 sound-plain p (Primitive h c rest) e s =
-    ((plain-header p false h e s.0, s.1), sound-plain (place_after p (primitive_extent h c)) rest e s.2)
+    ((plain-header p false h e s.0.0 s.0.1, s.1), sound-plain (place_after p (primitive_extent h c)) rest e s.2)
 sound-plain p (Holder h inside rest) e s = (
-  plain-header p true h e s.0,
+  plain-header p true h e s.0.0 s.0.1,
   sound-plain (place_of_children p h) inside e s.3,
   sound-plain (place_after p (extent h inside)) rest e s.4,
 )
@@ -87,17 +87,20 @@ pub grammar-plain : (p : Place) (f : Forest) → p.inside ≡ [] → ObeysGramma
 grammar-plain p NoMore e o = tt
 grammar-plain p (PaddingOctet rest) e o = grammar-plain (place_after p 1) rest e o.1
 grammar-plain p (Primitive h c rest) e o =
-    ((plain-header p false h e o.0.0.header, o.0.1), grammar-plain (place_after p (primitive_extent h c)) rest e o.1)
+    (
+      (plain-header p false h e o.0.0.header o.0.0.form, o.0.1),
+      grammar-plain (place_after p (primitive_extent h c)) rest e o.1,
+    )
 grammar-plain p (Holder h inside rest) e o = (
-  plain-header p true h e o.0.0.header,
+  plain-header p true h e o.0.0.header o.0.0.form,
   grammar-plain (place_of_children p h) inside e o.1,
   grammar-plain (place_after p (extent h inside)) rest e o.2,
 )
-grammar-plain p (OpenPrimitive h c) e o = plain-header p false h e o.0.header
+grammar-plain p (OpenPrimitive h c) e o = plain-header p false h e o.0.header o.0.form
 grammar-plain p (OpenHolder h inside) e o =
-    (plain-header p true h e o.0.0.header, grammar-plain (place_of_children p h) inside e o.1)
+    (plain-header p true h e o.0.0.header o.0.0.form, grammar-plain (place_of_children p h) inside e o.1)
 grammar-plain p (OpenBitString h) e o =
-    let constructed : h.constructed ≡ true = unnamed-form p true h e o.0.header in
+    let constructed : h.constructed ≡ true = unnamed-form p true h e o.0.header o.0.form in
     let w : 0 ∷ [] ≡ [] = sym o.1 ∙ lead-none h constructed in
     absurd (cc (w))
 grammar-plain p (OpenHeader octets) e o = tt

@@ -4,7 +4,7 @@ use Rattle.std.proofs.Common.{IfSome}
 use Rattle.std.proofs.Common.{refl, sym, ap, ap₂, ◌∙◌, arith, subst, length-append}
 use Rattle.tlv_head.specs.declared.fault.FaultCode.{FaultCode}
 use Rattle.tlv_head.specs.declared.header.Size.TheVariants.{Definite}
-use Rattle.tlv_head.specs.Header.{HeaderValue, announced_length, definite_length, holds, octets_of}
+use Rattle.tlv_head.specs.Header.{HeaderValue, definite_length, octets_of}
 use Rattle.tlv_head.proofs.ReaderLemmas.Prefix.{header-two}
 use Rattle.tlv_walk.specs.Ending.{IsRefusedAt, OpenEnd, bad_end, bad_inside, end_at, missing_end, no_end, no_room}
 use Rattle.tlv_walk.specs.Ending.{open_end, overrun, refused_octet, stray_end, too_deep}
@@ -12,8 +12,8 @@ use Rattle.tlv_walk.specs.Forest.{Forest, Holder, NoMore, OpenBitString, OpenEnd
 use Rattle.tlv_walk.specs.Forest.{OpenPrimitive, Primitive, extent}
 use Rattle.tlv_walk.specs.Forest.{lead, opening, primitive_extent, spelling}
 use Rattle.tlv_walk.specs.Inside.{is_among}
-use Rattle.tlv_walk.specs.Place.{Fits, IsHeaderAt, IsWithin, ObeysGrammar, Place, bound_in, place_after}
-use Rattle.tlv_walk.specs.Place.{place_of_children}
+use Rattle.tlv_walk.specs.Place.{Fits, IsHeaderAt, IsWithin, ObeysGrammar, Place, announced_extent, bound_in}
+use Rattle.tlv_walk.specs.Place.{place_after, place_of_children}
 use Rattle.tlv_walk.specs.Reading.{IsSound}
 use Rattle.tlv_walk.proofs.GrammarLemmas.PlacedSpelling.{Agrees}
 use Rattle.tlv_walk.proofs.GrammarLemmas.SoundElements.{sound-obeys_grammar, sound-whole}
@@ -73,13 +73,12 @@ abbrev is_header_begun : Forest → Bool
 is_header_begun (OpenHeader octets) = true
 is_header_begun f = false
 
-header-same : (p q : Place) (holding : Bool) (h : HeaderValue) → IsSamePlace p q → p.inside ≡ []
-    → is_among q.offset q.inside ≡ false → IsHeaderAt p holding h → IsHeaderAt q holding h
-header-same p q holding h s e none k = record {
+header-same : (p q : Place) (h : HeaderValue) → IsSamePlace p q → p.inside ≡ []
+    → is_among q.offset q.inside ≡ false → IsHeaderAt p h → IsHeaderAt q h
+header-same p q h s e none k = record {
   valid = k.valid;
   offset = k.offset ∙ sym s.offset;
   named = k.named ∙ (ap (is_among p.offset) e ∙ sym none);
-  form = k.form;
 }
 
 refused-same : (e : OpenEnd) (q : Place) (x : ℕ) (code : FaultCode) → IsRefusedAt e x code → IsSamePlace e.place q
@@ -91,13 +90,13 @@ refused-same e q x code (bad_end {p = p} f nz) s i n = bad_end (fits-same p q 2 
 refused-same e q x code (no_room {p = p} {o = o} a) s i n = no_room (λ f. a (fits-back p q (length o + 1) s f))
 refused-same e q x code (refused_octet {p = p} {o = o} f r) s i n =
     refused_octet (fits-same p q (length o + 1) (length o + 1) s refl f) r
-refused-same e q x code (too_deep {p = p} {o = o} f h k is deep) s i n =
-    too_deep (fits-same p q (length o + 1) (length o + 1) s refl f) h (header-same p q true h s i (n refl) k) is
+refused-same e q x code (too_deep {p = p} {o = o} f h k form is deep) s i n =
+    too_deep (fits-same p q (length o + 1) (length o + 1) s refl f) h (header-same p q h s i (n refl) k) form is
     (omega (arith, deep, s.depth))
 refused-same e q x code (overrun {p = p} {o = o} f h k is shallow a) s i n =
-    overrun (fits-same p q (length o + 1) (length o + 1) s refl f) h (header-same p q (holds h) h s i (n refl) k) is
+    overrun (fits-same p q (length o + 1) (length o + 1) s refl f) h (header-same p q h s i (n refl) k) is
     (λ t. let few : p.depth < 128 = shallow t in omega (arith, few, s.depth))
-    (λ t. a (fits-back p q (length (octets_of h) + announced_length h.size) s t))
+    (λ t. a (fits-back p q (announced_extent h) s t))
 refused-same e q x code (no_end {p = p} d a) s i n = no_end (s.indefinite ∙ d) (λ f. a (fits-back p q 1 s f))
 refused-same e q x code (stray_end d t z) s i n = stray_end (s.indefinite ∙ d) (s.padding ∙ t) z
 
@@ -113,7 +112,7 @@ contents-taken e x code (missing_end a) t = absurd (cc (t))
 contents-taken e x code (bad_end f nz) t = absurd (cc (t))
 contents-taken e x code (no_room a) t = absurd (cc (t))
 contents-taken e x code (refused_octet f r) t = absurd (cc (t))
-contents-taken e x code (too_deep f h k is deep) t = absurd (cc (t))
+contents-taken e x code (too_deep f h k form is deep) t = absurd (cc (t))
 contents-taken e x code (overrun f h k is shallow a) t = absurd (cc (t))
 contents-taken e x code (no_end d a) t = absurd (cc (t))
 contents-taken e x code (stray_end d u z) t = absurd (cc (t))
@@ -173,15 +172,15 @@ opened-grammar {w = w} p q
     opened-grammar (place_after p (primitive_extent h contents)) (place_after q (extent string (opened_forest a))) r e
     k z (same-after p q _ _ far s) o.1
     (agrees-rest w h contents inner rest xs ys p.offset held a r plain.0.0 size plain.1 q m.offset agrees) in
+    let there = header-named w.start q p.offset w.depth h contents inner plain.0.0 size held m.offset
+    (string-named w h contents inner rest xs ys p.offset held a r plain.0.0 size plain.1 q m.offset agrees) in
     record {
       obeys = (
         (
           record {
-            header =
-                header-named w.start q p.offset w.depth h contents inner plain.0.0 size held m.offset
-                (string-named w h contents inner rest xs ys p.offset held a r plain.0.0 size plain.1 q m.offset
-                agrees);
-            shallow = λ _. omega (arith, held.shallow, k, m.depth);
+            header = there.0;
+            form = there.1;
+            shallow = omega (arith, held.shallow, k, m.depth);
             fits = fits-same p q _ _ s far o.0.0.fits;
           },
           opened-whole a ∙ sound-whole (place_by_itself (w.depth + 1)) inner held.sound,
@@ -206,12 +205,13 @@ opened-grammar {w = w} {xs = xs} p q (closed {h = h} {contents = contents} {rest
     opened-grammar (place_after p (primitive_extent h contents)) (place_after q (primitive_extent h contents)) r e k z
     (same-after p q _ _ refl s) o.1
     (λ i least most. agrees i (omega (arith, least)) (omega (arith, most, length-primitive h contents rest))) in
+    let there = header-unnamed w.start q p.offset false h plain.0.0 m.offset unnamed in
     record {
       obeys = (
         (
           record {
-            header = header-unnamed w.start q p.offset false h plain.0.0 m.offset unnamed;
-            shallow = λ t. absurd (cc (t));
+            header = there.0;
+            form = there.1;
             fits = fits-same p q _ _ s refl o.0.0.fits;
           },
           o.0.1,
@@ -236,14 +236,15 @@ opened-grammar {w = w} p q (holder {h = h} {children = children} {rest = rest} {
     opened-grammar (place_after p (extent h children)) (place_after q (extent head (opened_forest a))) r e k z
     (same-after p q _ _ far s) o.2
     (agrees-others w _ h children rest xs ys p.offset refl a r plain.0 plain.1 plain.2 q m.offset agrees) in
+    let there = header-unnamed w.start q p.offset true h plain.0 m.offset
+    (holder-unnamed w _ h children rest xs ys p.offset refl a r plain.0 plain.1 plain.2 q m.offset agrees) in
     record {
       obeys = (
         (
           record {
-            header =
-                header-unnamed w.start q p.offset true h plain.0 m.offset
-                (holder-unnamed w _ h children rest xs ys p.offset refl a r plain.0 plain.1 plain.2 q m.offset agrees);
-            shallow = λ t. let few : p.depth < 128 = o.0.0.shallow refl in omega (arith, few, s.depth);
+            header = there.0;
+            form = there.1;
+            shallow = omega (arith, o.0.0.shallow, s.depth);
             fits = fits-same p q _ _ s far o.0.0.fits;
           },
           opened-whole a ∙ o.0.1,
@@ -272,14 +273,14 @@ opened-grammar {w = w} {xs = xs} p q (open_holder {h = h} {children = children} 
     (λ i least most. agrees i (omega (arith, least)) (omega (arith, most, total))) in
     let same : length (spelling (opened_forest a)) ≡ length (spelling children) =
     ap length (opened-spelling (p.offset + length (opening h)) a plain.1) in
+    let there = header-unnamed w.start q p.offset true h plain.0 m.offset unnamed in
     record {
       obeys = (
         (
           record {
-            header =
-                header-unnamed w.start q p.offset true h plain.0 m.offset unnamed;
-            shallow =
-                λ t. let few : p.depth < 128 = o.0.0.shallow refl in omega (arith, few, s.depth);
+            header = there.0;
+            form = there.1;
+            shallow = omega (arith, o.0.0.shallow, s.depth);
             fits = fits-same p q _ _ s refl o.0.0.fits;
           },
           λ t.
@@ -296,11 +297,12 @@ opened-grammar {w = w} p q (open_primitive {h = h} {contents = contents}) e k z 
     let two : 2 ≤ length (octets_of h) = header-two h plain.valid in
     let unnamed : is_among q.offset q.inside ≡ false =
     agrees q.offset (omega arith) (omega (arith, two, length-append (octets_of h) contents)) in
+    let there = header-unnamed w.start q p.offset false h plain m.offset unnamed in
     record {
       obeys = (
         record {
-          header = header-unnamed w.start q p.offset false h plain m.offset unnamed;
-          shallow = λ t. absurd (cc (t));
+          header = there.0;
+          form = there.1;
           fits = fits-same p q _ _ s refl o.0.fits;
         },
         o.1,

@@ -7,7 +7,7 @@ use Rattle.tlv_head.specs.declared.header.Class.{Class}
 use Rattle.tlv_head.specs.declared.header.Size.{Size}
 use Rattle.tlv_head.specs.declared.header.Size.TheVariants.{Definite}
 use Rattle.tlv_head.specs.Header.{HeaderValue, IsHeader, announced_length, definite_length, is_universal}
-use Rattle.tlv_head.specs.Header.{is_wrapper, octets_of}
+use Rattle.tlv_head.specs.Header.{holds, is_wrapper, octets_of}
 use Rattle.tlv_head.proofs.ReaderLemmas.Prefix.{header-two}
 use Rattle.tlv_walk.specs.Forest.{Forest, Holder, Primitive, end_octets, extent, lead, opening}
 use Rattle.tlv_walk.specs.Forest.{primitive_extent, spelling}
@@ -36,15 +36,18 @@ pub record IsMovedTo (start : ℕ) (p q : Place) : Type 0 where
 moved-valid : (start : ℕ) (named : Bool) (h : HeaderValue) → IsHeader h → IsHeader (moved start named h)
 moved-valid start named h v = record { identifier = v.identifier; lengths = v.lengths; allowed = v.allowed }
 
--- a header that is not named
+-- a header that is not named, and whether its element holds encodings
 pub header-unnamed : (start : ℕ) (q : Place) (o : ℕ) (holding : Bool) (h : HeaderValue) → IsPlainHeader o holding h
-    → q.offset ≡ start + o → is_among q.offset q.inside ≡ false → IsHeaderAt q holding (moved start false h)
-header-unnamed start q o holding h k e none = record {
-  valid = moved-valid start false h k.valid;
-  offset = omega (arith, k.offset, e);
-  named = sym none;
-  form = unnamed-holds h.constructed false h.class h.number h.size refl ∙ k.form;
-}
+    → q.offset ≡ start + o → is_among q.offset q.inside ≡ false
+    → IsHeaderAt q (moved start false h) × (holds (moved start false h) ≡ holding)
+header-unnamed start q o holding h k e none = (
+  record {
+    valid = moved-valid start false h k.valid;
+    offset = omega (arith, k.offset, e);
+    named = sym none;
+  },
+  unnamed-holds h.constructed false h.class h.number h.size refl ∙ k.form,
+)
 
 -- a named string that holds encodings wraps them
 wraps-by : (c u four three z : Bool) → c ≡ false → u ≡ true → (four || (three && not z)) ≡ true
@@ -84,13 +87,16 @@ held-wraps class number contents octets constructed size k s e = by_class (is_un
 
 pub header-named : (start : ℕ) (q : Place) (o depth : ℕ) (h : HeaderValue) (contents : List ℕ) (inner : Forest)
     → IsPlainHeader o false h → h.size ≡ Definite (length contents) → HoldsEncodings depth h contents inner
-    → q.offset ≡ start + o → is_among q.offset q.inside ≡ true → IsHeaderAt q true (moved start true h)
-header-named start q o depth h contents inner k size s e named = record {
-  valid = moved-valid start true h k.valid;
-  offset = omega (arith, k.offset, e);
-  named = sym named;
-  form = held-wraps h.class h.number contents (spelling inner) h.constructed h.size k.form size s.octets;
-}
+    → q.offset ≡ start + o → is_among q.offset q.inside ≡ true
+    → IsHeaderAt q (moved start true h) × (holds (moved start true h) ≡ true)
+header-named start q o depth h contents inner k size s e named = (
+  record {
+    valid = moved-valid start true h k.valid;
+    offset = omega (arith, k.offset, e);
+    named = sym named;
+  },
+  held-wraps h.class h.number contents (spelling inner) h.constructed h.size k.form size s.octets,
+)
 
 -- ---- What is known where a string is opened
 

@@ -108,7 +108,7 @@ module _ (with_text : Bool) (style : Layout) (names : NamesValue) (rules : Rules
       let s : Site = site with_text style names rules p holder previous in
       let q : Place = place_after p (length (octets_of h) + length c) in
       let size : HasAllContents h c = ap announced_length v.0.1 in
-      let form : h.constructed ≡ false = not-constructed h.constructed (wraps h) v.0.0.header.form in
+      let form : h.constructed ≡ false = not-constructed h.constructed (wraps h) v.0.0.form in
       let u : Bool = has_unused_bits (value_check_for h c) in
       let known : Knows (after_primitive rules w h c) (site_after_primitive s h c) =
       subst (λ (x : Bool). Knows (frame_after w x (announced_length h.size) u) (site_after_primitive s h c))
@@ -207,7 +207,7 @@ module _ (with_text : Bool) (style : Layout) (names : NamesValue) (rules : Rules
         then_shown (start with_text style names rules p (is_padding previous) w outer n)
             (start with_text style names rules i_place false (frame_under w h) (w ∷ outer) a)
             (first ++ line) (opening_events h) (events inside ++ closing_event h inside ∷ [])
-            (opened-shown with_text style names rules p holder previous w outer n h k v.0.0.header.offset (v.0.0.shallow refl)
+            (opened-shown with_text style names rules p holder previous w outer n h k v.0.0.header.offset v.0.0.shallow
             (omega (arith, b, size)))
             ∙ ap (λ (x : Effect DumpState). record x { put = (first ++ line) ++ x.put })
             (then_shown (start with_text style names rules i_place false (frame_under w h) (w ∷ outer) a)
@@ -298,7 +298,7 @@ module _ (with_text : Bool) (style : Layout) (names : NamesValue) (rules : Rules
             (start with_text style names rules (place_of_children p h) false (frame_under w h) (w ∷ outer)
             (later_header rules w h n))
             (first ++ line) (opening_events h) (events inside)
-            (opened-shown with_text style names rules p holder previous w outer n h k v.0.0.header.offset (v.0.0.shallow refl)
+            (opened-shown with_text style names rules p holder previous w outer n h k v.0.0.header.offset v.0.0.shallow
             (omega (arith, b, size))))
             ∙ ap (λ (l : List ℕ). (first ++ line) ++ l) (i.text (later_header rules w h n))
             ∙ append_assoc first line (item_texts with_text style names rules (items rules (site_of_children s h) inside))

@@ -92,7 +92,7 @@ module _ (rules : Rules) where
       }
   finds_forest p s w outer (Primitive h c rest) v k l d free =
       let size : HasAllContents h c = ap announced_length v.0.1 in
-      let form : h.constructed ≡ false = not-constructed h.constructed (wraps h) v.0.0.header.form in
+      let form : h.constructed ≡ false = not-constructed h.constructed (wraps h) v.0.0.form in
       let u : Bool = has_unused_bits (value_check_for h c) in
       let known : Knows (after_primitive rules w h c) (site_after_primitive s h c) =
       subst (λ (b : Bool). Knows (frame_after w b (announced_length h.size) u) (site_after_primitive s h c))
@@ -124,7 +124,7 @@ module _ (rules : Rules) where
       finds_forest (place_after p (extent h inside)) (site_after_holder s h inside)
       (frame_after w (is_primitive h) (announced_length h.size) false) outer rest v.2
       (knows-after w s (site_after_holder s h inside) h None false k refl refl refl) l d free in
-      let few : length outer < 128 = omega (arith, l, d, (v.0.0.shallow refl)) in
+      let few : length outer < 128 = omega (arith, l, d, v.0.0.shallow) in
       let es : List EventValue = closing_event h inside ∷ events rest in
       let all : (n : ℕ) → (m : ℕ) × (run_finder (check_between rules w outer n) (events (Holder h inside rest))
       ≡ then_found (finding_items (length outer) h.offset (header_findings rules (surroundings_in w) h))
@@ -170,7 +170,7 @@ module _ (rules : Rules) where
       let i =
       finds_forest (place_of_children p h) (site_of_children s h) (frame_under w h) (w ∷ outer) inside v.1
       (knows-inside w s h) (omega (arith, l)) (omega (arith, d)) (λ e. absurd (cc (e))) in
-      let few : length outer < 128 = omega (arith, l, d, v.0.0.shallow refl) in
+      let few : length outer < 128 = omega (arith, l, d, v.0.0.shallow) in
       record {
         put = λ n.
             ap (λ (t : FinderRun). t.put) (run-opening rules w outer n h (events inside) few)

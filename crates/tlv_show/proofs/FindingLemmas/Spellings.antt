@@ -142,7 +142,7 @@ module _ (rules : Rules) (strict : rules ≢ Ber) where
       none-in (header_items rules s h)
       (PrimitiveLines s.level h c ∷ (contents_items rules s h c ++ items rules (site_after_primitive s h c) rest)) e in
       let others = none-in (contents_items rules s h c) (items rules (site_after_primitive s h c) rest) header.1 in (
-        no_findings-regular rules s h strict u.0.valid header.0,
+        no_findings-regular rules s h strict u.0.0.valid header.0,
         all-regular (place_after p (length (octets_of h) + length c)) (site_after_primitive s h c) rest u.2 others.1,
       )
   all-regular p s (Holder h inside rest) u e =
@@ -155,7 +155,7 @@ module _ (rules : Rules) (strict : rules ≢ Ber) where
       none-in (items rules (site_of_children s h) inside)
       (ClosingLine s.level (if h.constructed then end_octets_offset h inside else None) ∷ last) header.1 in
       let others = none-in (end_items rules s h inside) (items rules (site_after_holder s h inside) rest) held.1 in (
-        no_findings-regular rules s h strict u.0.valid header.0,
+        no_findings-regular rules s h strict u.0.0.valid header.0,
         all-regular (place_of_children p h) (site_of_children s h) inside u.3 held.0,
         all-regular (place_after p (extent h inside)) (site_after_holder s h inside) rest u.4 others.1,
       )

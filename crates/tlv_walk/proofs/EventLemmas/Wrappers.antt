@@ -2,7 +2,7 @@
 use Rattle.std.proofs.Common.{◌≡◌, inl, inr, ℕ, ◌+◌, ◌<◌, ◌≤◌, Bool, true, false, ◌||◌, if◌then◌else◌, List, [], ◌∷◌}
 use Rattle.std.proofs.Common.{◌++◌, length, map, refl, sym, ap, ◌∙◌, arith, length-append}
 use Rattle.std.proofs.lemmas.Bool.{cases_Bool, true≢false}
-use Rattle.tlv_head.specs.Header.{HeaderValue, is_wrapper, octets_of}
+use Rattle.tlv_head.specs.Header.{HeaderValue, holds, is_wrapper, octets_of}
 use Rattle.tlv_walk.specs.Forest.{Forest, NoMore, PaddingOctet, Primitive, Holder, OpenPrimitive, OpenHolder}
 use Rattle.tlv_walk.specs.Forest.{OpenBitString, OpenHeader, OpenEndOctets, extent, lead, opening, spelling}
 use Rattle.tlv_walk.specs.Inside.{is_among}
@@ -194,13 +194,13 @@ wraps-named false true h c e = refl
 wraps-named false false h c e = absurd (cc)
 
 -- an element that is there, if it is a wrapper, is named
-wrapper-named : (p : Place) (h : HeaderValue) → IsHeaderAt p true h → AreNamed p.inside (wrapper_offset h)
-wrapper-named p h header = elim (cases_Bool h.constructed) [
+wrapper-named : (p : Place) (h : HeaderValue) → IsHeaderAt p h → holds h ≡ true → AreNamed p.inside (wrapper_offset h)
+wrapper-named p h header form = elim (cases_Bool h.constructed) [
   | inl c ↦ rw c tt
   | inr c ↦
       let named : is_among h.offset p.inside ≡ true =
       ap (λ (n : ℕ). is_among n p.inside) header.offset
-      ∙ (sym header.named ∙ wraps-named h.constructed h.named h c header.form) in
+      ∙ (sym header.named ∙ wraps-named h.constructed h.named h c form) in
       rw c (named, tt)
 ]
 
@@ -212,14 +212,14 @@ wrapper_offsets-named p (Primitive h c rest) w =
     wrapper_offsets-named (place_after p (length (octets_of h) + length c)) rest w.1
 wrapper_offsets-named p (Holder h inside rest) w =
     named-append p.inside (wrapper_offset h) (wrapper_offsets inside ++ wrapper_offsets rest)
-    (wrapper-named p h w.0.0.header)
+    (wrapper-named p h w.0.0.header w.0.0.form)
     (named-append p.inside (wrapper_offsets inside) (wrapper_offsets rest)
     (wrapper_offsets-named (place_of_children p h) inside w.1)
     (wrapper_offsets-named (place_after p (extent h inside)) rest w.2))
 wrapper_offsets-named p (OpenPrimitive h c) w = tt
 wrapper_offsets-named p (OpenHolder h inside) w =
-    named-append p.inside (wrapper_offset h) (wrapper_offsets inside) (wrapper-named p h w.0.0.header)
+    named-append p.inside (wrapper_offset h) (wrapper_offsets inside) (wrapper-named p h w.0.0.header w.0.0.form)
     (wrapper_offsets-named (place_of_children p h) inside w.1)
-wrapper_offsets-named p (OpenBitString h) w = wrapper-named p h w.0.header
+wrapper_offsets-named p (OpenBitString h) w = wrapper-named p h w.0.header w.0.form
 wrapper_offsets-named p (OpenHeader octets) w = tt
 wrapper_offsets-named p OpenEndOctets w = tt

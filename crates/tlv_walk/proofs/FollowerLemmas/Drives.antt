@@ -1,5 +1,5 @@
 -- A walk over all that a source gives, turn by turn.
-use Rattle.std.proofs.Common.{◌≡◌, ◌≢◌, ◌⊎◌, inl, inr, ℕ, ◌≤◌, ◌<◌, Bool, true, false, List, [], ◌∷◌, ◌++◌, length}
+use Rattle.std.proofs.Common.{◌≡◌, ◌≢◌, ◌⊎◌, inl, inr, ℕ, ◌≤◌, ◌<◌, Bool, true, List, [], ◌∷◌, ◌++◌, length}
 use Rattle.std.proofs.Common.{take, refl, sym, ap, ap₂, ◌∙◌, subst, arith, append-nil}
 use Rattle.std.proofs.lemmas.List.{take_all}
 use Rattle.std.proofs.lemmas.List.Elements.{All-append}
@@ -21,9 +21,9 @@ use Rattle.tlv_walk.specs.DriveJob.{Drives, drive_job, drive_states, enough_run,
 use Rattle.tlv_walk.specs.Events.{AreEqualJoined, EventValue, events}
 use Rattle.tlv_walk.specs.Follow.{Effect, effect_of, followed_events, had_enough, FollowsEvents}
 use Rattle.tlv_walk.specs.Forest.{Forest, spelling}
-use Rattle.tlv_walk.specs.Ending.{IsFinalEnding}
-use Rattle.tlv_walk.specs.Job.{ComesTo, EndsWith, Runs, WantMore, device_states, drain_result, read_failed}
-use Rattle.tlv_walk.specs.Job.{source_result, too_long, write_failed}
+use Rattle.tlv_walk.specs.Ending.{IsEnding, IsFinalEnding}
+use Rattle.tlv_walk.specs.Job.{ComesTo, EndsWith, Runs, WantMore, at_end, device_states, drain_result, read_failed}
+use Rattle.tlv_walk.specs.Job.{source_result, too_long, with_enough, write_failed}
 use Rattle.tlv_io.specs.Out.{Sends}
 use Rattle.tlv_walk.specs.Reading.{AreOctets, IsReading}
 use Rattle.tlv_walk.specs.WalkerReads.{Stands}
@@ -208,9 +208,8 @@ module _ {S : Type 0} (next : S → EventValue → Effect S) (framing : Framing)
           y.run_is ∙ ap (λ (k : Framing). run_over k f run.ending) x.same
           ∙ ap (result_if f run.ending) (sym (is_enough_so f go.On (effect_of next s es).put k)) in
           let ends : EndsWith framing walked_octets (had_enough (effect_of next s (events f)).goes) run.ending =
-          subst (λ (b : Bool). EndsWith framing walked_octets b run.ending)
-          (sym (is_enough_so f go.On (effect_of next s es).put k))
-          (subst (λ (k : Framing). EndsWith k walked_octets false run.ending) x.same y.is_ending) in record {
+          at_end run.ending (is_enough_so f go.On (effect_of next s es).put k)
+          (subst (λ (k : Framing). IsEnding k walked_octets run.ending) x.same y.is_ending) in record {
             runs =
                 runs_by (Ok run) f (gave_last new.devices.source.last piece g) is_reading es go.On k
                 (ap source_result (sym is)) (sent_all es go.On y.follows)
@@ -254,7 +253,7 @@ module _ {S : Type 0} (next : S → EventValue → Effect S) (framing : Framing)
                 (comes_to (drive_job next framing limit s) (b ++ r) f new.devices.source (Ok run) (
                   run.ending,
                   answer,
-                  subst (λ (k : Bool). EndsWith framing walked_octets k run.ending) (sym enough) ending_is,
+                  subst (EndsWith framing walked_octets _) (sym ending_is) (with_enough enough),
                   inl enough,
                 ))
                 (λ failed. absurd (cc (failed)));

@@ -16,7 +16,7 @@ use Rattle.tlv_walk.specs.Events.{EventValue, events}
 use Rattle.tlv_walk.specs.Follow.{Effect, effect_of, go_of, had_enough}
 use Rattle.tlv_walk.specs.Forest.{Forest}
 use Rattle.tlv_walk.specs.Job.{EndsWith, Job, Runs, WantMore, device_states, read_failed, too_long, write_failed}
-use Rattle.tlv_walk.proofs.FollowerLemmas.Enough.{ComesToResult, Settled, comes_to, comes_to-result}
+use Rattle.tlv_walk.proofs.FollowerLemmas.Enough.{ComesToResult, Settled, comes_to, comes_to-result, ends_done}
 use Rattle.tlv_io.specs.Out.{Sends}
 use Rattle.tlv_io.proofs.Sends.{sends_as}
 use Rattle.tlv_walk.specs.Reading.{IsReading}
@@ -26,12 +26,6 @@ pub run-ending : (framing : Framing) (f : Forest) (es : List EventValue) (k : Bo
     → (k ≡ true → e ≡ Done) → (if k then enough_run framing es else run_over framing f e).ending ≡ e
 run-ending framing f es true e done = sym (done refl)
 run-ending framing f es false e done = refl
-
--- if there was enough, that is `Done`
-ends_done : (framing : Framing) (octets : List ℕ) (k : Bool) (e : Ending) → EndsWith framing octets k e → k ≡ true
-    → e ≡ Done
-ends_done framing octets true e ends is = ends
-ends_done framing octets false e ends is = absurd (cc (is))
 
 pub had-goes : (k : Bool) → had_enough (go_of k) ≡ k
 had-goes true = refl

@@ -58,7 +58,8 @@ module _ (form : Bool → Bool) where
       ap (λ (l : List ℕ). 0 ∷ l) (one_spelling (place_after p 1) (place_after q 1) a b rest u.1 v.1 r s)
   one_spelling p q f g (primitives h k c a b tag rest) u v r s =
       let size : h.size ≡ k.size = u.1 ∙ sym v.1 in
-      let header : octets_of h ≡ octets_of k = same-octets h k u.0.valid v.0.valid tag size r.0.shortest s.0.shortest in
+      let header : octets_of h ≡ octets_of k =
+      same-octets h k u.0.0.valid v.0.0.valid tag size r.0.shortest s.0.shortest in
       let others : spelling a ≡ spelling b =
       one_spelling (place_after p (length (octets_of h) + length c)) (place_after q (length (octets_of k) + length c))
       a b rest u.2 v.2 r.1 s.1 in
@@ -72,7 +73,8 @@ module _ (form : Bool → Bool) where
       ap₂ (λ (x y : List ℕ). length x + length y) (same-lead h k tag) contents in
       let size : h.size ≡ k.size =
       same-size h.size k.size (contents_length h inside) (same-form form h k tag r.0 s.0) u.1 (rw count v.1) in
-      let header : octets_of h ≡ octets_of k = same-octets h k u.0.valid v.0.valid tag size r.0.shortest s.0.shortest in
+      let header : octets_of h ≡ octets_of k =
+      same-octets h k u.0.0.valid v.0.0.valid tag size r.0.shortest s.0.shortest in
       let begins : opening h ≡ opening k = ap₂ (λ (x y : List ℕ). x ++ y) header (same-lead h k tag) in
       let ends : end_octets h.size ++ spelling a ≡ end_octets k.size ++ spelling b =
       ap₂ (λ (z : Size) (y : List ℕ). end_octets z ++ y) size others in

@@ -71,7 +71,7 @@ pub unfilled-room : (w : Framing) (l : Layer) (ls : List Layer) (f : Forest) →
 unfilled-room w l ls f a i e =
     let p : Place = place_after (place_in w ls) (length (spelling l.before)) in
     let there : Fits (place_of_children p l.header) (length (spelling f)) =
-    spelling-fits (place_of_children p l.header) f (fits-inside p l.header a.2.header.form a.2.fits) i.obeys_grammar in
+    spelling-fits (place_of_children p l.header) f (fits-inside p l.header a.2.form a.2.fits) i.obeys_grammar in
     grammar-within w (l ∷ ls) f a i.obeys_grammar (λ whole. unfilled-lacks p l.header f e whole there)
 
 -- the forest obeys the grammar, and spells the octets of the layers and then its own

@@ -94,18 +94,12 @@ depth-allows t d e k = elim (and_cases t (leb 128 d) e) [
 
 -- a header that is complete and refused is too deep, or its contents end beyond the bound
 complete-blames : (p : Place) (o : List ℕ) (x : ℕ) (h : HeaderValue) → Fits p (length o + 1)
-    → IsHeaderAt p (holds h) h → octets_of h ≡ o ++ x ∷ []
+    → IsHeaderAt p h → octets_of h ≡ o ++ x ∷ []
     → Blames p (OpenHeader o) x (refusal (complete p h))
 complete-blames p o x h room s octets = elim (cases_Bool (holds h && leb 128 p.depth)) [
   | inl deep ↦
       let parts : (holds h ≡ true) × (leb 128 p.depth ≡ true) = and_parts _ _ deep in
-      let there : IsHeaderAt p true h = record {
-        valid = s.valid;
-        offset = s.offset;
-        named = s.named;
-        form = parts.0;
-      } in
-      rw deep (too_deep room h there octets (leb-true _ _ parts.1))
+      rw deep (too_deep room h s parts.0 octets (leb-true _ _ parts.1))
   | inr not_deep ↦ elim (cases_Bool (fits p (length (octets_of h) + announced_length h.size))) [
     | inl f ↦ rw (not_deep, f) tt
     | inr f ↦ rw (not_deep, f) (overrun room h s octets (depth-allows (holds h) p.depth not_deep) (too-long p _ f))
@@ -127,7 +121,6 @@ begin-blames p o x (Ready h) some below w r =
           r.0;
       offset = ap (λ (a : Origin). a.offset) r.2;
       named = ap (λ (a : Origin). a.named) r.2;
-      form = refl;
     })
     (sym r.1)
 begin-blames p o x (Stuck code) some below w r = octet-blames p o x code some below w
@@ -164,15 +157,15 @@ stuck-refusal p o x code t room r =
     ap refusal (push-scan p o x (Stuck code) room (refused-stuck (origin p) code o x t.1 r))
 
 -- the header as it is read there
-read-there : (p : Place) (o : List ℕ) (x : ℕ) (h : HeaderValue) (t : Bool) → Fits p (length o + 1) → IsHeaderAt p t h
+read-there : (p : Place) (o : List ℕ) (x : ℕ) (h : HeaderValue) → Fits p (length o + 1) → IsHeaderAt p h
     → octets_of h ≡ o ++ x ∷ [] → push p (OpenHeader o) x ≡ complete p (moved_header (origin p) h)
-read-there p o x h t room s octets =
+read-there p o x h room s octets =
     push-scan p o x (Ready (moved_header (origin p) h)) room
     (ap (scan (origin p)) (sym octets) ∙ scan-moved_header (origin p) h s.valid)
 
 -- the header as it is read there holds others if the header does
-holds-there : (p : Place) (h : HeaderValue) (t : Bool) → IsHeaderAt p t h → holds (moved_header (origin p) h) ≡ holds h
-holds-there p h t s =
+holds-there : (p : Place) (h : HeaderValue) → IsHeaderAt p h → holds (moved_header (origin p) h) ≡ holds h
+holds-there p h s =
     ap (λ (named : Bool). h.constructed || is_wrapper named h.class h.constructed h.number h.size) (sym s.named)
 
 -- if the element is not too deep, the test of the depth fails
@@ -188,15 +181,15 @@ fault-refusal e x code t (missing_end {p = p} a) = rw (no-fit p 2 a)
 fault-refusal e x code t (bad_end {p = p} room nz) = rw (fits-within p.bound (p.offset + 2) room, ne_eqb x 0 nz)
 fault-refusal e x code t (no_room {p = p} {o = o} a) = rw (no-fit p (length o + 1) a)
 fault-refusal e x code t (refused_octet {p = p} {o = o} room r) = stuck-refusal p o x code t room r
-fault-refusal e x code t (too_deep {p = p} {o = o} room h s octets deep) =
+fault-refusal e x code t (too_deep {p = p} {o = o} room h s form octets deep) =
     let test : (holds (moved_header (origin p) h) && leb 128 p.depth) ≡ true =
-    and_from _ _ (holds-there p h true s ∙ s.form) (le-leb 128 p.depth deep) in
-    ap refusal (read-there p o x h true room s octets) ∙ rw test
+    and_from _ _ (holds-there p h s ∙ form) (le-leb 128 p.depth deep) in
+    ap refusal (read-there p o x h room s octets) ∙ rw test
 fault-refusal e x code t (overrun {p = p} {o = o} room h s octets k beyond) =
     let test : (holds (moved_header (origin p) h) && leb 128 p.depth) ≡ false =
-    not-deep _ p.depth (λ q. k (sym (holds-there p h (holds h) s) ∙ q)) in
+    not-deep _ p.depth (λ q. k (sym (holds-there p h s) ∙ q)) in
     let none : fits p (length (octets_of h) + announced_length h.size) ≡ false = no-fit p _ beyond in
-    ap refusal (read-there p o x h (holds h) room s octets) ∙ rw (test, none)
+    ap refusal (read-there p o x h room s octets) ∙ rw (test, none)
 fault-refusal e x code t (no_end {p = p} i a) = rw (no-fit p 1 a)
 fault-refusal e x code t (stray_end {p = p} i d z) = rw (fits-within p.bound (p.offset + 1) (t.1 i), eq-eqb x 0 z, i, d)
 

@@ -9,7 +9,8 @@ use Rattle.tlv_head.specs.Header.{AllowsSize, HeaderValue, IsHeader, announced_l
 use Rattle.tlv_walk.specs.Forest.{Forest, Holder, NoMore, OpenBitString, OpenEndOctets, OpenHeader, OpenHolder}
 use Rattle.tlv_walk.specs.Forest.{OpenPrimitive, PaddingOctet, Primitive, contents_length, end_octets, extent, is_whole}
 use Rattle.tlv_walk.specs.Forest.{lead, opening, spelling}
-use Rattle.tlv_walk.specs.Place.{Fits, IsAnnouncedAt, IsHeaderAt, ObeysGrammar, Place, place_after, place_of_children}
+use Rattle.tlv_walk.specs.Place.{Fits, IsHeaderAt, IsHolderAt, ObeysGrammar, Place, announced_extent, place_after}
+use Rattle.tlv_walk.specs.Place.{place_of_children}
 use Rattle.tlv_walk.proofs.GrammarLemmas.Lengths.{LacksOctets}
 use Rattle.tlv_walk.proofs.GrammarLemmas.Bounds.{IsDefiniteLength, fits-inside, has_length, lead-zero, length-full}
 use Rattle.tlv_walk.proofs.GrammarLemmas.Bounds.{length-lacks, within-le, within-outside}
@@ -50,7 +51,7 @@ spelling-fits p (OpenPrimitive h c) z w = within-le p.bound _ _ (omega (arith, l
     w.0.fits
 spelling-fits p (OpenHolder h inside) z w =
     reaches-open_holder p h inside w.0.0.fits
-    (spelling-fits (place_of_children p h) inside (fits-inside p h w.0.0.header.form w.0.0.fits) w.1)
+    (spelling-fits (place_of_children p h) inside (fits-inside p h w.0.0.form w.0.0.fits) w.1)
 spelling-fits p (OpenBitString h) z w = within-le p.bound _ _ (omega arith) w.0.fits
 spelling-fits p (OpenHeader o) z w = w.2
 spelling-fits p OpenEndOctets z w = w.1
@@ -67,22 +68,22 @@ pub size-definite : (h : HeaderValue) → IsHeader h → holds h ≡ false → (
 size-definite h valid e = definite-primitive h.constructed h.size (not-holding h.constructed (wraps h) e) valid.allowed
 
 -- contents octets of a primitive, no more than announced
-pub primitive_so_far-spells : (p : Place) (h : HeaderValue) (c : List ℕ) (n : ℕ) → IsHeaderAt p false h
-    → h.size ≡ Definite n → length c ≤ n → Fits p (length (octets_of h) + n)
+pub primitive_so_far-spells : (p : Place) (h : HeaderValue) (c : List ℕ) (n : ℕ) → IsHeaderAt p h
+    → holds h ≡ false → h.size ≡ Definite n → length c ≤ n → Fits p (length (octets_of h) + n)
     → Spells p (octets_of h ++ c) (primitive_so_far h c)
-primitive_so_far-spells p h c n header e most f =
+primitive_so_far-spells p h c n header form e most f =
     let all : announced_length h.size ≡ n = ap announced_length e in
     elim (cases_eq (length c) n) [
       | inl full ↦ rw (eq-eqb (length c) (announced_length h.size) (full ∙ sym all)) (record {
         obeys_grammar = (
-          (record { header = header; shallow = λ e. absurd (cc (e)); fits = rw full f }, e ∙ ap Definite (sym full)),
+          (record { header = header; form = form; fits = rw full f }, e ∙ ap Definite (sym full)),
           tt,
         );
         spelled = ap (λ (t : List ℕ). octets_of h ++ t) (append-nil c);
       })
       | inr less ↦ rw (ne_eqb (length c) (announced_length h.size) (λ z. less (z ∙ all))) (record {
         obeys_grammar = (
-          record { header = header; shallow = λ e. absurd (cc (e)); fits = within-le p.bound _ _ (omega arith) f },
+          record { header = header; form = form; fits = within-le p.bound _ _ (omega arith) f },
           omega arith,
         );
         spelled = refl;
@@ -90,7 +91,7 @@ primitive_so_far-spells p h c n header e most f =
     ]
 
 -- an element that holds others, with all its contents octets by its definite length
-pub holder-spells : (p : Place) (h : HeaderValue) (g : Forest) → IsAnnouncedAt p true h
+pub holder-spells : (p : Place) (h : HeaderValue) (g : Forest) → IsHolderAt p h (announced_extent h)
     → ObeysGrammar (place_of_children p h) g
     → is_whole g ≡ true → IsDefiniteLength h.size (contents_length h g)
     → Spells p (opening h ++ spelling g) (Holder h g NoMore)
@@ -101,6 +102,7 @@ holder-spells p h g entry w whole full =
         (
           record {
             header = entry.header;
+            form = entry.form;
             shallow = entry.shallow;
             fits = within-le p.bound _ _ (omega (arith, full.all, length-opening h)) entry.fits;
           },
@@ -124,7 +126,7 @@ unfilled-lacks p h g e whole there =
     _ (within-le (place_of_children p h).bound _ _ (omega (arith, length-opening h)) there) short
 
 -- if what an element holds obeys the grammar, so does the element
-pub holder_so_far-spells : (p : Place) (h : HeaderValue) (g : Forest) → IsAnnouncedAt p true h
+pub holder_so_far-spells : (p : Place) (h : HeaderValue) (g : Forest) → IsHolderAt p h (announced_extent h)
     → ObeysGrammar (place_of_children p h) g → Spells p (opening h ++ spelling g) (holder_so_far h g)
 holder_so_far-spells p h g entry w = elim (cases_Bool (is_filled_by h g)) [
   | inl e ↦
@@ -132,12 +134,12 @@ holder_so_far-spells p h g entry w = elim (cases_Bool (is_filled_by h g)) [
       rw e (holder-spells p h g entry w parts.0 (length-full h.size _ parts.1))
   | inr e ↦
       let there : Fits (place_of_children p h) (length (spelling g)) =
-      spelling-fits (place_of_children p h) g (fits-inside p h entry.header.form entry.fits) w in
+      spelling-fits (place_of_children p h) g (fits-inside p h entry.form entry.fits) w in
       rw e (record { obeys_grammar = ((entry, λ whole. unfilled-lacks p h g e whole there), w); spelled = refl })
 ]
 
 -- an element that holds none yet
-holder_begun-spells : (p : Place) (h : HeaderValue) (l : List ℕ) → lead h ≡ l → IsAnnouncedAt p true h
+holder_begun-spells : (p : Place) (h : HeaderValue) (l : List ℕ) → lead h ≡ l → IsHolderAt p h (announced_extent h)
     → Spells p (octets_of h) (holder_begun h l)
 holder_begun-spells p h [] e entry =
     let r : Spells p (opening h ++ []) (holder_so_far h NoMore) = holder_so_far-spells p h NoMore entry tt in
@@ -147,15 +149,16 @@ holder_begun-spells p h [] e entry =
 holder_begun-spells p h (x ∷ xs) e entry = record { obeys_grammar = (entry, lead-zero h x xs e); spelled = refl }
 
 -- a header where one may be obeys the grammar
-pub element_begun-spells : (p : Place) (h : HeaderValue) (k : Bool) → IsHeaderAt p k h → (k && leb 128 p.depth) ≡ false
-    → Fits p (length (octets_of h) + announced_length h.size)
+pub element_begun-spells : (p : Place) (h : HeaderValue) (k : Bool) → IsHeaderAt p h → holds h ≡ k
+    → (k && leb 128 p.depth) ≡ false → Fits p (announced_extent h)
     → Spells p (octets_of h) (element_begun k h)
-element_begun-spells p h true header d f = holder_begun-spells p h (lead h) refl (record {
+element_begun-spells p h true header form d f = holder_begun-spells p h (lead h) refl (record {
   header = header;
-  shallow = λ _. leb-false 128 p.depth d;
+  form = form;
+  shallow = leb-false 128 p.depth d;
   fits = f;
 })
-element_begun-spells p h false header d f =
-    let n : (n : ℕ) × (h.size ≡ Definite n) = size-definite h header.valid header.form in
+element_begun-spells p h false header form d f =
+    let n : (n : ℕ) × (h.size ≡ Definite n) = size-definite h header.valid form in
     let f' : Fits p (length (octets_of h) + n.0) = rw (ap announced_length n.1) at f in
-    rw (append-nil (octets_of h)) at (primitive_so_far-spells p h [] n.0 header n.1 (omega arith) f')
+    rw (append-nil (octets_of h)) at (primitive_so_far-spells p h [] n.0 header form n.1 (omega arith) f')

@@ -3,12 +3,12 @@ use Rattle.std.proofs.Common.{◌≡◌, ◌⊎◌, inl, inr, ℕ, ◌+◌, ◌<
 use Rattle.std.proofs.Common.{ap, ◌∙◌, arith, append_assoc, append-nil, length-append, eq-eqb, ne_eqb}
 use Rattle.std.proofs.lemmas.Bool.{cases_Bool, and_from, true≢false}
 use Rattle.tlv_head.specs.declared.header.Size.TheVariants.{Definite}
-use Rattle.tlv_head.specs.Header.{HeaderValue, announced_length, octets_of}
+use Rattle.tlv_head.specs.Header.{HeaderValue, announced_length, holds, octets_of}
 use Rattle.tlv_walk.specs.Forest.{Forest, Holder, NoMore, OpenBitString, OpenEndOctets, OpenHeader, OpenHolder}
 use Rattle.tlv_walk.specs.Forest.{OpenPrimitive, PaddingOctet, Primitive, contents_length, end_octets, extent, is_whole}
 use Rattle.tlv_walk.specs.Forest.{lead, opening, spelling}
-use Rattle.tlv_walk.specs.Place.{Fits, IsAnnouncedAt, IsHeaderAt, ObeysGrammar, Place, is_indefinite, place_after}
-use Rattle.tlv_walk.specs.Place.{place_of_children}
+use Rattle.tlv_walk.specs.Place.{Fits, IsHeaderAt, IsHolderAt, ObeysGrammar, Place, announced_extent, is_indefinite}
+use Rattle.tlv_walk.specs.Place.{place_after, place_of_children}
 use Rattle.tlv_walk.proofs.GrammarLemmas.Lengths.{LacksOctets}
 use Rattle.tlv_walk.proofs.GrammarLemmas.Bounds.{IsEndless, IsDefiniteLength, definite-length, fits-inside, fits-within}
 use Rattle.tlv_walk.proofs.GrammarLemmas.Bounds.{has_length, indefinite-endless, lacks-length, length-full}
@@ -34,14 +34,14 @@ primitive_so_far-open h c n e less =
     rw (ne_eqb (length c) (announced_length h.size) (λ z. omega arith))
 
 -- a primitive is popped by a contents octet
-contents-popped : (p : Place) (h : HeaderValue) (c : List ℕ) (x n : ℕ) (g : Forest) → IsHeaderAt p false h
-    → h.size ≡ Definite n → length c < n → Fits p (length (octets_of h) + n)
+contents-popped : (p : Place) (h : HeaderValue) (c : List ℕ) (x n : ℕ) (g : Forest) → IsHeaderAt p h
+    → holds h ≡ false → h.size ≡ Definite n → length c < n → Fits p (length (octets_of h) + n)
     → primitive_so_far h (c ++ x ∷ []) ≡ g → spelling g ≡ octets_of h ++ (c ++ x ∷ []) → Popped p g
-contents-popped p h c x n g header e less f same spelled = record {
+contents-popped p h c x n g header form e less f same spelled = record {
   from = OpenPrimitive h c;
   last = x;
   obeys_grammar = (
-    record { header = header; shallow = λ e. absurd (cc (e)); fits = rw (ap announced_length e) f },
+    record { header = header; form = form; fits = rw (ap announced_length e) f },
     omega (arith, less, ap announced_length e),
   );
   spelled = spelled ∙ sym (append_assoc (octets_of h) c (x ∷ []));
@@ -49,18 +49,18 @@ contents-popped p h c x n g header e less f same spelled = record {
 }
 
 -- a primitive is popped by its last contents octet, or by that of its header
-primitive-popped : (p : Place) (h : HeaderValue) (c : List ℕ) (n : ℕ) (g : Forest) → IsHeaderAt p false h
-    → h.size ≡ Definite n → length c ≤ n → Fits p (length (octets_of h) + n)
+primitive-popped : (p : Place) (h : HeaderValue) (c : List ℕ) (n : ℕ) (g : Forest) → IsHeaderAt p h
+    → holds h ≡ false → h.size ≡ Definite n → length c ≤ n → Fits p (length (octets_of h) + n)
     → primitive_so_far h c ≡ g → spelling g ≡ octets_of h ++ c → Popped p g
-primitive-popped p h c n g header e most f same spelled = elim (list-back c) [
+primitive-popped p h c n g header form e most f same spelled = elim (list-back c) [
   | is_nil z ↦
-      let f' : Fits p (length (octets_of h) + announced_length h.size) = rw (ap announced_length e) f in
-      let r : Popped p (primitive_so_far h []) = header-popped p h false header refl f' in
+      let f' : Fits p (announced_extent h) = rw (ap announced_length e) f in
+      let r : Popped p (primitive_so_far h []) = header-popped p h false header form refl f' in
       let same' : primitive_so_far h [] ≡ g = ap (primitive_so_far h) (sym z) ∙ same in
       rw same' at r
   | is_push ys y z ↦
       let most' : length (ys ++ y ∷ []) ≤ n = rw z at most in
-      contents-popped p h ys y n g header e (omega (arith, length-append ys (y ∷ []))) f
+      contents-popped p h ys y n g header form e (omega (arith, length-append ys (y ∷ []))) f
       (ap (primitive_so_far h) (sym z) ∙ same) (spelled ∙ ap (λ (t : List ℕ). octets_of h ++ t) z)
 ]
 
@@ -68,16 +68,16 @@ primitive-popped p h c n g header e most f same spelled = elim (list-back c) [
 whole_primitive-popped : (p : Place) (h : HeaderValue) (c : List ℕ) → IsWholePrimitive p h c
     → Popped p (Primitive h c NoMore)
 whole_primitive-popped p h c w =
-    primitive-popped p h c (length c) (Primitive h c NoMore) w.0.header w.1 (omega arith) w.0.fits
-    (primitive_so_far-whole h c w.1) (ap (λ (t : List ℕ). octets_of h ++ t) (append-nil c))
+    primitive-popped p h c (length c) (Primitive h c NoMore) w.0.header w.0.form w.1 (omega arith)
+    w.0.fits (primitive_so_far-whole h c w.1) (ap (λ (t : List ℕ). octets_of h ++ t) (append-nil c))
 
 -- a primitive that lacks contents octets is popped
 open_primitive-popped : (p : Place) (h : HeaderValue) (c : List ℕ) → ObeysGrammar p (OpenPrimitive h c)
     → Popped p (OpenPrimitive h c)
 open_primitive-popped p h c w =
-    let n : (n : ℕ) × (h.size ≡ Definite n) = size-definite h w.0.header.valid w.0.header.form in
+    let n : (n : ℕ) × (h.size ≡ Definite n) = size-definite h w.0.header.valid w.0.form in
     let all : announced_length h.size ≡ n.0 = ap announced_length n.1 in
-    primitive-popped p h c n.0 (OpenPrimitive h c) w.0.header n.1 (omega (arith, w.1))
+    primitive-popped p h c n.0 (OpenPrimitive h c) w.0.header w.0.form n.1 (omega (arith, w.1))
     (within-le p.bound _ _ (omega arith) w.0.fits) (primitive_so_far-open h c n.0 n.1 (omega (arith, w.1))) refl
 
 -- an element that lacks contents octets has not ended
@@ -89,17 +89,17 @@ holder_so_far-open h f lacks = elim (cases_Bool (is_whole f)) [
 ]
 
 -- contents before the last octet lack octets
-lacks-before : (p : Place) (h : HeaderValue) (f g : Forest) (x : ℕ) → IsAnnouncedAt p true h
+lacks-before : (p : Place) (h : HeaderValue) (f g : Forest) (x : ℕ) → IsHolderAt p h (announced_extent h)
     → ObeysGrammar (place_of_children p h) g → spelling g ≡ spelling f ++ x ∷ []
     → LacksOctets h.size (contents_length h f)
 lacks-before p h f g x entry w spelled =
     within-lacks h.size (p.offset + length (octets_of h)) p.bound (contents_length h f)
     (within-le (place_of_children p h).bound
     _ _ (omega (arith, ap length spelled, length-append (spelling f) (x ∷ []), length-opening h))
-    (spelling-fits (place_of_children p h) g (fits-inside p h entry.header.form entry.fits) w))
+    (spelling-fits (place_of_children p h) g (fits-inside p h entry.form entry.fits) w))
 
 -- an element that holds octets is popped by the last of them, or by that of what comes before
-holder_so_far-popped : (p : Place) (h : HeaderValue) (inside g : Forest) → IsAnnouncedAt p true h
+holder_so_far-popped : (p : Place) (h : HeaderValue) (inside g : Forest) → IsHolderAt p h (announced_extent h)
     → ObeysGrammar (place_of_children p h) inside
     → (inside ≡ NoMore) ⊎ Popped (place_of_children p h) inside
     → holder_so_far h inside ≡ g → spelling g ≡ opening h ++ spelling inside → Popped p g
@@ -186,10 +186,9 @@ endless-popped p h inside i w v =
       obeys_grammar = (
         (
           record {
-            header =
-                w.0.header;
-            shallow =
-                w.0.shallow;
+            header = w.0.header;
+            form = w.0.form;
+            shallow = w.0.shallow;
             fits = within-le p.bound _ _ (omega (arith, e.none, length-opening h)) w.0.fits;
           },
           λ _. e.lacks _,
@@ -209,8 +208,9 @@ definite-popped p h inside i w v below =
     let test : has_length h.size (contents_length h inside) ≡ true = definite-length h.size _ i w.2 in
     let full : IsDefiniteLength h.size (contents_length h inside) = length-full h.size _ test in
     let none : length (end_octets h.size) ≡ 0 = ap length full.ends in
-    let entry : IsAnnouncedAt p true h = record {
+    let entry : IsHolderAt p h (announced_extent h) = record {
       header = w.0.header;
+      form = w.0.form;
       shallow = w.0.shallow;
       fits = within-le p.bound _ _ (omega (arith, full.all, length-opening h)) w.0.fits;
     } in

@@ -2,13 +2,13 @@
 use Rattle.std.proofs.Common.{◌≡◌, ◌≢◌, ℕ, ◌+◌, ◌≤◌, Bool, true, false, ◌&&◌, leb, List, [], ◌∷◌, ◌++◌}
 use Rattle.std.proofs.Common.{length, refl, sym, ap, ◌∙◌, arith, append_assoc, append-nil, length-append, ne_eqb}
 use Rattle.std.proofs.lemmas.Bool.{lt-leb}
-use Rattle.tlv_head.specs.Header.{HeaderValue, IsHeader, announced_length, holds, octets_of}
+use Rattle.tlv_head.specs.Header.{HeaderValue, IsHeader, holds, octets_of}
 use Rattle.tlv_head.specs.Refusal.{IsHeaderPrefix}
 use Rattle.tlv_head.proofs.GrammarLemmas.Scan.{Origin, Scan, Fresh, High, Named, Long, Ready, Stuck, Over, origin_of}
 use Rattle.tlv_head.proofs.GrammarLemmas.Scan.{scan, scan_from-append, scan-header, is_more, more-from_prefix}
 use Rattle.tlv_head.proofs.ReaderLemmas.Prefix.{header-two}
 use Rattle.tlv_walk.specs.Forest.{Forest, NoMore, OpenBitString, OpenHeader, lead, opening, spelling}
-use Rattle.tlv_walk.specs.Place.{Fits, IsAnnouncedAt, IsHeaderAt, ObeysGrammar, Place}
+use Rattle.tlv_walk.specs.Place.{Fits, IsHeaderAt, IsHolderAt, ObeysGrammar, Place, announced_extent}
 use Rattle.tlv_walk.proofs.GrammarLemmas.Bounds.{fits-within, lead-zero, within-le}
 use Rattle.tlv_walk.proofs.GrammarLemmas.PushSteps.{Grown, begin, complete, element_begun, holder_begun, holder_so_far}
 use Rattle.tlv_walk.proofs.GrammarLemmas.PushSteps.{origin, push}
@@ -69,17 +69,17 @@ push-prefix p o x front f =
 
 -- a header that may be there is a forest
 pub complete-element_begun : (p : Place) (h : HeaderValue) (k : Bool) → holds h ≡ k → (k && leb 128 p.depth) ≡ false
-    → Fits p (length (octets_of h) + announced_length h.size) → complete p h ≡ Grown (element_begun k h)
+    → Fits p (announced_extent h) → complete p h ≡ Grown (element_begun k h)
 complete-element_begun p h k e d f = rw (e, d, fits-within p.bound _ f)
 
 -- a header that is there begins there
-pub header-origin : (p : Place) (k : Bool) (h : HeaderValue) → IsHeaderAt p k h → origin_of h ≡ origin p
-header-origin p k h header = λ i. record { offset = header.offset i; named = header.named i }
+pub header-origin : (p : Place) (h : HeaderValue) → IsHeaderAt p h → origin_of h ≡ origin p
+header-origin p h header = λ i. record { offset = header.offset i; named = header.named i }
 
 -- a header alone is popped by its last octet
-pub header-popped : (p : Place) (h : HeaderValue) (k : Bool) → IsHeaderAt p k h → (k && leb 128 p.depth) ≡ false
-    → Fits p (length (octets_of h) + announced_length h.size) → Popped p (element_begun k h)
-header-popped p h k header d f = elim (list-back (octets_of h)) [
+pub header-popped : (p : Place) (h : HeaderValue) (k : Bool) → IsHeaderAt p h → holds h ≡ k
+    → (k && leb 128 p.depth) ≡ false → Fits p (announced_extent h) → Popped p (element_begun k h)
+header-popped p h k header form d f = elim (list-back (octets_of h)) [
   | is_nil e ↦ absurd (omega (arith, ap length e, header-two h header.valid))
   | is_push o x e ↦
       let size : length (octets_of h) ≡ length o + 1 = ap length e ∙ length-append o (x ∷ []) in
@@ -98,22 +98,22 @@ header-popped p h k header d f = elim (list-back (octets_of h)) [
           },
           within-le p.bound _ _ (omega arith) f,
         );
-        spelled = (element_begun-spells p h k header d f).spelled ∙ e;
-        pushed = push-header p h o x header.valid (header-origin p k h header) e (within-le p.bound _ _ (omega arith) f)
-            ∙ complete-element_begun p h k header.form d f;
+        spelled = (element_begun-spells p h k header form d f).spelled ∙ e;
+        pushed = push-header p h o x header.valid (header-origin p h header) e (within-le p.bound _ _ (omega arith) f)
+            ∙ complete-element_begun p h k form d f;
       }
 ]
 
 -- an element that holds none yet is popped by the last octet of its header
-pub holder_begun-popped : (p : Place) (h : HeaderValue) (l : List ℕ) → lead h ≡ l → IsAnnouncedAt p true h
+pub holder_begun-popped : (p : Place) (h : HeaderValue) (l : List ℕ) → lead h ≡ l → IsHolderAt p h (announced_extent h)
     → Popped p (holder_begun h l)
 holder_begun-popped p h l e entry =
     let r : Popped p (holder_begun h (lead h)) =
-    header-popped p h true entry.header (lt-leb 128 p.depth (entry.shallow refl)) entry.fits in
+    header-popped p h true entry.header entry.form (lt-leb 128 p.depth entry.shallow) entry.fits in
     rw (ap (holder_begun h) e) at r
 
 -- an element that holds none yet
-pub lead-popped : (p : Place) (h : HeaderValue) (l : List ℕ) → lead h ≡ l → IsAnnouncedAt p true h
+pub lead-popped : (p : Place) (h : HeaderValue) (l : List ℕ) → lead h ≡ l → IsHolderAt p h (announced_extent h)
     → Popped p (holder_so_far h NoMore)
 lead-popped p h [] e entry = holder_begun-popped p h [] e entry
 lead-popped p h (x ∷ xs) e entry =

@@ -12,7 +12,8 @@ use Rattle.tlv_head.proofs.GrammarLemmas.Meaning.{IsStateAfter, reads-step, read
 use Rattle.tlv_walk.specs.Forest.{Forest, Holder, NoMore, OpenBitString, OpenEndOctets, OpenHeader, OpenHolder}
 use Rattle.tlv_walk.specs.Forest.{OpenPrimitive, PaddingOctet, Primitive, contents_length, end_octets, extent, opening}
 use Rattle.tlv_walk.specs.Forest.{spelling}
-use Rattle.tlv_walk.specs.Place.{Fits, IsAnnouncedAt, IsHeaderAt, ObeysGrammar, Place, place_after, place_of_children}
+use Rattle.tlv_walk.specs.Place.{Fits, IsHeaderAt, IsHolderAt, ObeysGrammar, Place, announced_extent, place_after}
+use Rattle.tlv_walk.specs.Place.{place_of_children}
 use Rattle.tlv_walk.proofs.GrammarLemmas.Bounds.{IsEndless, fits, indefinite-endless, within-fits, within-le}
 use Rattle.tlv_walk.proofs.GrammarLemmas.Spellings.{append_assoc-3, append_assoc-4, length-holder, length-primitive}
 use Rattle.tlv_walk.proofs.GrammarLemmas.PushSteps.{IsWholePrimitive, IsWholeHolder, PushStep, origin, holder_so_far}
@@ -26,16 +27,15 @@ use Rattle.tlv_walk.proofs.GrammarLemmas.OpenElements.{size-definite}
 complete-sound : (p : Place) (h : HeaderValue) → IsHeader h → origin_of h ≡ origin p
     → IsStep p (octets_of h) (complete p h)
 complete-sound p h valid at =
-    let header : IsHeaderAt p (holds h) h = record {
+    let header : IsHeaderAt p h = record {
       valid = valid;
       offset = ap (λ (o : Origin). o.offset) at;
       named = ap (λ (o : Origin). o.named) at;
-      form = refl;
     } in
     elim (cases_Bool (holds h && leb 128 p.depth)) [
       | inl deep ↦ rw deep tt
       | inr room ↦ elim (cases_Bool (fits p (length (octets_of h) + announced_length h.size))) [
-        | inl f ↦ rw (room, f) (element_begun-spells p h (holds h) header room (within-fits p.bound _ f))
+        | inl f ↦ rw (room, f) (element_begun-spells p h (holds h) header refl room (within-fits p.bound _ f))
         | inr f ↦ rw (room, f) tt
       ]
     ]
@@ -115,11 +115,11 @@ end_octets-step p x i = elim (cases_Bool (fits p 2)) [
 open_primitive-step : (p : Place) (h : HeaderValue) (c : List ℕ) (x : ℕ) → ObeysGrammar p (OpenPrimitive h c)
     → IsStep p ((octets_of h ++ c) ++ x ∷ []) (push p (OpenPrimitive h c) x)
 open_primitive-step p h c x w =
-    let n : (n : ℕ) × (h.size ≡ Definite n) = size-definite h w.0.header.valid w.0.header.form in
+    let n : (n : ℕ) × (h.size ≡ Definite n) = size-definite h w.0.header.valid w.0.form in
     let all : announced_length h.size ≡ n.0 = ap announced_length n.1 in
     rw (append_assoc (octets_of h) c (x ∷ []))
-    (primitive_so_far-spells p h (c ++ x ∷ []) n.0 w.0.header n.1 (omega (arith, length-append c (x ∷ []), w.1))
-    (within-le p.bound _ _ (omega arith) w.0.fits))
+    (primitive_so_far-spells p h (c ++ x ∷ []) n.0 w.0.header w.0.form n.1
+    (omega (arith, length-append c (x ∷ []), w.1)) (within-le p.bound _ _ (omega arith) w.0.fits))
 
 -- before the first contents octet of a wrapping BIT STRING
 open_bit_string-step : (p : Place) (h : HeaderValue) (x : ℕ) → ObeysGrammar p (OpenBitString h)
@@ -180,7 +180,7 @@ holder-step p h inside o (Ended g) w v r = record {
 holder-step p h inside o (Refused code) w v r = tt
 
 -- a step of what an element holds
-open_holder-step : (p : Place) (h : HeaderValue) (o : List ℕ) (s : PushStep) → IsAnnouncedAt p true h
+open_holder-step : (p : Place) (h : HeaderValue) (o : List ℕ) (s : PushStep) → IsHolderAt p h (announced_extent h)
     → IsStep (place_of_children p h) o s → IsStep p (opening h ++ o) (settle h s)
 open_holder-step p h o (Grown g) entry r =
     let e : Spells p (opening h ++ spelling g) (holder_so_far h g) = holder_so_far-spells p h g entry r.obeys_grammar in
@@ -194,6 +194,7 @@ open_holder-step p h o (Ended g) entry r =
         (
           record {
             header = entry.header;
+            form = entry.form;
             shallow = entry.shallow;
             fits = within-le p.bound _ _ (omega arith) (rw e.bound at r.fits);
           },

@@ -10,18 +10,18 @@ use Rattle.tlv_walk.specs.Forest.{Forest, Holder, NoMore, OpenBitString, OpenEnd
 use Rattle.tlv_walk.specs.Forest.{OpenPrimitive, PaddingOctet, Primitive, contents_length, extent, is_whole, lead}
 use Rattle.tlv_walk.specs.Forest.{spelling}
 use Rattle.tlv_walk.specs.Inside.{is_among}
-use Rattle.tlv_walk.specs.Place.{Fits, IsElementAt, ObeysGrammar, Place, place_after, place_of_children}
+use Rattle.tlv_walk.specs.Place.{Fits, IsHolderAt, IsPrimitiveAt, ObeysGrammar, Place, place_after, place_of_children}
 use Rattle.tlv_walk.proofs.GrammarLemmas.Lengths.{HasLength}
 use Rattle.tlv_walk.proofs.GrammarLemmas.Bounds.{fits, has_length}
 
 -- a primitive with all its contents octets
 abbrev pub IsWholePrimitive : Place → HeaderValue → List ℕ → Type 0
-IsWholePrimitive p h c = IsElementAt p false h (length (octets_of h) + length c) × (h.size ≡ Definite (length c))
+IsWholePrimitive p h c = IsPrimitiveAt p h (length (octets_of h) + length c) × (h.size ≡ Definite (length c))
 
 -- an element that holds others and has ended
 abbrev pub IsWholeHolder : Place → HeaderValue → Forest → Type 0
 IsWholeHolder p h inside =
-    IsElementAt p true h (extent h inside) × (is_whole inside ≡ true) × HasLength h.size (contents_length h inside)
+    IsHolderAt p h (extent h inside) × (is_whole inside ≡ true) × HasLength h.size (contents_length h inside)
 
 -- what an octet makes of a forest that obeys the grammar
 pub data PushStep : Type 0 where

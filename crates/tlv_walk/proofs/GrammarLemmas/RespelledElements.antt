@@ -90,12 +90,14 @@ module _ (form : Bool → Bool) (definite : form false ≡ false) where
                   primitives h k c rest t.forest (record { class = refl; constructed = primitive; number = refl })
                   t.alike;
               sound = (
-                record {
-                  valid = header-valid h false false (Definite (length c)) o q.offset;
-                  offset = refl;
-                  named = sym unnamed;
-                  form = refl;
-                },
+                (
+                  record {
+                    valid = header-valid h false false (Definite (length c)) o q.offset;
+                    offset = refl;
+                    named = sym unnamed;
+                  },
+                  refl,
+                ),
                 refl,
                 t.sound,
               );
@@ -192,12 +194,14 @@ module _ (form : Bool → Bool) (definite : form false ≡ false) where
                   holders h k inside i.forest rest t.forest (record { class = refl; constructed = is; number = refl })
                   i.alike t.alike;
               sound = (
-                record {
-                  valid = header-valid h (not constructed) constructed size o q.offset;
-                  offset = refl;
-                  named = sym named;
-                  form = holding.again;
-                },
+                (
+                  record {
+                    valid = header-valid h (not constructed) constructed size o q.offset;
+                    offset = refl;
+                    named = sym named;
+                  },
+                  holding.again,
+                ),
                 size-length (form constructed) m (length first + length (spelling i.forest))
                     (omega (arith, ap length i.spelled)),
                 omega (arith, like.depth, few),
@@ -243,31 +247,31 @@ module _ (form : Bool → Bool) (definite : form false ≡ false) where
       let count : length (spelling (Primitive h c rest)) ≡ length (octets_of h) + length c + length (spelling rest) =
       length-primitive h c rest in
       let primitive : h.constructed ≡ false =
-      not-holding h.constructed (is_wrapper h.named h.class h.constructed h.number h.size) u.0.form in
+      not-holding h.constructed (is_wrapper h.named h.class h.constructed h.number h.size) u.0.1 in
       let o : Octets h false (Definite (length c)) =
       octets-for h false (Definite (length c))
-      (identifier-same_form h.class h.constructed false h.number h.identifier primitive u.0.valid.identifier)
+      (identifier-same_form h.class h.constructed false h.number h.identifier primitive u.0.0.valid.identifier)
       (subst (λ (k : Bool). identifier_octet h.class k h.number ≢ 0) primitive low.0) refl
       (omega (arith, count, few)) in
-      spelling-primitive p h c rest primitive u.0.valid o
+      spelling-primitive p h c rest primitive u.0.0.valid o
       (sound-spelling (place_after p (length (octets_of h) + length c)) rest (omega (arith, count, few)) u.2 low.1)
   sound-spelling p (Holder h inside rest) few u low =
       let count : length (spelling (Holder h inside rest)) ≡ extent h inside + length (spelling rest) =
       length-holder h inside rest in
       let begins : length (opening h) ≡ length (octets_of h) + length (lead h) = length-opening h in
-      let some : 2 ≤ length (octets_of h) = header-two h u.0.valid in
+      let some : 2 ≤ length (octets_of h) = header-two h u.0.0.valid in
       let held : Spelling form (place_of_children p h) inside =
       sound-spelling (place_of_children p h) inside (omega (arith, count, few)) u.3 low.0 in
       let m : ℕ = length (lead h) + length held.octets in
       let below : m < 2 ^ 40 = omega (arith, held.short, count, begins, some, few, lead-short h.constructed h.number) in
       let primitive : h.constructed ≡ false → form h.constructed ≡ false = λ e. ap form e ∙ definite in
       let holding : Holds h h.constructed (form h.constructed) (length held.octets) =
-      holds-again h h.constructed (form h.constructed) (length held.octets) primitive u.0.form in
+      holds-again h h.constructed (form h.constructed) (length held.octets) primitive u.0.1 in
       let o : Octets h h.constructed (size-for (form h.constructed) m) =
-      octets-for h h.constructed (size-for (form h.constructed) m) u.0.valid.identifier holding.nonzero
+      octets-for h h.constructed (size-for (form h.constructed) m) u.0.0.valid.identifier holding.nonzero
       (allows-size h.constructed (form h.constructed) m primitive)
       (size-below (form h.constructed) m below) in
-      spelling-holder p h inside rest h.constructed refl u.0.valid u.2 held holding o
+      spelling-holder p h inside rest h.constructed refl u.0.0.valid u.2 held holding o
       (sound-spelling (place_after p (extent h inside)) rest (omega (arith, count, few)) u.4 low.1)
   sound-spelling p (OpenPrimitive h c) few u low = absurd u
   sound-spelling p (OpenHolder h inside) few u low = absurd u

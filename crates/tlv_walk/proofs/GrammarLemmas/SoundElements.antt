@@ -42,9 +42,8 @@ sound-obeys_grammar p (PaddingOctet rest) d z s = (
 sound-obeys_grammar p (Primitive h c rest) d z s = (
   (
     record {
-      header =
-          s.0;
-      shallow = λ e. absurd (cc (e));
+      header = s.0.0;
+      form = s.0.1;
       fits = within-le p.bound _ _ (omega (arith, length-primitive h c rest)) z;
     },
     s.1,
@@ -54,7 +53,11 @@ sound-obeys_grammar p (Primitive h c rest) d z s = (
 )
 sound-obeys_grammar p (Holder h inside rest) d z s =
     let f : Fits p (extent h inside) = within-le p.bound _ _ (omega (arith, length-holder h inside rest)) z in (
-      (record { header = s.0; shallow = λ _. s.2; fits = f }, sound-whole (place_of_children p h) inside s.3, s.1),
+      (
+        record { header = s.0.0; form = s.0.1; shallow = s.2; fits = f },
+        sound-whole (place_of_children p h) inside s.3,
+        s.1,
+      ),
       sound-obeys_grammar (place_of_children p h) inside (λ e. absurd (cc)) (fits-contents p h inside s.1 f) s.3,
       sound-obeys_grammar (place_after p (extent h inside)) rest d
           (within-le p.bound _ _ (omega (arith, length-holder h inside rest)) z) s.4,
@@ -70,11 +73,11 @@ pub grammar-sound : (p : Place) (f : Forest) → ObeysGrammar p f → is_whole f
 grammar-sound p NoMore w t = tt
 grammar-sound p (PaddingOctet rest) w t = (w.0.0, grammar-sound (place_after p 1) rest w.1 t)
 grammar-sound p (Primitive h c rest) w t =
-    (w.0.0.header, w.0.1, grammar-sound (place_after p (length (octets_of h) + length c)) rest w.1 t)
+    ((w.0.0.header, w.0.0.form), w.0.1, grammar-sound (place_after p (length (octets_of h) + length c)) rest w.1 t)
 grammar-sound p (Holder h inside rest) w t = (
-  w.0.0.header,
+  (w.0.0.header, w.0.0.form),
   w.0.2,
-  w.0.0.shallow refl,
+  w.0.0.shallow,
   grammar-sound (place_of_children p h) inside w.1 w.0.1,
   grammar-sound (place_after p (extent h inside)) rest w.2 t,
 )

@@ -11,7 +11,7 @@ use Rattle.tlv_walk.specs.Events.{opening_event, single_octets}
 use Rattle.tlv_walk.specs.Forest.{Forest, NoMore, OpenBitString, lead, lead_by, opening, spelling}
 use Rattle.tlv_walk.specs.Inside.{is_among}
 use Rattle.tlv_walk.specs.Private.WalkerCalls.{after_header}
-use Rattle.tlv_walk.specs.Place.{Fits, IsAnnouncedAt, IsHeaderAt, ObeysGrammar, IsWithin, Place}
+use Rattle.tlv_walk.specs.Place.{Fits, IsHeaderAt, IsHolderAt, ObeysGrammar, IsWithin, Place, announced_extent}
 use Rattle.tlv_walk.specs.Stack.{FrameValue, bound_of}
 use Rattle.tlv_walk.specs.Private.Zipper.{BitStringTail, NoTail, HasZipper, PrimitiveTail, EndOctetsTail, HeaderTail}
 use Rattle.tlv_walk.specs.Private.Zipper.{IsPhaseOf, Layer, Tail, Zipper, events_of_layers, events_of_tail, frame_at}
@@ -85,22 +85,21 @@ pub record Completed (w : WalkerState) (r : HeadReaderState) (t : List ℕ) (h :
   pub fits : IsWithin (bound_of w.stack) (h.offset + length (octets_of h) + announced_length h.size)
 
 is_header_at : (w : WalkerState) (b : List ℕ) (yielded : List EventValue) (s : Zipper) (r : HeadReaderState)
-    (t : List ℕ) (h : HeaderValue) (k : Bool)
-    → AtHeader w b yielded s r → Completed w r t h → holds h ≡ k
-    → IsHeaderAt (place_of w.framing s) k h
-is_header_at w b yielded s r t h k at c e = record {
+    (t : List ℕ) (h : HeaderValue)
+    → AtHeader w b yielded s r → Completed w r t h
+    → IsHeaderAt (place_of w.framing s) h
+is_header_at w b yielded s r t h at c = record {
   valid = c.valid;
   offset = c.offset ∙ at.offset;
   named =
       c.named ∙ at.named ∙ ap (λ (n : ℕ). is_among n w.framing.inside) at.offset
       ∙ ap (λ (ns : List ℕ). is_among (place_of w.framing s).offset ns) (sym (place-inside w.framing s.layers));
-  form = e;
 }
 
 fits_at : (w : WalkerState) (b : List ℕ) (yielded : List EventValue) (s : Zipper) (r : HeadReaderState) (t : List ℕ)
     (h : HeaderValue)
     → AtHeader w b yielded s r → Completed w r t h
-    → Fits (place_of w.framing s) (length (octets_of h) + announced_length h.size)
+    → Fits (place_of w.framing s) (announced_extent h)
 fits_at w b yielded s r t h at c =
     let bound : bound_of w.stack ≡ (place_in w.framing s.layers).bound =
     ap bound_of at.stack ∙ sym (place-bound w.framing s.layers) in
@@ -112,10 +111,11 @@ fits_at w b yielded s r t h at c =
 entry_at : (w : WalkerState) (b : List ℕ) (yielded : List EventValue) (s : Zipper) (r : HeadReaderState) (t : List ℕ)
     (h : HeaderValue)
     → AtHeader w b yielded s r → Completed w r t h → holds h ≡ true
-    → IsAnnouncedAt (place_of w.framing s) true h
+    → IsHolderAt (place_of w.framing s) h (announced_extent h)
 entry_at w b yielded s r t h at c e = record {
-  header = is_header_at w b yielded s r t h true at c e;
-  shallow = λ _. omega (arith, c.shallow e, place-depth w.framing s.layers, ap length at.stack);
+  header = is_header_at w b yielded s r t h at c;
+  form = e;
+  shallow = omega (arith, c.shallow e, place-depth w.framing s.layers, ap length at.stack);
   fits = fits_at w b yielded s r t h at c;
 }
 
@@ -162,7 +162,8 @@ primitive_state w b yielded s r t h n at c e size =
       layers = at.has.layers;
       here = at.has.here;
       phase = record {
-        header = is_header_at w b yielded s r t h false at c e;
+        header = is_header_at w b yielded s r t h at c;
+        form = e;
         size = size ∙ ap Definite zero;
         fits =
             subst (λ (m : ℕ). Fits (place_of w.framing s) (length (octets_of h) + m))

@@ -14,8 +14,8 @@ use Rattle.tlv_walk.specs.Forest.{opening, spelling}
 use Rattle.tlv_walk.specs.Wrappers.{entered_offsets}
 use Rattle.std.proofs.lemmas.Bool.{cases_Bool}
 use Rattle.tlv_walk.specs.Private.WrapperCount.{wrapper_count_after}
-use Rattle.tlv_walk.specs.Place.{Fits, IsAnnouncedAt, ObeysGrammar, IsWithin, Place, bound_in, is_indefinite}
-use Rattle.tlv_walk.specs.Place.{place_after}
+use Rattle.tlv_walk.specs.Place.{Fits, IsHolderAt, ObeysGrammar, IsWithin, Place, announced_extent, bound_in}
+use Rattle.tlv_walk.specs.Place.{is_indefinite, place_after}
 use Rattle.tlv_walk.proofs.GrammarLemmas.Lengths.{HasLength}
 use Rattle.tlv_walk.specs.Stack.{FrameValue, IsInIndefinite, IsInWrapper, bound_of}
 use Rattle.tlv_walk.specs.Private.Stack.{IsFilled, innermost_wraps}
@@ -69,13 +69,18 @@ yielded_closed yielded ls l here whole h =
 
 closed_whole : (w : WalkerState) (l : Layer) (ls : List Layer) (here : Forest)
     → AreWhole (place_in w.framing ls) l.before
-    → IsAnnouncedAt (place_after (place_in w.framing ls) (length (spelling l.before))) true l.header
+    → IsHolderAt (place_after (place_in w.framing ls) (length (spelling l.before))) l.header
+    (announced_extent l.header)
     → AreWhole (place_in w.framing (l ∷ ls)) here → HasLength l.header.size (contents_length l.header here)
     → Fits (place_after (place_in w.framing ls) (length (spelling l.before))) (extent l.header here)
     → AreWhole (place_in w.framing ls) (closed_here l here)
 closed_whole w l ls here earlier entry inside filled fits = record {
   obeys_grammar = grammar-followed_by (place_in w.framing ls) l.before (Holder l.header here NoMore) earlier (
-    (record { header = entry.header; shallow = entry.shallow; fits = fits }, inside.whole, filled),
+    (
+      record { header = entry.header; form = entry.form; shallow = entry.shallow; fits = fits },
+      inside.whole,
+      filled,
+    ),
     inside.obeys_grammar,
     tt,
   );

@@ -87,7 +87,7 @@ octets_close : (size : Size) (offset : ℕ) → event_octets (Close (end_offset 
 octets_close (Definite n) offset = refl
 octets_close Indefinite offset = refl
 
-octets_closes : (p : Place) (h : HeaderValue) (inside : Forest) → IsHeaderAt p true h
+octets_closes : (p : Place) (h : HeaderValue) (inside : Forest) → IsHeaderAt p h
     → event_octets (closing_event h inside) ≡ end_octets h.size
 octets_closes p h inside i = elim (cases_Bool h.constructed) [
   | inl c ↦

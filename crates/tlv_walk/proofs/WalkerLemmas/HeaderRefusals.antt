@@ -1,12 +1,12 @@
 -- What is refused after octets of a header is a fault, whatever follows.
-use Rattle.std.proofs.Common.{◌≡◌, ◌≢◌, inl, inr, ℕ, ◌+◌, ◌<◌, ◌≤◌, Bool, true, false, List, [], ◌∷◌, ◌++◌, length}
+use Rattle.std.proofs.Common.{◌≡◌, ◌≢◌, inl, inr, ℕ, ◌+◌, ◌<◌, ◌≤◌, Bool, false, List, [], ◌∷◌, ◌++◌, length}
 use Rattle.std.proofs.Common.{Option, Some, None, refl, sym, ap, ◌∙◌, subst, arith, append-nil, length-append}
 use Rattle.tlv_head.specs.declared.fault.Fault.{Fault}
 use Rattle.tlv_head.specs.declared.fault.FaultCode.{FaultCode}
 use Rattle.tlv_head.specs.declared.header.Class.{Class}
 use Rattle.tlv_head.specs.declared.header.Size.{Size}
 use Rattle.tlv_head.specs.declared.header.Size.TheVariants.{Definite, Indefinite}
-use Rattle.tlv_head.specs.Header.{HeaderValue, IsIdentifier, announced_length, holds, octets_of}
+use Rattle.tlv_head.specs.Header.{HeaderValue, IsIdentifier, announced_length, octets_of}
 use Rattle.tlv_head.specs.Refusal.{IsRefusedOctet, tag_too_long, reserved_length, indefinite_primitive}
 use Rattle.tlv_head.specs.Refusal.{length_too_large}
 use Rattle.tlv_head.specs.HeadReader.{ContentsFit, HeadReaderState, Completes, IsRefusedPush}
@@ -84,13 +84,12 @@ pub record IsReader (p : Place) (q : HeadReaderState) (room : Option ℕ) (depth
   pub within : IsWithin p.bound (p.offset + length q.octets)
 
 -- a header that its octets make
-header_there : (p : Place) (q : HeadReaderState) (room : Option ℕ) (depth x : ℕ) (h : HeaderValue) (t : Bool)
-    → holds h ≡ t → IsReader p q room depth → Completes q (x ∷ []) h → IsHeaderAt p t h
-header_there p q room depth x h t e k c = record {
+header_there : (p : Place) (q : HeadReaderState) (room : Option ℕ) (depth x : ℕ) (h : HeaderValue)
+    → IsReader p q room depth → Completes q (x ∷ []) h → IsHeaderAt p h
+header_there p q room depth x h k c = record {
   valid = c.valid;
   offset = c.offset ∙ k.offset;
   named = c.named ∙ k.named;
-  form = e;
 }
 
 -- there is room
@@ -111,11 +110,11 @@ refused_fault p q room depth x code k (push.no_room none) =
 refused_fault p q room depth x code k (push.refused_octet left octet) =
     refused_octet (room_there p q room depth k left) octet
 refused_fault p q room depth x code k (push.too_deep left h completes holding deep) =
-    too_deep (room_there p q room depth k left) h (header_there p q room depth x h true holding k completes)
+    too_deep (room_there p q room depth k left) h (header_there p q room depth x h k completes) holding
     completes.octets_are
     (subst (λ (n : ℕ). 128 ≤ n) k.depths deep)
 refused_fault p q room depth x code k (push.overrun left h completes shallow beyond) =
-    overrun (room_there p q room depth k left) h (header_there p q room depth x h (holds h) refl k completes)
+    overrun (room_there p q room depth k left) h (header_there p q room depth x h k completes)
     completes.octets_are
     (λ e. subst (λ (n : ℕ). n < 128) k.depths (shallow e))
     (beyond_bound h.size p.bound (p.offset + length q.octets) _ (λ f. beyond (subst (ContentsFit h.size)

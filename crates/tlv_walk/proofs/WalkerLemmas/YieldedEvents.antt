@@ -39,6 +39,7 @@ contents_state w b yielded s h c t left has e most =
       here = has.here;
       phase = record {
         header = k.header;
+        form = k.form;
         size = k.size ∙ ap Definite same;
         fits = subst (λ (n : ℕ). Fits (place_of w.framing s) (length (octets_of h) + n)) same k.fits;
       };
@@ -93,10 +94,8 @@ end_state w b yielded s h c has e =
           are_whole _ s.here (Primitive h c NoMore) has.here (
             (
               record {
-                header =
-                    k.header;
-                shallow =
-                    λ e. absurd (cc (e));
+                header = k.header;
+                form = k.form;
                 fits = subst (λ (n : ℕ). Fits p (length (octets_of h) + n)) same k.fits;
               },
               k.size ∙ ap Definite same,

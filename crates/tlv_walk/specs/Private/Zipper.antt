@@ -1,7 +1,7 @@
 -- The state of proofs: the forest that a walker stands for, taken apart along its open elements.
 use Rattle.std.specs.Prelude.{◌≡◌, ℕ, ◌+◌, Bool, true, false, List, [], ◌∷◌, ◌++◌, length}
 use Rattle.tlv_head.specs.declared.header.Size.TheVariants.{Definite}
-use Rattle.tlv_head.specs.Header.{HeaderValue, octets_of}
+use Rattle.tlv_head.specs.Header.{HeaderValue, holds, octets_of}
 use Rattle.tlv_walk.specs.Stack.{FrameValue}
 use Rattle.tlv_walk.specs.declared.framing.Framing.{Framing}
 use Rattle.tlv_walk.specs.Walker.{Between, InBitString, InEndOctets, InHeader, InPrimitive, PhaseValue, WalkerState}
@@ -11,8 +11,8 @@ use Rattle.tlv_walk.specs.Forest.{opening, spelling}
 use Rattle.tlv_walk.specs.Inside.{are_rising, is_among}
 use Rattle.tlv_walk.specs.Private.WrapperCount.{wrapper_count_after}
 use Rattle.tlv_walk.specs.Private.Stack.{frame_with}
-use Rattle.tlv_walk.specs.Place.{Fits, IsAnnouncedAt, IsHeaderAt, ObeysGrammar, Place, place_after, place_of_children}
-use Rattle.tlv_walk.specs.Place.{top_place}
+use Rattle.tlv_walk.specs.Place.{Fits, IsHeaderAt, IsHolderAt, ObeysGrammar, Place, announced_extent, place_after}
+use Rattle.tlv_walk.specs.Place.{place_of_children, top_place}
 use Rattle.tlv_walk.specs.Wrappers.{entered_offsets}
 
 -- an open element that holds others, and the whole elements before it in the element around it
@@ -62,11 +62,12 @@ abbrev pub AreLayers : Framing → List Layer → Type 0
 AreLayers framing [] = Unit {0}
 AreLayers framing (l ∷ ls) =
     AreLayers framing ls × AreWhole (place_in framing ls) l.before
-    × IsAnnouncedAt (place_past (place_in framing ls) l.before) true l.header
+    × IsHolderAt (place_past (place_in framing ls) l.before) l.header (announced_extent l.header)
 
 -- 8.1.3.3: a primitive with this many contents octets still to come
 pub record IsContents (p : Place) (h : HeaderValue) (c : List ℕ) (left : ℕ) : Type 0 where
-  pub header : IsHeaderAt p false h
+  pub header : IsHeaderAt p h
+  pub form : holds h ≡ false
   pub size : h.size ≡ Definite (length c + left)
   pub fits : Fits p (length (octets_of h) + (length c + left))
 

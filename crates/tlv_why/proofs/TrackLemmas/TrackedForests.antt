@@ -90,7 +90,7 @@ whole-tracked p (Holder h children rest) holders before top nearest es o whole d
     ∙ ap (λ (l : List EventValue). opening_events h ++ l)
     (append_assoc (events children) (closing_event h children ∷ events rest) es))
     ∙ holder-opens holders before top nearest p.offset h
-    (events children ++ closing_event h children ∷ (events rest ++ es)) (omega (arith, o.0.0.shallow refl, depth))
+    (events children ++ closing_event h children ∷ (events rest ++ es)) (omega (arith, o.0.0.shallow, depth))
     ∙ whole-tracked (place_of_children p h) children (holders ++ e ∷ []) None top (h.offset ∷ nearest)
     (closing_event h children ∷ (events rest ++ es)) o.1 o.0.1
     (omega (arith, depth, length-append holders (e ∷ [])))
@@ -233,7 +233,7 @@ forest-tracked p (OpenHolder h children) holders before top nearest o depth =
     track_all (tracker_with (holders ++ e ∷ []) None top (h.offset ∷ nearest) (p.offset + length (opening h)))
     (events children) in
     let same : track_all (tracker_with holders before top nearest p.offset) (events (OpenHolder h children)) ≡ next =
-    holder-opens holders before top nearest p.offset h (events children) (omega (arith, o.0.0.shallow refl, depth)) in
+    holder-opens holders before top nearest p.offset h (events children) (omega (arith, o.0.0.shallow, depth)) in
     let i : IsTracked (place_of_children p h) children (holders ++ e ∷ []) None top (h.offset ∷ nearest) next =
     forest-tracked (place_of_children p h) children (holders ++ e ∷ []) None top (h.offset ∷ nearest) o.1
     (omega (arith, depth, length-append holders (e ∷ []))) in
