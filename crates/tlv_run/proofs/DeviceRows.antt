@@ -167,9 +167,7 @@ module _ (command : Command) (b : List ℕ) where
 open-yet : (command : Command) (m : CommandResult)
     → ((f : Forest) → (job_of command).is_enough f ≡ true → ⊥) → (IsFinalEnding m.ending → ⊥)
     → (f : Forest) → IsSettled (job_of command) f m.ending → ⊥
-open-yet command m never unfinished f s =
-    ⊎_elim (λ (enough : (job_of command).is_enough f ≡ true). never f enough)
-    (λ (final : IsFinalEnding m.ending). unfinished final) s
+open-yet command m never unfinished f = ⊎_elim (never f) unfinished
 
 -- ---- rows
 
