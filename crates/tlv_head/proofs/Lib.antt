@@ -1,4 +1,5 @@
 pub mod NumberLemmas
+pub mod Wraps
 pub mod GrammarLemmas
 pub mod ReaderLemmas
 pub mod ShortestLemmas

@@ -5,7 +5,6 @@ use Rattle.std.specs.Option.{is_some, unwrap_or}
 use Rattle.tlv_head.specs.UniversalTypes as universal
 use Rattle.tlv_head.specs.declared.header.Class.{Class}
 use Rattle.tlv_head.specs.declared.header.Class.TheVariants.{Universal, Application, Context, Private}
-use Rattle.tlv_head.specs.declared.header.HeaderFields.{HeaderFields}
 use Rattle.tlv_head.specs.declared.header.Size.{Size}
 use Rattle.tlv_head.specs.declared.header.Size.TheVariants.{Definite, Indefinite}
 
@@ -116,40 +115,21 @@ HasAllContents h contents = announced_length h.size ≡ length contents
 abbrev pub is_universal : Class → Bool
 is_universal class = eqb (class_bits class) 0
 
--- 8.6.2, 8.7.2: a named primitive that is an OCTET STRING, or a BIT STRING of one or more contents octets:
--- its contents are to be read as encodings
-abbrev pub is_wrapper : Bool → Class → Bool → ℕ → Size → Bool
-is_wrapper named class constructed number size =
-    named && not constructed && is_universal class
-    && (eqb number universal.octet_string || (eqb number universal.bit_string && not (eqb (announced_length size) 0)))
+-- 8.6.2, 8.7.2: a primitive OCTET STRING, or a primitive BIT STRING of one or more contents octets: its contents can be
+-- encodings
+abbrev pub can_wrap : HeaderValue → Bool
+can_wrap h =
+    not h.constructed && is_universal h.class
+    && (eqb h.number universal.octet_string
+        || (eqb h.number universal.bit_string && not (eqb (announced_length h.size) 0)))
 
--- the meaning of a header, without its octets
-abbrev pub fields_of : HeaderValue → HeaderFields
-fields_of h = record {
-  offset = h.offset;
-  named = h.named;
-  class = h.class;
-  constructed = h.constructed;
-  number = h.number;
-  size = h.size;
-  id_len = length h.identifier;
-}
-
--- an element with these fields is a string that holds encodings
-abbrev pub fields_wrap : HeaderFields → Bool
-fields_wrap f = is_wrapper f.named f.class f.constructed f.number f.size
-
--- 8.1.2.5: an element with these fields holds encodings: it is constructed, or a string that holds encodings
-abbrev pub fields_hold : HeaderFields → Bool
-fields_hold f = f.constructed || fields_wrap f
-
--- the element with this header is a string that holds encodings
+-- the element with this header is a string that holds encodings: it can be one, and the user named its offset
 abbrev pub wraps : HeaderValue → Bool
-wraps h = fields_wrap (fields_of h)
+wraps h = h.named && can_wrap h
 
--- the element with this header holds encodings
+-- 8.1.2.5: the element with this header holds encodings: it is constructed, or a string that holds encodings
 abbrev pub holds : HeaderValue → Bool
-holds h = fields_hold (fields_of h)
+holds h = h.constructed || wraps h
 
 -- 8.1.3.6: the identifier octets, and the indefinite form
 abbrev pub spell_indefinite : HeaderValue → List ℕ

@@ -1,6 +1,6 @@
 //! Reads a header, one octet at a time.
 ghost use Rattle.std.specs.Prelude.{◌≡◌, ◌≢◌, ◌↔◌, [], ◌∷◌, false, IsTrue, Some};
-ghost use Rattle.tlv_head.specs.Header.{fields_hold};
+ghost use Rattle.tlv_head.specs.HeaderFields.{fields_hold};
 ghost use Rattle.tlv_head.specs.HeadReader.{ContentsFit};
 
 use crate::next_octet::{Next, Part, header_fields, read_octet};

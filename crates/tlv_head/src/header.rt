@@ -113,27 +113,28 @@ impl Model for Header {
 
 impl HeaderFields {
     ghost use Rattle.std.specs.Prelude.{◌≡◌};
-    ghost use Rattle.tlv_head.specs.Header.{fields_wrap};
+    ghost use Rattle.tlv_head.specs.HeaderFields.{fields_wrap};
 
-    /// [`Header::wraps`], for the header with these fields.
+    /// [`Header::wraps`], for the header with these fields (8.6.2, 8.7.2).
     pub fn wraps(&self) -> bool
         ensures { result ≡ fields_wrap self.now }
     {
-        is_wrapper(
-            self.named,
-            self.class,
-            self.constructed,
-            self.number,
-            self.size,
-        )
+        if !self.named || self.constructed {
+            return false;
+        }
+        match (self.class, self.number) {
+            (Class::Universal, universal::BIT_STRING) => self.size.announced_length() != 0,
+            (Class::Universal, universal::OCTET_STRING) => true,
+            _ => false,
+        }
     }
 }
 
 impl Header {
     ghost use Rattle.std.specs.Prelude.{◌≤◌, length};
-    ghost use Rattle.tlv_head.specs.Header.{fields_of, octets_of, wraps};
+    ghost use Rattle.tlv_head.specs.Header.{octets_of, wraps};
     ghost use Rattle.tlv_head.specs.Header.{second_identifier_octet, second_length_octet};
-    ghost use Rattle.tlv_head.specs.HeaderFields.{IsHeaderSized, new_header};
+    ghost use Rattle.tlv_head.specs.HeaderFields.{IsHeaderSized, fields_of, new_header};
 
     /// The header with these fields and octets. Requires at most 137 octets, of which at most ten, and not all, are
     /// the identifier. The caller must ensure that the octets say these fields, as
@@ -242,7 +243,7 @@ impl Header {
 }
 
 ghost use Rattle.std.specs.Prelude.{◌≡◌, ◌≤◌, drop, length, slice_index, take, true};
-ghost use Rattle.tlv_head.specs.Header.{announced_length, spell_indefinite, is_wrapper};
+ghost use Rattle.tlv_head.specs.Header.{spell_indefinite};
 
 /// The second octet of an identifier with `id_len` octets and the second octet of the length after it; 0 for one that
 /// does not exist.
@@ -262,26 +263,6 @@ fn second_of(octets: &[u8]) -> u8
     match octets {
         [_, second, ..] => *second,
         _ => 0,
-    }
-}
-
-/// [`Header::wraps`], given the fields that it depends on (8.6.2, 8.7.2).
-pub(crate) fn is_wrapper(
-    named: bool,
-    class: Class,
-    constructed: bool,
-    number: u64,
-    size: Size,
-) -> bool
-    ensures { result ≡ is_wrapper named class constructed number size }
-{
-    if !named || constructed {
-        return false;
-    }
-    match (class, number) {
-        (Class::Universal, universal::BIT_STRING) => size.announced_length() != 0,
-        (Class::Universal, universal::OCTET_STRING) => true,
-        _ => false,
     }
 }
 

@@ -9,7 +9,8 @@ use Rattle.tlv_head.specs.declared.fault.FaultCode.TheVariants.{StrayEnd}
 use Rattle.tlv_head.specs.declared.header.HeaderFields.{HeaderFields}
 use Rattle.tlv_head.specs.declared.header.Size.{Size}
 use Rattle.tlv_head.specs.declared.header.Size.TheVariants.{Definite, Indefinite}
-use Rattle.tlv_head.specs.Header.{HeaderValue, definite_length, fields_of, octets_of}
+use Rattle.tlv_head.specs.Header.{HeaderValue, definite_length, octets_of}
+use Rattle.tlv_head.specs.HeaderFields.{fields_of}
 use Rattle.tlv_head.specs.HeaderFields.{new_header}
 use Rattle.tlv_head.specs.ReadHeader.{BeginsWithFields}
 use Rattle.tlv_head.specs.Refusal.{BeginsWithNoHeader}

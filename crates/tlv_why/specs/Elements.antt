@@ -2,7 +2,8 @@
 use Rattle.std.specs.Prelude.{ℕ, ◌+◌, ◌-◌, ◌^◌, min, length}
 use Rattle.std.specs.Option.{option_map}
 use Rattle.tlv_head.specs.declared.header.HeaderFields.{HeaderFields}
-use Rattle.tlv_head.specs.Header.{HeaderValue, definite_length, fields_of, octets_of}
+use Rattle.tlv_head.specs.Header.{HeaderValue, definite_length, octets_of}
+use Rattle.tlv_head.specs.HeaderFields.{fields_of}
 use Rattle.tlv_why.specs.declared.element.Element.{Element}
 
 -- a sum of offsets. It stops at the largest number of 64 bits, which no offset of an input comes near

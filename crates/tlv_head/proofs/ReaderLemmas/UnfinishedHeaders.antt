@@ -3,7 +3,7 @@ use Rattle.std.proofs.Common.{◌≡◌, ◌≢◌, ℕ, suc, zero, Bool, true, 
 use Rattle.std.proofs.Common.{[], ◌∷◌, ◌++◌, length, Option, Some, refl, ap, sym, ◌∙◌, arith, length-append}
 use Rattle.std.proofs.Common.{append_assoc, lit<, take, drop}
 use Rattle.std.proofs.lemmas.Bool.{cases_eq}
-use Rattle.tlv_head.specs.Header.{HeaderValue, IsHeader, is_wrapper}
+use Rattle.tlv_head.specs.Header.{HeaderValue, IsHeader}
 use Rattle.tlv_head.specs.HeadReader.{ContentsFit, HeadReaderState, Completes, IsRefusedPush, overrun, too_deep}
 use Rattle.tlv_head.specs.Refusal.{IsHeaderPrefix}
 use Rattle.tlv_head.specs.HeaderSoFar.{Carries, CarriesNumber, CarriesIdentifier, CarriesLength, is_whole_header}
@@ -16,6 +16,7 @@ use Rattle.tlv_head.specs.declared.next_octet.Part.{Part}
 use Rattle.tlv_head.specs.declared.next_octet.Part.TheVariants.{Start, Number, Identifier, Length, Whole}
 use Rattle.std.proofs.lemmas.List.{length-map}
 use Rattle.std.proofs.Math.Seq.{drop-append_seam, take-append_seam}
+use Rattle.tlv_head.proofs.Wraps.{is_wrapper}
 use Rattle.tlv_head.proofs.ReaderLemmas.Steps.{ends_number, ends_length, more_length}
 use Rattle.tlv_head.proofs.GrammarLemmas.Meaning.{allows_definite}
 

@@ -7,7 +7,8 @@ use Rattle.tlv_head.specs.declared.header.Class.{Class}
 use Rattle.tlv_head.specs.declared.header.Size.{Size}
 use Rattle.tlv_head.specs.declared.header.Size.TheVariants.{Definite}
 use Rattle.tlv_head.specs.Header.{HeaderValue, IsHeader, announced_length, definite_length, is_universal}
-use Rattle.tlv_head.specs.Header.{holds, is_wrapper, octets_of}
+use Rattle.tlv_head.specs.Header.{holds, octets_of}
+use Rattle.tlv_head.proofs.Wraps.{is_wrapper}
 use Rattle.tlv_head.proofs.ReaderLemmas.Prefix.{header-two}
 use Rattle.tlv_walk.specs.Forest.{Forest, Holder, Primitive, end_octets, extent, lead, opening}
 use Rattle.tlv_walk.specs.Forest.{primitive_extent, spelling}

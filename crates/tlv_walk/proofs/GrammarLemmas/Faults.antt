@@ -5,7 +5,8 @@ use Rattle.std.proofs.Common.{leb-false}
 use Rattle.std.proofs.lemmas.Bool.{cases_Bool, cases_eq, and_parts, and_cases, and_from, lt-leb, true≢false}
 use Rattle.tlv_head.specs.declared.fault.FaultCode.{FaultCode}
 use Rattle.tlv_head.specs.declared.fault.FaultCode.TheVariants.{StrayEnd}
-use Rattle.tlv_head.specs.Header.{HeaderValue, announced_length, holds, is_wrapper, octets_of}
+use Rattle.tlv_head.specs.Header.{HeaderValue, announced_length, holds, octets_of}
+use Rattle.tlv_head.proofs.Wraps.{is_wrapper}
 use Rattle.tlv_head.specs.Refusal.{IsRefusedOctet}
 use Rattle.tlv_head.proofs.GrammarLemmas.Scan.{Origin, Scan, Fresh, High, Named, Long, Ready, Stuck}
 use Rattle.tlv_head.proofs.GrammarLemmas.Scan.{Over, moved_header, step}

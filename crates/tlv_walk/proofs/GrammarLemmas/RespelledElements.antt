@@ -4,7 +4,7 @@ use Rattle.std.proofs.Common.{◌≡◌, ◌≢◌, not, eqb, ℕ, ◌+◌, ◌^
 use Rattle.std.proofs.Common.{refl, sym, ap, ap₂, ◌∙◌, arith, subst, length-append}
 use Rattle.tlv_head.specs.declared.header.Size.{Size}
 use Rattle.tlv_head.specs.declared.header.Size.TheVariants.{Definite}
-use Rattle.tlv_head.specs.Header.{HeaderValue, IsHeader, is_wrapper, identifier_octet, octets_of}
+use Rattle.tlv_head.specs.Header.{HeaderValue, IsHeader, identifier_octet, octets_of, wraps}
 use Rattle.tlv_head.proofs.ShortestLemmas.OneShortest.{identifier-some, lengths-some}
 use Rattle.tlv_walk.specs.AlikeElements.{HaveNoUniversalZero, holders, nothing, padding, primitives}
 use Rattle.tlv_walk.specs.Forest.{Forest, NoMore, PaddingOctet, Primitive, Holder, OpenPrimitive, OpenHolder}
@@ -247,7 +247,7 @@ module _ (form : Bool → Bool) (definite : form false ≡ false) where
       let count : length (spelling (Primitive h c rest)) ≡ length (octets_of h) + length c + length (spelling rest) =
       length-primitive h c rest in
       let primitive : h.constructed ≡ false =
-      not-holding h.constructed (is_wrapper h.named h.class h.constructed h.number h.size) u.0.1 in
+      not-holding h.constructed (wraps h) u.0.1 in
       let o : Octets h false (Definite (length c)) =
       octets-for h false (Definite (length c))
       (identifier-same_form h.class h.constructed false h.number h.identifier primitive u.0.0.valid.identifier)

@@ -10,7 +10,8 @@ use Rattle.tlv_head.specs.declared.header.Class.{Class}
 use Rattle.tlv_head.specs.declared.header.Size.{Size}
 use Rattle.tlv_head.specs.declared.header.Size.TheVariants.{Definite, Indefinite}
 use Rattle.tlv_head.specs.Header.{AllowsSize, HeaderValue, IsHeader, IsIdentifier, announced_length, is_universal}
-use Rattle.tlv_head.specs.Header.{is_wrapper, identifier_octet}
+use Rattle.tlv_head.specs.Header.{identifier_octet}
+use Rattle.tlv_head.proofs.Wraps.{is_wrapper}
 use Rattle.tlv_head.specs.ShortestHeaders.{IsShortest}
 use Rattle.tlv_head.proofs.ShortestLemmas.LengthOctets.{FewLengths, few-lengths}
 use Rattle.tlv_head.proofs.ShortestLemmas.OneShortest.{identifier-le, identifier-some}

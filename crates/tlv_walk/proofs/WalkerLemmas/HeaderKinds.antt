@@ -5,8 +5,8 @@ use Rattle.std.proofs.lemmas.Bool.{true≢false}
 use Rattle.std.proofs.lemmas.List.{take-append-drop}
 use Rattle.tlv_head.specs.declared.header.HeaderFields.{HeaderFields}
 use Rattle.tlv_head.specs.declared.header.Size.TheVariants.{Definite}
-use Rattle.tlv_head.specs.HeaderFields.{new_header}
-use Rattle.tlv_head.specs.Header.{HeaderValue, announced_length, fields_wrap, holds, is_wrapper, octets_of}
+use Rattle.tlv_head.specs.HeaderFields.{fields_wrap, new_header}
+use Rattle.tlv_head.specs.Header.{HeaderValue, announced_length, holds, octets_of}
 use Rattle.tlv_head.specs.HeadReader.{HeadReaderState}
 use Rattle.tlv_walk.specs.declared.walker.headers.HeaderKind.{HeaderKind}
 use Rattle.tlv_walk.specs.declared.walker.headers.HeaderKind.TheVariants as kind
@@ -221,7 +221,7 @@ pub constructed_kind : (w v : WalkerState) (f : HeaderFields) (offset : ℕ) (k 
     → TakesHeader w v f offset k → k ≡ kind.Constructed
 constructed_kind w v f offset kind.Constructed c e = refl
 constructed_kind w v f offset kind.Primitive c e =
-    absurd (true≢false (sym (ap (λ (k : Bool). k || is_wrapper f.named f.class f.constructed f.number f.size) c) ∙ e.0))
+    absurd (true≢false (sym (ap (λ (k : Bool). k || fields_wrap f) c) ∙ e.0))
 constructed_kind w v f offset kind.Wrapper c e = absurd (true≢false (sym c ∙ e.0))
 
 -- the header of a wrapper begins a wrapper

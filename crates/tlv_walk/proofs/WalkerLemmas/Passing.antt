@@ -6,7 +6,8 @@ use Rattle.std.proofs.lemmas.List.{length-drop, length-take-le, take-append-drop
 use Rattle.std.proofs.Math.Seq.{drop-append_seam, take-add}
 use Rattle.tlv_head.specs.declared.header.HeaderFields.{HeaderFields}
 use Rattle.tlv_head.specs.HeaderFields.{new_header}
-use Rattle.tlv_head.specs.Header.{announced_length, is_wrapper}
+use Rattle.tlv_head.specs.Header.{announced_length}
+use Rattle.tlv_head.proofs.Wraps.{is_wrapper}
 use Rattle.tlv_walk.specs.declared.walker.headers.HeaderKind.TheVariants as kind
 use Rattle.tlv_walk.specs.declared.walker.short_way.WholePrimitive.{WholePrimitive}
 use Rattle.tlv_walk.specs.Events.{Begin, Bytes, End}

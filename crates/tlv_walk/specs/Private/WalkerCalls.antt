@@ -5,7 +5,7 @@ use Rattle.tlv_head.specs.Limits.{depth_limit, input_limit}
 use Rattle.tlv_head.specs.declared.fault.Fault.{Fault}
 use Rattle.tlv_head.specs.Header.{HeaderValue, IsHeader, announced_length, holds, octets_of}
 use Rattle.tlv_head.specs.HeadReader.{HeadReaderState}
-use Rattle.tlv_head.specs.Header.{fields_hold, fields_wrap}
+use Rattle.tlv_head.specs.HeaderFields.{fields_hold, fields_wrap}
 use Rattle.tlv_head.specs.HeaderFields.{new_header}
 use Rattle.tlv_head.specs.ReadHeader.{BeginsWithFields}
 use Rattle.std.specs.Borrow.{Bor}

@@ -4,7 +4,7 @@ use Rattle.tlv_head.specs.declared.head_reader.Head.TheVariants.{Whole}
 use Rattle.tlv_head.specs.declared.fault.FaultCode.TheVariants.{Overrun, TooDeep}
 use Rattle.tlv_head.specs.HeadReader.{HeadReaderState, Completes, IsRefusedPush, Pushes, more, no_room, refused_octet}
 use Rattle.tlv_head.specs.HeadReader.{whole}
-use Rattle.tlv_head.specs.Header.{fields_hold}
+use Rattle.tlv_head.specs.HeaderFields.{fields_hold}
 use Rattle.tlv_head.specs.declared.header.HeaderFields.{HeaderFields}
 use Rattle.tlv_head.specs.Refusal.{IsRefusedOctet}
 use Rattle.tlv_head.proofs.ReaderLemmas.OneResult.{push-exact, completes_unique, prefix_not_whole, refusal-is}
