@@ -121,7 +121,7 @@ abbrev pub can_wrap : HeaderValue → Bool
 can_wrap h =
     not h.constructed && is_universal h.class
     && (eqb h.number universal.octet_string
-        || (eqb h.number universal.bit_string && not (eqb (announced_length h.size) 0)))
+    || (eqb h.number universal.bit_string && not (eqb (announced_length h.size) 0)))
 
 -- the element with this header is a string that holds encodings: it can be one, and the user named its offset
 abbrev pub wraps : HeaderValue → Bool

@@ -86,11 +86,10 @@ sound-plain p OpenEndOctets e s = absurd s
 pub grammar-plain : (p : Place) (f : Forest) → p.inside ≡ [] → ObeysGrammar p f → ArePlain p.offset f
 grammar-plain p NoMore e o = tt
 grammar-plain p (PaddingOctet rest) e o = grammar-plain (place_after p 1) rest e o.1
-grammar-plain p (Primitive h c rest) e o =
-    (
-      (plain-header p false h e o.0.0.header o.0.0.form, o.0.1),
-      grammar-plain (place_after p (primitive_extent h c)) rest e o.1,
-    )
+grammar-plain p (Primitive h c rest) e o = (
+  (plain-header p false h e o.0.0.header o.0.0.form, o.0.1),
+  grammar-plain (place_after p (primitive_extent h c)) rest e o.1,
+)
 grammar-plain p (Holder h inside rest) e o = (
   plain-header p true h e o.0.0.header o.0.0.form,
   grammar-plain (place_of_children p h) inside e o.1,
