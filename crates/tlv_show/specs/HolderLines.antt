@@ -11,10 +11,6 @@ use Rattle.tlv_value.specs.Layout.{blank_columns, columns, line}
 abbrev pub size_text : Size → List ℕ
 size_text size = option_map_or decimal (definite_length size) (codes "indef")
 
--- a line with these first columns and this text
-abbrev pub text_line : Layout → List ℕ → List ℕ → List ℕ
-text_line layout first text = line layout.pure first layout.level text
-
 -- what is after the tag of an element that holds others: whether it is constructed, or a string that holds encodings
 abbrev pub opening_word : Bool → List ℕ
 opening_word constructed = if constructed then codes " {" else codes " wraps {"
@@ -22,11 +18,7 @@ opening_word constructed = if constructed then codes " {" else codes " wraps {"
 -- an element that holds others, with a word after its tag
 abbrev pub opening_line : Layout → HeaderValue → List ℕ → List ℕ
 opening_line layout h word =
-    text_line layout (columns h.offset (size_text h.size)) (tag_text h.class h.number ++ word)
-
--- its line in a dump: the word says whether it is constructed
-abbrev pub dump_opening_line : Layout → HeaderValue → List ℕ
-dump_opening_line layout h = opening_line layout h (opening_word h.constructed)
+    line layout (columns h.offset (size_text h.size)) (tag_text h.class h.number ++ word)
 
 -- the first columns of the line of its end: the offset of its end-of-contents octets, if it has them
 abbrev pub closing_columns : Option ℕ → List ℕ
@@ -34,7 +26,7 @@ closing_columns offset = option_map_or (λ offset. columns offset (codes "end"))
 
 -- the line of its end
 abbrev pub closing_line : Layout → Option ℕ → List ℕ
-closing_line layout offset = text_line layout (closing_columns offset) (codes "}")
+closing_line layout offset = line layout (closing_columns offset) (codes "}")
 
 abbrev pub padding_line : Layout → ℕ → List ℕ
-padding_line layout offset = text_line layout (columns offset (codes "pad")) (codes "padding")
+padding_line layout offset = line layout (columns offset (codes "pad")) (codes "padding")

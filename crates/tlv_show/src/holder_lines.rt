@@ -2,7 +2,7 @@
 ghost use Rattle.std.specs.Prelude.{◌≡◌, ◌≤◌, ◌++◌, length};
 ghost use Rattle.tlv_io.specs.LineTexts.{AddsAtMost, HasRoomFor};
 ghost use Rattle.tlv_io.specs.Out.{Puts};
-ghost use Rattle.tlv_value.specs.Layout.{columns, line_margin};
+ghost use Rattle.tlv_value.specs.Layout.{columns, margin};
 ghost use Rattle.tlv_show.specs.HolderLines.{closing_columns, closing_line, opening_line, padding_line, size_text};
 ghost use Rattle.tlv_io.specs.OutLimits.{line_room, line_start_limit, line_start_room};
 
@@ -71,7 +71,7 @@ fn write_opening(held: &mut HeldOctets, layout: Layout, header: &Header, word: &
 fn begin_opening(held: &mut HeldOctets, layout: Layout, offset: u64, size: Size)
     requires { HasRoomFor held.old line_start_room }
     ensures { AddsAtMost line_start_limit held.old held.new
-        (line_margin layout (columns offset (size_text size))) }
+        (margin layout (columns offset (size_text size))) }
 {
     match size {
         Size::Definite(length) => begin_sized(held, layout, offset, length),
@@ -94,7 +94,7 @@ fn write_closing(held: &mut HeldOctets, layout: Layout, offset: Option<u64>)
 fn begin_closing(held: &mut HeldOctets, layout: Layout, offset: Option<u64>)
     requires { HasRoomFor held.old line_start_room }
     ensures { AddsAtMost line_start_limit held.old held.new
-        (line_margin layout (closing_columns offset)) }
+        (margin layout (closing_columns offset)) }
 {
     match offset {
         Some(offset) => begin_word(held, layout, offset, b"   end"),

@@ -7,7 +7,7 @@ use Rattle.std.specs.Char.{is_ascii_alphabetic, is_ascii_digit}
 use Rattle.std.specs.List.{list_all, list_any}
 use Rattle.std.specs.Option.{option_map_or}
 use Rattle.std.specs.Str.{is_utf8}
-use Rattle.tlv_head.specs.Header.{HeaderValue}
+use Rattle.tlv_head.specs.Header.{HeaderValue, is_universal}
 use Rattle.tlv_head.specs.UniversalTypes as universal
 use Rattle.tlv_value.specs.declared.finding.Finding.{Finding}
 use Rattle.tlv_value.specs.declared.finding.Finding.TheVariants.{B06, B07, B08, B09, B10, B11, B12, B13, B14}
@@ -15,7 +15,6 @@ use Rattle.tlv_value.specs.declared.finding.Finding.TheVariants.{B15, B18, B19, 
 use Rattle.tlv_value.specs.Arcs.{parts_of}
 use Rattle.tlv_value.specs.Times as times
 use Rattle.tlv_value.specs.Types.{character_types, integer_types, is_number_of, object_types, time_types}
-use Rattle.tlv_value.specs.Types.{type_number}
 use Rattle.tlv_value.specs.Units.{is_printable}
 
 -- the last octet, or 0 if there is none
@@ -178,9 +177,11 @@ type_conditions number facts =
     )
     ∷ []
 
--- the possible findings on these contents of a primitive with this header, beside their conditions
+-- the possible findings on these contents of a primitive with this header, beside their conditions. Only the universal
+-- types have conditions
 abbrev pub contents_conditions : HeaderValue → List ℕ → List (Bool × Finding)
-contents_conditions h contents = type_conditions (type_number h) (facts_of (type_number h) contents)
+contents_conditions h contents =
+    if is_universal h.class then type_conditions h.number (facts_of h.number contents) else []
 
 -- the findings on these contents of a primitive of the type with this number, by the rules of BER, CER or DER, in
 -- order
@@ -189,4 +190,4 @@ type_findings number contents = findings_by (type_conditions number (facts_of nu
 
 -- the same, of a primitive with this header
 abbrev pub all_contents_findings : HeaderValue → List ℕ → List Finding
-all_contents_findings h contents = type_findings (type_number h) contents
+all_contents_findings h contents = findings_by (contents_conditions h contents)

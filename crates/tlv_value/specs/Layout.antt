@@ -1,6 +1,6 @@
 -- The lines of a dump: what begins them, and what is left out.
-use Rattle.std.specs.Prelude.{ℕ, ◌+◌, ◌*◌, Bool, eqb, nat_lt, if◌then◌else◌, List, [], ◌∷◌, ◌++◌, Option}
-use Rattle.std.specs.Prelude.{Some, None, codes}
+use Rattle.std.specs.Prelude.{ℕ, ◌+◌, ◌*◌, eqb, nat_lt, if◌then◌else◌, List, [], ◌∷◌, ◌++◌, Option, Some, None}
+use Rattle.std.specs.Prelude.{codes}
 use Rattle.std.specs.Option.{option_map_or}
 use Rattle.tlv_value.specs.declared.layout.Layout.{Layout}
 pub use Rattle.tlv_io.specs.LineTexts.{columns, at_right, spaces}
@@ -9,20 +9,17 @@ pub use Rattle.tlv_io.specs.LineTexts.{columns, at_right, spaces}
 abbrev pub blank_columns : List ℕ
 blank_columns = spaces 17
 
--- what is before the text of a line: its first columns, and the indentation of its level
-abbrev pub margin : Bool → List ℕ → ℕ → List ℕ
-margin pure first level = (if pure then [] else first) ++ spaces (2 * level)
+-- what is before the text of a line: its first columns, unless they are left out, and the indentation of its level
+abbrev pub margin : Layout → List ℕ → List ℕ
+margin layout first = (if layout.pure then [] else first) ++ spaces (2 * layout.level)
 
--- the same, in this layout
-abbrev pub line_margin : Layout → List ℕ → List ℕ
-line_margin layout first = margin layout.pure first layout.level
-
-abbrev pub line : Bool → List ℕ → ℕ → List ℕ → List ℕ
-line pure first level text = margin pure first level ++ text ++ 10 ∷ []
+-- a line with these first columns and this text
+abbrev pub line : Layout → List ℕ → List ℕ → List ℕ
+line layout first text = margin layout first ++ text ++ 10 ∷ []
 
 -- a line one level further in, with blank first columns
 abbrev pub inner_line : Layout → List ℕ → List ℕ
-inner_line layout text = line layout.pure blank_columns (layout.level + 1) text
+inner_line layout text = line (record layout { level = layout.level + 1 }) blank_columns text
 
 -- the row with this number, counted from 0: from the limit on, the first row is three dots, and the rest have no line
 abbrev pub row_by_limit : Option ℕ → ℕ → List ℕ → Option (List ℕ)

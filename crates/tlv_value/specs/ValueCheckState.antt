@@ -4,12 +4,12 @@ use Rattle.std.specs.Prelude.{ℕ, ◌-◌, Bool, true, false, ◌&&◌, ◌||�
 use Rattle.std.specs.Prelude.{[], ◌∷◌, ◌++◌, length, take}
 use Rattle.std.specs.Str.{is_utf8}
 use Rattle.tlv_head.specs.UniversalTypes as universal
-use Rattle.tlv_head.specs.Header.{HeaderValue, announced_length}
+use Rattle.tlv_head.specs.Header.{HeaderValue, announced_length, is_universal}
 use Rattle.tlv_head.specs.declared.kind.Kind.TheVariants.{Utf8}
 use Rattle.tlv_value.specs.declared.finding.Finding.{Finding}
 use Rattle.tlv_value.specs.Checks.{ContentsFacts, allows_octet, are_whole_characters, findings_by, type_conditions}
 use Rattle.tlv_value.specs.Rows.{full_rows, open_row}
-use Rattle.tlv_value.specs.Types.{is_number_of, object_types, tested_string_types, time_types, type_number}
+use Rattle.tlv_value.specs.Types.{is_number_of, object_types, tested_string_types, time_types}
 
 -- what contracts see of a `ValueCheck`
 pub record ValueCheckState : Type 0 where
@@ -44,6 +44,10 @@ new_value_check_of number size = record {
   row = [];
   time = [];
 }
+
+-- the universal number of the type; for another class, the number of OCTET STRING, whose contents have no findings
+abbrev pub type_number : HeaderValue → ℕ
+type_number h = if is_universal h.class then h.number else universal.octet_string
 
 abbrev pub new_value_check : HeaderValue → ValueCheckState
 new_value_check h = new_value_check_of (type_number h) (announced_length h.size)

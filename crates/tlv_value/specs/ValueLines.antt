@@ -1,28 +1,17 @@
 -- The lines of a primitive that is whole, and of one whose contents are still to come.
 use Rattle.std.specs.Prelude.{ℕ, ◌+◌, ◌&&◌, Bool, true, false, if◌then◌else◌, List, [], ◌∷◌, ◌++◌, decimal}
-use Rattle.tlv_head.specs.declared.header.Class.{Class}
 use Rattle.tlv_head.specs.Header.{HeaderValue, announced_length}
 use Rattle.tlv_head.specs.Tag.{tag_text}
 use Rattle.tlv_head.specs.declared.kind.Kind.{Kind}
 use Rattle.tlv_head.specs.declared.kind.Kind.TheVariants.{Bits}
 use Rattle.tlv_value.specs.declared.layout.Layout.{Layout}
 use Rattle.tlv_head.specs.Kind.{kind_of}
-use Rattle.tlv_value.specs.Layout.{columns, line_margin, row_line}
+use Rattle.tlv_value.specs.Layout.{columns, line, row_line}
 use Rattle.tlv_value.specs.Value.{NameOf, Value, is_long, long_value, row_text, whole_value}
 
 -- the kind of the element's type
 abbrev pub header_kind : HeaderValue → Kind
 header_kind h = kind_of h.class h.number
-
--- the beginning of the line of an element of this class, number and size
-abbrev pub element_prefix : Layout → ℕ → Class → ℕ → ℕ → List ℕ
-element_prefix layout offset class number size =
-    line_margin layout (columns offset (decimal size)) ++ tag_text class number
-
--- the line of an element of this class, number and size, with this text after its tag
-abbrev pub element_line : Layout → ℕ → Class → ℕ → ℕ → List ℕ → List ℕ
-element_line layout offset class number size text =
-    element_prefix layout offset class number size ++ text ++ 10 ∷ []
 
 -- the line of a long value is known from its header; for a BIT STRING, from its first contents octet
 abbrev pub has_line : Kind → List ℕ → Bool
@@ -37,10 +26,10 @@ module _ (with_text : Bool) where
   row_lines kind layout i (row ∷ rows) =
       row_line layout i (row_text with_text kind row) ++ row_lines kind layout (i + 1) rows
 
-  -- the element's line, and the lines of its rows
+  -- the element's line, with its offset, its length, its tag and its value, and the lines of its rows
   abbrev pub value_lines : HeaderValue → Layout → Value → List ℕ
   value_lines h layout value =
-      element_line layout h.offset h.class h.number (announced_length h.size) value.text
+      line layout (columns h.offset (decimal (announced_length h.size))) (tag_text h.class h.number ++ value.text)
       ++ row_lines (header_kind h) layout 0 value.rows
 
   -- the lines of a primitive that is whole

@@ -1,14 +1,17 @@
 -- What is kept of the contents of a primitive between their pieces, and the lines that are known with each piece.
 use Rattle.std.specs.Prelude.{ℕ, ◌+◌, ◌-◌, Bool, true, false, if◌then◌else◌, List, [], ◌∷◌, ◌++◌, length, None}
+use Rattle.std.specs.Prelude.{decimal}
 use Rattle.tlv_head.specs.declared.header.Class.TheVariants.{Private}
 use Rattle.tlv_head.specs.Header.{HeaderValue, announced_length}
+use Rattle.tlv_head.specs.Tag.{tag_text}
 use Rattle.tlv_io.specs.Cuts.{last_rows}
 use Rattle.tlv_head.specs.declared.kind.Kind.{Kind}
 use Rattle.tlv_head.specs.declared.kind.Kind.TheVariants.{Octets}
 use Rattle.tlv_value.specs.declared.layout.Layout.{Layout}
+use Rattle.tlv_value.specs.Layout.{columns, line}
 use Rattle.tlv_value.specs.declared.primitive.Primitive.{Primitive}
 use Rattle.tlv_value.specs.Rows.{full_rows, open_row}
-use Rattle.tlv_value.specs.ValueLines.{element_line, has_line, header_kind, row_lines}
+use Rattle.tlv_value.specs.ValueLines.{has_line, header_kind, row_lines}
 use Rattle.tlv_value.specs.Value.{NameOf, is_long, long_text, row_octets, short_value}
 
 -- what is kept: for a long value, whether its line was put, the number of rows that were full, and the octets of the
@@ -44,7 +47,7 @@ is_long_primitive p = is_long p.kind p.size
 
 -- its line, with this text after its tag
 abbrev pub primitive_line : Primitive → List ℕ → List ℕ
-primitive_line p text = element_line p.layout p.offset p.class p.number p.size text
+primitive_line p text = line p.layout (columns p.offset (decimal p.size)) (tag_text p.class p.number ++ text)
 
 -- the line of a long value of which these octets have come
 abbrev pub long_value_line : Primitive → List ℕ → List ℕ

@@ -3,9 +3,8 @@ ghost use Rattle.std.specs.Prelude.{◌≡◌, ◌+◌, ◌≤◌, ◌++◌, ◌
 ghost use Rattle.tlv_io.specs.LineTexts.{AddsAtMost, HasRoomFor};
 ghost use Rattle.tlv_io.specs.OutLimits.{line_start_limit, line_start_room};
 ghost use Rattle.tlv_head.specs.Tag.{tag_text};
-ghost use Rattle.tlv_value.specs.Layout.{columns, line_margin, margin, blank_columns, spaces};
-ghost use Rattle.tlv_value.specs.Private.Rows.{row_indent};
-ghost use Rattle.tlv_value.specs.ValueLines.{element_prefix};
+ghost use Rattle.tlv_value.specs.Layout.{blank_columns, columns, margin, spaces};
+ghost use Rattle.tlv_value.specs.Private.Rows.{row_indent, row_margin};
 
 use crate::Layout;
 use tlv_head::{Class, type_name_block};
@@ -17,7 +16,7 @@ use tlv_io::HeldOctets;
 pub fn begin_sized(held: &mut HeldOctets, layout: Layout, offset: u64, size: u64)
     requires { HasRoomFor held.old line_start_room }
     ensures { AddsAtMost line_start_limit held.old held.new
-        (line_margin layout (columns offset (decimal size))) }
+        (margin layout (columns offset (decimal size))) }
 {
     write_sized(held, layout.pure, offset, size);
     held.spaces(2 * usize::from(layout.level));
@@ -40,7 +39,7 @@ fn write_sized(held: &mut HeldOctets, pure: bool, offset: u64, size: u64)
 pub fn begin_word(held: &mut HeldOctets, layout: Layout, offset: u64, word: &[u8; 6])
     requires { HasRoomFor held.old line_start_room }
     ensures { AddsAtMost line_start_limit held.old held.new
-        (line_margin layout (columns offset word.now)) }
+        (margin layout (columns offset word.now)) }
 {
     write_worded(held, layout.pure, offset, word);
     held.spaces(2 * usize::from(layout.level));
@@ -62,7 +61,7 @@ fn write_worded(held: &mut HeldOctets, pure: bool, offset: u64, word: &[u8; 6])
 #[inline(always)]
 pub fn begin_blank(held: &mut HeldOctets, layout: Layout)
     requires { HasRoomFor held.old line_start_room }
-    ensures { AddsAtMost line_start_limit held.old held.new (line_margin layout blank_columns) }
+    ensures { AddsAtMost line_start_limit held.old held.new (margin layout blank_columns) }
 {
     held.spaces(blank_column_count(layout.pure) + 2 * usize::from(layout.level));
 }
@@ -71,7 +70,7 @@ pub fn begin_blank(held: &mut HeldOctets, layout: Layout)
 #[inline(always)]
 pub(crate) fn row_indent(layout: Layout) -> usize
     ensures value { result ≡ row_indent layout }
-    ensures text { spaces result ≡ margin layout.pure blank_columns (layout.level + 1) }
+    ensures text { spaces result ≡ row_margin layout }
     ensures two_or_more { 2 ≤ result }
     ensures within { result ≤ 529 }
 {
@@ -142,7 +141,8 @@ pub(crate) fn begin_element(
     size: u64,
 )
     requires { HasRoomFor held.old 640 }
-    ensures { AddsAtMost 593 held.old held.new (element_prefix layout offset class number size) }
+    ensures { AddsAtMost 593 held.old held.new
+        (margin layout (columns offset (decimal size)) ++ tag_text class number) }
 {
     begin_sized(held, layout, offset, size);
     write_tag(held, class, number);

@@ -24,7 +24,7 @@ use Rattle.tlv_show.specs.FinderState.{CheckState, FinderState}
 use Rattle.tlv_show.specs.NestingState.{frame_under, surroundings_in, frame_after}
 use Rattle.tlv_show.specs.ShownFindings.{contents_findings, header_findings, end_findings}
 use Rattle.tlv_show.specs.Items.{Item, FindingAt, items, finding_items, headers}
-use Rattle.tlv_show.specs.HolderLines.{dump_opening_line, closing_line}
+use Rattle.tlv_show.specs.HolderLines.{closing_line, opening_line, opening_word}
 use Rattle.tlv_show.specs.Site.{Previous, Site, is_padding}
 use Rattle.tlv_show.specs.Texts.{item_text, layout_at}
 use Rattle.tlv_show.proofs.DumpLemmas.DumpTexts.{holder_shown, ends_in_padding, primitive_shown}
@@ -109,7 +109,7 @@ module _ (with_text : Bool) (style : Layout) (names : NamesValue) (rules : Rules
       → effect_of dump_step (start p (is_padding previous) w outer n) (opening_events h)
       ≡ effect_with (start (place_of_children p h) false (frame_under w h) (w ∷ outer) (later_header rules w h n))
       (styled_lines (Dump style.pure) (length outer) h.offset (header_findings rules (surroundings_in w) h)
-      ++ dump_opening_line (layout_at style p.depth) h)
+      ++ opening_line (layout_at style p.depth) h (opening_word h.constructed))
   opened-shown p holder previous w outer n h k there low far =
       opens-by (lines_between with_text style names p.depth p.offset (is_padding previous)) (check_between rules w outer n) h
       h.constructed (h.number == 3)

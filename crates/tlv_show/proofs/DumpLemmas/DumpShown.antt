@@ -31,7 +31,6 @@ use Rattle.tlv_show.specs.Items.{Item, OpeningLine, ClosingLine, PrimitiveLines,
 use Rattle.tlv_show.specs.Items.{PaddingLine, headers, items}
 use Rattle.tlv_show.specs.Items.{finding_items}
 use Rattle.tlv_show.specs.HolderLines.{closing_line, opening_line, padding_line, opening_word}
-use Rattle.tlv_show.specs.HolderLines.{dump_opening_line}
 use Rattle.tlv_show.specs.Site.{Previous, Padding, Sibling, Site, Start, is_padding, site_of_children}
 use Rattle.tlv_show.specs.Site.{site_after_primitive, site_after_holder, site_after_padding}
 use Rattle.tlv_show.specs.Texts.{layout_at}
@@ -167,7 +166,7 @@ module _ (with_text : Bool) (style : Layout) (names : NamesValue) (rules : Rules
       outer rest v.2 (omega (arith, b, size))
       (knows-after w s (site_after_holder s h inside) h None false k.0 refl refl refl, k.1, k.2) in
       let end : ℕ = p.offset + length (opening h) + length (spelling inside) in
-      let line : List ℕ = dump_opening_line (layout_at style p.depth) h in
+      let line : List ℕ = opening_line (layout_at style p.depth) h (opening_word h.constructed) in
       let close : List ℕ =
       closing_line (layout_at style p.depth) (if h.constructed then end_octets_offset h inside else None) in
       let first : List ℕ =
@@ -290,7 +289,7 @@ module _ (with_text : Bool) (style : Layout) (names : NamesValue) (rules : Rules
       (omega (arith, b, size)) (knows-inside w s h, omega (arith, k.1), λ e. absurd (cc (e))) in
       let first : List ℕ =
       styled_lines (Dump style.pure) (length outer) h.offset (header_findings rules (surroundings_in w) h) in
-      let line : List ℕ = dump_opening_line (layout_at style p.depth) h in
+      let line : List ℕ = opening_line (layout_at style p.depth) h (opening_word h.constructed) in
       record {
         text = λ n.
             ap (λ (x : Effect DumpState). x.put)

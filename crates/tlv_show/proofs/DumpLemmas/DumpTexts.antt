@@ -24,7 +24,6 @@ use Rattle.tlv_walk.specs.Place.{ObeysGrammar, Place, place_after}
 use Rattle.tlv_walk.proofs.GrammarLemmas.Spellings.{length-opening}
 use Rattle.tlv_show.specs.LinesStep.{LinesState, lines_step, lines_after_header}
 use Rattle.tlv_show.specs.HolderLines.{closing_line, opening_line, padding_line, opening_word}
-use Rattle.tlv_show.specs.HolderLines.{dump_opening_line}
 use Rattle.tlv_show.specs.Texts.{layout_at}
 use Rattle.tlv_show.proofs.DumpLemmas.OctetPieces.{after_put, dumped_bytes, rested-new}
 use Rattle.tlv_show.specs.SaturatingSum.{saturating_sum}
@@ -161,13 +160,13 @@ module _ (with_text : Bool) (style : Layout) (names : NamesValue) where
       → offset + length (opening h) ≤ 2 ^ 64 - 1
       → effect_of lines_step (lines_between level offset padded) (opening_events h)
       ≡ effect_with (lines_between (level + 1) (offset + length (opening h)) false)
-      (dump_opening_line (layout_at style level) h)
+      (opening_line (layout_at style level) h (opening_word h.constructed))
   holder_shown level offset padded h there low far_enough =
       holder_by level offset padded h.constructed (h.number == 3) h there low
       (omega (arith, far_enough, length-opening h))
       ∙ between-equal (level + 1) (level + 1) (offset + (length (octets_of h) + length (lead h)))
-      (offset + length (opening h)) false false (dump_opening_line (layout_at style level) h)
-      (dump_opening_line (layout_at style level) h)
+      (offset + length (opening h)) false false (opening_line (layout_at style level) h (opening_word h.constructed))
+      (opening_line (layout_at style level) h (opening_word h.constructed))
       refl (omega (arith, length-opening h)) refl refl
 
   -- ---- and ends

@@ -14,9 +14,9 @@ use Rattle.tlv_head.specs.declared.kind.Kind.TheVariants.{Ucs2, Ucs4}
 use Rattle.tlv_value.specs.declared.layout.Layout.{Layout}
 use Rattle.tlv_value.specs.RowSizes.{character_length, row_size}
 use Rattle.tlv_head.specs.Kind.{is_text}
-use Rattle.tlv_value.specs.Layout.{margin, blank_columns, row_line, spaces}
+use Rattle.tlv_value.specs.Layout.{row_line, spaces}
 use Rattle.tlv_value.specs.Private.Room.{HaveRoom}
-use Rattle.tlv_value.specs.Private.Rows.{pair_row_line, pair_row_lines}
+use Rattle.tlv_value.specs.Private.Rows.{pair_row_line, pair_row_lines, row_margin}
 use Rattle.tlv_value.specs.Rows.{rows_of}
 use Rattle.tlv_value.proofs.RowLemmas.FilledRows.{row_begun, rows-filled, rows_filled}
 use Rattle.tlv_value.specs.ValueLines.{row_lines}
@@ -139,12 +139,12 @@ pairs_joined false x xs = refl
 pairs_joined true x xs = refl
 
 pub full_line_added : (with_text : Bool) (layout : Layout) (old row : List ℕ) (n : ℕ)
-    → spaces n ≡ margin layout.pure blank_columns (layout.level + 1) → 2 ≤ n → length row ≡ 16
+    → spaces n ≡ row_margin layout → 2 ≤ n → length row ≡ 16
     → old ++ spaces (n - 1) ++ line_pairs with_text row ++ 10 ∷ [] ≡ old ++ pair_row_line with_text layout row
 full_line_added with_text layout old [] n e some whole = absurd (omega (arith, whole))
 full_line_added with_text layout old (x ∷ xs) n e some whole =
     let text : List ℕ = row_text with_text Octets (x ∷ xs) in
-    let indent : spaces (n - 1) ++ 32 ∷ [] ≡ margin layout.pure blank_columns (layout.level + 1) =
+    let indent : spaces (n - 1) ++ 32 ∷ [] ≡ row_margin layout =
     replicate_more (n - 1) 32 ∙ ap spaces (omega (arith, some)) ∙ e in
     ap (λ (l : List ℕ). old ++ spaces (n - 1) ++ l ++ 10 ∷ []) (pairs_joined with_text x xs)
     ∙ joined (spaces (n - 1)) text

@@ -36,7 +36,7 @@ relative-rows with_text layout i (row ∷ rows) =
 -- what the line of a primitive begins with, and the rest of its lines
 prefix-line : (p : Primitive) (text rows : List ℕ)
     → line_prefix p ++ ((text ++ 10 ∷ []) ++ rows) ≡ primitive_line p text ++ rows
-prefix-line p text rows = simp append_assoc
+prefix-line p text rows = simp append_assoc refl
 
 pub shown-prefix : (name_of : NameOf) (p : Primitive) (octets : List ℕ)
     → line_prefix p

@@ -2,12 +2,16 @@
 use Rattle.std.specs.Prelude.{ℕ, ◌+◌, ◌*◌, Bool, if◌then◌else◌, List, flat_map}
 use Rattle.tlv_head.specs.declared.kind.Kind.TheVariants.{Octets}
 use Rattle.tlv_value.specs.declared.layout.Layout.{Layout}
-use Rattle.tlv_value.specs.Layout.{inner_line}
+use Rattle.tlv_value.specs.Layout.{blank_columns, inner_line, margin}
 use Rattle.tlv_value.specs.Value.{row_text}
 
 -- the number of spaces before a row
 abbrev pub row_indent : Layout → ℕ
 row_indent layout = (if layout.pure then 0 else 17) + 2 * (layout.level + 1)
+
+-- what is before the text of a row
+abbrev pub row_margin : Layout → List ℕ
+row_margin layout = margin (record layout { level = layout.level + 1 }) blank_columns
 
 -- the line of a row of pairs of digits, if there is no limit to rows. The first argument says whether text is beside
 -- them

@@ -11,7 +11,6 @@ use Rattle.std.proofs.lemmas.List.Elements.{All-append, All-cons, All-head, All-
 use Rattle.tlv_head.specs.Limits.{input_limit}
 use Rattle.tlv_head.specs.Header.{HeaderValue, announced_length, octets_of}
 use Rattle.tlv_head.specs.Tag.{tag_text}
-use Rattle.tlv_head.specs.declared.header.Class.{Class}
 use Rattle.tlv_head.specs.declared.header.Size.{Size}
 use Rattle.tlv_head.specs.declared.header.Size.TheVariants.{Definite, Indefinite}
 use Rattle.tlv_io.specs.Device.{octets_given}
@@ -24,14 +23,12 @@ use Rattle.tlv_value.specs.declared.finding.Finding.{Finding}
 use Rattle.tlv_head.specs.declared.kind.Kind.{Kind}
 use Rattle.tlv_value.specs.declared.layout.Layout.{Layout}
 use Rattle.tlv_value.specs.Finding.{finding_code, finding_text}
-use Rattle.tlv_value.specs.Layout.{blank_columns, columns, inner_line, line, line_margin, margin, row_by_limit}
-use Rattle.tlv_value.specs.Layout.{row_line, spaces}
+use Rattle.tlv_value.specs.Layout.{blank_columns, columns, inner_line, line, margin, row_by_limit, row_line, spaces}
 use Rattle.tlv_value.specs.Value.{NameOf, Value, is_long, row_text, whole_value}
-use Rattle.tlv_value.specs.ValueLines.{element_line, element_prefix, has_line, header_kind, open_lines_with}
-use Rattle.tlv_value.specs.ValueLines.{row_lines, value_lines, whole_lines_with}
+use Rattle.tlv_value.specs.ValueLines.{has_line, header_kind, open_lines_with, row_lines, value_lines}
+use Rattle.tlv_value.specs.ValueLines.{whole_lines_with}
 use Rattle.tlv_show.specs.ShowJob.{top_layout}
-use Rattle.tlv_show.specs.HolderLines.{closing_line, dump_opening_line, opening_word, padding_line}
-use Rattle.tlv_show.specs.HolderLines.{size_text, text_line}
+use Rattle.tlv_show.specs.HolderLines.{closing_line, opening_line, opening_word, padding_line, size_text}
 use Rattle.tlv_show.specs.Items.{ClosingLine, FindingAt, Item, OpenPrimitiveLines, OpeningLine, PaddingLine}
 use Rattle.tlv_show.specs.Items.{PrimitiveLines, contents_items, end_items, finding_items, header_items, headers}
 use Rattle.tlv_show.specs.Items.{items}
@@ -56,22 +53,23 @@ use Rattle.tlv_view_program.proofs.ShownLemmas.ShownValues.{whole-shown}
 
 -- ---- lines
 
-margin-shown : (pure : Bool) (first : List ℕ) (level : ℕ) → AreShown first → AreShown (margin pure first level)
-margin-shown true first level shown = spaces-shown (2 * level)
-margin-shown false first level shown = joined-shown first (spaces (2 * level)) shown (spaces-shown (2 * level))
+first-shown : (pure : Bool) (first : List ℕ) → AreShown first → AreShown (if pure then [] else first)
+first-shown true first shown = refl
+first-shown false first shown = shown
 
-line-shown : (pure : Bool) (first : List ℕ) (level : ℕ) (text : List ℕ) → AreShown first → AreShown text
-    → AreShown (line pure first level text)
-line-shown pure first level text f t =
-    joined-shown (margin pure first level ++ text) (10 ∷ [])
-    (joined-shown (margin pure first level) text (margin-shown pure first level f) t) refl
+margin-shown : (layout : Layout) (first : List ℕ) → AreShown first → AreShown (margin layout first)
+margin-shown layout first shown =
+    joined-shown (if layout.pure then [] else first) (spaces (2 * layout.level)) (first-shown layout.pure first shown)
+    (spaces-shown (2 * layout.level))
 
-text_line-shown : (layout : Layout) (first text : List ℕ) → AreShown first → AreShown text
-    → AreShown (text_line layout first text)
-text_line-shown layout first text f t = line-shown layout.pure first layout.level text f t
+line-shown : (layout : Layout) (first text : List ℕ) → AreShown first → AreShown text
+    → AreShown (line layout first text)
+line-shown layout first text f t =
+    joined-shown (margin layout first ++ text) (10 ∷ [])
+    (joined-shown (margin layout first) text (margin-shown layout first f) t) refl
 
 inner-shown : (layout : Layout) (text : List ℕ) → AreShown text → AreShown (inner_line layout text)
-inner-shown layout text t = line-shown layout.pure blank_columns (layout.level + 1) text refl t
+inner-shown layout text t = line-shown (record layout { level = layout.level + 1 }) blank_columns text refl t
 
 limited-shown : (layout : Layout) (limit : Option ℕ) (i : ℕ) (text : List ℕ) → AreShown text
     → AreShown (option_map_or (inner_line layout) (row_by_limit limit i text) [])
@@ -95,21 +93,15 @@ rows-shown with_text k layout i (row ∷ rows) all =
     (row-shown with_text k row (All-head (λ (r : List ℕ). AreOctets r) row rows all)))
     (rows-shown with_text k layout (i + 1) rows (All-tail (λ (r : List ℕ). AreOctets r) row rows all))
 
-element-shown : (layout : Layout) (offset : ℕ) (class : Class) (number size : ℕ) (text : List ℕ) → AreShown text
-    → AreShown (element_line layout offset class number size text)
-element-shown layout offset class number size text t =
-    joined-shown (element_prefix layout offset class number size ++ text) (10 ∷ [])
-    (joined-shown (element_prefix layout offset class number size) text
-    (joined-shown (line_margin layout (columns offset (decimal size))) (tag_text class number)
-    (margin-shown layout.pure (columns offset (decimal size)) layout.level
-    (columns-shown offset (decimal size) (decimal-shown size))) (tag-shown class number)) t) refl
-
 value-shown : (with_text : Bool) (h : HeaderValue) (layout : Layout) (v : Value) → IsShownValue v
     → AreShown (value_lines with_text h layout v)
 value-shown with_text h layout v shown =
-    joined-shown (element_line layout h.offset h.class h.number (announced_length h.size) v.text)
-    (row_lines with_text (header_kind h) layout 0 v.rows)
-    (element-shown layout h.offset h.class h.number (announced_length h.size) v.text shown.text)
+    let size : List ℕ = decimal (announced_length h.size) in
+    let text : List ℕ = tag_text h.class h.number ++ v.text in
+    joined-shown (line layout (columns h.offset size) text) (row_lines with_text (header_kind h) layout 0 v.rows)
+    (line-shown layout (columns h.offset size) text
+    (columns-shown h.offset size (decimal-shown (announced_length h.size)))
+    (joined-shown (tag_text h.class h.number) v.text (tag-shown h.class h.number) shown.text))
     (rows-shown with_text (header_kind h) layout 0 v.rows shown.rows)
 
 whole_lines-shown : (with_text : Bool) (name_of : NameOf) (h : HeaderValue) (layout : Layout) (c : List ℕ)
@@ -136,29 +128,30 @@ word-shown : (constructed : Bool) → AreShown (opening_word constructed)
 word-shown true = refl
 word-shown false = refl
 
-opening-shown : (layout : Layout) (h : HeaderValue) → AreShown (dump_opening_line layout h)
+opening-shown : (layout : Layout) (h : HeaderValue) → AreShown (opening_line layout h (opening_word h.constructed))
 opening-shown layout h =
-    text_line-shown layout (columns h.offset (size_text h.size))
+    line-shown layout (columns h.offset (size_text h.size))
     (tag_text h.class h.number ++ opening_word h.constructed)
     (columns-shown h.offset (size_text h.size) (size-shown h.size))
     (joined-shown (tag_text h.class h.number) (opening_word h.constructed) (tag-shown h.class h.number)
     (word-shown h.constructed))
 
 closing-shown : (layout : Layout) (offset : Option ℕ) → AreShown (closing_line layout offset)
-closing-shown layout None = text_line-shown layout blank_columns (codes "}") refl refl
+closing-shown layout None = line-shown layout blank_columns (codes "}") refl refl
 closing-shown layout (Some offset) =
-    text_line-shown layout (columns offset (codes "end")) (codes "}") (columns-shown offset (codes "end") refl) refl
+    line-shown layout (columns offset (codes "end")) (codes "}") (columns-shown offset (codes "end") refl) refl
 
 padding-shown : (layout : Layout) (offset : ℕ) → AreShown (padding_line layout offset)
 padding-shown layout offset =
-    text_line-shown layout (columns offset (codes "pad")) (codes "padding")
+    line-shown layout (columns offset (codes "pad")) (codes "padding")
     (columns-shown offset (codes "pad") refl) refl
 
 finding_in-shown : (pure : Bool) (limit : Option ℕ) (level offset : ℕ) (f : Finding)
     → AreShown (dump_finding_line (record { level = level; limit = limit; pure = pure }) offset f)
 finding_in-shown true limit level offset f = refl
 finding_in-shown false limit level offset f =
-    line-shown false (columns offset (finding_code f)) level (finding_text f)
+    line-shown (record { level = level; limit = limit; pure = false }) (columns offset (finding_code f))
+    (finding_text f)
     (columns-shown offset (finding_code f) (wording-shown f).0) (wording-shown f).1
 
 -- ---- items

@@ -1,7 +1,8 @@
-use Rattle.std.proofs.Common.{◌++◌, ◌∷◌, [], ◌∙◌, ◌+◌, List, ℕ, ap, append_assoc, arith, sym}
+use Rattle.std.proofs.Common.{◌++◌, ◌∷◌, [], ◌∙◌, List, ℕ, ap, append_assoc, arith, sym}
 use Rattle.std.specs.Prelude.{codes}
 use Rattle.std.proofs.lemmas.List.{length-replicate}
-use Rattle.tlv_value.specs.Layout.{margin, blank_columns, spaces}
+use Rattle.tlv_value.specs.Layout.{spaces}
+use Rattle.tlv_value.specs.Private.Rows.{row_margin}
 use Rattle.tlv_io.proofs.HeldTexts.{length-added}
 use Rattle.tlv_value.proofs.value_lines.row_lines.write_dots.Goals as goal
 
@@ -21,7 +22,7 @@ add-requires c =
 pub returns : goal.returns
 returns c =
     let held : List ℕ = c.args.held.now in
-    let indent : List ℕ = margin c.args.layout.pure blank_columns (c.args.layout.level + 1) in
+    let indent : List ℕ = row_margin c.args.layout in
     let dots : List ℕ = codes "...\n" in
     c.add.ensures
     ∙ ap (λ (l : List ℕ). l ++ dots) (c.spaces.ensures ∙ ap (λ (l : List ℕ). held ++ l) c.row_indent.ensures.text)
