@@ -1,5 +1,5 @@
 -- What a tag says of an element, by the table of the universal types.
-use Rattle.std.specs.Prelude.{ℕ, Bool, ◌&&◌, ◌||◌, not, ◌==◌, eqb, if◌then◌else◌, List, [], ◌∷◌, ◌++◌}
+use Rattle.std.specs.Prelude.{ℕ, Bool, ◌&&◌, ◌||◌, not, ◌==◌, eqb, List, [], ◌∷◌, ◌++◌}
 use Rattle.std.specs.List.{list_any}
 use Rattle.std.specs.Option.{is_some}
 use Rattle.tlv_head.specs.UniversalTypes as universal
@@ -13,10 +13,6 @@ is_a number h = is_universal h.class && h.number == number
 -- the number is the number of one of these types
 abbrev pub is_number_of : List ℕ → ℕ → Bool
 is_number_of types number = list_any (eqb number) types
-
--- the universal number of the type; for another class, the number of OCTET STRING, whose contents have no findings
-abbrev pub type_number : HeaderValue → ℕ
-type_number h = if is_universal h.class then h.number else universal.octet_string
 
 -- 8.3, 8.4
 abbrev pub integer_types : List ℕ

@@ -7,9 +7,9 @@ use Rattle.std.proofs.lemmas.List.Elements.{filter-append}
 use Rattle.std.proofs.lemmas.List.Sums.{length-filter}
 use Rattle.std.specs.List.{filter}
 use Rattle.std.specs.Prelude.{flat_map, Option, Some, None}
-use Rattle.tlv_head.specs.Header.{HeaderValue, octets_of}
+use Rattle.tlv_head.specs.Header.{HeaderValue, is_universal, octets_of}
 use Rattle.tlv_value.specs.declared.finding.Finding.{Finding}
-use Rattle.tlv_value.specs.Checks.{contents_conditions, findings_by}
+use Rattle.tlv_value.specs.Checks.{findings_by, type_conditions}
 use Rattle.tlv_walk.specs.declared.follow.Go.TheVariants as go
 use Rattle.tlv_walk.specs.declared.framing.Framing.{Framing}
 use Rattle.tlv_walk.specs.Events.{Begin, Bytes, Close, End, Enter, EventValue, Leave, Open, Pad, Unused}
@@ -33,7 +33,7 @@ use Rattle.tlv_show.specs.FinderState.{CheckState, FinderState, OpenPrimitiveSta
 use Rattle.tlv_show.specs.FinderState.{finder_primitive_end_step, new_check, open_primitive_after}
 use Rattle.tlv_show.specs.NestingState.{top_frame}
 use Rattle.tlv_show.specs.Private.FinderState.{finder_step}
-use Rattle.tlv_show.specs.ShownFindings.{contents_findings, header_findings, is_shown, end_findings}
+use Rattle.tlv_show.specs.ShownFindings.{contents_findings, header_findings, is_shown, end_findings, shown_findings}
 use Rattle.tlv_show.specs.Items.{Item, FindingAt, OpeningLine, ClosingLine, PrimitiveLines, OpenPrimitiveLines}
 use Rattle.tlv_show.specs.Items.{PaddingLine, headers, items}
 use Rattle.tlv_show.specs.Items.{contents_items, end_items, finding_items}
@@ -169,7 +169,12 @@ module _ (rules : Rules) where
   few-header s h = held-few rules (header_conditions (surroundings_of s) h)
 
   few-contents : (h : HeaderValue) (c : List ℕ) → length (contents_findings rules h c) ≤ 15
-  few-contents h c = held-few rules (contents_conditions h c)
+  few-contents h c = by-class (is_universal h.class)
+    where
+      by-class : (universal : Bool)
+          → length (shown_findings rules (if universal then type_conditions h.number c else [])) ≤ 15
+      by-class true = held-few rules (type_conditions h.number c)
+      by-class false = omega arith
 
   few-end : (h : HeaderValue) (inside : Forest) → length (end_findings rules (segments_of h (headers inside))) ≤ 2
   few-end h inside = held-few rules (end_conditions (segments_of h (headers inside)))

@@ -5,9 +5,9 @@ use Rattle.std.proofs.lemmas.Bool.{eqb-true}
 use Rattle.std.specs.Prelude.{Option, None, eqb, Some}
 use Rattle.tlv_head.specs.Header.{HeaderValue, announced_length, is_universal}
 use Rattle.tlv_value.specs.ValueCheckState.{begins_nonzero, has_unused_bits, value_check_after, value_check_for}
-use Rattle.tlv_value.specs.ValueCheckState.{new_value_check_of}
+use Rattle.tlv_value.specs.ValueCheckState.{new_value_check_of, type_number}
 use Rattle.tlv_head.specs.UniversalTypes.{bit_string, octet_string}
-use Rattle.tlv_value.specs.Types.{has_segments, is_a, is_primitive, type_number}
+use Rattle.tlv_value.specs.Types.{has_segments, is_a, is_primitive}
 use Rattle.tlv_value.proofs.CheckLemmas.CheckPieces.{checked-none}
 use Rattle.tlv_show.specs.declared.holder_frame.HolderFrame.{HolderFrame}
 use Rattle.tlv_show.specs.Conditions.{leaves_unused_bits, is_not_full, Surroundings}
