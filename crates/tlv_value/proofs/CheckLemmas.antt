@@ -1,4 +1,4 @@
-pub mod NotedFacts
+pub mod NotedContents
 pub mod CheckPieces
 pub mod EachNoted
 pub mod Utf8ByRow

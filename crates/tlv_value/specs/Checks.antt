@@ -17,11 +17,19 @@ use Rattle.tlv_value.specs.Times as times
 use Rattle.tlv_value.specs.Types.{character_types, integer_types, is_number_of, object_types, time_types}
 use Rattle.tlv_value.specs.Units.{is_printable}
 
+-- the first octet, or 0 if there is none. In a BIT STRING it is the number of unused bits
+abbrev pub first_octet : List ℕ → ℕ
+first_octet contents = slice_index contents 0
+
 -- the last octet, or 0 if there is none
 abbrev pub last_octet : List ℕ → ℕ
 last_octet [] = 0
 last_octet (x ∷ []) = x
 last_octet (x ∷ y ∷ ys) = last_octet (y ∷ ys)
+
+-- 8.6.2.2: the number that the unused bits of the last octet make
+abbrev pub unused_bits_value : List ℕ → ℕ
+unused_bits_value contents = last_octet contents % 2 ^ first_octet contents
 
 -- 8.3.2: the first nine bits are all equal
 abbrev pub is_padded_integer : List ℕ → Bool
@@ -72,45 +80,9 @@ allows number octets =
     else are_whole_characters number (length octets))
     && list_all (allows_octet number) octets
 
--- ---- What the conditions use
-
--- what is known of contents
-pub record ContentsFacts : Type 0 where
-  -- the number of octets
-  pub size : ℕ
-  -- the first two octets, or all if there are fewer
-  pub first_octets : List ℕ
-  -- the last octet, or 0 if there is none
-  pub last : ℕ
-  -- 8.19.2, 8.20.2: whether a subidentifier begins with 80
-  pub is_padded : Bool
-  -- X.680 41: whether the type allows the characters
-  pub is_allowed : Bool
-  -- the first 64 octets of a time, or all if there are fewer
-  pub time : List ℕ
-
--- what is known of these contents, of the type with this number
-abbrev pub facts_of : ℕ → List ℕ → ContentsFacts
-facts_of number contents = record {
-  size = length contents;
-  first_octets = contents;
-  last = last_octet contents;
-  is_padded = has_padded_part contents;
-  is_allowed = allows number contents;
-  time = contents;
-}
-
--- the first octet. In a BIT STRING it is the number of unused bits
-abbrev pub first_octet : ContentsFacts → ℕ
-first_octet facts = slice_index facts.first_octets 0
-
--- 8.6.2.2: the number that the unused bits of the last octet make
-abbrev pub unused_bits_value : ContentsFacts → ℕ
-unused_bits_value facts = facts.last % 2 ^ first_octet facts
-
 -- 8.25: a UTCTime or GeneralizedTime of at most 64 octets; the form of a longer one is not checked
-abbrev pub is_short_time : ℕ → ContentsFacts → Bool
-is_short_time number facts = is_number_of time_types number && nat_le facts.size 64
+abbrev pub is_short_time : ℕ → List ℕ → Bool
+is_short_time number contents = is_number_of time_types number && nat_le (length contents) 64
 
 abbrev pub time_form : ℕ → times.Form
 time_form number = if number == universal.utc_time then times.utc_time_form else times.generalized_time_form
@@ -129,64 +101,67 @@ finding_if there finding = if there then finding ∷ [] else []
 abbrev pub findings_by : List (Bool × Finding) → List Finding
 findings_by rows = flat_map (λ row. finding_if row.0 row.1) rows
 
--- the possible findings on the contents of a primitive of the type with this number, beside their conditions
-abbrev pub type_conditions : ℕ → ContentsFacts → List (Bool × Finding)
-type_conditions number facts =
+-- the possible findings on these contents of a primitive of the type with this number, beside their conditions
+abbrev pub type_conditions : ℕ → List ℕ → List (Bool × Finding)
+type_conditions number contents =
     -- 8.2.1: a BOOLEAN has one octet
-    (number == universal.boolean && not (facts.size == 1), B06)
+    (number == universal.boolean && not (length contents == 1), B06)
     -- 8.3.1, 8.4: an INTEGER or ENUMERATED has one octet or more
-    ∷ (is_number_of integer_types number && facts.size == 0, B07)
+    ∷ (is_number_of integer_types number && length contents == 0, B07)
     -- 8.3.2, 8.4: its first nine bits are not all equal
-    ∷ (is_number_of integer_types number && is_padded_integer facts.first_octets, B08)
+    ∷ (is_number_of integer_types number && is_padded_integer contents, B08)
     -- 8.8.2: a NULL has no octets
-    ∷ (number == universal.null && not (facts.size == 0), B09)
+    ∷ (number == universal.null && not (length contents == 0), B09)
     -- 8.19.2: an OBJECT IDENTIFIER has one subidentifier or more
-    ∷ (number == universal.object_identifier && facts.size == 0, B10)
+    ∷ (number == universal.object_identifier && length contents == 0, B10)
     -- 8.19.2, 8.20.2: no subidentifier begins with 80
-    ∷ (is_number_of object_types number && facts.is_padded, B11)
+    ∷ (is_number_of object_types number && has_padded_part contents, B11)
     -- 8.19.2, 8.20.2: bit 8 is clear in the last octet of a subidentifier
-    ∷ (is_number_of object_types number && nat_le 128 facts.last, B12)
+    ∷ (is_number_of object_types number && nat_le 128 (last_octet contents), B12)
     -- 8.6.2: a BIT STRING has a first octet, the number of unused bits
-    ∷ (number == universal.bit_string && facts.size == 0, B13)
+    ∷ (number == universal.bit_string && length contents == 0, B13)
     -- 8.6.2.2: it is at most 7
-    ∷ (number == universal.bit_string && nat_lt 7 (first_octet facts), B14)
+    ∷ (number == universal.bit_string && nat_lt 7 (first_octet contents), B14)
     -- 8.6.2.3: it is 0 if no other octet follows
     ∷ (
-      number == universal.bit_string && facts.size == 1
-          && nat_le 1 (first_octet facts) && nat_le (first_octet facts) 7,
+      number == universal.bit_string && length contents == 1
+          && nat_le 1 (first_octet contents) && nat_le (first_octet contents) 7,
       B15,
     )
     -- X.680 41: a string of characters has only characters that its type allows. Of a BMPString and a UniversalString
     -- only the length is looked at: it is that of whole characters
-    ∷ (is_number_of character_types number && not facts.is_allowed, B18)
+    ∷ (is_number_of character_types number && not (allows number contents), B18)
     -- X.680 46, 47: a time follows the grammar of its type
-    ∷ (is_short_time number facts && not (times.has_form (time_form number) facts.time), B19)
+    ∷ (is_short_time number contents && not (times.has_form (time_form number) contents), B19)
     -- 11.1: TRUE is ff
-    ∷ (number == universal.boolean && facts.size == 1 && not (first_octet facts == 0 || first_octet facts == 0xff), S02)
+    ∷ (
+      number == universal.boolean && length contents == 1
+          && not (first_octet contents == 0 || first_octet contents == 0xff),
+      S02,
+    )
     -- 11.2.1: unused bits are 0
     ∷ (
-      number == universal.bit_string && nat_le 2 facts.size && nat_le (first_octet facts) 7
-          && not (unused_bits_value facts == 0),
+      number == universal.bit_string && nat_le 2 (length contents) && nat_le (first_octet contents) 7
+          && not (unused_bits_value contents == 0),
       S03,
     )
     -- 11.7, 11.8: a time is in the canonical form
     ∷ (
-      is_short_time number facts && times.has_form (time_form number) facts.time
-          && not (times.has_form (canonical_form number) facts.time),
+      is_short_time number contents && times.has_form (time_form number) contents
+          && not (times.has_form (canonical_form number) contents),
       S04,
     )
     ∷ []
 
--- the possible findings on these contents of a primitive with this header, beside their conditions. Only the universal
--- types have conditions
+-- the possible findings on these contents of a primitive with this header, beside their conditions. There are none if
+-- its class is not universal
 abbrev pub contents_conditions : HeaderValue → List ℕ → List (Bool × Finding)
-contents_conditions h contents =
-    if is_universal h.class then type_conditions h.number (facts_of h.number contents) else []
+contents_conditions h contents = if is_universal h.class then type_conditions h.number contents else []
 
 -- the findings on these contents of a primitive of the type with this number, by the rules of BER, CER or DER, in
 -- order
 abbrev pub type_findings : ℕ → List ℕ → List Finding
-type_findings number contents = findings_by (type_conditions number (facts_of number contents))
+type_findings number contents = findings_by (type_conditions number contents)
 
 -- the same, of a primitive with this header
 abbrev pub all_contents_findings : HeaderValue → List ℕ → List Finding

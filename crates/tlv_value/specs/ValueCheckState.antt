@@ -1,15 +1,20 @@
 -- What must be kept of the contents of a primitive so that the findings on them can be reported at their end.
 use Rattle.std.specs.List.{list_all}
-use Rattle.std.specs.Prelude.{ℕ, ◌-◌, Bool, true, false, ◌&&◌, ◌||◌, not, eqb, nat_lt, if◌then◌else◌, List}
-use Rattle.std.specs.Prelude.{[], ◌∷◌, ◌++◌, length, take}
+use Rattle.std.specs.Prelude.{ℕ, ◌-◌, ◌%◌, ◌^◌, Bool, true, false, ◌&&◌, ◌||◌, not, ◌==◌, eqb, nat_le, nat_lt}
+use Rattle.std.specs.Prelude.{if◌then◌else◌, List, [], ◌∷◌, ◌++◌, length, take}
 use Rattle.std.specs.Str.{is_utf8}
 use Rattle.tlv_head.specs.UniversalTypes as universal
 use Rattle.tlv_head.specs.Header.{HeaderValue, announced_length, is_universal}
 use Rattle.tlv_head.specs.declared.kind.Kind.TheVariants.{Utf8}
 use Rattle.tlv_value.specs.declared.finding.Finding.{Finding}
-use Rattle.tlv_value.specs.Checks.{ContentsFacts, allows_octet, are_whole_characters, findings_by, type_conditions}
+use Rattle.tlv_value.specs.declared.finding.Finding.TheVariants.{B06, B07, B08, B09, B10, B11, B12, B13, B14}
+use Rattle.tlv_value.specs.declared.finding.Finding.TheVariants.{B15, B18, B19, S02, S03, S04}
+use Rattle.tlv_value.specs.Checks.{allows_octet, are_whole_characters, canonical_form, findings_by, first_octet}
+use Rattle.tlv_value.specs.Checks.{is_padded_integer, time_form}
 use Rattle.tlv_value.specs.Rows.{full_rows, open_row}
-use Rattle.tlv_value.specs.Types.{is_number_of, object_types, tested_string_types, time_types}
+use Rattle.tlv_value.specs.Times as times
+use Rattle.tlv_value.specs.Types.{character_types, integer_types, is_number_of, object_types, tested_string_types}
+use Rattle.tlv_value.specs.Types.{time_types}
 
 -- what contracts see of a `ValueCheck`
 pub record ValueCheckState : Type 0 where
@@ -29,6 +34,10 @@ pub record ValueCheckState : Type 0 where
   pub row : List ℕ
   -- the first 64 octets of a time
   pub time : List ℕ
+
+-- the universal number of the type; for another class, the number of OCTET STRING, whose contents have no findings
+abbrev pub type_number : HeaderValue → ℕ
+type_number h = if is_universal h.class then h.number else universal.octet_string
 
 -- the state before any octet, for a primitive of the universal type with this number and with this many contents octets
 abbrev pub new_value_check_of : ℕ → ℕ → ValueCheckState
@@ -141,17 +150,43 @@ is_allowed s =
     else are_whole_characters s.number s.size)
     && s.are_octets_allowed
 
--- what is known of the contents at their end
-abbrev pub facts_in : ValueCheckState → ContentsFacts
-facts_in s = record {
-  size = s.size;
-  first_octets = s.first_octets;
-  last = s.last;
-  is_padded = s.is_padded;
-  is_allowed = is_allowed s;
-  time = s.time;
-}
+-- the conditions of `type_conditions` (Checks.antt), said of what is kept of the contents. The law `FindingsEnd` says
+-- that the same is found
+abbrev pub kept_conditions : ℕ → ValueCheckState → List (Bool × Finding)
+kept_conditions number s =
+    (number == universal.boolean && not (s.size == 1), B06)
+    ∷ (is_number_of integer_types number && s.size == 0, B07)
+    ∷ (is_number_of integer_types number && is_padded_integer s.first_octets, B08)
+    ∷ (number == universal.null && not (s.size == 0), B09)
+    ∷ (number == universal.object_identifier && s.size == 0, B10)
+    ∷ (is_number_of object_types number && s.is_padded, B11)
+    ∷ (is_number_of object_types number && nat_le 128 s.last, B12)
+    ∷ (number == universal.bit_string && s.size == 0, B13)
+    ∷ (number == universal.bit_string && nat_lt 7 (first_octet s.first_octets), B14)
+    ∷ (
+      number == universal.bit_string && s.size == 1
+          && nat_le 1 (first_octet s.first_octets) && nat_le (first_octet s.first_octets) 7,
+      B15,
+    )
+    ∷ (is_number_of character_types number && not (is_allowed s), B18)
+    ∷ (notes_time number && nat_le s.size 64 && not (times.has_form (time_form number) s.time), B19)
+    ∷ (
+      number == universal.boolean && s.size == 1
+          && not (first_octet s.first_octets == 0 || first_octet s.first_octets == 0xff),
+      S02,
+    )
+    ∷ (
+      number == universal.bit_string && nat_le 2 s.size && nat_le (first_octet s.first_octets) 7
+          && not (s.last % 2 ^ first_octet s.first_octets == 0),
+      S03,
+    )
+    ∷ (
+      notes_time number && nat_le s.size 64 && times.has_form (time_form number) s.time
+          && not (times.has_form (canonical_form number) s.time),
+      S04,
+    )
+    ∷ []
 
--- the findings on them
+-- the findings on the contents, at their end
 abbrev pub findings_in : ValueCheckState → List Finding
-findings_in s = findings_by (type_conditions s.number (facts_in s))
+findings_in s = findings_by (kept_conditions s.number s)

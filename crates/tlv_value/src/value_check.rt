@@ -2,8 +2,8 @@
 ghost use Rattle.std.specs.Prelude.{◌≡◌, ◌+◌, ◌≤◌, ◌&&◌, ℕ, List, length, slice_index};
 ghost use Rattle.tlv_head.specs.Header.{HasAllContents, HeaderValue, announced_length};
 ghost use Rattle.tlv_value.specs.ValueCheckState.{value_check_after, value_check_for, findings_in, has_unused_bits};
-ghost use Rattle.tlv_value.specs.ValueCheckState.{is_allowed, new_value_check, new_value_check_of, type_number};
-ghost use Rattle.tlv_value.specs.ValueCheckState.{with_each_noted, with_first_noted};
+ghost use Rattle.tlv_value.specs.ValueCheckState.{is_allowed, new_value_check, new_value_check_of};
+ghost use Rattle.tlv_value.specs.ValueCheckState.{type_number, with_each_noted, with_first_noted};
 ghost use Rattle.tlv_value.specs.Checks.{all_contents_findings, is_padded_integer};
 
 mod characters;

@@ -9,7 +9,7 @@ use Rattle.std.specs.List.{filter}
 use Rattle.std.specs.Prelude.{flat_map, Option, Some, None}
 use Rattle.tlv_head.specs.Header.{HeaderValue, is_universal, octets_of}
 use Rattle.tlv_value.specs.declared.finding.Finding.{Finding}
-use Rattle.tlv_value.specs.Checks.{facts_of, findings_by, type_conditions}
+use Rattle.tlv_value.specs.Checks.{findings_by, type_conditions}
 use Rattle.tlv_walk.specs.declared.follow.Go.TheVariants as go
 use Rattle.tlv_walk.specs.declared.framing.Framing.{Framing}
 use Rattle.tlv_walk.specs.Events.{Begin, Bytes, Close, End, Enter, EventValue, Leave, Open, Pad, Unused}
@@ -169,13 +169,12 @@ module _ (rules : Rules) where
   few-header s h = held-few rules (header_conditions (surroundings_of s) h)
 
   few-contents : (h : HeaderValue) (c : List ℕ) → length (contents_findings rules h c) ≤ 15
-  few-contents h c = by (is_universal h.class)
+  few-contents h c = by-class (is_universal h.class)
     where
-      by : (universal : Bool)
-          → length
-          (shown_findings rules (if universal then type_conditions h.number (facts_of h.number c) else [])) ≤ 15
-      by true = held-few rules (type_conditions h.number (facts_of h.number c))
-      by false = omega arith
+      by-class : (universal : Bool)
+          → length (shown_findings rules (if universal then type_conditions h.number c else [])) ≤ 15
+      by-class true = held-few rules (type_conditions h.number c)
+      by-class false = omega arith
 
   few-end : (h : HeaderValue) (inside : Forest) → length (end_findings rules (segments_of h (headers inside))) ≤ 2
   few-end h inside = held-few rules (end_conditions (segments_of h (headers inside)))

@@ -9,7 +9,7 @@ use Rattle.std.proofs.lemmas.List.Folds.{list_any-append}
 use Rattle.std.specs.List.{list_any}
 use Rattle.std.specs.Prelude.{None, if◌then◌else◌}
 use Rattle.tlv_head.specs.Header.{HeaderValue, is_universal, octets_of}
-use Rattle.tlv_value.specs.Checks.{contents_conditions, facts_of, type_conditions}
+use Rattle.tlv_value.specs.Checks.{contents_conditions, type_conditions}
 use Rattle.tlv_walk.specs.declared.framing.Framing.{Framing}
 use Rattle.tlv_walk.specs.AlikeElements.{AreAlike, holders, nothing, padding, primitives}
 use Rattle.tlv_walk.specs.Events.{end_octets_offset}
@@ -69,17 +69,16 @@ header-absent Cer s h strict r =
     (length-not_padded h r.shortest.lengths)
     (constructed-absent h.constructed (is_indefinite h.size) r.by_form)
 
+absent-by : (rules : Rules) (universal : Bool) (n : ℕ) (c : List ℕ)
+    → any_of is_on_spelling rules (if universal then type_conditions n c else []) ≡ false
+absent-by Ber true n c = refl
+absent-by Der true n c = refl
+absent-by Cer true n c = refl
+absent-by rules false n c = refl
+
 contents-absent : (rules : Rules) (h : HeaderValue) (c : List ℕ)
     → any_of is_on_spelling rules (contents_conditions h c) ≡ false
-contents-absent rules h c = by rules (is_universal h.class)
-  where
-    by : (rules : Rules) (universal : Bool)
-        → any_of is_on_spelling rules (if universal then type_conditions h.number (facts_of h.number c) else [])
-        ≡ false
-    by rules false = refl
-    by Ber true = refl
-    by Der true = refl
-    by Cer true = refl
+contents-absent rules h c = absent-by rules (is_universal h.class) h.number c
 
 end-absent : (rules : Rules) (s : Segments) → any_of is_on_spelling rules (end_conditions s) ≡ false
 end-absent Ber s = refl

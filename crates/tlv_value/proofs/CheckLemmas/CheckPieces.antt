@@ -10,14 +10,13 @@ use Rattle.tlv_head.specs.UniversalTypes.{octet_string}
 use Rattle.tlv_head.specs.declared.kind.Kind.TheVariants.{Utf8}
 use Rattle.tlv_value.specs.CheckLaws.{ChecksJoin, FindingsEnd}
 use Rattle.tlv_value.specs.ValueCheckState.{ValueCheckState, is_padded_after, last_octet_after, new_value_check}
-use Rattle.tlv_value.specs.ValueCheckState.{new_value_check_of, notes_each, notes_first, facts_in, notes_time}
+use Rattle.tlv_value.specs.ValueCheckState.{kept_conditions, new_value_check_of, notes_each, notes_first, notes_time}
 use Rattle.tlv_value.specs.ValueCheckState.{type_number, value_check_for}
 use Rattle.tlv_value.specs.ValueCheckState.{with_each_noted, with_first_noted, with_octets_noted, with_time_noted}
-use Rattle.tlv_value.specs.Checks.{ContentsFacts, allows_octet, facts_of, findings_by, type_conditions}
-use Rattle.tlv_value.specs.Checks.{type_findings}
+use Rattle.tlv_value.specs.Checks.{allows_octet, findings_by}
 use Rattle.tlv_value.specs.Types.{is_number_of, object_types}
 use Rattle.tlv_value.specs.Rows.{full_rows, open_row}
-use Rattle.tlv_value.proofs.CheckLemmas.NotedFacts.{noted-same}
+use Rattle.tlv_value.proofs.CheckLemmas.NotedContents.{class-same, noted-same}
 use Rattle.tlv_value.proofs.RowLemmas.OneCut.{rows-join}
 
 last-join : (previous : ℕ) (x y : List ℕ)
@@ -161,32 +160,19 @@ checks-join s x y = join-by (notes_first s.number) (notes_each s.number) (notes_
 
 -- what is noted at the end
 
-noted-left : (f e t : Bool) (s : ValueCheckState) (c : List ℕ)
-    → facts_in (by_kind f e t s c) ≡ facts_in (noted_state f e t s c)
-noted-left true e t s c = refl
-noted-left false true t s c = refl
-noted-left false false true s c = refl
-noted-left false false false s c = refl
-
--- the conditions of OCTET STRING never hold
-octet_string-clear : (facts : ContentsFacts) → findings_by (type_conditions octet_string facts) ≡ []
-octet_string-clear facts = refl
-
--- so its number may stand for the types of other classes, which have no conditions
-by_class : (universal : Bool) (n : ℕ) (c : List ℕ)
-    → type_findings (if universal then n else octet_string) c
-    ≡ findings_by (if universal then type_conditions n (facts_of n c) else [])
-by_class true n c = refl
-by_class false n c = octet_string-clear (facts_of octet_string c)
+noted-left : (n : ℕ) (f e t : Bool) (s : ValueCheckState) (c : List ℕ)
+    → findings_by (kept_conditions n (by_kind f e t s c)) ≡ findings_by (kept_conditions n (noted_state f e t s c))
+noted-left n true e t s c = refl
+noted-left n false true t s c = refl
+noted-left n false false true s c = refl
+noted-left n false false false s c = refl
 
 pub findings-end : FindingsEnd
 findings-end h octets e =
     let n = type_number h in
-    ap (λ (c : ContentsFacts). findings_by (type_conditions n c))
-    (noted-left (notes_first n) (notes_each n) (notes_time n) (new_value_check h) octets
-    ∙ ap (λ (z : ℕ). facts_in (with_octets_noted (new_value_check_of n z) octets)) e)
-    ∙ sym (noted-same n octets)
-    ∙ by_class (is_universal h.class) h.number octets
+    noted-left n (notes_first n) (notes_each n) (notes_time n) (new_value_check h) octets
+    ∙ ap (λ (z : ℕ). findings_by (kept_conditions n (with_octets_noted (new_value_check_of n z) octets))) e
+    ∙ sym (noted-same n octets) ∙ sym (class-same h octets)
 
 -- no octets
 same-in-both : {A : Type 0} (b : Bool) (x : A) → (if b then x else x) ≡ x

@@ -1,10 +1,10 @@
 //! The findings on contents, from what was noted of them.
 ghost use Rattle.std.specs.Prelude.{◌≡◌, ◌<◌, ◌≤◌, ◌%◌, ◌^◌, ◌++◌, [], eqb, length, not};
 ghost use Rattle.tlv_head.specs.UniversalTypes.{bit_string, boolean};
-ghost use Rattle.tlv_value.specs.Checks.{finding_if, findings_by, type_conditions};
+ghost use Rattle.tlv_value.specs.Checks.{finding_if, findings_by};
 ghost use Rattle.tlv_value.specs.Private.TimeFindings.{time_findings};
 ghost use Rattle.tlv_value.specs.Types.{character_types, is_number_of};
-ghost use Rattle.tlv_value.specs.ValueCheckState.{facts_in, findings_in};
+ghost use Rattle.tlv_value.specs.ValueCheckState.{findings_in, kept_conditions};
 
 use super::ValueCheck;
 use crate::Finding;
@@ -58,8 +58,7 @@ impl ValueCheck {
     /// Adds the findings on the contents of a BOOLEAN.
     fn add_boolean_findings(&self, found: &mut ArrayVec<Finding, 16>)
         requires { found.old.items ≡ [] }
-        ensures { found.new.items
-            ≡ findings_by (type_conditions boolean (facts_in self.now)) }
+        ensures { found.new.items ≡ findings_by (kept_conditions boolean self.now) }
     {
         let first = self.first_octet();
         add_if(self.size != 1, Finding::B06, found);
@@ -73,8 +72,7 @@ impl ValueCheck {
     /// Adds the findings on the contents of a BIT STRING.
     fn add_bit_string_findings(&self, found: &mut ArrayVec<Finding, 16>)
         requires { found.old.items ≡ [] }
-        ensures { found.new.items
-            ≡ findings_by (type_conditions bit_string (facts_in self.now)) }
+        ensures { found.new.items ≡ findings_by (kept_conditions bit_string self.now) }
     {
         let first = self.first_octet();
         add_if(self.size == 0, Finding::B13, found);

@@ -1,4 +1,4 @@
--- What is found by what was noted of contents is what is found by the whole contents.
+-- What is found by what is kept of contents is what is found by the whole contents.
 use Rattle.std.proofs.Common.{◌≡◌, ℕ, Bool, true, false, ◌&&◌, ◌||◌, ◌==◌, ◌%◌, ◌^◌, not, eqb, nat_le, nat_lt}
 use Rattle.std.proofs.Common.{if◌then◌else◌, List, [], ◌∷◌, ◌++◌, length, take, refl, sym, ap, ap₂, ◌∙◌, subst}
 use Rattle.std.proofs.lemmas.Bool.{eqb-true, leb-true}
@@ -6,13 +6,16 @@ use Rattle.std.proofs.lemmas.List.{take_all}
 use Rattle.std.specs.List.{list_all}
 use Rattle.std.specs.Prelude.{slice_index}
 use Rattle.tlv_value.specs.declared.finding.Finding.{Finding}
-use Rattle.tlv_value.specs.declared.finding.Finding.TheVariants.{B06, B07, B08, B13, B14, B15, B18, B19, S02, S03, S04}
-use Rattle.tlv_value.specs.Checks.{ContentsFacts, allows, allows_octet, are_whole_characters, facts_of, finding_if}
-use Rattle.tlv_value.specs.Checks.{findings_by, is_padded_integer, type_conditions}
+use Rattle.tlv_value.specs.declared.finding.Finding.TheVariants.{B06, B07, B08, B10, B11, B12, B13, B14, B15, B18, B19}
+use Rattle.tlv_value.specs.declared.finding.Finding.TheVariants.{S02, S03, S04}
+use Rattle.tlv_value.specs.Checks.{all_contents_findings, allows, allows_octet, are_whole_characters, finding_if}
+use Rattle.tlv_value.specs.Checks.{findings_by, is_padded_integer, type_conditions, type_findings}
 use Rattle.tlv_value.specs.Types.{character_types, is_number_of}
-use Rattle.tlv_value.specs.ValueCheckState.{facts_in, is_allowed, is_padded_after, last_octet_after}
-use Rattle.tlv_value.specs.ValueCheckState.{new_value_check_of, notes_each, with_each_noted, with_octets_noted}
+use Rattle.tlv_value.specs.ValueCheckState.{ValueCheckState, is_allowed, kept_conditions, new_value_check_of}
+use Rattle.tlv_value.specs.ValueCheckState.{notes_each, type_number, with_each_noted, with_octets_noted}
 use Rattle.tlv_value.specs.Rows.{full_rows, open_row}
+use Rattle.tlv_head.specs.Header.{HeaderValue, is_universal}
+use Rattle.tlv_head.specs.UniversalTypes as types
 use Rattle.tlv_head.specs.declared.kind.Kind.TheVariants.{Utf8}
 use Rattle.std.specs.Str.{is_utf8}
 use Rattle.tlv_value.proofs.CheckLemmas.EachNoted.{nothing-noted}
@@ -22,23 +25,12 @@ use Rattle.tlv_value.specs.Times.{Form, canonical_generalized_time_form, canonic
 use Rattle.tlv_value.specs.Times.{has_form, utc_time_form}
 
 -- what is noted of all contents of the type with this number
-abbrev pub noted_facts : ℕ → List ℕ → ContentsFacts
-noted_facts number c = facts_in (with_octets_noted (new_value_check_of number (length c)) c)
-
--- what is known of all contents, with this last octet and this padding
-abbrev facts_with : ℕ → List ℕ → ℕ → Bool → ContentsFacts
-facts_with number c last is_padded = record (facts_of number c) { last = last; is_padded = is_padded }
-
--- the last octet and the padding as they are kept
-abbrev kept_facts : ℕ → List ℕ → ContentsFacts
-kept_facts number c = facts_with number c (last_octet_after 0 c) (is_padded_after 0 c)
-
-facts-kept : (number : ℕ) (c : List ℕ) → facts_of number c ≡ kept_facts number c
-facts-kept number c = sym (ap₂ (facts_with number c) (last_of_all c) (padded_of_all c))
+abbrev pub all_noted : ℕ → List ℕ → ValueCheckState
+all_noted number c = with_octets_noted (new_value_check_of number (length c)) c
 
 -- what is found by it is what is found by the whole contents
 abbrev Same : ℕ → List ℕ → Type 0
-Same n c = findings_by (type_conditions n (kept_facts n c)) ≡ findings_by (type_conditions n (noted_facts n c))
+Same n c = type_findings n c ≡ findings_by (kept_conditions n (all_noted n c))
 
 first-noted : (c : List ℕ) → slice_index c 0 ≡ slice_index (take 2 c) 0
 first-noted [] = refl
@@ -64,11 +56,23 @@ integer-by c = ap (λ (k : Bool). finding_if (length c == 0) B07 ++ (finding_if 
 
 bits-same : (c : List ℕ) → Same 3 c
 bits-same c =
-    ap (λ (x : ℕ).
+    ap₂ (λ (x last : ℕ).
     finding_if (length c == 0) B13
     ++ (finding_if (nat_lt 7 x) B14 ++ (finding_if (length c == 1 && nat_le 1 x && nat_le x 7) B15
-    ++ (finding_if (nat_le 2 (length c) && nat_le x 7 && not (last_octet_after 0 c % 2 ^ x == 0)) S03 ++ []))))
-    (first-noted c)
+    ++ (finding_if (nat_le 2 (length c) && nat_le x 7 && not (last % 2 ^ x == 0)) S03 ++ []))))
+    (first-noted c) (sym (last_of_all c))
+
+identifier-same : (c : List ℕ) → Same 6 c
+identifier-same c =
+    ap₂ (λ (is_padded : Bool) (last : ℕ).
+    finding_if (length c == 0) B10
+    ++ (finding_if is_padded B11 ++ (finding_if (nat_le 128 last) B12 ++ [])))
+    (sym (padded_of_all c)) (sym (last_of_all c))
+
+relative-same : (c : List ℕ) → Same 13 c
+relative-same c =
+    ap₂ (λ (is_padded : Bool) (last : ℕ). finding_if is_padded B11 ++ (finding_if (nat_le 128 last) B12 ++ []))
+    (sym (padded_of_all c)) (sym (last_of_all c))
 
 -- a time of at most 64 octets is noted as it is
 time-by : (short : Bool) (form canonical : Form) (c time : List ℕ) → (short ≡ true → time ≡ c)
@@ -118,18 +122,18 @@ other-allowed n c e1 e2 e3 e10 e23 e24 = rw (e1, e2, e3, e10, e23, e24) (by (not
 abbrev on_characters : ℕ → Bool → List Finding
 on_characters n allowed = finding_if (is_number_of character_types n && not allowed) B18 ++ []
 
-other-by : (n : ℕ) (c : ContentsFacts) → eqb n 1 ≡ false → eqb n 2 ≡ false → eqb n 3 ≡ false → eqb n 5 ≡ false
-    → eqb n 6 ≡ false → eqb n 10 ≡ false → eqb n 13 ≡ false → eqb n 23 ≡ false → eqb n 24 ≡ false
-    → findings_by (type_conditions n c) ≡ on_characters n c.is_allowed
-other-by n c e1 e2 e3 e5 e6 e10 e13 e23 e24 = rw (e1, e2, e3, e5, e6, e10, e13, e23, e24) refl
+other-by : (n : ℕ) (c : List ℕ) (s : ValueCheckState) → eqb n 1 ≡ false → eqb n 2 ≡ false → eqb n 3 ≡ false
+    → eqb n 5 ≡ false → eqb n 6 ≡ false → eqb n 10 ≡ false → eqb n 13 ≡ false → eqb n 23 ≡ false → eqb n 24 ≡ false
+    → (type_findings n c ≡ on_characters n (allows n c))
+    × (findings_by (kept_conditions n s) ≡ on_characters n (is_allowed s))
+other-by n c s e1 e2 e3 e5 e6 e10 e13 e23 e24 = rw (e1, e2, e3, e5, e6, e10, e13, e23, e24) (refl, refl)
 
 other-same : (n : ℕ) (c : List ℕ) → eqb n 1 ≡ false → eqb n 2 ≡ false → eqb n 3 ≡ false → eqb n 5 ≡ false
     → eqb n 6 ≡ false → eqb n 10 ≡ false → eqb n 13 ≡ false → eqb n 23 ≡ false → eqb n 24 ≡ false
     → Same n c
 other-same n c e1 e2 e3 e5 e6 e10 e13 e23 e24 =
-    other-by n (kept_facts n c) e1 e2 e3 e5 e6 e10 e13 e23 e24
-    ∙ ap (on_characters n) (sym (other-allowed n c e1 e2 e3 e10 e23 e24))
-    ∙ sym (other-by n (noted_facts n c) e1 e2 e3 e5 e6 e10 e13 e23 e24)
+    let both = other-by n c (all_noted n c) e1 e2 e3 e5 e6 e10 e13 e23 e24 in
+    both.0 ∙ ap (on_characters n) (sym (other-allowed n c e1 e2 e3 e10 e23 e24)) ∙ sym both.1
 
 -- ---- all types
 
@@ -148,7 +152,7 @@ from-23 n c false e e1 e2 e3 e5 e6 e10 e13 = from-24 n c (eqb n 24) refl e1 e2 e
 
 from-13 : (n : ℕ) (c : List ℕ) (test : Bool) → eqb n 13 ≡ test → eqb n 1 ≡ false → eqb n 2 ≡ false → eqb n 3 ≡ false
     → eqb n 5 ≡ false → eqb n 6 ≡ false → eqb n 10 ≡ false → Same n c
-from-13 n c true e e1 e2 e3 e5 e6 e10 = by-number n 13 c refl e
+from-13 n c true e e1 e2 e3 e5 e6 e10 = by-number n 13 c (relative-same c) e
 from-13 n c false e e1 e2 e3 e5 e6 e10 = from-23 n c (eqb n 23) refl e1 e2 e3 e5 e6 e10 e
 
 from-10 : (n : ℕ) (c : List ℕ) (test : Bool) → eqb n 10 ≡ test → eqb n 1 ≡ false → eqb n 2 ≡ false → eqb n 3 ≡ false
@@ -158,7 +162,7 @@ from-10 n c false e e1 e2 e3 e5 e6 = from-13 n c (eqb n 13) refl e1 e2 e3 e5 e6 
 
 from-6 : (n : ℕ) (c : List ℕ) (test : Bool) → eqb n 6 ≡ test → eqb n 1 ≡ false → eqb n 2 ≡ false → eqb n 3 ≡ false
     → eqb n 5 ≡ false → Same n c
-from-6 n c true e e1 e2 e3 e5 = by-number n 6 c refl e
+from-6 n c true e e1 e2 e3 e5 = by-number n 6 c (identifier-same c) e
 from-6 n c false e e1 e2 e3 e5 = from-10 n c (eqb n 10) refl e1 e2 e3 e5 e
 
 from-5 : (n : ℕ) (c : List ℕ) (test : Bool) → eqb n 5 ≡ test → eqb n 1 ≡ false → eqb n 2 ≡ false → eqb n 3 ≡ false
@@ -179,8 +183,17 @@ from-1 n c true e = by-number n 1 c (boolean-same c) e
 from-1 n c false e = from-2 n c (eqb n 2) refl e
 
 -- of the type with this number
-pub noted-same : (n : ℕ) (c : List ℕ)
-    → findings_by (type_conditions n (facts_of n c)) ≡ findings_by (type_conditions n (noted_facts n c))
-noted-same n c =
-    ap (λ (facts : ContentsFacts). findings_by (type_conditions n facts)) (facts-kept n c)
-    ∙ from-1 n c (eqb n 1) refl
+pub noted-same : (n : ℕ) (c : List ℕ) → Same n c
+noted-same n c = from-1 n c (eqb n 1) refl
+
+-- ---- another class
+
+class-by : (universal : Bool) (n : ℕ) (c : List ℕ)
+    → findings_by (if universal then type_conditions n c else [])
+    ≡ type_findings (if universal then n else types.octet_string) c
+class-by true n c = refl
+class-by false n c = refl
+
+-- on an OCTET STRING nothing is found
+pub class-same : (h : HeaderValue) (c : List ℕ) → all_contents_findings h c ≡ type_findings (type_number h) c
+class-same h c = class-by (is_universal h.class) h.number c
