@@ -9,7 +9,7 @@ use Rattle.tlv_walk.specs.Reading.{AreOctets, IsReading}
 use Rattle.tlv_walk.proofs.GrammarLemmas.Readings.{is-reading, reading}
 use Rattle.tlv_open.specs.declared.strings.BrokenString.{BrokenString}
 use Rattle.tlv_open.specs.Breaks as breaks
-use Rattle.tlv_open.specs.Breaks.{AreBroken, Breaks, IsBroken, IsBrokenString, is_extension, is_no_more}
+use Rattle.tlv_open.specs.Breaks.{AreBroken, Breaks, IsBrokenString, is_extension, is_no_more}
 use Rattle.tlv_open.specs.Held.{HoldsEncodings, inner_octets}
 use Rattle.tlv_open.specs.Laws.{InputsHaveOneBrokenList}
 use Rattle.tlv_open.specs.Opens.{Where, closed_framing, is_one_primitive, where_at_top, where_of_children}

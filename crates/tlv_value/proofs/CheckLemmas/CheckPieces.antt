@@ -5,8 +5,7 @@ use Rattle.std.proofs.lemmas.List.Folds.{list_all-append}
 use Rattle.std.specs.List.{list_all}
 use Rattle.std.specs.Prelude.{◌&&◌, ◌||◌, eqb, nat_lt, if◌then◌else◌}
 use Rattle.std.specs.Str.{is_utf8}
-use Rattle.tlv_head.specs.Header.{HeaderValue, announced_length, is_universal}
-use Rattle.tlv_head.specs.UniversalTypes.{octet_string}
+use Rattle.tlv_head.specs.Header.{HeaderValue, announced_length}
 use Rattle.tlv_head.specs.declared.kind.Kind.TheVariants.{Utf8}
 use Rattle.tlv_value.specs.CheckLaws.{ChecksJoin, FindingsEnd}
 use Rattle.tlv_value.specs.ValueCheckState.{ValueCheckState, is_padded_after, last_octet_after, new_value_check}
