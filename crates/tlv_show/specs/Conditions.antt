@@ -58,31 +58,13 @@ abbrev pub is_not_full : Previous → Bool
 is_not_full (Sibling h first) = h.constructed || not (announced_length h.size == 1000)
 is_not_full _ = false
 
--- what is around an element, as far as the conditions depend on it
-pub record Surroundings : Type 0 where
-  -- 8.6.4, 8.7.3: it is a segment: a constructed string holds it. And whether this string is a BIT STRING
-  pub in_string : Bool
-  pub in_bit_string : Bool
-  -- 8.6.4: right before this segment of a BIT STRING is one with unused bits
-  pub after_unused_bits : Bool
-  -- 9.2: right before this segment is one that is not a primitive of 1000 contents octets
-  pub after_not_full : Bool
-
-abbrev pub surroundings_of : Site → Surroundings
-surroundings_of s = record {
-  in_string = in_string s;
-  in_bit_string = in_bit_string s;
-  after_unused_bits = in_bit_string s && leaves_unused_bits s.previous;
-  after_not_full = in_string s && is_not_full s.previous;
-}
-
 -- 8.6.4, 8.7.3: the type of segments: BIT STRING in a BIT STRING, and OCTET STRING in any other string
 abbrev pub segment_type : Bool → ℕ
 segment_type in_bit_string = if in_bit_string then universal.bit_string else universal.octet_string
 
--- by the rules of all encodings
-abbrev pub basic_conditions : Surroundings → HeaderValue → List (Bool × Finding)
-basic_conditions s h =
+-- by the rules of all encodings: of any element, by its header alone
+abbrev pub basic_conditions_of_header : HeaderValue → List (Bool × Finding)
+basic_conditions_of_header h =
     -- 8.1.2.2: a number below 31 is in the single identifier octet
     (is_high_form_needless h, B01)
     -- 8.1.2.4.2 c): bits 7 to 1 of the first subsequent octet are not all 0
@@ -93,11 +75,19 @@ basic_conditions s h =
     ∷ (is_wrongly_constructed h, B04)
     -- 8.9.1, 8.11.1, 8.17, 8.18, 8.24: the encodings of these types are constructed
     ∷ (is_wrongly_primitive h, B05)
-    -- 8.6.4: each segment of a BIT STRING but the last has a multiple of eight bits
-    ∷ (s.after_unused_bits, B16)
-    -- 8.6.4, 8.7.3: a segment has the tag of that type
-    ∷ (s.in_string && not (is_a (segment_type s.in_bit_string) h), B17)
     ∷ []
+
+-- and of a segment, by the string that holds it and what is right before it
+abbrev pub basic_conditions_of_segment : Site → HeaderValue → List (Bool × Finding)
+basic_conditions_of_segment s h =
+    -- 8.6.4: each segment of a BIT STRING but the last has a multiple of eight bits
+    (in_bit_string s && leaves_unused_bits s.previous, B16)
+    -- 8.6.4, 8.7.3: a segment has the tag of that type
+    ∷ (in_string s && not (is_a (segment_type (in_bit_string s)) h), B17)
+    ∷ []
+
+abbrev pub basic_conditions : Site → HeaderValue → List (Bool × Finding)
+basic_conditions s h = basic_conditions_of_header h ++ basic_conditions_of_segment s h
 
 -- by the rules of DER, and by the rules of CER
 abbrev pub length_conditions : HeaderValue → List (Bool × Finding)
@@ -115,21 +105,29 @@ der_conditions h =
     ∷ (has_segments h, D02)
     ∷ []
 
--- by the rules of CER alone
-abbrev pub cer_conditions : Surroundings → HeaderValue → List (Bool × Finding)
-cer_conditions s h =
+-- by the rules of CER alone: of any element, by its header alone
+abbrev pub cer_conditions_of_header : HeaderValue → List (Bool × Finding)
+cer_conditions_of_header h =
     -- 9.1: the length of a constructed element is indefinite
     (h.constructed && not (is_indefinite h.size), C01)
     -- 9.2: a primitive string has at most 1000 contents octets
     ∷ (is_primitive h && is_string h && nat_lt 1000 (announced_length h.size), C02)
-    -- 9.2: segments are primitive
-    ∷ (h.constructed && s.in_string, C03)
-    -- 9.2: each segment but the last has 1000 contents octets
-    ∷ (s.after_not_full, C04)
     ∷ []
 
+-- and of a segment
+abbrev pub cer_conditions_of_segment : Site → HeaderValue → List (Bool × Finding)
+cer_conditions_of_segment s h =
+    -- 9.2: segments are primitive
+    (h.constructed && in_string s, C03)
+    -- 9.2: each segment but the last has 1000 contents octets
+    ∷ (in_string s && is_not_full s.previous, C04)
+    ∷ []
+
+abbrev pub cer_conditions : Site → HeaderValue → List (Bool × Finding)
+cer_conditions s h = cer_conditions_of_header h ++ cer_conditions_of_segment s h
+
 -- all of these conditions, in the order of the codes
-abbrev pub header_conditions : Surroundings → HeaderValue → List (Bool × Finding)
+abbrev pub header_conditions : Site → HeaderValue → List (Bool × Finding)
 header_conditions s h = basic_conditions s h ++ length_conditions h ++ der_conditions h ++ cer_conditions s h
 
 -- ---- With the end of an element that holds others
@@ -151,31 +149,11 @@ ends_empty [] = false
 ends_empty (h ∷ []) = is_primitive h && announced_length h.size == 0
 ends_empty (h ∷ g ∷ hs) = ends_empty (g ∷ hs)
 
--- what an element held, as far as the conditions depend on it
-pub record Segments : Type 0 where
-  -- 8.6.4, 8.7.3: a constructed string held it: these are segments
-  pub in_string : Bool
-  -- all of them are primitive
-  pub all_primitive : Bool
-  -- the number of contents octets that the string would have as a primitive
-  pub length_as_primitive : ℕ
-  -- the last one is a primitive without contents octets
-  pub ends_empty : Bool
-
--- from the header of the element, and the headers of what it held
-abbrev pub segments_of : HeaderValue → List HeaderValue → Segments
-segments_of h children = record {
-  in_string = has_segments h;
-  all_primitive = list_all is_primitive children;
-  length_as_primitive = length_as_primitive h children;
-  ends_empty = ends_empty children;
-}
-
--- by the rules of CER
-abbrev pub end_conditions : Segments → List (Bool × Finding)
-end_conditions s =
+-- by the rules of CER, from the element's header and the headers of what it held
+abbrev pub end_conditions : HeaderValue → List HeaderValue → List (Bool × Finding)
+end_conditions h children =
     -- 9.2: a string of at most 1000 contents octets is primitive
-    (s.in_string && s.all_primitive && nat_le s.length_as_primitive 1000, C05)
+    (has_segments h && list_all is_primitive children && nat_le (length_as_primitive h children) 1000, C05)
     -- 9.2: the last segment has one contents octet or more
-    ∷ (s.in_string && s.ends_empty, C06)
+    ∷ (has_segments h && ends_empty children, C06)
     ∷ []

@@ -9,7 +9,8 @@ use Rattle.tlv_value.specs.ValueCheckState.{ValueCheckState, value_check_after, 
 use Rattle.tlv_value.specs.ValueCheckState.{new_value_check}
 use Rattle.tlv_show.specs.declared.holder_frame.HolderFrame.{HolderFrame}
 use Rattle.tlv_show.specs.declared.rules.Rules.{Rules}
-use Rattle.tlv_show.specs.ShownFindings.{is_shown, end_findings, header_findings}
+use Rattle.tlv_show.specs.KeptConditions.{end_findings_in, header_findings_in}
+use Rattle.tlv_show.specs.ShownFindings.{is_shown}
 use Rattle.tlv_show.specs.NestingState.{NestingState, depth_in, new_nesting, nesting_open_step}
 use Rattle.tlv_show.specs.NestingState.{nesting_close_step, nesting_primitive_step, segments_in, surroundings_in}
 use Rattle.tlv_show.specs.SaturatingSum.{saturating_sum}
@@ -56,13 +57,11 @@ without_findings s = record { kept = s; level = 0; offset = 0; findings = [] }
 
 -- ---- What it does with an event
 
--- the findings of a header
-abbrev pub header_findings_in : CheckState → HeaderValue → List Finding
-header_findings_in s h = header_findings s.rules (surroundings_in s.holders.frame) h
-
--- a finder that found these with a header, and keeps `after`
+-- a finder that reported the findings of a header, and keeps `after`
 abbrev pub with_header_findings : CheckState → HeaderValue → CheckState → FinderState
-with_header_findings s h after = with_findings after (depth_in s.holders) h.offset (header_findings_in s h)
+with_header_findings s h after =
+    with_findings after (depth_in s.holders) h.offset
+    (header_findings_in s.rules (surroundings_in s.holders.frame) h)
 
 -- an element that holds others begins
 abbrev pub finder_open_step : CheckState → HeaderValue → FinderState
@@ -112,7 +111,7 @@ abbrev pub finder_frame_end_step : CheckState → List HolderFrame → FinderSta
 finder_frame_end_step s [] = without_findings s
 finder_frame_end_step s (w ∷ outer) =
     with_findings (record s { holders = nesting_close_step s.holders }) (length outer) s.holders.frame.offset
-    (end_findings s.rules (segments_in s.holders.frame))
+    (end_findings_in s.rules (segments_in s.holders.frame))
 
 abbrev pub finder_close_step : CheckState → FinderState
 finder_close_step s = finder_frame_end_step s s.holders.outer

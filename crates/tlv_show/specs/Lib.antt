@@ -4,6 +4,7 @@ pub mod ShowJob
 pub mod Site
 pub mod Conditions
 pub mod ShownFindings
+pub mod KeptConditions
 pub mod Items
 pub mod Texts
 pub mod SaturatingSum

@@ -15,10 +15,9 @@ use Rattle.tlv_walk.specs.Reading.{IsReading}
 use Rattle.tlv_walk.specs.Wrappers.{wrapper_offsets}
 use Rattle.tlv_show.specs.declared.rules.Rules.{Rules}
 use Rattle.tlv_show.specs.declared.rules.Rules.TheVariants.{Ber}
-use Rattle.tlv_show.specs.Conditions.{Surroundings}
 use Rattle.tlv_show.specs.ShownFindings.{header_findings}
 use Rattle.tlv_show.specs.Items.{Item, FindingAt, items}
-use Rattle.tlv_show.specs.Site.{top_site}
+use Rattle.tlv_show.specs.Site.{Site, top_site}
 
 -- a finding on how a tag number or a length is spelled
 abbrev pub is_on_spelling : Finding → Bool
@@ -76,12 +75,12 @@ is_on_lengths finding = false
 -- form
 abbrev pub LongerIdentifiersAreFound : Type 0
 LongerIdentifiersAreFound =
-    (rules : Rules) (s : Surroundings) (h : HeaderValue)
+    (rules : Rules) (s : Site) (h : HeaderValue)
     → IsHeader h → identifier_octet h.class h.constructed h.number ≢ 0
     → (list_any is_on_identifier (header_findings rules s h) ≡ true) ↔ HasShorter (λ k. k.identifier) h
 
 -- by DER and by CER, S01 is found if and only if fewer length octets say the same
 abbrev pub LongerLengthsAreFound : Type 0
 LongerLengthsAreFound =
-    (rules : Rules) (s : Surroundings) (h : HeaderValue) → rules ≢ Ber → IsHeader h
+    (rules : Rules) (s : Site) (h : HeaderValue) → rules ≢ Ber → IsHeader h
     → (list_any is_on_lengths (header_findings rules s h) ≡ true) ↔ HasShorter (λ k. k.lengths) h

@@ -1,7 +1,6 @@
 //! The findings of BER in a primitive by itself.
 ghost use Rattle.std.specs.Prelude.{◌≡◌, ◌↔◌, [], false};
 ghost use Rattle.tlv_head.specs.Header.{HasAllContents};
-ghost use Rattle.tlv_show.specs.Conditions.{surroundings_of};
 ghost use Rattle.tlv_show.specs.ShownFindings.{contents_findings, header_findings};
 ghost use Rattle.tlv_show.specs.Site.{top_site};
 
@@ -17,7 +16,7 @@ use tlv_value::ValueCheck;
 pub fn has_basic_findings(header: &Header, contents: &[u8]) -> bool
     requires { HasAllContents header.now contents.now }
     ensures { (result ≡ false)
-        ↔ ((header_findings Rules.Ber (surroundings_of top_site) header.now ≡ [])
+        ↔ ((header_findings Rules.Ber top_site header.now ≡ [])
         × (contents_findings Rules.Ber header.now contents.now ≡ [])) }
 {
     let mut found = ArrayVec::new();

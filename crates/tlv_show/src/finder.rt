@@ -5,7 +5,7 @@ ghost use Rattle.tlv_walk.specs.Events.{event_value_of};
 ghost use Rattle.tlv_show.specs.FinderState.{finder_in_primitive, finder_begin_step, finder_bytes_step};
 ghost use Rattle.tlv_show.specs.FinderState.{finder_close_step, finder_end_step, finder_open_step};
 ghost use Rattle.tlv_show.specs.FinderState.{with_findings, with_header_findings};
-ghost use Rattle.tlv_show.specs.ShownFindings.{end_findings};
+ghost use Rattle.tlv_show.specs.KeptConditions.{end_findings_in};
 ghost use Rattle.tlv_show.specs.NestingState.{depth_in, segments_in};
 ghost use Rattle.tlv_show.specs.Private.FinderState.{PassesOrStays, ReturnsFindings};
 ghost use Rattle.tlv_show.specs.Private.FinderState.{finder_step, new_finder, with_check_state};
@@ -248,7 +248,7 @@ impl Finder {
     fn find_with_end(&mut self, closed: &HolderFrame) -> bool
         ensures { ReturnsFindings
             (with_findings self.old.kept (depth_in self.old.kept.holders) closed.now.offset
-            (end_findings self.old.kept.rules (segments_in closed.now)))
+            (end_findings_in self.old.kept.rules (segments_in closed.now)))
             self.new result }
     {
         self.last.restart(self.holders.depth(), closed.offset);

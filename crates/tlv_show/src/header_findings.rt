@@ -2,10 +2,11 @@
 ghost use Rattle.std.specs.Prelude.{IsTrue, false, ◌≡◌, ◌<◌, ◌≤◌, ◌+◌, ◌++◌, nat_le};
 ghost use Rattle.std.specs.Prelude.{length, []};
 ghost use Rattle.tlv_value.specs.Checks.{finding_if, findings_by};
-ghost use Rattle.tlv_show.specs.Conditions.{basic_conditions, begins_with_zero_bits, cer_conditions};
-ghost use Rattle.tlv_show.specs.Conditions.{der_conditions, is_high_form_needless, length_conditions};
+ghost use Rattle.tlv_show.specs.Conditions.{begins_with_zero_bits, der_conditions, is_high_form_needless};
+ghost use Rattle.tlv_show.specs.Conditions.{length_conditions};
+ghost use Rattle.tlv_show.specs.KeptConditions.{basic_conditions_in, cer_conditions_in, end_findings_in};
+ghost use Rattle.tlv_show.specs.KeptConditions.{header_findings_in};
 ghost use Rattle.tlv_show.specs.NestingState.{has_frame, segments_in, surroundings_in};
-ghost use Rattle.tlv_show.specs.ShownFindings.{end_findings, header_findings};
 ghost use Rattle.tlv_show.specs.Private.UsualTypes.{IsUsual};
 
 use crate::Rules;
@@ -27,7 +28,7 @@ pub(crate) fn add_header_findings(
     found: &mut ArrayVec<Finding, 16>,
 )
     requires { found.old.items ≡ [] }
-    ensures { found.new.items ≡ header_findings rules (surroundings_in frame.now) header.now }
+    ensures { found.new.items ≡ header_findings_in rules (surroundings_in frame.now) header.now }
 {
     add_basic_findings(frame, header, found);
     match rules {
@@ -47,7 +48,7 @@ pub(crate) fn add_header_findings(
 #[inline(always)]
 pub(crate) fn has_no_header_findings(rules: Rules, frame: &HolderFrame, header: &Header) -> bool
     ensures no_findings { IsTrue result
-        → header_findings rules (surroundings_in frame.now) header.now ≡ [] }
+        → header_findings_in rules (surroundings_in frame.now) header.now ≡ [] }
     ensures no_frame { IsTrue result → has_frame frame.now header.now ≡ false }
 {
     is_usual(header) && has_no_header_findings_if_usual(rules, frame, header)
@@ -62,7 +63,7 @@ pub(crate) fn has_no_header_findings_if_usual(
     header: &Header,
 ) -> bool
     ensures no_findings { IsTrue result → IsUsual header.now
-        → header_findings rules (surroundings_in frame.now) header.now ≡ [] }
+        → header_findings_in rules (surroundings_in frame.now) header.now ≡ [] }
     ensures no_segments { IsTrue result → frame.now.has_segments ≡ false }
 {
     if frame.has_segments || !is_tag_usual(header) {
@@ -101,7 +102,7 @@ fn is_usual(header: &Header) -> bool
 #[inline(always)]
 pub(crate) fn add_end_findings(rules: Rules, frame: &HolderFrame, found: &mut ArrayVec<Finding, 16>)
     requires { found.old.items ≡ [] }
-    ensures { found.new.items ≡ end_findings rules (segments_in frame.now) }
+    ensures { found.new.items ≡ end_findings_in rules (segments_in frame.now) }
 {
     if matches!(rules, Rules::Cer) {
         add_if(
@@ -138,7 +139,7 @@ fn add_if(there: bool, finding: Finding, found: &mut ArrayVec<Finding, 16>)
 fn add_basic_findings(frame: &HolderFrame, header: &Header, found: &mut ArrayVec<Finding, 16>)
     requires { found.old.items ≡ [] }
     ensures items { found.new.items
-        ≡ findings_by (basic_conditions (surroundings_in frame.now) header.now) }
+        ≡ findings_by (basic_conditions_in (surroundings_in frame.now) header.now) }
     ensures short { length found.new.items ≤ 7 }
 {
     let is_high = has_high_form(header);
@@ -197,7 +198,7 @@ fn add_der_findings(header: &Header, found: &mut ArrayVec<Finding, 16>)
 fn add_cer_findings(frame: &HolderFrame, header: &Header, found: &mut ArrayVec<Finding, 16>)
     requires { length found.old.items ≤ 8 }
     ensures { found.new.items
-        ≡ found.old.items ++ findings_by (cer_conditions (surroundings_in frame.now) header.now) }
+        ≡ found.old.items ++ findings_by (cer_conditions_in (surroundings_in frame.now) header.now) }
 {
     add_if(
         header.constructed && !is_indefinite(header),

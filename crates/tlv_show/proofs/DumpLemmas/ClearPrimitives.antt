@@ -23,7 +23,8 @@ use Rattle.tlv_show.specs.FinderState.{CheckState, FinderState, finder_begin_ste
 use Rattle.tlv_show.specs.NestingState.{depth_in, surroundings_in}
 use Rattle.tlv_show.specs.Private.FinderState.{PassesOrStays, PassesPrimitive, finder_whole_step, with_check_state}
 use Rattle.tlv_show.specs.Private.UsualTypes.{IsUsual}
-use Rattle.tlv_show.specs.ShownFindings.{is_shown, header_findings}
+use Rattle.tlv_show.specs.KeptConditions.{header_findings_in}
+use Rattle.tlv_show.specs.ShownFindings.{is_shown}
 use Rattle.tlv_show.proofs.FindingLemmas.CheckLaws.{each-found}
 use Rattle.tlv_show.proofs.FindingLemmas.FinderSteps.{after_primitive, primitive-find, check_between}
 use Rattle.tlv_show.specs.SaturatingSum.{saturating_sum}
@@ -49,7 +50,7 @@ without_primitive s = record s { open_primitive = None }
 
 pub whole_step-clear : (s : CheckState) (h : HeaderValue) (c : List ℕ) → HasAllContents h c
     → s.holders.frame.has_segments ≡ false
-    → header_findings s.rules (surroundings_in s.holders.frame) h ≡ [] → all_contents_findings h c ≡ []
+    → header_findings_in s.rules (surroundings_in s.holders.frame) h ≡ [] → all_contents_findings h c ≡ []
     → finder_whole_step s h c ≡ record {
       kept = without_primitive s;
       level = depth_in s.holders;
@@ -66,7 +67,7 @@ whole_step-clear s h c size w header contents =
     } in
     primitive-find s.rules s.holders.frame s.holders.outer s.finding_count h c size
     ∙ ap (λ (fs : List Finding). made (after_primitive s.rules s.holders.frame h c)
-    (saturating_sum s.finding_count (length (header_findings s.rules (surroundings_in s.holders.frame) h)))
+    (saturating_sum s.finding_count (length (header_findings_in s.rules (surroundings_in s.holders.frame) h)))
     (filter (is_shown s.rules) fs))
     contents
     ∙ ap (λ (fs : List Finding). made (after_primitive s.rules s.holders.frame h c)
@@ -86,7 +87,7 @@ whole_step-clear s h c size w header contents =
 
 pub passes_primitive-clear : (old new : FinderState) (h : HeaderValue) (c : List ℕ) → HasAllContents h c
     → old.kept.holders.frame.has_segments ≡ false
-    → header_findings old.kept.rules (surroundings_in old.kept.holders.frame) h ≡ [] → all_contents_findings h c ≡ []
+    → header_findings_in old.kept.rules (surroundings_in old.kept.holders.frame) h ≡ [] → all_contents_findings h c ≡ []
     → new ≡ with_check_state (without_primitive old.kept) old → PassesPrimitive old new h c
 passes_primitive-clear old new h c size w header contents e =
     let all = whole_step-clear old.kept h c size w header contents in

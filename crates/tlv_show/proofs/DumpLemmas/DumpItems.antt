@@ -22,7 +22,8 @@ use Rattle.tlv_show.specs.LinesStep.{LinesState}
 use Rattle.tlv_show.specs.DumpStep.{DumpState, dump_step}
 use Rattle.tlv_show.specs.FinderState.{CheckState, FinderState}
 use Rattle.tlv_show.specs.NestingState.{frame_under, surroundings_in, frame_after}
-use Rattle.tlv_show.specs.ShownFindings.{contents_findings, header_findings, end_findings}
+use Rattle.tlv_show.specs.KeptConditions.{header_findings_in}
+use Rattle.tlv_show.specs.ShownFindings.{contents_findings, end_findings}
 use Rattle.tlv_show.specs.Items.{Item, FindingAt, items, finding_items, headers}
 use Rattle.tlv_show.specs.HolderLines.{closing_line, opening_line, opening_word}
 use Rattle.tlv_show.specs.Site.{Previous, Site, is_padding}
@@ -35,7 +36,6 @@ use Rattle.tlv_show.proofs.FindingLemmas.FinderSteps.{primitive-find, check_betw
 use Rattle.tlv_show.proofs.FindingLemmas.HeaderFindings.{Knows}
 use Rattle.tlv_show.proofs.DumpLemmas.DumpEvents.{dump_state, then_shown, texts, opens-by, primitive-by, closes-by}
 use Rattle.tlv_value.specs.Types.{is_primitive}
-use Rattle.tlv_show.specs.Conditions.{segments_of}
 
 -- ---- elements, in this style, with these names and rules
 module _ (with_text : Bool) (style : Layout) (names : NamesValue) (rules : Rules) where
@@ -108,7 +108,7 @@ module _ (with_text : Bool) (style : Layout) (names : NamesValue) (rules : Rules
       → h.offset ≡ p.offset → p.depth < 128 → p.offset + length (opening h) ≤ 2 ^ 64 - 1
       → effect_of dump_step (start p (is_padding previous) w outer n) (opening_events h)
       ≡ effect_with (start (place_of_children p h) false (frame_under w h) (w ∷ outer) (later_header rules w h n))
-      (styled_lines (Dump style.pure) (length outer) h.offset (header_findings rules (surroundings_in w) h)
+      (styled_lines (Dump style.pure) (length outer) h.offset (header_findings_in rules (surroundings_in w) h)
       ++ opening_line (layout_at style p.depth) h (opening_word h.constructed))
   opened-shown p holder previous w outer n h k there low far =
       opens-by (lines_between with_text style names p.depth p.offset (is_padding previous)) (check_between rules w outer n) h
@@ -128,14 +128,14 @@ module _ (with_text : Bool) (style : Layout) (names : NamesValue) (rules : Rules
       ≡ effect_with
       (start (place_after p (length (octets_of h) + length c)) false (after_primitive rules w h c) outer
       (after_contents rules w h c n))
-      (styled_lines (Dump style.pure) (length outer) h.offset (header_findings rules (surroundings_in w) h)
+      (styled_lines (Dump style.pure) (length outer) h.offset (header_findings_in rules (surroundings_in w) h)
       ++ (whole_lines_with with_text (finite.get names) h (layout_at style p.depth) c
       ++ styled_lines (Dump style.pure) (length outer) h.offset (contents_findings rules h c)))
   primitive-shown p padded w outer n h c there size far =
       primitive-by (lines_between with_text style names p.depth p.offset padded) (check_between rules w outer n) h c
       ∙ ap₂
       (λ (d : Effect LinesState) (f : FinderState). effect_with (dump_state d.state f.kept)
-      (styled_lines (Dump style.pure) (length outer) h.offset (header_findings rules (surroundings_in w) h)
+      (styled_lines (Dump style.pure) (length outer) h.offset (header_findings_in rules (surroundings_in w) h)
       ++ (d.put ++ texts style f)))
       (primitive_shown with_text style names p.depth p.offset padded h c there size far)
       (primitive-find rules w outer n h c size)
@@ -154,13 +154,13 @@ module _ (with_text : Bool) (style : Layout) (names : NamesValue) (rules : Rules
       (start (place_after p (extent h inside)) false
       (frame_after w (is_primitive h) (announced_length h.size) false) outer (after_end rules h inside n))
       (closing_line (layout_at style p.depth) (if h.constructed then end_octets_offset h inside else None)
-      ++ styled_lines (Dump style.pure) (length outer) h.offset (end_findings rules (segments_of h (headers inside))))
+      ++ styled_lines (Dump style.pure) (length outer) h.offset (end_findings rules h (headers inside)))
   closed-shown p w outer n h inside v whole there allowed far =
       let end : ℕ = p.offset + length (opening h) + length (spelling inside) in
       let close : List ℕ =
       closing_line (layout_at style p.depth) (if h.constructed then end_octets_offset h inside else None) in
       let last : List ℕ =
-      styled_lines (Dump style.pure) (length outer) h.offset (end_findings rules (segments_of h (headers inside))) in
+      styled_lines (Dump style.pure) (length outer) h.offset (end_findings rules h (headers inside)) in
       let after : CheckState =
       check_between rules (frame_after w (is_primitive h) (announced_length h.size) false) outer
       (after_end rules h inside n) in

@@ -26,6 +26,7 @@ use Rattle.tlv_show.specs.FindingLines.{styled_lines}
 use Rattle.tlv_show.specs.LinesStep.{LinesState}
 use Rattle.tlv_show.specs.DumpStep.{DumpState, dump_step}
 use Rattle.tlv_show.specs.NestingState.{frame_after, frame_under, surroundings_in}
+use Rattle.tlv_show.specs.KeptConditions.{header_findings_in}
 use Rattle.tlv_show.specs.ShownFindings.{contents_findings, header_findings, end_findings}
 use Rattle.tlv_show.specs.Items.{Item, OpeningLine, ClosingLine, PrimitiveLines, OpenPrimitiveLines}
 use Rattle.tlv_show.specs.Items.{PaddingLine, headers, items}
@@ -44,7 +45,6 @@ use Rattle.tlv_show.proofs.FindingLemmas.FinderSteps.{after_contents, after_end,
 use Rattle.tlv_show.proofs.FindingLemmas.FinderSteps.{check_between}
 use Rattle.tlv_show.proofs.FindingLemmas.HeaderFindings.{Knows, header-same}
 use Rattle.tlv_show.proofs.DumpLemmas.DumpEvents.{dump_state, then_shown, part-by}
-use Rattle.tlv_show.specs.Conditions.{surroundings_of, segments_of}
 use Rattle.tlv_show.proofs.DumpLemmas.DumpItems.{closed-shown, IsShown, Known, found-first, item_texts, opened-shown}
 use Rattle.tlv_show.proofs.DumpLemmas.DumpItems.{primitive-shown}
 use Rattle.tlv_show.proofs.DumpLemmas.DumpItems.{shown-after, site, item_texts-append, start}
@@ -128,13 +128,13 @@ module _ (with_text : Bool) (style : Layout) (names : NamesValue) (rules : Rules
         text = λ n.
             ap (λ (x : Effect DumpState). x.put) (all n)
             ∙ three
-            (styled_lines (Dump style.pure) (length outer) h.offset (header_findings rules (surroundings_in w) h))
+            (styled_lines (Dump style.pure) (length outer) h.offset (header_findings_in rules (surroundings_in w) h))
             (whole_lines_with with_text (finite.get names) h (layout_at style p.depth) c)
             (styled_lines (Dump style.pure) (length outer) h.offset (contents_findings rules h c))
             (item_texts with_text style names rules others)
             ∙ found-first with_text style names rules (length outer) p.depth h.offset
-            (header_findings rules (surroundings_in w) h)
-            (header_findings rules (surroundings_of s) h)
+            (header_findings_in rules (surroundings_in w) h)
+            (header_findings rules s h)
             _ (PrimitiveLines p.depth h c ∷ (finding_items p.depth h.offset (contents_findings rules h c) ++ others))
             k.1 (header-same rules w s h k.0)
             (ap (λ (l : List ℕ). whole_lines_with with_text (finite.get names) h (layout_at style p.depth) c ++ l)
@@ -170,10 +170,10 @@ module _ (with_text : Bool) (style : Layout) (names : NamesValue) (rules : Rules
       let close : List ℕ =
       closing_line (layout_at style p.depth) (if h.constructed then end_octets_offset h inside else None) in
       let first : List ℕ =
-      styled_lines (Dump style.pure) (length outer) h.offset (header_findings rules (surroundings_in w) h) in
+      styled_lines (Dump style.pure) (length outer) h.offset (header_findings_in rules (surroundings_in w) h) in
       let last : List ℕ =
       styled_lines (Dump style.pure) (length outer) h.offset
-      (end_findings rules (segments_of h (headers inside))) in
+      (end_findings rules h (headers inside)) in
       let held : List ℕ = item_texts with_text style names rules (items rules (site_of_children s h) inside) in
       let held-shown : (m : ℕ)
       → (r : ℕ)
@@ -230,21 +230,21 @@ module _ (with_text : Bool) (style : Layout) (names : NamesValue) (rules : Rules
       let others : List Item = items rules (site_after_holder s h inside) rest in
       let closing : List Item =
       ClosingLine p.depth (if h.constructed then end_octets_offset h inside else None)
-      ∷ (finding_items p.depth h.offset (end_findings rules (segments_of h (headers inside))) ++ others) in
+      ∷ (finding_items p.depth h.offset (end_findings rules h (headers inside)) ++ others) in
       record {
         text = λ n.
             ap (λ (x : Effect DumpState). x.put) (all n)
             ∙ six first line held close last (item_texts with_text style names rules others)
             ∙ found-first with_text style names rules (length outer) p.depth h.offset
-            (header_findings rules (surroundings_in w) h)
-            (header_findings rules (surroundings_of s) h)
+            (header_findings_in rules (surroundings_in w) h)
+            (header_findings rules s h)
             _ (OpeningLine p.depth h ∷ (items rules (site_of_children s h) inside ++ closing)) k.1
             (header-same rules w s h k.0)
             (ap (λ (l : List ℕ). line ++ l)
             (ap (λ (l : List ℕ). held ++ (close ++ l))
             (found-first with_text style names rules (length outer) p.depth h.offset
-            (end_findings rules (segments_of h (headers inside)))
-            (end_findings rules (segments_of h (headers inside))) (item_texts with_text style names rules others) others k.1
+            (end_findings rules h (headers inside))
+            (end_findings rules h (headers inside)) (item_texts with_text style names rules others) others k.1
             refl refl)
             ∙ sym (item_texts-append with_text style names rules (items rules (site_of_children s h) inside) closing)));
         after = λ n e.
@@ -273,8 +273,9 @@ module _ (with_text : Bool) (style : Layout) (names : NamesValue) (rules : Rules
   shows_forest p holder previous w outer (OpenPrimitive h c) v b k = record {
     text = λ n.
         part-by (lines_between with_text style names p.depth p.offset (is_padding previous)) (check_between rules w outer n) h c
-        ∙ found-first with_text style names rules (length outer) p.depth h.offset (header_findings rules (surroundings_in w) h)
-        (header_findings rules (surroundings_of (site with_text style names rules p holder previous)) h)
+        ∙ found-first with_text style names rules (length outer) p.depth h.offset
+        (header_findings_in rules (surroundings_in w) h)
+        (header_findings rules (site with_text style names rules p holder previous) h)
         _ (OpenPrimitiveLines p.depth h c ∷ []) k.1
         (header-same rules w (site with_text style names rules p holder previous) h k.0)
         (part_shown with_text style names p.depth p.offset (is_padding previous) h c (omega (arith, v.1))
@@ -288,7 +289,7 @@ module _ (with_text : Bool) (style : Layout) (names : NamesValue) (rules : Rules
       shows_forest (place_of_children p h) (Some h) Start (frame_under w h) (w ∷ outer) inside v.1
       (omega (arith, b, size)) (knows-inside w s h, omega (arith, k.1), λ e. absurd (cc (e))) in
       let first : List ℕ =
-      styled_lines (Dump style.pure) (length outer) h.offset (header_findings rules (surroundings_in w) h) in
+      styled_lines (Dump style.pure) (length outer) h.offset (header_findings_in rules (surroundings_in w) h) in
       let line : List ℕ = opening_line (layout_at style p.depth) h (opening_word h.constructed) in
       record {
         text = λ n.
@@ -302,8 +303,8 @@ module _ (with_text : Bool) (style : Layout) (names : NamesValue) (rules : Rules
             ∙ ap (λ (l : List ℕ). (first ++ line) ++ l) (i.text (later_header rules w h n))
             ∙ append_assoc first line (item_texts with_text style names rules (items rules (site_of_children s h) inside))
             ∙ found-first with_text style names rules (length outer) p.depth h.offset
-            (header_findings rules (surroundings_in w) h)
-            (header_findings rules (surroundings_of s) h)
+            (header_findings_in rules (surroundings_in w) h)
+            (header_findings rules s h)
             _ (OpeningLine p.depth h ∷ items rules (site_of_children s h) inside) k.1
             (header-same rules w s h k.0) refl;
         after = λ n e. absurd (cc (e));
@@ -311,10 +312,11 @@ module _ (with_text : Bool) (style : Layout) (names : NamesValue) (rules : Rules
   shows_forest p holder previous w outer (OpenBitString h) v b k = record {
     text = λ n.
         append_assoc
-        (styled_lines (Dump style.pure) (length outer) h.offset (header_findings rules (surroundings_in w) h))
+        (styled_lines (Dump style.pure) (length outer) h.offset (header_findings_in rules (surroundings_in w) h))
         (opening_line (layout_at style p.depth) h (opening_word false)) []
-        ∙ found-first with_text style names rules (length outer) p.depth h.offset (header_findings rules (surroundings_in w) h)
-        (header_findings rules (surroundings_of (site with_text style names rules p holder previous)) h)
+        ∙ found-first with_text style names rules (length outer) p.depth h.offset
+        (header_findings_in rules (surroundings_in w) h)
+        (header_findings rules (site with_text style names rules p holder previous) h)
         _ (OpeningLine p.depth h ∷ []) k.1
         (header-same rules w (site with_text style names rules p holder previous) h k.0)
         (ap (λ (l : List ℕ). l ++ []) (sym (awaiting p.depth h h.constructed v.1)));

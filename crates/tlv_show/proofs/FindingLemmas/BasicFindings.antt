@@ -10,7 +10,7 @@ use Rattle.tlv_walk.specs.Forest.{Forest, NoMore, PaddingOctet, Primitive, Holde
 use Rattle.tlv_walk.specs.Forest.{OpenBitString, OpenHeader, OpenEndOctets}
 use Rattle.tlv_show.specs.declared.rules.Rules.{Rules}
 use Rattle.tlv_show.specs.declared.rules.Rules.TheVariants.{Ber, Der, Cer}
-use Rattle.tlv_show.specs.Conditions.{end_conditions, header_conditions, segments_of, surroundings_of}
+use Rattle.tlv_show.specs.Conditions.{end_conditions, header_conditions}
 use Rattle.tlv_show.specs.ShownFindings.{is_shown}
 use Rattle.tlv_show.specs.Items.{Item, FindingAt, OpeningLine, ClosingLine, PrimitiveLines, OpenPrimitiveLines}
 use Rattle.tlv_show.specs.Items.{PaddingLine, headers, items}
@@ -74,7 +74,7 @@ module _ (rules : Rules) where
   basic_items-same s (PaddingOctet rest) = same-pads (is_padding s.previous) s.level s.offset _ _
       (basic_items-same (site_after_padding s) rest)
   basic_items-same s (Primitive h c rest) =
-      same-found s.level h.offset (findings_by (header_conditions (surroundings_of s) h))
+      same-found s.level h.offset (findings_by (header_conditions s h))
       (PrimitiveLines s.level h c
       ∷ (contents_items Ber s h c ++ items Ber (site_after_primitive s h c) rest))
       (PrimitiveLines s.level h c
@@ -85,24 +85,24 @@ module _ (rules : Rules) where
       → List Item =
       λ r. ClosingLine s.level (if h.constructed then end_octets_offset h inside else None)
       ∷ (end_items r s h inside ++ items r (site_after_holder s h inside) rest) in
-      same-found s.level h.offset (findings_by (header_conditions (surroundings_of s) h))
+      same-found s.level h.offset (findings_by (header_conditions s h))
       (OpeningLine s.level h ∷ (items Ber (site_of_children s h) inside ++ last Ber))
       (OpeningLine s.level h ∷ (items rules (site_of_children s h) inside ++ last rules))
       (filter-append _ (items Ber (site_of_children s h) inside) (last Ber)
       ∙ ap₂ (λ (a b : List Item). a ++ b) (basic_items-same (site_of_children s h) inside)
-      (same-found s.level h.offset (findings_by (end_conditions (segments_of h (headers inside))))
+      (same-found s.level h.offset (findings_by (end_conditions h (headers inside)))
       _ _ (basic_items-same (site_after_holder s h inside) rest))
       ∙ sym (filter-append is_basic (items rules (site_of_children s h) inside) (last rules)))
   basic_items-same s (OpenPrimitive h c) =
-      same-found s.level h.offset (findings_by (header_conditions (surroundings_of s) h))
+      same-found s.level h.offset (findings_by (header_conditions s h))
       (OpenPrimitiveLines s.level h c ∷ []) (OpenPrimitiveLines s.level h c ∷ []) refl
   basic_items-same s (OpenHolder h inside) =
-      same-found s.level h.offset (findings_by (header_conditions (surroundings_of s) h))
+      same-found s.level h.offset (findings_by (header_conditions s h))
       (OpeningLine s.level h ∷ items Ber (site_of_children s h) inside)
       (OpeningLine s.level h ∷ items rules (site_of_children s h) inside)
       (basic_items-same (site_of_children s h) inside)
   basic_items-same s (OpenBitString h) =
-      same-found s.level h.offset (findings_by (header_conditions (surroundings_of s) h)) (OpeningLine s.level h ∷ [])
+      same-found s.level h.offset (findings_by (header_conditions s h)) (OpeningLine s.level h ∷ [])
       (OpeningLine s.level h ∷ []) refl
   basic_items-same s (OpenHeader octets) = refl
   basic_items-same s OpenEndOctets = refl

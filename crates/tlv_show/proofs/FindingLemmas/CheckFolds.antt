@@ -28,7 +28,7 @@ use Rattle.tlv_show.specs.declared.finding_lines.Style.TheVariants.{Check}
 use Rattle.tlv_show.specs.ShowJob.{check_job}
 use Rattle.tlv_show.specs.CheckStep.{check_step}
 use Rattle.tlv_show.specs.FindingLines.{styled_lines}
-use Rattle.tlv_show.specs.Conditions.{end_conditions, header_conditions, segments_of, surroundings_of}
+use Rattle.tlv_show.specs.Conditions.{end_conditions, header_conditions}
 use Rattle.tlv_show.specs.FinderState.{CheckState, FinderState, OpenPrimitiveState, finder_frame_end_step}
 use Rattle.tlv_show.specs.FinderState.{finder_primitive_end_step, new_check, open_primitive_after}
 use Rattle.tlv_show.specs.NestingState.{top_frame}
@@ -165,8 +165,8 @@ module _ (rules : Rules) where
   few-pads true level offset l = refl
   few-pads false level offset l = refl
 
-  few-header : (s : Site) (h : HeaderValue) → length (header_findings rules (surroundings_of s) h) ≤ 14
-  few-header s h = held-few rules (header_conditions (surroundings_of s) h)
+  few-header : (s : Site) (h : HeaderValue) → length (header_findings rules s h) ≤ 14
+  few-header s h = held-few rules (header_conditions s h)
 
   few-contents : (h : HeaderValue) (c : List ℕ) → length (contents_findings rules h c) ≤ 15
   few-contents h c = by-class (is_universal h.class)
@@ -176,8 +176,8 @@ module _ (rules : Rules) where
       by-class true = held-few rules (type_conditions h.number c)
       by-class false = omega arith
 
-  few-end : (h : HeaderValue) (inside : Forest) → length (end_findings rules (segments_of h (headers inside))) ≤ 2
-  few-end h inside = held-few rules (end_conditions (segments_of h (headers inside)))
+  few-end : (h : HeaderValue) (inside : Forest) → length (end_findings rules h (headers inside)) ≤ 2
+  few-end h inside = held-few rules (end_conditions h (headers inside))
 
   -- at most 16 findings for each octet
   pub findings-within : (p : Place) (s : Site) (f : Forest) → ObeysGrammar p f
@@ -197,7 +197,7 @@ module _ (rules : Rules) where
       few-at s.level h.offset (contents_findings rules h c) (items rules (site_after_primitive s h c) rest) 15
       _ (few-contents h c) r in
       let a =
-      few-at s.level h.offset (header_findings rules (surroundings_of s) h) (PrimitiveLines s.level h c ∷ inner)
+      few-at s.level h.offset (header_findings rules s h) (PrimitiveLines s.level h c ∷ inner)
       14 _ (few-header s h) b in
       omega (arith, a, header-two h v.0.0.header.valid, length-primitive h c rest)
   findings-within p s (Holder h inside rest) v =
@@ -206,13 +206,13 @@ module _ (rules : Rules) where
       let last : List Item =
       end_items rules s h inside ++ items rules (site_after_holder s h inside) rest in
       let b =
-      few-at s.level h.offset (end_findings rules (segments_of h (headers inside)))
+      few-at s.level h.offset (end_findings rules h (headers inside))
       (items rules (site_after_holder s h inside) rest) 2 _ (few-end h inside) r in
       let m =
       few-both (items rules (site_of_children s h) inside)
       (ClosingLine s.level (if h.constructed then end_octets_offset h inside else None) ∷ last) _ _ i b in
       let a =
-      few-at s.level h.offset (header_findings rules (surroundings_of s) h)
+      few-at s.level h.offset (header_findings rules s h)
       (OpeningLine s.level h
       ∷ (items rules (site_of_children s h) inside
       ++ ClosingLine s.level (if h.constructed then end_octets_offset h inside else None) ∷ last))
@@ -225,19 +225,19 @@ module _ (rules : Rules) where
           omega (arith, e, f, ap length (filter-append is_finding xs ys), length-append (only xs) (only ys))
   findings-within p s (OpenPrimitive h c) v =
       let a =
-      few-at s.level h.offset (header_findings rules (surroundings_of s) h) (OpenPrimitiveLines s.level h c ∷ [])
+      few-at s.level h.offset (header_findings rules s h) (OpenPrimitiveLines s.level h c ∷ [])
       14 0 (few-header s h) (omega arith) in
       omega (arith, a, header-two h v.0.header.valid, length-append (octets_of h) c)
   findings-within p s (OpenHolder h inside) v =
       let i = findings-within (place_of_children p h) (site_of_children s h) inside v.1 in
       let a =
-      few-at s.level h.offset (header_findings rules (surroundings_of s) h)
+      few-at s.level h.offset (header_findings rules s h)
       (OpeningLine s.level h ∷ items rules (site_of_children s h) inside) 14 _ (few-header s h) i in
       omega
       (arith, a, header-two h v.0.0.header.valid, length-append (opening h) (spelling inside), length-opening h)
   findings-within p s (OpenBitString h) v =
       let a =
-      few-at s.level h.offset (header_findings rules (surroundings_of s) h) (OpeningLine s.level h ∷ []) 14 0
+      few-at s.level h.offset (header_findings rules s h) (OpeningLine s.level h ∷ []) 14 0
       (few-header s h) (omega arith) in
       omega (arith, a, header-two h v.0.header.valid)
   findings-within p s (OpenHeader octets) v = omega arith

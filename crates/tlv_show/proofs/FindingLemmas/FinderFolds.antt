@@ -14,10 +14,11 @@ use Rattle.tlv_walk.specs.Forest.{OpenBitString, OpenHeader, OpenEndOctets, exte
 use Rattle.tlv_walk.specs.Place.{ObeysGrammar, Place, place_after}
 use Rattle.tlv_show.specs.declared.holder_frame.HolderFrame.{HolderFrame}
 use Rattle.tlv_show.specs.declared.rules.Rules.{Rules}
-use Rattle.tlv_show.specs.Conditions.{bits_octet_count, ends_empty, segments_of}
+use Rattle.tlv_show.specs.Conditions.{bits_octet_count, ends_empty}
 use Rattle.tlv_show.specs.NestingState.{frame_after, frame_after_segment, frame_of, frame_under, top_frame, segments_in}
 use Rattle.tlv_show.specs.Items.{headers}
 use Rattle.tlv_show.proofs.FindingLemmas.HeaderFindings.{end-by, ends_by}
+use Rattle.tlv_show.specs.KeptConditions.{end_findings_in}
 use Rattle.tlv_show.specs.ShownFindings.{end_findings}
 use Rattle.tlv_show.proofs.FindingLemmas.FramesAfter.{in-string, outside}
 
@@ -211,8 +212,8 @@ sums-up p w n OpenEndOctets v e o = absurd (cc (e))
 
 segments-summed : (rules : Rules) (p : Place) (h : HeaderValue) (inside : Forest) → ObeysGrammar p inside
     → is_whole inside ≡ true
-    → end_findings rules (segments_in (frame_after_segments (frame_of h) inside))
-    ≡ end_findings rules (segments_of h (headers inside))
+    → end_findings_in rules (segments_in (frame_after_segments (frame_of h) inside))
+    ≡ end_findings rules h (headers inside)
 segments-summed rules p h inside v e =
     let r = sums-up p (frame_of h) 0 inside v e refl in
     let w : HolderFrame = frame_after_segments (frame_of h) inside in
@@ -227,7 +228,7 @@ segments-summed rules p h inside v e =
     ∙ end-by rules k b all (ends_empty (headers inside)) (λ (n : ℕ). value_length_after n 0 (headers inside))
 
 -- outside of strings nothing is found with an end
-no-ends : (rules : Rules) (w : HolderFrame) → w.has_segments ≡ false → end_findings rules (segments_in w) ≡ []
+no-ends : (rules : Rules) (w : HolderFrame) → w.has_segments ≡ false → end_findings_in rules (segments_in w) ≡ []
 no-ends rules w e =
     ap (λ (k : Bool). ends_by rules k w.all_primitive (nat_le (bits_octet_count w.is_bit_string + w.value_length) 1000)
     w.ends_empty)
@@ -236,19 +237,19 @@ no-ends rules w e =
 -- what is found with an end, by the frame of what was held
 end_findings-by_frame : (rules : Rules) (p : Place) (h : HeaderValue) (inside : Forest) → ObeysGrammar p inside
     → is_whole inside ≡ true
-    → end_findings rules (segments_in (frame_after_elements (frame_of h) inside))
-    ≡ end_findings rules (segments_of h (headers inside))
+    → end_findings_in rules (segments_in (frame_after_elements (frame_of h) inside))
+    ≡ end_findings rules h (headers inside)
 end_findings-by_frame rules p h inside v e = by-segments (has_segments h) refl
   where
     by-segments : (k : Bool) → has_segments h ≡ k
-        → end_findings rules (segments_in (frame_after_elements (frame_of h) inside))
-        ≡ end_findings rules (segments_of h (headers inside))
+        → end_findings_in rules (segments_in (frame_after_elements (frame_of h) inside))
+        ≡ end_findings rules h (headers inside)
     by-segments true c =
-        ap (λ (t : HolderFrame). end_findings rules (segments_in t)) (all-in-string (frame_of h) inside c)
+        ap (λ (t : HolderFrame). end_findings_in rules (segments_in t)) (all-in-string (frame_of h) inside c)
         ∙ segments-summed rules p h inside v e
     by-segments false c =
         let r = sums-up p (frame_of h) 0 inside v e refl in
-        ap (λ (t : HolderFrame). end_findings rules (segments_in t)) (all-outside (frame_of h) inside c)
+        ap (λ (t : HolderFrame). end_findings_in rules (segments_in t)) (all-outside (frame_of h) inside c)
         ∙ no-ends rules (frame_of h) c
         ∙ sym (no-ends rules (frame_after_segments (frame_of h) inside) (r.segments ∙ c))
         ∙ segments-summed rules p h inside v e
@@ -258,42 +259,42 @@ end_findings-by_frame rules p h inside v e = by-segments (has_segments h) refl
 module _ (rules : Rules) (p : Place) (w : HolderFrame) (h : HeaderValue) (inside : Forest) (v : ObeysGrammar p inside)
     (whole : is_whole inside ≡ true) where
   -- an element that is no string: nothing is found with its end
-  nothing-ends : has_segments h ≡ false → end_findings rules (segments_of h (headers inside)) ≡ []
+  nothing-ends : has_segments h ≡ false → end_findings rules h (headers inside) ≡ []
   nothing-ends e =
       sym (end_findings-by_frame rules p h inside v whole)
-      ∙ ap (λ (t : HolderFrame). end_findings rules (segments_in t)) (all-outside (frame_of h) inside e)
+      ∙ ap (λ (t : HolderFrame). end_findings_in rules (segments_in t)) (all-outside (frame_of h) inside e)
       ∙ no-ends rules (frame_of h) e
 
-  pub summed-under : end_findings rules (segments_in (frame_after_elements (frame_under w h) inside))
-      ≡ end_findings rules (segments_of h (headers inside))
+  pub summed-under : end_findings_in rules (segments_in (frame_after_elements (frame_under w h) inside))
+      ≡ end_findings rules h (headers inside)
   summed-under = by w.has_segments (has_segments h) refl
     where
       by : (outside inside_it : Bool) → has_segments h ≡ inside_it
-          → end_findings rules
+          → end_findings_in rules
           (segments_in (frame_after_elements (if outside || inside_it then frame_of h else top_frame) inside))
-          ≡ end_findings rules (segments_of h (headers inside))
+          ≡ end_findings rules h (headers inside)
       by true inside_it e = end_findings-by_frame rules p h inside v whole
       by false true e = end_findings-by_frame rules p h inside v whole
       by false false e =
-          ap (λ (t : HolderFrame). end_findings rules (segments_in t)) (all-outside top_frame inside refl)
+          ap (λ (t : HolderFrame). end_findings_in rules (segments_in t)) (all-outside top_frame inside refl)
           ∙ no-ends rules top_frame refl ∙ sym (nothing-ends e)
 
   -- where it begins does not matter if nothing is found
   pub offset-under : {T : Type 0} (put : ℕ → List Finding → List T) → ((offset : ℕ) → put offset [] ≡ [])
-      → put (frame_after_elements (frame_under w h) inside).offset (end_findings rules (segments_of h (headers inside)))
-      ≡ put h.offset (end_findings rules (segments_of h (headers inside)))
+      → put (frame_after_elements (frame_under w h) inside).offset (end_findings rules h (headers inside))
+      ≡ put h.offset (end_findings rules h (headers inside))
   offset-under put none = by w.has_segments (has_segments h) refl
     where
-      kept : put (frame_after_elements (frame_of h) inside).offset (end_findings rules (segments_of h (headers inside)))
-          ≡ put h.offset (end_findings rules (segments_of h (headers inside)))
+      kept : put (frame_after_elements (frame_of h) inside).offset (end_findings rules h (headers inside))
+          ≡ put h.offset (end_findings rules h (headers inside))
       kept =
-          ap (λ (offset : ℕ). put offset (end_findings rules (segments_of h (headers inside))))
+          ap (λ (offset : ℕ). put offset (end_findings rules h (headers inside)))
           (frame-stays (frame_of h) inside).offset
 
       by : (outside inside_it : Bool) → has_segments h ≡ inside_it
           → put (frame_after_elements (if outside || inside_it then frame_of h else top_frame) inside).offset
-          (end_findings rules (segments_of h (headers inside)))
-          ≡ put h.offset (end_findings rules (segments_of h (headers inside)))
+          (end_findings rules h (headers inside))
+          ≡ put h.offset (end_findings rules h (headers inside))
       by true inside_it e = kept
       by false true e = kept
       by false false e =

@@ -17,6 +17,7 @@ use Rattle.tlv_show.specs.declared.holder_frame.HolderFrame.{HolderFrame}
 use Rattle.tlv_show.specs.declared.rules.Rules.{Rules}
 use Rattle.tlv_show.specs.FinderState.{CheckState}
 use Rattle.tlv_show.specs.NestingState.{frame_after, frame_under, surroundings_in}
+use Rattle.tlv_show.specs.KeptConditions.{header_findings_in}
 use Rattle.tlv_show.specs.ShownFindings.{contents_findings, header_findings, end_findings}
 use Rattle.tlv_show.specs.Items.{Item, FindingAt, OpeningLine, ClosingLine, PrimitiveLines, OpenPrimitiveLines}
 use Rattle.tlv_show.specs.Items.{PaddingLine, headers, items}
@@ -28,7 +29,6 @@ use Rattle.tlv_show.specs.Texts.{is_finding}
 use Rattle.tlv_show.proofs.FindingLemmas.FinderFolds.{not-constructed, frame_after_elements}
 use Rattle.tlv_show.proofs.FindingLemmas.FramesAround.{knows-after, knows-inside, knows-padding, unused-of}
 use Rattle.tlv_show.proofs.FindingLemmas.HeaderFindings.{Knows, header-same}
-use Rattle.tlv_show.specs.Conditions.{surroundings_of, segments_of}
 use Rattle.tlv_show.proofs.FindingLemmas.FinderSteps.{FinderRun, after_contents, after_end, after_primitive}
 use Rattle.tlv_show.proofs.FindingLemmas.FinderSteps.{check_between}
 use Rattle.tlv_show.proofs.FindingLemmas.FinderSteps.{run-closing, later_header, run-opening, run-primitive, run_finder}
@@ -61,12 +61,12 @@ module _ (rules : Rules) where
   -- findings with a header, and then other items
   header-items : (s : Site) (w : HolderFrame) (outer : List HolderFrame) (h : HeaderValue) (found rest : List Item)
       → Knows w s → length outer ≡ s.level → found ≡ only rest
-      → finding_items (length outer) h.offset (header_findings rules (surroundings_in w) h) ++ found
+      → finding_items (length outer) h.offset (header_findings_in rules (surroundings_in w) h) ++ found
       ≡ only (header_items rules s h ++ rest)
   header-items s w outer h found rest k l e =
       ap₂ (λ (n : ℕ) (fs : List Finding). finding_items n h.offset fs ++ found) l (header-same rules w s h k)
       ∙ ap (λ (t : List Item). header_items rules s h ++ t) e
-      ∙ sym (only-finding_items s.level h.offset (header_findings rules (surroundings_of s) h) rest)
+      ∙ sym (only-finding_items s.level h.offset (header_findings rules s h) rest)
 
   -- other findings, and then other items
   more-items : (s : Site) (outer : List HolderFrame) (offset : ℕ) (fs : List Finding) (found rest : List Item)
@@ -127,15 +127,15 @@ module _ (rules : Rules) where
       let few : length outer < 128 = omega (arith, l, d, v.0.0.shallow) in
       let es : List EventValue = closing_event h inside ∷ events rest in
       let all : (n : ℕ) → (m : ℕ) × (run_finder (check_between rules w outer n) (events (Holder h inside rest))
-      ≡ then_found (finding_items (length outer) h.offset (header_findings rules (surroundings_in w) h))
+      ≡ then_found (finding_items (length outer) h.offset (header_findings_in rules (surroundings_in w) h))
       (then_found (only (items rules (site_of_children s h) inside))
-      (then_found (finding_items (length outer) h.offset (end_findings rules (segments_of h (headers inside))))
+      (then_found (finding_items (length outer) h.offset (end_findings rules h (headers inside)))
       (run_finder (check_between rules (frame_after w (is_primitive h) (announced_length h.size) false) outer m)
       (events rest))))) =
       λ n.
       let a : ℕ = later_header rules w h n in
       let t = i.after a v.0.1 in
-      let put : List Item = finding_items (length outer) h.offset (header_findings rules (surroundings_in w) h) in (
+      let put : List Item = finding_items (length outer) h.offset (header_findings_in rules (surroundings_in w) h) in (
         after_end rules h inside t.0,
         run-opening rules w outer n h (events inside ++ es) few
             ∙ ap (then_found put)
@@ -154,7 +154,7 @@ module _ (rules : Rules) where
             ∙ header-items s w outer h _ (OpeningLine s.level h ∷ (items rules (site_of_children s h) inside ++ last))
             k l
             (ap (λ (t : List Item). only (items rules (site_of_children s h) inside) ++ t)
-            (more-items s outer h.offset (end_findings rules (segments_of h (headers inside)))
+            (more-items s outer h.offset (end_findings rules h (headers inside))
             _ (items rules (site_after_holder s h inside) rest) l (r.put a.0))
             ∙ sym (filter-append is_finding (items rules (site_of_children s h) inside) last));
         after = λ n e.

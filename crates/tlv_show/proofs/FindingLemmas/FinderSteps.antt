@@ -22,14 +22,14 @@ use Rattle.tlv_show.specs.FinderState.{CheckState, FinderState, contents_finding
 use Rattle.tlv_show.specs.FinderState.{finder_bytes_step, finder_close_step, finder_end_step, finder_open_step}
 use Rattle.tlv_show.specs.NestingState.{depth_in, frame_after, frame_under, nesting_primitive_step, surroundings_in}
 use Rattle.tlv_show.specs.Private.FinderState.{finder_step}
-use Rattle.tlv_show.specs.ShownFindings.{contents_findings, header_findings, is_shown, end_findings}
+use Rattle.tlv_show.specs.KeptConditions.{header_findings_in}
+use Rattle.tlv_show.specs.ShownFindings.{contents_findings, is_shown, end_findings}
 use Rattle.tlv_show.specs.Items.{Item}
 use Rattle.tlv_show.specs.Items.{headers}
 use Rattle.tlv_show.specs.Items.{finding_items}
 use Rattle.tlv_show.proofs.FindingLemmas.CheckLaws.{one-or-more}
 use Rattle.tlv_show.proofs.FindingLemmas.FinderFolds.{offset-under, after-under, frame_after_elements}
 use Rattle.tlv_show.proofs.FindingLemmas.FinderFolds.{summed-under}
-use Rattle.tlv_show.specs.Conditions.{segments_of}
 use Rattle.tlv_show.specs.SaturatingSum.{saturating_sum}
 use Rattle.std.proofs.lemmas.List.{take_all}
 
@@ -94,7 +94,7 @@ pub primitive-found : (s : CheckState) (h : HeaderValue) (c : List ℕ) → HasA
       findings = contents_findings s.rules h c;
     })
 primitive-found s h c e =
-    let n = saturating_sum s.finding_count (length (header_findings s.rules (surroundings_in s.holders.frame) h)) in
+    let n = saturating_sum s.finding_count (length (header_findings_in s.rules (surroundings_in s.holders.frame) h)) in
     let t : ValueCheckState = value_check_for h c in
     let state_with : List Finding → CheckState = λ fs. record {
       rules = s.rules;
@@ -121,7 +121,7 @@ module _ (rules : Rules) where
   }
 
   abbrev pub later_header : HolderFrame → HeaderValue → ℕ → ℕ
-  later_header w h n = saturating_sum n (length (header_findings rules (surroundings_in w) h))
+  later_header w h n = saturating_sum n (length (header_findings_in rules (surroundings_in w) h))
 
   -- ---- an element that holds others begins
 
@@ -131,7 +131,7 @@ module _ (rules : Rules) where
         kept = check_between (frame_under w h) (w ∷ outer) (later_header w h n);
         level = length outer;
         offset = h.offset;
-        findings = header_findings rules (surroundings_in w) h;
+        findings = header_findings_in rules (surroundings_in w) h;
       }
   opened-find w outer n h few =
       let yes : nat_lt (length outer) 128 ≡ true = grind (arith, nat_tests) in
@@ -150,7 +150,7 @@ module _ (rules : Rules) where
   pub run-opening : (w : HolderFrame) (outer : List HolderFrame) (n : ℕ) (h : HeaderValue) (es : List EventValue)
       → length outer < 128
       → run_finder (check_between w outer n) (opening_events h ++ es)
-      ≡ then_found (finding_items (length outer) h.offset (header_findings rules (surroundings_in w) h))
+      ≡ then_found (finding_items (length outer) h.offset (header_findings_in rules (surroundings_in w) h))
       (run_finder (check_between (frame_under w h) (w ∷ outer) (later_header w h n)) es)
   run-opening w outer n h es few =
       opened-by (check_between w outer n) h h.constructed (h.number == 3) es
@@ -165,14 +165,14 @@ module _ (rules : Rules) where
   closed-by s offset false es = refl
 
   abbrev pub after_end : HeaderValue → Forest → ℕ → ℕ
-  after_end h inside n = saturating_sum n (length (end_findings rules (segments_of h (headers inside))))
+  after_end h inside n = saturating_sum n (length (end_findings rules h (headers inside)))
 
   pub run-closing : (p : Place) (w : HolderFrame) (outer : List HolderFrame) (n : ℕ) (h : HeaderValue) (inside : Forest)
       (es : List EventValue)
       → ObeysGrammar p inside → is_whole inside ≡ true
       → run_finder (check_between (frame_after_elements (frame_under w h) inside) (w ∷ outer) n)
       (closing_event h inside ∷ es)
-      ≡ then_found (finding_items (length outer) h.offset (end_findings rules (segments_of h (headers inside))))
+      ≡ then_found (finding_items (length outer) h.offset (end_findings rules h (headers inside)))
       (run_finder
       (check_between (frame_after w (is_primitive h) (announced_length h.size) false) outer
       (after_end h inside n))
@@ -205,11 +205,11 @@ module _ (rules : Rules) where
       (es : List EventValue)
       → HasAllContents h c
       → run_finder (check_between w outer n) (Begin h ∷ Bytes c ∷ End ∷ es)
-      ≡ then_found (finding_items (length outer) h.offset (header_findings rules (surroundings_in w) h))
+      ≡ then_found (finding_items (length outer) h.offset (header_findings_in rules (surroundings_in w) h))
       (then_found (finding_items (length outer) h.offset (contents_findings rules h c))
       (run_finder (check_between (after_primitive w h c) outer (after_contents w h c n)) es))
   run-primitive w outer n h c es e =
-      let put : List Item = finding_items (length outer) h.offset (header_findings rules (surroundings_in w) h) in
+      let put : List Item = finding_items (length outer) h.offset (header_findings_in rules (surroundings_in w) h) in
       let s : CheckState = check_between w outer (later_header w h n) in
       ap (λ (u : CheckState). then_found put (then_found [] (run_finder u (End ∷ es))))
       (bytes_step-all s h.offset h c (omega (arith, e)))
@@ -229,7 +229,7 @@ module _ (rules : Rules) where
             check_between (frame_after w (is_primitive h) (announced_length h.size) false) outer (after_end h inside n);
         level = length outer;
         offset = (frame_after_elements (frame_under w h) inside).offset;
-        findings = end_findings rules (segments_of h (headers inside));
+        findings = end_findings rules h (headers inside);
       }
   closed-find p w outer n h inside v whole =
       let f : HolderFrame = frame_after_elements (frame_under w h) inside in
@@ -250,7 +250,7 @@ module _ (rules : Rules) where
         level =
             length outer;
         offset = f.offset;
-        findings = end_findings rules (segments_of h (headers inside));
+        findings = end_findings rules h (headers inside);
       })
       (after-under w h inside)
 

@@ -6,8 +6,9 @@ use Rattle.tlv_head.specs.Header.{HeaderValue}
 use Rattle.tlv_value.specs.declared.finding.Finding.{Finding}
 use Rattle.tlv_value.specs.Checks.{findings_by}
 use Rattle.tlv_show.specs.declared.rules.Rules.{Rules}
-use Rattle.tlv_show.specs.Conditions.{header_conditions, Surroundings}
+use Rattle.tlv_show.specs.Conditions.{header_conditions}
 use Rattle.tlv_show.specs.ShownFindings.{header_findings, is_shown}
+use Rattle.tlv_show.specs.Site.{Site}
 
 -- one of the conditions holds whose findings are shown and pass the test
 abbrev pub any_of : (Finding → Bool) → Rules → List (Bool × Finding) → Bool
@@ -33,6 +34,6 @@ all-found test rules (row ∷ rows) =
     one-found test rules row.0 (is_shown rules row.1) (test row.1) row.1 (findings_by rows) refl refl
     ∙ ap (λ (b : Bool). (if is_shown rules row.1 && test row.1 then row.0 else false) || b) (all-found test rules rows)
 
-pub found-with_header : (test : Finding → Bool) (rules : Rules) (s : Surroundings) (h : HeaderValue)
+pub found-with_header : (test : Finding → Bool) (rules : Rules) (s : Site) (h : HeaderValue)
     → list_any test (header_findings rules s h) ≡ any_of test rules (header_conditions s h)
 found-with_header test rules s h = all-found test rules (header_conditions s h)

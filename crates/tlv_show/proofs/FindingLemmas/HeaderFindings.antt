@@ -11,11 +11,22 @@ use Rattle.tlv_value.specs.Checks.{findings_by}
 use Rattle.tlv_show.specs.declared.holder_frame.HolderFrame.{HolderFrame}
 use Rattle.tlv_show.specs.declared.rules.Rules.{Rules}
 use Rattle.tlv_show.specs.declared.rules.Rules.TheVariants.{Ber, Der, Cer}
-use Rattle.tlv_show.specs.Conditions.{header_conditions, Surroundings, basic_conditions, cer_conditions, der_conditions}
-use Rattle.tlv_show.specs.Conditions.{bits_octet_count, length_conditions, surroundings_of}
+use Rattle.tlv_show.specs.Conditions.{bits_octet_count, der_conditions, is_not_full, leaves_unused_bits}
+use Rattle.tlv_show.specs.Conditions.{length_conditions}
+use Rattle.tlv_show.specs.KeptConditions.{Surroundings, basic_conditions_in, cer_conditions_in, header_conditions_in}
+use Rattle.tlv_show.specs.KeptConditions.{header_findings_in}
 use Rattle.tlv_show.specs.NestingState.{surroundings_in}
 use Rattle.tlv_show.specs.ShownFindings.{header_findings, is_shown, shown_findings}
-use Rattle.tlv_show.specs.Site.{Site}
+use Rattle.tlv_show.specs.Site.{Site, in_bit_string, in_string}
+
+-- what would be kept of what is around an element, by its site
+abbrev surroundings_of : Site → Surroundings
+surroundings_of s = record {
+  in_string = in_string s;
+  in_bit_string = in_bit_string s;
+  after_unused_bits = in_bit_string s && leaves_unused_bits s.previous;
+  after_not_full = in_string s && is_not_full s.previous;
+}
 
 -- a frame says to the conditions what the site says
 abbrev pub Knows : HolderFrame → Site → Type 0
@@ -46,30 +57,32 @@ by-shown rules (row ∷ rows) = one-shown rules row.0 (is_shown rules row.1) row
 found-more : (xs ys : List (Bool × Finding)) → findings_by (xs ++ ys) ≡ findings_by xs ++ findings_by ys
 found-more xs ys = flat_map-append (λ row. if row.0 then row.1 ∷ [] else []) xs ys
 
-pub basic-found : (s : Surroundings) (h : HeaderValue) → header_findings Ber s h ≡ findings_by (basic_conditions s h)
-basic-found s h = by-shown Ber (header_conditions s h)
+pub basic-found : (s : Surroundings) (h : HeaderValue)
+    → header_findings_in Ber s h ≡ findings_by (basic_conditions_in s h)
+basic-found s h = by-shown Ber (header_conditions_in s h)
 
 pub der-found : (s : Surroundings) (h : HeaderValue)
-    → header_findings Der s h
-    ≡ (findings_by (basic_conditions s h) ++ findings_by (length_conditions h)) ++ findings_by (der_conditions h)
+    → header_findings_in Der s h
+    ≡ (findings_by (basic_conditions_in s h) ++ findings_by (length_conditions h)) ++ findings_by (der_conditions h)
 der-found s h =
-    by-shown Der (header_conditions s h)
-    ∙ found-more (basic_conditions s h ++ length_conditions h) (der_conditions h)
+    by-shown Der (header_conditions_in s h)
+    ∙ found-more (basic_conditions_in s h ++ length_conditions h) (der_conditions h)
     ∙ ap (λ (l : List Finding). l ++ findings_by (der_conditions h))
-    (found-more (basic_conditions s h) (length_conditions h))
+    (found-more (basic_conditions_in s h) (length_conditions h))
 
 pub cer-found : (s : Surroundings) (h : HeaderValue)
-    → header_findings Cer s h
-    ≡ (findings_by (basic_conditions s h) ++ findings_by (length_conditions h)) ++ findings_by (cer_conditions s h)
+    → header_findings_in Cer s h
+    ≡ (findings_by (basic_conditions_in s h) ++ findings_by (length_conditions h))
+    ++ findings_by (cer_conditions_in s h)
 cer-found s h =
-    by-shown Cer (header_conditions s h)
-    ∙ found-more (basic_conditions s h ++ length_conditions h) (cer_conditions s h)
-    ∙ ap (λ (l : List Finding). l ++ findings_by (cer_conditions s h))
-    (found-more (basic_conditions s h) (length_conditions h))
+    by-shown Cer (header_conditions_in s h)
+    ∙ found-more (basic_conditions_in s h ++ length_conditions h) (cer_conditions_in s h)
+    ∙ ap (λ (l : List Finding). l ++ findings_by (cer_conditions_in s h))
+    (found-more (basic_conditions_in s h) (length_conditions h))
 
 pub header-same : (rules : Rules) (w : HolderFrame) (s : Site) (h : HeaderValue) → Knows w s
-    → header_findings rules (surroundings_in w) h ≡ header_findings rules (surroundings_of s) h
-header-same rules w s h k = ap (λ (t : Surroundings). header_findings rules t h) k
+    → header_findings_in rules (surroundings_in w) h ≡ header_findings rules s h
+header-same rules w s h k = ap (λ (t : Surroundings). header_findings_in rules t h) k
 
 -- ---- with an end
 

@@ -14,8 +14,8 @@ use Rattle.tlv_show.specs.declared.rules.Rules.{Rules}
 use Rattle.tlv_show.specs.declared.rules.Rules.TheVariants.{Ber, Der, Cer}
 use Rattle.tlv_show.specs.Conditions.{begins_with_zero_bits, is_high_form_needless, is_length_padded}
 use Rattle.tlv_show.specs.Conditions.{has_high_form, has_long_form, header_conditions, number_bits}
-use Rattle.tlv_show.specs.Conditions.{Surroundings}
 use Rattle.tlv_show.specs.ShownFindings.{header_findings}
+use Rattle.tlv_show.specs.Site.{Site}
 use Rattle.tlv_show.specs.Spellings.{LongerIdentifiersAreFound, LongerLengthsAreFound, is_on_identifier, is_on_lengths}
 use Rattle.tlv_show.proofs.FindingLemmas.FindingsOfHeaders.{any_of, found-with_header}
 use Rattle.tlv_show.proofs.FindingLemmas.Spellings.{high-form, long-form}
@@ -35,7 +35,7 @@ from-absurd false none = absurd (none refl)
 abbrev pub longer_identifier : HeaderValue → Bool
 longer_identifier h = is_high_form_needless h || begins_with_zero_bits h
 
-on-identifier : (rules : Rules) (s : Surroundings) (h : HeaderValue)
+on-identifier : (rules : Rules) (s : Site) (h : HeaderValue)
     → any_of is_on_identifier rules (header_conditions s h) ≡ longer_identifier h
 on-identifier Ber s h =
     ap (λ (b : Bool). is_high_form_needless h || b) (or-false (begins_with_zero_bits h))
@@ -79,7 +79,7 @@ identifiers-found rules s h valid nonzero =
 
 -- ---- length octets
 
-on-lengths : (rules : Rules) (s : Surroundings) (h : HeaderValue) → rules ≢ Ber
+on-lengths : (rules : Rules) (s : Site) (h : HeaderValue) → rules ≢ Ber
     → any_of is_on_lengths rules (header_conditions s h) ≡ is_length_padded h
 on-lengths Ber s h strict = absurd (strict refl)
 on-lengths Der s h strict = or-false (is_length_padded h)

@@ -29,8 +29,7 @@ use Rattle.tlv_walk.proofs.EventLemmas.Wrappers.{AreNamed, Rise, wrapper_offsets
 use Rattle.tlv_show.specs.declared.rules.Rules.{Rules}
 use Rattle.tlv_show.specs.declared.rules.Rules.TheVariants.{Ber, Der, Cer}
 use Rattle.tlv_show.specs.Conditions.{begins_with_zero_bits, is_high_form_needless, is_length_padded}
-use Rattle.tlv_show.specs.Conditions.{Segments, end_conditions, header_conditions}
-use Rattle.tlv_show.specs.Conditions.{segments_of, surroundings_of}
+use Rattle.tlv_show.specs.Conditions.{end_conditions, header_conditions}
 use Rattle.tlv_show.specs.ShownFindings.{contents_findings, header_findings, end_findings}
 use Rattle.tlv_show.specs.Items.{Item, OpeningLine, ClosingLine, PrimitiveLines, PaddingLine, headers, items}
 use Rattle.tlv_show.specs.Items.{contents_items, end_items, header_items}
@@ -57,7 +56,7 @@ constructed-absent true false e = absurd (cc (e))
 constructed-absent false indefinite e = refl
 
 header-absent : (rules : Rules) (s : Site) (h : HeaderValue) → rules ≢ Ber → IsRegular (form_by rules) h
-    → any_of is_on_spelling rules (header_conditions (surroundings_of s) h) ≡ false
+    → any_of is_on_spelling rules (header_conditions s h) ≡ false
 header-absent Ber s h strict r = absurd (strict refl)
 header-absent Der s h strict r =
     four-absent (is_high_form_needless h) (begins_with_zero_bits h) (is_length_padded h)
@@ -80,10 +79,11 @@ contents-absent : (rules : Rules) (h : HeaderValue) (c : List ℕ)
     → any_of is_on_spelling rules (contents_conditions h c) ≡ false
 contents-absent rules h c = absent-by rules (is_universal h.class) h.number c
 
-end-absent : (rules : Rules) (s : Segments) → any_of is_on_spelling rules (end_conditions s) ≡ false
-end-absent Ber s = refl
-end-absent Der s = refl
-end-absent Cer s = refl
+end-absent : (rules : Rules) (h : HeaderValue) (children : List HeaderValue)
+    → any_of is_on_spelling rules (end_conditions h children) ≡ false
+end-absent Ber h children = refl
+end-absent Der h children = refl
+end-absent Cer h children = refl
 
 -- ---- items
 
@@ -100,8 +100,8 @@ module _ (rules : Rules) (strict : rules ≢ Ber) where
   header-none : (s : Site) (h : HeaderValue) → IsRegular (form_by rules) h
       → list_any is_item_on_spelling (header_items rules s h) ≡ false
   header-none s h r =
-      items-found s.level h.offset (header_findings rules (surroundings_of s) h)
-      ∙ found-with_header is_on_spelling rules (surroundings_of s) h ∙ header-absent rules s h strict r
+      items-found s.level h.offset (header_findings rules s h)
+      ∙ found-with_header is_on_spelling rules s h ∙ header-absent rules s h strict r
 
   contents-none : (s : Site) (h : HeaderValue) (c : List ℕ)
       → list_any is_item_on_spelling (contents_items rules s h c) ≡ false
@@ -113,9 +113,9 @@ module _ (rules : Rules) (strict : rules ≢ Ber) where
   end-none : (s : Site) (h : HeaderValue) (inside : Forest)
       → list_any is_item_on_spelling (end_items rules s h inside) ≡ false
   end-none s h inside =
-      items-found s.level h.offset (end_findings rules (segments_of h (headers inside)))
-      ∙ all-found is_on_spelling rules (end_conditions (segments_of h (headers inside)))
-      ∙ end-absent rules (segments_of h (headers inside))
+      items-found s.level h.offset (end_findings rules h (headers inside))
+      ∙ all-found is_on_spelling rules (end_conditions h (headers inside))
+      ∙ end-absent rules h (headers inside)
 
   none-found : (p : Place) (s : Site) (f : Forest) → IsSound p f → AreRegular (form_by rules) f
       → list_any is_item_on_spelling (items rules s f) ≡ false

@@ -27,7 +27,6 @@ use Rattle.tlv_show.specs.declared.rules.Rules.{Rules}
 use Rattle.tlv_show.specs.declared.rules.Rules.TheVariants.{Ber, Der, Cer}
 use Rattle.tlv_show.specs.Conditions.{begins_with_zero_bits, is_high_form_needless, is_length_padded}
 use Rattle.tlv_show.specs.Conditions.{header_conditions, number_bits}
-use Rattle.tlv_show.specs.Conditions.{surroundings_of}
 use Rattle.tlv_show.specs.ShownFindings.{header_findings}
 use Rattle.tlv_show.specs.Items.{Item, OpeningLine, ClosingLine, PrimitiveLines, PaddingLine, items}
 use Rattle.tlv_show.specs.Items.{finding_items, contents_items, end_items, header_items}
@@ -45,10 +44,10 @@ items-found level offset (f ∷ fs) = ap (λ (b : Bool). is_on_spelling f || b) 
 
 none-by_conditions : (rules : Rules) (s : Site) (h : HeaderValue)
     → list_any is_item_on_spelling (header_items rules s h) ≡ false
-    → any_of is_on_spelling rules (header_conditions (surroundings_of s) h) ≡ false
+    → any_of is_on_spelling rules (header_conditions s h) ≡ false
 none-by_conditions rules s h e =
-    sym (found-with_header is_on_spelling rules (surroundings_of s) h)
-    ∙ sym (items-found s.level h.offset (header_findings rules (surroundings_of s) h)) ∙ e
+    sym (found-with_header is_on_spelling rules s h)
+    ∙ sym (items-found s.level h.offset (header_findings rules s h)) ∙ e
 
 -- of four tests none holds
 none-of_four : (a b c d : Bool) → (a || (b || (c || (d || false)))) ≡ false

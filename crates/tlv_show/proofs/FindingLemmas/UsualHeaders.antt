@@ -10,7 +10,7 @@ use Rattle.tlv_show.specs.declared.rules.Rules.TheVariants.{Ber}
 use Rattle.tlv_show.specs.Conditions.{begins_with_zero_bits, is_high_form_needless}
 use Rattle.tlv_show.specs.Conditions.{segment_type}
 use Rattle.tlv_show.specs.NestingState.{surroundings_in}
-use Rattle.tlv_show.specs.ShownFindings.{header_findings}
+use Rattle.tlv_show.specs.KeptConditions.{header_findings_in}
 use Rattle.tlv_show.specs.Private.UsualTypes.{IsUsual}
 use Rattle.tlv_show.proofs.FindingLemmas.HeaderFindings.{basic-found}
 
@@ -21,7 +21,7 @@ none-of_seven a b c d e f g p q r s t u v = rw (p, q, r, s, t, u, v) refl
 
 pub none-by_ber : (w : HolderFrame) (h : HeaderValue) → w.has_segments ≡ false
     → is_high_form_needless h ≡ false → begins_with_zero_bits h ≡ false → IsUsual h
-    → header_findings Ber (surroundings_in w) h ≡ []
+    → header_findings_in Ber (surroundings_in w) h ≡ []
 none-by_ber w h outside number bits usual =
     basic-found (surroundings_in w) h
     ∙ none-of_seven _ _ _ _ _ _ _ number bits usual.assigned usual.primitive_if_always

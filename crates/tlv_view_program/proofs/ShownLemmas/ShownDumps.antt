@@ -32,7 +32,6 @@ use Rattle.tlv_show.specs.HolderLines.{closing_line, opening_line, opening_word,
 use Rattle.tlv_show.specs.Items.{ClosingLine, FindingAt, Item, OpenPrimitiveLines, OpeningLine, PaddingLine}
 use Rattle.tlv_show.specs.Items.{PrimitiveLines, contents_items, end_items, finding_items, header_items, headers}
 use Rattle.tlv_show.specs.Items.{items}
-use Rattle.tlv_show.specs.Conditions.{segments_of, surroundings_of}
 use Rattle.tlv_show.specs.ShownFindings.{contents_findings, end_findings, header_findings}
 use Rattle.tlv_show.specs.Site.{Site, is_padding, site_after_holder, site_after_padding, site_after_primitive}
 use Rattle.tlv_show.specs.Site.{site_of_children, top_site}
@@ -189,7 +188,7 @@ module _ (rules : Rules) where
       → All IsOfOctets (header_items rules s h ++ more)
   header-of s h more all =
       All-append IsOfOctets (header_items rules s h) more
-      (findings-of s.level h.offset (header_findings rules (surroundings_of s) h)) all
+      (findings-of s.level h.offset (header_findings rules s h)) all
 
   items-of : (s : Site) (f : Forest) → AreOctets (spelling f) → All IsOfOctets (items rules s f)
   items-of s (PaddingOctet rest) o =
@@ -214,7 +213,7 @@ module _ (rules : Rules) where
       (All-cons IsOfOctets
       (ClosingLine s.level (if h.constructed then end_octets_offset h children else None)) _ tt
       (All-append IsOfOctets (end_items rules s h children) _
-      (findings-of s.level h.offset (end_findings rules (segments_of h (headers children))))
+      (findings-of s.level h.offset (end_findings rules h (headers children)))
       (items-of (site_after_holder s h children) rest
       (right-octets (end_octets h.size) (spelling rest)
       (right-octets (spelling children) (end_octets h.size ++ spelling rest) after)))))))

@@ -1,7 +1,6 @@
 use Rattle.std.proofs.Common.{◌∙◌, rules, refl, sym, ap}
 use Rattle.tlv_show.proofs.DumpLemmas.ClearPrimitives.{passes_primitive-clear, usual_primitive}
-use Rattle.tlv_show.specs.Conditions.{Surroundings}
-use Rattle.tlv_show.specs.ShownFindings.{header_findings}
+use Rattle.tlv_show.specs.KeptConditions.{Surroundings, header_findings_in}
 use Rattle.tlv_show.proofs.finder.Finder.passes.Goals as goal
 
 pub returns : goal.returns
@@ -12,6 +11,6 @@ returns c =
     rw (← c.self.view_is)
     (passes_primitive-clear _ _ h c.args.contents.now c.requires
     (sym c.frame-frame.ensures.segments ∙ nothing.no_segments (search rules))
-    (ap (λ (t : Surroundings). header_findings c.self.inside.rules t h) (sym c.frame-frame.ensures.around)
+    (ap (λ (t : Surroundings). header_findings_in c.self.inside.rules t h) (sym c.frame-frame.ensures.around)
     ∙ nothing.no_findings (search rules) usual)
     (c.is_clear.ensures.contents (search rules)) refl)
