@@ -1,5 +1,5 @@
--- The conditions of a header, and of an end, by what is kept when elements come event by event. `Conditions` has them by
--- the site of an element, and by the headers of what it held: lemmas say that both find the same. Only the rows that
+-- The conditions of a header, and of an end, by what is kept when elements come event by event. `Conditions` has them
+-- by the site of an element, and by the headers of what it held: lemmas say that both find the same. Only the rows that
 -- depend on what is kept are here again.
 use Rattle.std.specs.Prelude.{ℕ, Bool, ◌&&◌, not, nat_le, List, [], ◌∷◌, ◌++◌}
 use Rattle.tlv_head.specs.Header.{HeaderValue}
