@@ -8,10 +8,10 @@ use Rattle.std.proofs.lemmas.Bool.{cases_Bool, eqb-true}
 use Rattle.std.proofs.lemmas.List.{drop_all, map-append}
 use Rattle.tlv_forms.specs.Private.Counting.{IsBounded, IsFittingForm, is_kept}
 use Rattle.tlv_forms.specs.Taken.{AreFirstBlocks, BlocksCount, Counts, HasBlocks, RunsCount, TakenValue, TextBlocks}
-use Rattle.tlv_forms.specs.Taken.{all_forms, has_controls, taken_as, taken_value, text_of}
+use Rattle.tlv_forms.specs.Taken.{all_forms, has_controls, is_complete, taken_as, taken_value, text_of}
 use Rattle.tlv_forms.specs.declared.taken.Taken.{Taken}
 use Rattle.tlv_forms.specs.declared.taken.TakenFor.TheVariants.{Text}
-use Rattle.tlv_text.specs.Blocks.{AreBlocks, BlockValue, block_value}
+use Rattle.tlv_text.specs.Blocks.{AreBlocks, ArePemBlocks, BlockValue, IsHexAlone, block_value, dump_block}
 use Rattle.tlv_text.specs.declared.block.Block.{Block}
 use Rattle.tlv_text.specs.declared.block.Form.{Form}
 use Rattle.tlv_text.specs.declared.block.Form.TheVariants.{Pem, Dump, Hex, Numbers, Runs}
@@ -138,6 +138,21 @@ module _ (Inner : List ℕ → List TakenValue → Type 0) where
       → AreFirstBlocks Inner text (drop i forms) (map taken_value ts)
   first-none text forms i ts all none =
       rw (drop_all i forms all, none) AreFirstBlocks.no_form
+
+  -- ---- a text that is hexadecimal, and of no form before it
+
+  pub hex-first : (text : List ℕ) (b : BlockValue) (ts : List Taken) (t : Taken) → IsHexAlone text b
+      → is_kept Hex b ≡ true → ts ≡ t ∷ [] → taken_value t ≡ taken_as (Text Hex) b
+      → AreFirstBlocks Inner text all_forms (map taken_value ts)
+  hex-first text b ts t alone kept one value =
+      let broken : is_complete (dump_block text) ≡ false = rw alone.no_row refl in
+      let are : AreBlocks text Hex (b ∷ []) =
+      subst (λ (c : BlockValue). AreBlocks text Hex (c ∷ [])) alone.hex AreBlocks.hex in
+      subst (λ (us : List TakenValue). AreFirstBlocks Inner text all_forms us)
+      (sym (ap (map taken_value) one ∙ ap (λ (u : TakenValue). u ∷ []) value))
+      (AreFirstBlocks.later (AreBlocks.pem (ArePemBlocks.no_more alone.no_pem)) BlocksCount.pem
+      (AreFirstBlocks.later AreBlocks.dump (dump-count (dump_block text ∷ []) [] refl (rw broken refl))
+      (AreFirstBlocks.here are (hex-count (b ∷ []) (taken_as (Text Hex) b ∷ []) refl (rw kept refl)))))
 
 -- the blocks of what is base64 in a text
 pub inner-control : (layers : ℕ) (octets text : List ℕ) (ts : List Taken) → layers ≢ 0 → text ≡ text_of octets

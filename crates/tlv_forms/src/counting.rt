@@ -14,7 +14,7 @@ use crate::encodings::are_taken_as_encodings;
 use crate::values::{add_layer, one_taken, taken_as};
 use crate::{Taken, TakenFor};
 use std::alloc::{AllocError, Global};
-use tlv_text::{Block, BlockState, Form, TextFault, ascii_of_utf16, blocks_of};
+use tlv_text::{Block, BlockState, Form, TextFault, ascii_of_utf16, blocks_of, separated_block};
 
 /// The forms in the order in which they are tried.
 const FORMS: [Form; 6] = [
@@ -36,6 +36,12 @@ pub(crate) fn first_blocks(alloc: Global, layers: u8, text: &[u8]) -> Result<Vec
     ensures bounded { IfOk result (λ ts. All (IsBounded (layers + 1)) ts.items) }
     ensures fault { IfErr result (IsTextFault text.now) }
 {
+    // A text of such pairs has no block of PEM and no row of a dump. Not to look for them takes less time.
+    if let Some(block) = separated_block(alloc, text)?
+        && is_kept(Form::Hex, &block)
+    {
+        return Ok(one_taken(alloc, taken_as(TakenFor::Text(Form::Hex), block))?);
+    }
     for form in &FORMS {
         let blocks = blocks_of(alloc, *form, text)?;
         let taken = counted_blocks(alloc, layers, *form, blocks)?;

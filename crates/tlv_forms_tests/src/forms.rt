@@ -102,7 +102,7 @@ static PEM_TEXTS: [Row<'static>; 7] = [
 
 /// Dumps, hexadecimal, numbers, base64, JSON with `x5c`, and a mail, of which the first word is base64 of octets that
 /// begin as a SEQUENCE.
-static TEXTS: [Row<'static>; 9] = [
+static TEXTS: [Row<'static>; 12] = [
     (
         b"00000000: 3003 0201 05                             0....\n",
         &[(
@@ -133,6 +133,41 @@ static TEXTS: [Row<'static>; 9] = [
             1,
             b"",
             b"0\x03\x02\x01\x05",
+            BlockState::Whole,
+        )],
+    ),
+    (
+        b" 30 03\r\n'02'-\"01\",\t05",
+        &[(
+            TakenFor::Text(Form::Hex),
+            &[],
+            1,
+            b"",
+            b"0\x03\x02\x01\x05",
+            BlockState::Whole,
+        )],
+    ),
+    // One line is a row of a dump, which is tried before hexadecimal.
+    (
+        b"30 03\n0000 02 01 05\n",
+        &[(
+            TakenFor::Text(Form::Dump),
+            &[],
+            1,
+            b"",
+            b"\x02\x01\x05",
+            BlockState::Whole,
+        )],
+    ),
+    // The only row has neither the offset 0 nor a colon, so it is no dump.
+    (
+        b"30 03 02 01 05\n1000 02 01 05\n",
+        &[(
+            TakenFor::Text(Form::Hex),
+            &[],
+            1,
+            b"",
+            b"0\x03\x02\x01\x05\x10\x00\x02\x01\x05",
             BlockState::Whole,
         )],
     ),

@@ -83,7 +83,7 @@ static OCTETS: [Row<'static>; 8] = [
 ];
 
 /// Texts of no form, among them the output of `sha256sum`.
-static OTHER_TEXTS: [Row<'static>; 5] = [
+static OTHER_TEXTS: [Row<'static>; 6] = [
     (
         b"Hello, world",
         &[(
@@ -102,6 +102,18 @@ static OTHER_TEXTS: [Row<'static>; 5] = [
             &[],
             1,
             b"Hello, world?",
+            b"",
+            BlockState::Absent,
+        )],
+    ),
+    // Pairs, but the first two octets are 00.
+    (
+        b"00 00 30 03",
+        &[(
+            TakenFor::OtherText,
+            &[],
+            1,
+            b"00 00 30 03",
             b"",
             BlockState::Absent,
         )],

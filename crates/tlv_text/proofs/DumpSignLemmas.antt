@@ -143,7 +143,7 @@ offset-none count number (x ∷ text) none =
     (offset-none (count + 1) (number * base Hexadecimal + hex_value x) text (tail-none x text none)) none
 
 -- a row with a pair or a repeat
-abbrev starts : LineKind → Bool
+abbrev pub starts : LineKind → Bool
 starts LineKind.blank = false
 starts LineKind.repeat = true
 starts (LineKind.row r) = has_pair r
@@ -197,19 +197,29 @@ octal-passed LineKind.repeat octal more e = refl
 octal-passed (LineKind.row r) octal more e = rw e refl
 octal-passed LineKind.other octal more e = refl
 
-none-read : (lines : List TextLine) → AreWithout lines → lines_read Hexadecimal lines ≡ refused_with 0
+-- lines of which none is a row with a pair or a repeat
+abbrev pub NoneStarts : List TextLine → Type 0
+NoneStarts [] = Unit {0}
+NoneStarts (line ∷ lines) = (starts (line_kind Hexadecimal line.characters) ≡ false) × NoneStarts lines
+
+pub none-read : (lines : List TextLine) → NoneStarts lines → lines_read Hexadecimal lines ≡ refused_with 0
 none-read [] all = refl
 none-read (line ∷ lines) all =
-    first-passed (line_kind Hexadecimal line.characters) line.left lines (lines_read Hexadecimal lines)
-    (line-none line.characters all.0)
+    first-passed (line_kind Hexadecimal line.characters) line.left lines (lines_read Hexadecimal lines) all.0
     ∙ none-read lines all.1
 
-none-octal : (lines : List TextLine) → AreWithout lines → is_octal_first lines ≡ false
+pub none-octal : (lines : List TextLine) → NoneStarts lines → is_octal_first lines ≡ false
 none-octal [] all = refl
 none-octal (line ∷ lines) all =
-    octal-passed (line_kind Hexadecimal line.characters) (line_kind Octal line.characters) (is_octal_first lines)
-    (line-none line.characters all.0)
+    octal-passed (line_kind Hexadecimal line.characters) (line_kind Octal line.characters) (is_octal_first lines) all.0
     ∙ none-octal lines all.1
+
+none-starts : (lines : List TextLine) → AreWithout lines → NoneStarts lines
+none-starts [] all = tt
+none-starts (line ∷ lines) all = (line-none line.characters all.0, none-starts lines all.1)
+
+lines-none : (text : List ℕ) → NoSign text → NoneStarts (dump_lines text)
+lines-none text none = none-starts (dump_lines text) (lines-without text none)
 
 at-end : (text : List ℕ) → slice_from (length text) text ≡ []
 at-end text = from-on (length text) text ∙ drop-length text
@@ -217,10 +227,10 @@ at-end text = from-on (length text) text ∙ drop-length text
 pub read-at_end : (text : List ℕ) → false ≡ list_any is_row_sign text
     → dump_in Hexadecimal (slice_from (length text) text) ≡ dump_in Hexadecimal text
 read-at_end text none =
-    ap (dump_in Hexadecimal) (at-end text) ∙ sym (none-read (dump_lines text) (lines-without text (sym none)))
+    ap (dump_in Hexadecimal) (at-end text) ∙ sym (none-read (dump_lines text) (lines-none text (sym none)))
 
 pub octal-at_end : (text : List ℕ) → false ≡ list_any is_row_sign text
     → is_octal_first (dump_lines (slice_from (length text) text)) ≡ is_octal_first (dump_lines text)
 octal-at_end text none =
     ap (λ (rest : List ℕ). is_octal_first (dump_lines rest)) (at-end text)
-    ∙ sym (none-octal (dump_lines text) (lines-without text (sym none)))
+    ∙ sym (none-octal (dump_lines text) (lines-none text (sym none)))

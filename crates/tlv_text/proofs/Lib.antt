@@ -21,6 +21,7 @@ pub mod PairRows
 pub mod PemLemmas
 pub mod RunLemmas
 pub mod RunRows
+pub mod SeparatedLemmas
 pub mod Slices
 pub mod SymbolLemmas
 pub mod TableLemmas

@@ -6,12 +6,13 @@ use Rattle.std.specs.Prelude.{if◌then◌else◌, unwrap_or}
 use Rattle.hex.specs.Hex.{is_hex_digit}
 use Rattle.tlv_text.proofs.Slices.{from-on, slice_from}
 use Rattle.tlv_text.proofs.TokenLemmas.{octets-and_more}
+use Rattle.tlv_text.specs.Dump.{begins_digit}
 use Rattle.tlv_text.specs.Pairs.{is_between_pairs, pair_octet, pairs_read}
-use Rattle.tlv_text.specs.Private.PairSteps.{octet_of}
+use Rattle.tlv_text.specs.Private.PairSteps.{are_separated, octet_of}
 use Rattle.tlv_text.specs.TextRead.{TextRead, octets_then}
 
 -- no digit may be between pairs
-digit-not_between : (x : ℕ) → is_hex_digit x ≡ true → is_between_pairs x ≡ false
+pub digit-not_between : (x : ℕ) → is_hex_digit x ≡ true → is_between_pairs x ≡ false
 digit-not_between x e = search rules
 
 some-pair : (both : Bool) (octet value : ℕ) → Some octet ≡ (if both then Some value else None)
@@ -55,19 +56,56 @@ four-read all octets (a ∷ b ∷ c ∷ d ∷ e ∷ f ∷ g ∷ h ∷ more) firs
     ∙ ap (λ (t : List ℕ). octets_then (octets ++ first ∷ second ∷ third ∷ fourth ∷ []) (pairs_read t))
     (sym (from-on 8 (a ∷ b ∷ c ∷ d ∷ e ∷ f ∷ g ∷ h ∷ more)))
 
--- behind so many characters, a pair behind a character between pairs is read after other octets
-pub separated-at : (all : TextRead) (octets text : List ℕ) (k octet : ℕ) → k + 3 ≤ length text
-    → is_between_pairs (slice_index text k) ≡ true
-    → Some octet ≡ octet_of (slice_index text (suc k)) (slice_index text (suc (suc k)))
+-- ---- separated pairs
+
+pub between-no_digit : (x : ℕ) → is_between_pairs x ≡ true → is_hex_digit x ≡ false
+between-no_digit x e = search rules
+
+-- both characters are digits
+octet-digits : (x y octet : ℕ) → Some octet ≡ octet_of x y → (is_hex_digit x ≡ true) × (is_hex_digit y ≡ true)
+octet-digits x y octet e =
+    and_parts _ _ (some-pair (is_hex_digit x && is_hex_digit y) octet (pair_octet x y) e).0
+
+-- what is between pairs is passed over
+between-passed : (x : ℕ) (more : List ℕ) → is_between_pairs x ≡ true → pairs_read (x ∷ more) ≡ pairs_read more
+between-passed x [] e = rw e refl
+between-passed x (y ∷ more) e = rw e refl
+
+pub between-separated : (x : ℕ) (more : List ℕ) → is_between_pairs x ≡ true → are_separated more ≡ true
+    → are_separated (x ∷ more) ≡ true
+between-separated x [] e are = rw e refl
+between-separated x (y ∷ more) e are = rw e are
+
+pub digits-separated : (x y : ℕ) (more : List ℕ) → is_hex_digit x ≡ true → is_hex_digit y ≡ true
+    → begins_digit more ≡ false → are_separated more ≡ true → are_separated (x ∷ y ∷ more) ≡ true
+digits-separated x y more dx dy apart are = rw (digit-not_between x dx, dx, dy, apart, are) refl
+
+pub pair-separated : (x y octet : ℕ) (more : List ℕ) → Some octet ≡ octet_of x y → begins_digit more ≡ false
+    → are_separated more ≡ true → are_separated (x ∷ y ∷ more) ≡ true
+pair-separated x y octet more e apart are =
+    let digits = octet-digits x y octet e in
+    digits-separated x y more digits.0 digits.1 apart are
+
+-- behind so many characters, a pair and a character that may be between pairs are read after other octets
+pub separated-at : (whole : List ℕ) (all : TextRead) (octets text : List ℕ) (k octet : ℕ) → k + 3 ≤ length text
+    → Some octet ≡ octet_of (slice_index text k) (slice_index text (suc k))
+    → is_between_pairs (slice_index text (suc (suc k))) ≡ true
     → all ≡ octets_then octets (pairs_read (drop k text))
-    → all ≡ octets_then (octets ++ octet ∷ []) (pairs_read (drop (suc (suc (suc k))) text))
-separated-at all octets [] k _ three _ _ i = absurd (omega arith)
-separated-at all octets (a ∷ []) zero _ three _ _ i = absurd (omega arith)
-separated-at all octets (a ∷ b ∷ []) zero _ three _ _ i = absurd (omega arith)
-separated-at all octets (between ∷ x ∷ y ∷ more) zero octet three passed p i =
-    let behind : pairs_read (between ∷ x ∷ y ∷ more) ≡ pairs_read (x ∷ y ∷ more) = rw passed refl in
-    i
-    ∙ ap (octets_then octets) (behind ∙ pair-first x y octet more p)
-    ∙ octets-and_more octets (octet ∷ []) (pairs_read more)
-separated-at all octets (x ∷ text) (suc k) octet three passed p i =
-    separated-at all octets text k octet (omega arith) passed p i
+    → (are_separated (drop k text) ≡ true → are_separated whole ≡ true)
+    → (all ≡ octets_then (octets ++ octet ∷ []) (pairs_read (drop (suc (suc (suc k))) text)))
+    × (are_separated (drop (suc (suc (suc k))) text) ≡ true → are_separated whole ≡ true)
+separated-at whole all octets [] k _ three _ _ i j = absurd (omega arith)
+separated-at whole all octets (a ∷ []) zero _ three _ _ i j = absurd (omega arith)
+separated-at whole all octets (a ∷ b ∷ []) zero _ three _ _ i j = absurd (omega arith)
+separated-at whole all octets (x ∷ y ∷ z ∷ more) zero octet three p passed i j =
+    (
+      i
+      ∙ ap (octets_then octets) (pair-first x y octet (z ∷ more) p
+      ∙ ap (octets_then (octet ∷ [])) (between-passed z more passed))
+      ∙ octets-and_more octets (octet ∷ []) (pairs_read more),
+      λ are.
+      j
+      (pair-separated x y octet (z ∷ more) p (between-no_digit z passed) (between-separated z more passed are)),
+    )
+separated-at whole all octets (x ∷ text) (suc k) octet three p passed i j =
+    separated-at whole all octets text k octet (omega arith) p passed i j

@@ -3,7 +3,7 @@ use Rattle.std.specs.Prelude.{◌≡◌, ℕ, ◌+◌, ◌-◌, ◌==◌, Bool, 
 use Rattle.std.specs.Prelude.{List, [], ◌∷◌, length, take, Option, Some, None}
 use Rattle.std.specs.List.{list_any}
 use Rattle.tlv_text.specs.Base64.{ReadsBase64}
-use Rattle.tlv_text.specs.Dump.{dump_limit, dump_read, refused_in}
+use Rattle.tlv_text.specs.Dump.{dump_limit, dump_read, refused_in, refused_with}
 use Rattle.tlv_text.specs.Numbers.{numbers_of}
 use Rattle.tlv_text.specs.Pairs.{pairs_read}
 use Rattle.tlv_text.specs.Pem.{HasNoBlock, IsFirstBlock}
@@ -156,3 +156,11 @@ pub data IsBlocksFault (text : List ℕ) (form : Form) : TextFault → Type 0 wh
   too_long : (bs : List BlockValue) → AreBlocks text form bs → list_any is_too_long bs ≡ true
       → IsBlocksFault text form TooLong
   no_memory : IsBlocksFault text form Memory
+
+-- a text is hexadecimal and neither PEM nor a dump: it has no block of PEM and no row of a dump, so that as a dump it is
+-- refused at its end; and this is its block, which is not too long
+pub record IsHexAlone (text : List ℕ) (b : BlockValue) : Type 0 where
+  pub no_pem : HasNoBlock text
+  pub no_row : dump_read text ≡ refused_with 0
+  pub hex : hex_block text ≡ b
+  pub fits : is_too_long b ≡ false

@@ -1,17 +1,18 @@
 //! The blocks of a text in a form.
 ghost use Rattle.std.specs.List.{list_any};
-ghost use Rattle.std.specs.Prelude.{◌≡◌, [], ◌∷◌, IfErr, IfOk, false, map};
-ghost use Rattle.tlv_text.specs.Blocks.{AreBlocks, IsBlocksFault, block_value, is_too_long, or_absent};
+ghost use Rattle.std.specs.Prelude.{◌≡◌, [], ◌∷◌, IfErr, IfOk, MatchOption, false, map};
+ghost use Rattle.tlv_text.specs.Blocks.{AreBlocks, IsBlocksFault, IsHexAlone, block_value, is_too_long, or_absent};
 
 mod lines;
 mod pem;
 mod runs;
 mod single;
 
-use crate::{Block, Form, TextFault};
+use crate::pairs::separated_octets;
+use crate::{Block, BlockState, Form, TextFault};
 use pem::pem_blocks;
 use runs::run_blocks;
-use single::{absent_block, base64_block, dump_block, hex_block, numbers_block};
+use single::{absent_block, base64_block, dump_block, hex_block, numbers_block, only_block};
 use std::alloc::{AllocError, Global};
 
 /// The maximum number of octets in a block.
@@ -34,6 +35,21 @@ pub fn blocks_of(alloc: Global, form: Form, text: &[u8]) -> Result<Vec<Block>, T
         return Err(TextFault::TooLong);
     }
     Ok(blocks)
+}
+
+/// Returns the block of hexadecimal of a text of pairs, none of which a digit follows at once. Such a text has no block
+/// of PEM and no row of a dump. `None` for another text, or if the block has more than 2^30 octets.
+///
+/// # Errors
+///
+/// `AllocError` if memory for the octets is refused.
+pub fn separated_block(alloc: Global, text: &[u8]) -> Result<Option<Block>, AllocError>
+    ensures { IfOk result (λ block. MatchOption block Unit (λ b. IsHexAlone text.now (block_value b))) }
+{
+    match separated_octets(alloc, text)? {
+        Some(octets) if octets.len() <= LIMIT => Ok(Some(only_block(octets, BlockState::Whole))),
+        _ => Ok(None),
+    }
 }
 
 /// The blocks of a text in a form, however long.

@@ -1,6 +1,7 @@
 //! Hexadecimal digits.
 ghost use Rattle.hex.specs.Hex.{is_hex_digit};
 ghost use Rattle.std.specs.Prelude.{◌≡◌, ◌<◌, ◌≤◌, nat_lt, true};
+ghost use Rattle.tlv_text.specs.Dump.{begins_digit};
 ghost use Rattle.tlv_text.specs.Pairs.{hex_value};
 ghost use Rattle.tlv_text.specs.Private.PairSteps.{octet_of, value_or_256};
 
@@ -31,6 +32,16 @@ pub(crate) fn is_digit(character: u8) -> bool
     ensures { result ≡ is_hex_digit character }
 {
     value_or_256(character) < 16
+}
+
+/// Whether a digit comes first.
+pub(crate) fn begins_digit(text: &[u8]) -> bool
+    ensures { result ≡ begins_digit text.now }
+{
+    match text {
+        [x, ..] => is_digit(*x),
+        [] => false,
+    }
 }
 
 /// The value of a hexadecimal digit.

@@ -14,15 +14,13 @@ mod output;
 mod pairs;
 mod rows;
 
+use crate::digits::begins_digit;
 use crate::{Decoded, TextFault};
 use ahead::{from_first_row, has_pair, is_octal_first, size_in};
 use arrayvec::ArrayVec;
 use lines::{DumpLine, Radix, RowLine, begins_colon, line_of, split_line};
 use output::{Output, add_octets, no_octets};
-use pairs::{
-    DIGITS, Gap, before_pairs, begins_digit, begins_pair, gap_of, row_digits, take_first,
-    take_pairs,
-};
+use pairs::{DIGITS, Gap, before_pairs, begins_pair, gap_of, row_digits, take_first, take_pairs};
 use rows::{LastRow, Phase, take_line};
 use std::alloc::{AllocError, Global};
 

@@ -20,7 +20,7 @@ mod tokens;
 
 pub use base64_text::{Alphabet, decode_base64};
 pub use block::{Block, BlockState, Form};
-pub use blocks::blocks_of;
+pub use blocks::{blocks_of, separated_block};
 pub use body::{PemBody, pem_body};
 pub use decoded::Decoded;
 pub use dump::decode_dump;

@@ -1,11 +1,12 @@
 //! Octets as pairs of hexadecimal digits.
-ghost use Rattle.std.specs.Prelude.{◌≡◌, ◌≤◌, IfOk, OnOk, length};
+ghost use Rattle.std.specs.Prelude.{◌≡◌, ◌≤◌, IfOk, MatchOption, OnOk, length, true};
 ghost use Rattle.tlv_text.specs.Pairs.{is_between_pairs, pairs_read};
+ghost use Rattle.tlv_text.specs.Private.PairSteps.{IsSeparated, are_separated};
 ghost use Rattle.tlv_text.specs.TextRead.{octets_then, refused_at};
 
 use crate::Decoded;
 use crate::decoded::refused_at;
-use crate::digits::octet_of;
+use crate::digits::{begins_digit, octet_of};
 use std::alloc::{AllocError, Global};
 
 /// What may be between pairs, each at its own place, and `@` at every other place.
@@ -33,13 +34,12 @@ pub fn decode_pairs(alloc: Global, text: &[u8]) -> Result<Decoded, AllocError>
     let mut rest = text;
     loop {
         take_four_pairs(&mut rest, &mut octets)?;
+        take_four_separated(&mut rest, &mut octets)?;
         match rest {
             [x, more @ ..] if is_between_pairs(*x) => rest = more,
             [x, y, more @ ..] if let Some(octet) = octet_of(*x, *y) => {
                 octets.push(octet)?;
                 rest = more;
-                take_four_separated(&mut rest, &mut octets)?;
-                take_separated(&mut rest, &mut octets)?;
             }
             _ => {
                 return Ok(Decoded {
@@ -72,22 +72,25 @@ fn take_four_pairs(text: &mut &[u8], octets: &mut Vec<u8>) -> Result<(), AllocEr
     Ok(())
 }
 
-/// Takes pairs, each with one character before it that may be between pairs, four at a time, and adds their octets.
+/// Takes the leading pairs of a text, each with one character after it that may be between pairs, four at a time, and
+/// adds their octets. It is inlined, so that its callers keep the place in the vector in a register.
+#[inline(always)]
 fn take_four_separated(text: &mut &[u8], octets: &mut Vec<u8>) -> Result<(), AllocError>
     ensures read { OnOk result (octets_then octets.old.items (pairs_read text.old.now)
         ≡ octets_then octets.new.items (pairs_read text.new.now)) }
+    ensures apart { are_separated text.new.now ≡ true → are_separated text.old.now ≡ true }
     ensures less { length text.new.now ≤ length text.old.now }
 {
     let mut rest = *text;
     while let [a, b, c, d, e, f, g, h, i, j, k, l, more @ ..] = rest
-        && is_between_pairs(*a)
-        && is_between_pairs(*d)
-        && is_between_pairs(*g)
-        && is_between_pairs(*j)
-        && let Some(first) = octet_of(*b, *c)
-        && let Some(second) = octet_of(*e, *f)
-        && let Some(third) = octet_of(*h, *i)
-        && let Some(fourth) = octet_of(*k, *l)
+        && is_between_pairs(*c)
+        && is_between_pairs(*f)
+        && is_between_pairs(*i)
+        && is_between_pairs(*l)
+        && let Some(first) = octet_of(*a, *b)
+        && let Some(second) = octet_of(*d, *e)
+        && let Some(third) = octet_of(*g, *h)
+        && let Some(fourth) = octet_of(*j, *k)
     {
         octets.extend_from_slice(&[first, second, third, fourth])?;
         rest = more;
@@ -96,22 +99,24 @@ fn take_four_separated(text: &mut &[u8], octets: &mut Vec<u8>) -> Result<(), All
     Ok(())
 }
 
-/// Takes pairs, each with one character before it that may be between pairs, and adds their octets.
-fn take_separated(text: &mut &[u8], octets: &mut Vec<u8>) -> Result<(), AllocError>
-    ensures read { OnOk result (octets_then octets.old.items (pairs_read text.old.now)
-        ≡ octets_then octets.new.items (pairs_read text.new.now)) }
-    ensures less { length text.new.now ≤ length text.old.now }
+/// Decodes a text of pairs of which none is followed by a digit at once. `None` for another text.
+pub(crate) fn separated_octets(alloc: Global, text: &[u8]) -> Result<Option<Vec<u8>>, AllocError>
+    ensures { IfOk result (λ octets. MatchOption octets Unit (λ o. IsSeparated text.now o.items)) }
 {
-    let mut rest = *text;
-    while let [between, x, y, more @ ..] = rest
-        && is_between_pairs(*between)
-        && let Some(octet) = octet_of(*x, *y)
-    {
-        octets.push(octet)?;
-        rest = more;
+    let mut octets = Vec::new(alloc);
+    let mut rest = text;
+    loop {
+        take_four_separated(&mut rest, &mut octets)?;
+        match rest {
+            [] => return Ok(Some(octets)),
+            [x, more @ ..] if is_between_pairs(*x) => rest = more,
+            [x, y, more @ ..] if !begins_digit(more) && let Some(octet) = octet_of(*x, *y) => {
+                octets.push(octet)?;
+                rest = more;
+            }
+            _ => return Ok(None),
+        }
     }
-    *text = rest;
-    Ok(())
 }
 
 /// Whether this may be between pairs.

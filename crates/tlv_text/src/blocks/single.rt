@@ -93,7 +93,7 @@ fn decoded_block(text: &[u8], decoded: Decoded) -> Block
 }
 
 /// A block from the first line on, without a label.
-fn only_block(octets: Vec<u8>, state: BlockState) -> Block
+pub(super) fn only_block(octets: Vec<u8>, state: BlockState) -> Block
     ensures { block_value result ≡ only_block octets.items state }
 {
     Block {

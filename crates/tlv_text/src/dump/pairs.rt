@@ -7,7 +7,7 @@ ghost use Rattle.tlv_text.specs.Private.PairSteps.{AreWholePairs, pair_octets};
 ghost use Rattle.tlv_text.specs.TextRead.{nothing_read, octets_then};
 
 use super::lines::{after_blanks, begins_colon, is_blank};
-use crate::digits::is_digit;
+use crate::digits::{begins_digit, is_digit};
 use arrayvec::ArrayVec;
 
 /// The maximum number of digits in a row.
@@ -164,15 +164,5 @@ pub(super) fn begins_pair(text: &[u8]) -> bool
     match text {
         [x, y, ..] => is_digit(*x) && is_digit(*y),
         _ => false,
-    }
-}
-
-/// Whether a digit comes first.
-pub(super) fn begins_digit(text: &[u8]) -> bool
-    ensures { result ≡ begins_digit text.now }
-{
-    match text {
-        [x, ..] => is_digit(*x),
-        [] => false,
     }
 }

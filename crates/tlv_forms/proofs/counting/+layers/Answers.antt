@@ -1,4 +1,5 @@
-use Rattle.std.proofs.Common.{◌≡◌, ◌+◌, ◌∷◌, ◌++◌, ◌∙◌, [], List, ap, append_assoc, arith, length, map, subst, sym}
+use Rattle.std.proofs.Common.{◌≡◌, ◌+◌, ◌∷◌, ◌++◌, ◌∙◌, [], List, ap, append_assoc, arith, length, map, rules}
+use Rattle.std.proofs.Common.{subst, sym}
 use Rattle.std.specs.List.{All}
 use Rattle.std.specs.Vec.Iter.{into_iter_items}
 use Rattle.std.proofs.lemmas.List.{length-map, nil_from_length}
@@ -11,10 +12,10 @@ use Rattle.tlv_forms.proofs.CountLemmas.{next-fit}
 use Rattle.tlv_forms.proofs.CountingLemmas.{among-text, base64-broken, base64-counts, blocks-text, counts-encodings}
 use Rattle.tlv_forms.proofs.CountingLemmas.{counts-nothing, counts-other, counts-text, memory-is_fault, next-among}
 use Rattle.tlv_forms.proofs.CountingLemmas.{octets-none, returned-fault, octets-some, written-back}
-use Rattle.tlv_forms.proofs.FormLemmas.{first-here, first-later, first-none, inner-control, inner-text, kept-count}
-use Rattle.tlv_forms.proofs.FormLemmas.{more-bounded, runs-done, runs-next}
+use Rattle.tlv_forms.proofs.FormLemmas.{first-here, first-later, first-none, hex-first, inner-control, inner-text}
+use Rattle.tlv_forms.proofs.FormLemmas.{kept-count, more-bounded, runs-done, runs-next}
 use Rattle.tlv_forms.proofs.InputLemmas.{none-taken, text-is}
-use Rattle.tlv_text.specs.Blocks.{block_value}
+use Rattle.tlv_text.specs.Blocks.{IsHexAlone, block_value}
 use Rattle.tlv_text.specs.declared.block.Form.TheVariants.{Pem}
 use Rattle.tlv_text.specs.declared.text_fault.TextFault.TheVariants.{Memory}
 use Rattle.tlv_forms.proofs.counting.+layers.Goals as goal
@@ -168,10 +169,26 @@ counted_runs-returns-clause-taken t c =
     runs-done (TextBlocks c.args.layers) _ _ c.args.blocks.items at.taken.items empty
     c.into_iter-block-iterator.ensures.into_iter_gives.0 at.invariant.onward
 
+pub first_blocks-returns-in_err-block-clause-fault :
+    goal.first_blocks-returns-in_err-block-clause-fault
+first_blocks-returns-in_err-block-clause-fault t c =
+    returned-fault _ Memory _ c.from_residual.ensures.1 (λ octets is. memory-is_fault octets)
+
+pub first_blocks-returns-in_err-one_taken-clause-fault :
+    goal.first_blocks-returns-in_err-one_taken-clause-fault
+first_blocks-returns-in_err-one_taken-clause-fault t c =
+    returned-fault _ Memory _ c.from_residual-in_err-one_taken.ensures.1 (λ octets is. memory-is_fault octets)
+
+pub first_blocks-returns-clause-taken : goal.first_blocks-returns-clause-taken
+first_blocks-returns-clause-taken t c =
+    let alone : IsHexAlone c.args.text.now (block_value c.in-Some.block) = search rules in
+    hex-first (TextBlocks c.args.layers) c.args.text.now (block_value c.in-Some.block) _ c.taken_as.result alone
+    (sym c.is_kept.ensures ∙ c.if-is_kept.true) c.in_ok-one_taken.ensures c.taken_as.ensures.value
+
 pub first_blocks-returns-in_err-blocks-clause-fault :
     goal.first_blocks-returns-in_err-blocks-clause-fault
 first_blocks-returns-in_err-blocks-clause-fault t c =
-    returned-fault _ c.in_err-blocks.field-0.0 _ c.from_residual.ensures.1
+    returned-fault _ c.in_err-blocks.field-0.0 _ c.from_residual-in_err-blocks.ensures.1
     (blocks-text c.args.text.now _ _ c.in_err-blocks.ensures.fault)
 
 pub first_blocks-returns-in_err-taken-clause-fault :
@@ -197,8 +214,8 @@ first_blocks-loop-form-preserved t c = λ others rests.
     c.loop-form-test.true c.in_ok-blocks.ensures.blocks c.in_ok-taken.ensures.taken taken.ok.0
     (sym c.is_empty.ensures ∙ c.if-not-is_empty.false) rests)
 
-pub first_blocks-returns-clause-taken : goal.first_blocks-returns-clause-taken
-first_blocks-returns-clause-taken t c =
+pub first_blocks-returns-2-clause-taken : goal.first_blocks-returns-2-clause-taken
+first_blocks-returns-2-clause-taken t c =
     c.loop-form.invariant _
     (first-none (TextBlocks c.args.layers) c.args.text.now all_forms c.loop-form.form-index c.new.result.items
     c.loop-form-test.false c.new.ensures.items)
