@@ -8,7 +8,7 @@ use Rattle.tlv_head.specs.declared.header.Size.TheVariants.{Definite}
 use Rattle.tlv_head.specs.Header.{HeaderValue}
 use Rattle.tlv_head.specs.declared.kind.Kind.TheVariants.{Integer, Text}
 use Rattle.tlv_value.specs.declared.layout.Layout.{Layout}
-use Rattle.tlv_value.specs.ValueLines.{open_lines_with, row_lines, whole_lines, whole_lines_with}
+use Rattle.tlv_value.specs.ValueLines.{open_lines_with, shown_row_lines, whole_lines, whole_lines_with}
 use Rattle.tlv_value.specs.Value.{no_names, octets_value, row_text}
 
 three-letters : (octets_value true (codes "abc")).text ≡ codes " 61 62 63  |abc|"
@@ -84,7 +84,7 @@ in-rows : whole_lines_with true no_names (zero_header 17) all_rows (codes "01234
 unfolding encode_with digits
 in-rows = refl
 
-rows-left-out : row_lines true Integer one_row 0 (codes "abc" ∷ codes "def" ∷ codes "ghi" ∷ [])
+rows-left-out : shown_row_lines true Integer one_row (codes "abc" ∷ codes "def" ∷ codes "ghi" ∷ [])
     ≡ codes "                   61 62 63  |abc|\n" ++ codes "                   ...\n"
 unfolding encode_with
 rows-left-out = refl

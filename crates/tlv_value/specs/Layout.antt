@@ -1,7 +1,6 @@
 -- The lines of a dump: what begins them, and what is left out.
-use Rattle.std.specs.Prelude.{ℕ, ◌+◌, ◌*◌, eqb, nat_lt, if◌then◌else◌, List, [], ◌∷◌, ◌++◌, Option, Some, None}
-use Rattle.std.specs.Prelude.{codes}
-use Rattle.std.specs.Option.{option_map_or}
+use Rattle.std.specs.Prelude.{ℕ, ◌+◌, ◌*◌, nat_lt, if◌then◌else◌, List, [], ◌∷◌, ◌++◌, length, take, Option, Some}
+use Rattle.std.specs.Prelude.{None, codes}
 use Rattle.tlv_value.specs.declared.layout.Layout.{Layout}
 pub use Rattle.tlv_io.specs.LineTexts.{columns, at_right, spaces}
 
@@ -21,13 +20,8 @@ line layout first text = margin layout first ++ text ++ 10 ∷ []
 abbrev pub inner_line : Layout → List ℕ → List ℕ
 inner_line layout text = line (record layout { level = layout.level + 1 }) blank_columns text
 
--- the row with this number, counted from 0: from the limit on, the first row is three dots, and the rest have no line
-abbrev pub row_by_limit : Option ℕ → ℕ → List ℕ → Option (List ℕ)
-row_by_limit None i text = Some text
-row_by_limit (Some limit) i text =
-    if nat_lt i limit then Some text
-    else if eqb i limit then Some (codes "...")
-    else None
-
-abbrev pub row_line : Layout → ℕ → List ℕ → List ℕ
-row_line layout i text = option_map_or (inner_line layout) (row_by_limit layout.limit i text) []
+-- the rows that are shown: all of them, or, if there are more rows than the limit, as many as the limit and three dots
+abbrev pub shown_rows : Option ℕ → List (List ℕ) → List (List ℕ)
+shown_rows None rows = rows
+shown_rows (Some limit) rows =
+    if nat_lt limit (length rows) then take limit rows ++ codes "..." ∷ [] else rows

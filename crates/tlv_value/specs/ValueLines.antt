@@ -1,12 +1,12 @@
 -- The lines of a primitive that is whole, and of one whose contents are still to come.
-use Rattle.std.specs.Prelude.{ℕ, ◌+◌, ◌&&◌, Bool, true, false, if◌then◌else◌, List, [], ◌∷◌, ◌++◌, decimal}
+use Rattle.std.specs.Prelude.{◌&&◌, Bool, true, false, if◌then◌else◌, List, [], ◌++◌, ℕ, decimal, flat_map, map}
 use Rattle.tlv_head.specs.Header.{HeaderValue, announced_length}
 use Rattle.tlv_head.specs.Tag.{tag_text}
 use Rattle.tlv_head.specs.declared.kind.Kind.{Kind}
 use Rattle.tlv_head.specs.declared.kind.Kind.TheVariants.{Bits}
 use Rattle.tlv_value.specs.declared.layout.Layout.{Layout}
 use Rattle.tlv_head.specs.Kind.{kind_of}
-use Rattle.tlv_value.specs.Layout.{columns, line, row_line}
+use Rattle.tlv_value.specs.Layout.{columns, inner_line, line, shown_rows}
 use Rattle.tlv_value.specs.Value.{NameOf, Value, is_long, long_value, row_text, whole_value}
 
 -- the kind of the element's type
@@ -20,17 +20,16 @@ has_line kind octets = true
 
 -- the argument says whether text is shown beside pairs of digits
 module _ (with_text : Bool) where
-  -- the lines of rows in order; the first row has this number
-  abbrev pub row_lines : Kind → Layout → ℕ → List (List ℕ) → List ℕ
-  row_lines kind layout i [] = []
-  row_lines kind layout i (row ∷ rows) =
-      row_line layout i (row_text with_text kind row) ++ row_lines kind layout (i + 1) rows
+  -- the lines of the rows that are shown
+  abbrev pub shown_row_lines : Kind → Layout → List (List ℕ) → List ℕ
+  shown_row_lines kind layout rows =
+      flat_map (inner_line layout) (shown_rows layout.limit (map (row_text with_text kind) rows))
 
   -- the element's line, with its offset, its length, its tag and its value, and the lines of its rows
   abbrev pub value_lines : HeaderValue → Layout → Value → List ℕ
   value_lines h layout value =
       line layout (columns h.offset (decimal (announced_length h.size))) (tag_text h.class h.number ++ value.text)
-      ++ row_lines (header_kind h) layout 0 value.rows
+      ++ shown_row_lines (header_kind h) layout value.rows
 
   -- the lines of a primitive that is whole
   abbrev pub whole_lines_with : NameOf → HeaderValue → Layout → List ℕ → List ℕ

@@ -1,6 +1,7 @@
 -- What is kept of the contents of a primitive between their pieces, and the lines that are known with each piece.
-use Rattle.std.specs.Prelude.{ℕ, ◌+◌, ◌-◌, Bool, true, false, if◌then◌else◌, List, [], ◌∷◌, ◌++◌, length, None}
-use Rattle.std.specs.Prelude.{decimal}
+use Rattle.std.specs.Prelude.{ℕ, ◌+◌, ◌-◌, Bool, true, false, eqb, nat_lt, if◌then◌else◌, List, [], ◌∷◌, ◌++◌, length}
+use Rattle.std.specs.Prelude.{Option, Some, None, codes, decimal}
+use Rattle.std.specs.Option.{option_map_or}
 use Rattle.tlv_head.specs.declared.header.Class.TheVariants.{Private}
 use Rattle.tlv_head.specs.Header.{HeaderValue, announced_length}
 use Rattle.tlv_head.specs.Tag.{tag_text}
@@ -8,11 +9,11 @@ use Rattle.tlv_io.specs.Cuts.{last_rows}
 use Rattle.tlv_head.specs.declared.kind.Kind.{Kind}
 use Rattle.tlv_head.specs.declared.kind.Kind.TheVariants.{Octets}
 use Rattle.tlv_value.specs.declared.layout.Layout.{Layout}
-use Rattle.tlv_value.specs.Layout.{columns, line}
+use Rattle.tlv_value.specs.Layout.{columns, inner_line, line}
 use Rattle.tlv_value.specs.declared.primitive.Primitive.{Primitive}
 use Rattle.tlv_value.specs.Rows.{full_rows, open_row}
-use Rattle.tlv_value.specs.ValueLines.{has_line, header_kind, row_lines}
-use Rattle.tlv_value.specs.Value.{NameOf, is_long, long_text, row_octets, short_value}
+use Rattle.tlv_value.specs.ValueLines.{has_line, header_kind, shown_row_lines}
+use Rattle.tlv_value.specs.Value.{NameOf, is_long, long_text, row_octets, row_text, short_value}
 
 -- what is kept: for a long value, whether its line was put, the number of rows that were full, and the octets of the
 -- row that has begun; for any other value, all octets
@@ -88,6 +89,24 @@ kept_contents_after_line kind k octets = record {
   row = open_row kind k.row octets;
 }
 
+-- what is shown of a row with this number of rows before it: the row itself if these are fewer than the limit, three
+-- dots if they are as many, and nothing if they are more
+abbrev pub row_by_limit : Option ℕ → ℕ → List ℕ → Option (List ℕ)
+row_by_limit None i text = Some text
+row_by_limit (Some limit) i text =
+    if nat_lt i limit then Some text
+    else if eqb i limit then Some (codes "...")
+    else None
+
+abbrev pub row_line : Layout → ℕ → List ℕ → List ℕ
+row_line layout i text = option_map_or (inner_line layout) (row_by_limit layout.limit i text) []
+
+-- the lines of rows in order, with this number of rows before them; for 0, `shown_row_lines`
+abbrev pub row_lines : Bool → Kind → Layout → ℕ → List (List ℕ) → List ℕ
+row_lines with_text kind layout i [] = []
+row_lines with_text kind layout i (row ∷ rows) =
+    row_line layout i (row_text with_text kind row) ++ row_lines with_text kind layout (i + 1) rows
+
 -- the lines of the rows that are full with more octets
 abbrev pub full_row_lines : Bool → Kind → Layout → KeptContents → List ℕ → List ℕ
 full_row_lines with_text kind layout k octets =
@@ -152,7 +171,7 @@ contents_lines s octets =
 abbrev pub primitive_lines : NameOf → Primitive → List ℕ → List ℕ
 primitive_lines name_of p octets =
     primitive_line p (short_value p.with_text name_of p.kind octets).text
-    ++ row_lines p.with_text p.kind p.layout 0 (short_value p.with_text name_of p.kind octets).rows
+    ++ shown_row_lines p.with_text p.kind p.layout (short_value p.with_text name_of p.kind octets).rows
 
 -- the lines that are known with the end
 abbrev pub end_lines : NameOf → ValueTextState → List ℕ

@@ -14,15 +14,16 @@ use Rattle.tlv_head.specs.declared.kind.Kind.TheVariants.{Ucs2, Ucs4}
 use Rattle.tlv_value.specs.declared.layout.Layout.{Layout}
 use Rattle.tlv_value.specs.RowSizes.{character_length, row_size}
 use Rattle.tlv_head.specs.Kind.{is_text}
-use Rattle.tlv_value.specs.Layout.{row_line, spaces}
+use Rattle.tlv_value.specs.Layout.{spaces}
 use Rattle.tlv_value.specs.Private.Room.{HaveRoom}
 use Rattle.tlv_value.specs.Private.Rows.{pair_row_line, pair_row_lines, row_margin}
 use Rattle.tlv_value.specs.Rows.{rows_of}
 use Rattle.tlv_value.proofs.RowLemmas.FilledRows.{row_begun, rows-filled, rows_filled}
-use Rattle.tlv_value.specs.ValueLines.{row_lines}
+use Rattle.tlv_value.specs.ValueLines.{shown_row_lines}
+use Rattle.tlv_value.specs.ValueTextState.{row_line, row_lines}
 use Rattle.tlv_value.specs.Private.UndottedText.{line_pairs}
 use Rattle.tlv_value.specs.Value.{row_text}
-use Rattle.tlv_value.proofs.TextLemmas.RowLines.{row_lines-append}
+use Rattle.tlv_value.proofs.TextLemmas.RowLines.{row_lines-all, row_lines-append}
 use Rattle.tlv_value.proofs.RowLemmas.RowSteps.{rest-stays_in_row, next_row}
 
 -- ---- kinds whose rows have 16 octets
@@ -125,10 +126,12 @@ module _ (kind : Kind) (short : row_size kind ≡ 16) where
 
 -- the lines of all rows, if there is no limit to them
 pub pair_lines : (kind : Kind) → row_size kind ≡ 16 → (with_text : Bool) (layout : Layout) → layout.limit ≡ None → (octets : List ℕ)
-    → pair_row_lines with_text layout (rows_of Octets octets) ≡ row_lines with_text kind layout 0 (rows_of kind octets)
+    → pair_row_lines with_text layout (rows_of Octets octets)
+    ≡ shown_row_lines with_text kind layout (rows_of kind octets)
 pair_lines kind short with_text layout endless octets =
     ap (pair_row_lines with_text layout) (rows_cut Octets refl octets ∙ sym (rows_cut kind short octets))
     ∙ sym (lines_of kind short with_text layout endless 0 (rows_of kind octets))
+    ∙ row_lines-all with_text kind layout (rows_of kind octets)
 
 -- ---- the line of a full row
 

@@ -11,9 +11,10 @@ use Rattle.tlv_value.specs.declared.layout.Layout.{Layout}
 use Rattle.tlv_value.specs.Arcs.{dotted_of}
 use Rattle.tlv_value.specs.Private.ObjectLines.{object_lines, octets_lines}
 use Rattle.tlv_value.specs.Rows.{rows_of}
-use Rattle.tlv_value.specs.ValueLines.{row_lines}
+use Rattle.tlv_value.specs.ValueLines.{shown_row_lines}
 use Rattle.tlv_value.specs.Private.UndottedText.{line_pairs}
 use Rattle.tlv_value.specs.Value.{NameOf}
+use Rattle.tlv_value.proofs.TextLemmas.RowLines.{no-row_lines}
 
 -- a text, if there is one
 pub some_text : (d : Option (List ℕ)) → is_some d ≡ true → d ≡ Some (unwrap_or d [])
@@ -31,13 +32,19 @@ after_space old new text n e at =
     take_all (length new - n) (drop n new) (omega (arith, length-drop n new)) ∙ ap (λ (l : List ℕ). drop n l) e
     ∙ ap (λ (k : ℕ). drop k (old ++ 32 ∷ text)) at ∙ drop-append-add old (32 ∷ text) 1
 
+-- a text with no rows below it
+no_rows_below : (with_text : Bool) (layout : Layout) (text : List ℕ)
+    → text ++ shown_row_lines with_text Octets layout [] ≡ text
+no_rows_below with_text layout text =
+    ap (λ (l : List ℕ). text ++ l) (no-row_lines with_text Octets layout) ∙ append-nil text
+
 module _ (with_text : Bool) (name_of : NameOf) (layout : Layout) (relative : Bool) (contents : List ℕ) where
   -- a dotted text with a name
   pub object_named : (text name : List ℕ) → dotted_of relative contents ≡ Some text → name_of text ≡ Some name
       → (32 ∷ text) ++ (32 ∷ 40 ∷ (name ++ 41 ∷ 10 ∷ [])) ≡ object_lines with_text name_of layout relative contents
   object_named text name d n =
       rw (d, n) (sym
-      (append-nil ((32 ∷ (text ++ (32 ∷ 40 ∷ (name ++ 41 ∷ [])))) ++ 10 ∷ [])
+      (no_rows_below with_text layout ((32 ∷ (text ++ (32 ∷ 40 ∷ (name ++ 41 ∷ [])))) ++ 10 ∷ [])
       ∙ append_assoc (32 ∷ text) (32 ∷ 40 ∷ (name ++ 41 ∷ [])) (10 ∷ [])
       ∙ ap (λ (l : List ℕ). (32 ∷ text) ++ (32 ∷ 40 ∷ l)) (append_assoc name (41 ∷ []) (10 ∷ []))))
 
@@ -47,7 +54,7 @@ module _ (with_text : Bool) (name_of : NameOf) (layout : Layout) (relative : Boo
   object_unnamed text d n =
       rw (d, n)
       (sym
-      (append-nil ((32 ∷ (text ++ [])) ++ 10 ∷ [])
+      (no_rows_below with_text layout ((32 ∷ (text ++ [])) ++ 10 ∷ [])
       ∙ ap (λ (l : List ℕ). (32 ∷ l) ++ 10 ∷ []) (append-nil text)))
 
   -- no dotted text
@@ -60,9 +67,10 @@ pub octets_short : (with_text : Bool) (layout : Layout) (contents : List ℕ) �
     → line_pairs with_text contents ++ 10 ∷ [] ≡ octets_lines with_text layout contents
 octets_short with_text layout contents few =
     let b : nat_le (length contents) 16 ≡ true =
-    grind (arith, nat_tests) in rw b (sym (append-nil (line_pairs with_text contents ++ 10 ∷ [])))
+    grind (arith, nat_tests) in rw b (sym (no_rows_below with_text layout (line_pairs with_text contents ++ 10 ∷ [])))
 
 -- and in rows
 pub octets_long : (with_text : Bool) (layout : Layout) (contents : List ℕ) → 17 ≤ length contents
-    → (10 ∷ []) ++ row_lines with_text Octets layout 0 (rows_of Octets contents) ≡ octets_lines with_text layout contents
+    → (10 ∷ []) ++ shown_row_lines with_text Octets layout (rows_of Octets contents)
+    ≡ octets_lines with_text layout contents
 octets_long with_text layout contents many = let b : nat_le (length contents) 16 ≡ false = grind (arith, nat_tests) in rw b refl

@@ -13,16 +13,16 @@ use Rattle.tlv_head.specs.Kind.{kind_of}
 use Rattle.tlv_value.specs.Laws.{LinesBegin, LinesEnd, LinesGoOn, PiecesJoin}
 use Rattle.tlv_value.specs.Rows.{full_rows, full_rows_in, open_row, open_row_in, rows_of}
 use Rattle.tlv_value.specs.Private.PrimitiveLines.{lines_in_steps}
-use Rattle.tlv_value.specs.ValueLines.{has_line, open_lines_with, row_lines, whole_lines_with}
+use Rattle.tlv_value.specs.ValueLines.{has_line, open_lines_with, shown_row_lines, whole_lines_with}
 use Rattle.tlv_value.specs.ValueTextState.{KeptContents, ValueTextState, begin_lines, contents_lines, end_lines}
 use Rattle.tlv_value.specs.ValueTextState.{kept_contents_with_line, kept_contents_before_line, full_row_lines}
 use Rattle.tlv_value.specs.ValueTextState.{new_value_text_of}
 use Rattle.tlv_value.specs.ValueTextState.{new_value_text_with, primitive_line, primitive_lines, new_primitive}
-use Rattle.tlv_value.specs.ValueTextState.{kept_contents_after_line}
+use Rattle.tlv_value.specs.ValueTextState.{kept_contents_after_line, row_lines}
 use Rattle.tlv_value.specs.ValueTextState.{kept_contents_after, value_text_for, value_text_after}
 use Rattle.tlv_value.specs.Value.{NameOf, is_long, long_text, long_value, row_octets, short_value}
 use Rattle.std.proofs.lemmas.Bool.Decides.{nat_tests}
-use Rattle.tlv_value.proofs.TextLemmas.RowLines.{row_lines-append}
+use Rattle.tlv_value.proofs.TextLemmas.RowLines.{row_lines-all, row_lines-append}
 use Rattle.tlv_value.proofs.RowLemmas.FilledRows.{rows-filled}
 use Rattle.tlv_value.proofs.RowLemmas.OneCut.{rows-join, rows-parts}
 
@@ -150,6 +150,19 @@ module _ (with_text : Bool) (layout : Layout) (line : List ℕ → List ℕ) (si
       then line (long_text kind size octets) ++ row_lines with_text kind layout 0 (full_rows kind [] (row_octets kind octets))
       else []
 
+  -- as the definition says it, from all rows that are known
+  abbrev known_at : Kind → Bool → List ℕ → List ℕ
+  known_at kind long octets =
+      if long && has_line kind octets
+      then line (long_text kind size octets)
+      ++ shown_row_lines with_text kind layout (full_rows kind [] (row_octets kind octets))
+      else []
+
+  known-open : (kind : Kind) (long : Bool) (octets : List ℕ) → known_at kind long octets ≡ open_at kind long octets
+  known-open kind long octets =
+      ap (λ (t : List ℕ). if long && has_line kind octets then line (long_text kind size octets) ++ t else [])
+      (sym (row_lines-all with_text kind layout (full_rows kind [] (row_octets kind octets))))
+
   abbrev OpenIsNew : Kind → Bool → List ℕ → Type 0
   OpenIsNew kind long octets =
       open_at kind long octets
@@ -174,14 +187,14 @@ module _ (with_text : Bool) (layout : Layout) (line : List ℕ → List ℕ) (si
   abbrev whole_at : NameOf → Kind → Bool → List ℕ → List ℕ
   whole_at name_of kind long octets =
       line (if long then long_value true kind size octets else short_value with_text name_of kind octets).text
-      ++ row_lines with_text kind layout 0
+      ++ shown_row_lines with_text kind layout
       (if long then long_value true kind size octets else short_value with_text name_of kind octets).rows
 
   abbrev ended_at : NameOf → Kind → Bool → KeptContents → List ℕ
   ended_at name_of kind long k =
       if long then row_lines with_text kind layout k.row_count (last_rows k.row)
       else line (short_value with_text name_of kind k.row).text
-      ++ row_lines with_text kind layout 0 (short_value with_text name_of kind k.row).rows
+      ++ shown_row_lines with_text kind layout (short_value with_text name_of kind k.row).rows
 
   abbrev WholeIsEnded : NameOf → Kind → Bool → List ℕ → Type 0
   WholeIsEnded name_of kind long octets =
@@ -191,13 +204,14 @@ module _ (with_text : Bool) (layout : Layout) (line : List ℕ → List ℕ) (si
       (kept_by with_text kind layout line size long (has_line kind []) (begin_kept kind) octets)
 
   last-after : (kind : Kind) (first octets : List ℕ)
-      → first ++ row_lines with_text kind layout 0 (rows_of kind octets)
+      → first ++ shown_row_lines with_text kind layout (rows_of kind octets)
       ≡ (first ++ row_lines with_text kind layout 0 (full_rows kind [] octets))
       ++ row_lines with_text kind layout (0 + length (full_rows kind [] octets)) (last_rows (open_row kind [] octets))
   last-after kind first octets =
       let full = full_rows kind [] octets in
       let last = last_rows (open_row kind [] octets) in
-      ap (λ (rows : List (List ℕ)). first ++ row_lines with_text kind layout 0 rows) (rows-parts kind octets)
+      ap (λ (t : List ℕ). first ++ t) (sym (row_lines-all with_text kind layout (rows_of kind octets)))
+      ∙ ap (λ (rows : List (List ℕ)). first ++ row_lines with_text kind layout 0 rows) (rows-parts kind octets)
       ∙ ap (λ (t : List ℕ). first ++ t) (row_lines-append with_text kind layout 0 full last)
       ∙ sym (append_assoc first (row_lines with_text kind layout 0 full) (row_lines with_text kind layout (0 + length full) last))
 
@@ -237,7 +251,9 @@ pub open-lines : (with_text : Bool) (h : HeaderValue) (layout : Layout) (octets 
     → open_lines_with with_text h layout octets
     ≡ begin_lines (new_value_text_with with_text h layout) ++ contents_lines (new_value_text_with with_text h layout) octets
 open-lines with_text h layout octets =
-    open-new with_text layout (line_for with_text h layout) (size_of h.size) (kind_of h.class h.number)
+    known-open with_text layout (line_for with_text h layout) (size_of h.size) (kind_of h.class h.number)
+    (is_long (kind_of h.class h.number) (size_of h.size)) octets
+    ∙ open-new with_text layout (line_for with_text h layout) (size_of h.size) (kind_of h.class h.number)
     (is_long (kind_of h.class h.number) (size_of h.size)) octets
     ∙ ap (λ (t : List ℕ). begin_lines (new_value_text_with with_text h layout) ++ t) (new_by-new (new_value_text_with with_text h layout) octets)
 
@@ -298,7 +314,7 @@ long-some kind n size e h = grind (arith, nat_tests)
 abbrev whole_by : Bool → Layout → (List ℕ → List ℕ) → NameOf → Kind → ℕ → List ℕ → List ℕ
 whole_by with_text layout line name_of kind n octets =
     line (if is_long kind n then long_value true kind n octets else short_value with_text name_of kind octets).text
-    ++ row_lines with_text kind layout 0
+    ++ shown_row_lines with_text kind layout
     (if is_long kind n then long_value true kind n octets else short_value with_text name_of kind octets).rows
 
 pub lines-end : LinesEnd
@@ -307,7 +323,12 @@ lines-end with_text name_of h layout octets e =
     let w =
     whole-ended with_text layout (line_for with_text h layout) (size_of h.size) name_of kind (is_long kind (size_of h.size)) octets
     (long-some kind (length octets) (size_of h.size) (sym e)) in
-    ap (λ (n : ℕ). whole_by with_text layout (line_for with_text h layout) name_of kind n octets) (sym e) ∙ w
+    let k =
+    known-open with_text layout (line_for with_text h layout) (size_of h.size) kind (is_long kind (size_of h.size))
+    octets in
+    ap (λ (n : ℕ). whole_by with_text layout (line_for with_text h layout) name_of kind n octets) (sym e)
+    ∙ w
+    ∙ ap (λ (t : List ℕ). t ++ end_lines name_of (value_text_for with_text h layout octets)) (sym k)
 
 -- a primitive written with its header, its contents and its end has the lines of the whole
 pub whole-new : (with_text : Bool) (name_of : NameOf) (h : HeaderValue) (layout : Layout) (c : List ℕ) → HasAllContents h c
@@ -323,7 +344,8 @@ whole-new with_text name_of h layout c e =
 
 -- so has a long one: its line, and its rows
 pub new-long : (name_of : NameOf) (p : Primitive) (c : List ℕ) → is_long p.kind p.size ≡ true → length c ≡ p.size
-    → primitive_line p (long_text p.kind p.size c) ++ row_lines p.with_text p.kind p.layout 0 (rows_of p.kind (row_octets p.kind c))
+    → primitive_line p (long_text p.kind p.size c)
+    ++ shown_row_lines p.with_text p.kind p.layout (rows_of p.kind (row_octets p.kind c))
     ≡ lines_in_steps name_of (new_value_text_of p) c
 new-long name_of p c long e =
     let s : ValueTextState = new_value_text_of p in

@@ -7,31 +7,18 @@ use Rattle.tlv_head.specs.declared.kind.Kind.{Kind}
 use Rattle.tlv_head.specs.declared.kind.Kind.TheVariants.{Octets, Boolean, Integer, Bits, Object, Relative, Text, Utf8}
 use Rattle.tlv_head.specs.declared.kind.Kind.TheVariants.{Ucs2, Ucs4}
 use Rattle.tlv_value.specs.declared.layout.Layout.{Layout}
-use Rattle.tlv_value.specs.Layout.{row_line}
 use Rattle.tlv_value.specs.Private.ObjectLines.{object_lines}
 use Rattle.tlv_value.specs.Private.PrimitiveLines.{line_prefix}
 use Rattle.tlv_value.specs.declared.primitive.Primitive.{Primitive}
 use Rattle.tlv_value.specs.Rows.{full_rows}
-use Rattle.tlv_value.specs.ValueLines.{row_lines}
+use Rattle.tlv_value.specs.ValueLines.{shown_row_lines}
 use Rattle.tlv_value.specs.ValueTextState.{KeptContents, ValueTextState, contents_lines, end_lines, primitive_line}
-use Rattle.tlv_value.specs.ValueTextState.{primitive_lines}
+use Rattle.tlv_value.specs.ValueTextState.{primitive_lines, row_lines}
 use Rattle.tlv_value.specs.Value.{NameOf, Value, bit_count_text, bits_value, boolean_value, integer_value, is_long}
-use Rattle.tlv_value.specs.Value.{is_readable, long_text, most_on_line, no_names, octets_value, row_octets, row_text}
+use Rattle.tlv_value.specs.Value.{is_readable, long_text, most_on_line, no_names, octets_value, row_octets}
 use Rattle.tlv_value.specs.Value.{short_value, used_digits, value_on_line}
 use Rattle.tlv_value.specs.Private.UndottedText.{undotted_text}
-
--- rows of octets are the same for an object identifier
-object-rows : (with_text : Bool) (layout : Layout) (i : ℕ) (rows : List (List ℕ))
-    → row_lines with_text Object layout i rows ≡ row_lines with_text Octets layout i rows
-object-rows with_text layout i [] = refl
-object-rows with_text layout i (row ∷ rows) =
-    ap (λ (t : List ℕ). row_line layout i (row_text with_text Octets row) ++ t) (object-rows with_text layout (i + 1) rows)
-
-relative-rows : (with_text : Bool) (layout : Layout) (i : ℕ) (rows : List (List ℕ))
-    → row_lines with_text Relative layout i rows ≡ row_lines with_text Octets layout i rows
-relative-rows with_text layout i [] = refl
-relative-rows with_text layout i (row ∷ rows) =
-    ap (λ (t : List ℕ). row_line layout i (row_text with_text Octets row) ++ t) (relative-rows with_text layout (i + 1) rows)
+use Rattle.tlv_value.proofs.TextLemmas.RowLines.{no-row_lines}
 
 -- what the line of a primitive begins with, and the rest of its lines
 prefix-line : (p : Primitive) (text rows : List ℕ)
@@ -41,46 +28,43 @@ prefix-line p text rows = simp append_assoc refl
 pub shown-prefix : (name_of : NameOf) (p : Primitive) (octets : List ℕ)
     → line_prefix p
     ++ (((short_value p.with_text name_of p.kind octets).text ++ 10 ∷ [])
-    ++ row_lines p.with_text p.kind p.layout 0 (short_value p.with_text name_of p.kind octets).rows)
+    ++ shown_row_lines p.with_text p.kind p.layout (short_value p.with_text name_of p.kind octets).rows)
     ≡ primitive_lines name_of p octets
 shown-prefix name_of p octets =
-    let v : Value = short_value p.with_text name_of p.kind octets in prefix-line p v.text (row_lines p.with_text p.kind p.layout 0 v.rows)
+    let v : Value = short_value p.with_text name_of p.kind octets in
+    prefix-line p v.text (shown_row_lines p.with_text p.kind p.layout v.rows)
 
 module _ (with_text : Bool) (name_of : NameOf) (layout : Layout) (line : List ℕ → List ℕ) (octets : List ℕ) where
   abbrev shown_by : Kind → List ℕ
   shown_by kind =
-      line (short_value with_text name_of kind octets).text ++ row_lines with_text kind layout 0 (short_value with_text name_of kind octets).rows
+      line (short_value with_text name_of kind octets).text
+      ++ shown_row_lines with_text kind layout (short_value with_text name_of kind octets).rows
 
+  -- rows of octets are the same for an object identifier
   object_at : (kind : Kind) → kind ≡ Object
       → line (short_value with_text name_of Object octets).text
-      ++ row_lines with_text Octets layout 0 (short_value with_text name_of Object octets).rows
+      ++ shown_row_lines with_text Octets layout (short_value with_text name_of Object octets).rows
       ≡ shown_by kind
-  object_at kind e =
-      rw e
-      (ap (λ (t : List ℕ). line (short_value with_text name_of Object octets).text ++ t)
-      (sym (object-rows with_text layout 0 (short_value with_text name_of Object octets).rows)))
+  object_at kind e = rw e refl
 
   relative_at : (kind : Kind) → kind ≡ Relative
       → line (short_value with_text name_of Relative octets).text
-      ++ row_lines with_text Octets layout 0 (short_value with_text name_of Relative octets).rows
+      ++ shown_row_lines with_text Octets layout (short_value with_text name_of Relative octets).rows
       ≡ shown_by kind
-  relative_at kind e =
-      rw e
-      (ap (λ (t : List ℕ). line (short_value with_text name_of Relative octets).text ++ t)
-      (sym (relative-rows with_text layout 0 (short_value with_text name_of Relative octets).rows)))
+  relative_at kind e = rw e refl
 
 pub shown-object : (name_of : NameOf) (p : Primitive) (octets : List ℕ) → p.kind ≡ Object
     → line_prefix p ++ object_lines p.with_text name_of p.layout false octets ≡ primitive_lines name_of p octets
 shown-object name_of p octets e =
     let v : Value = short_value p.with_text name_of Object octets in
-    prefix-line p v.text (row_lines p.with_text Octets p.layout 0 v.rows)
+    prefix-line p v.text (shown_row_lines p.with_text Octets p.layout v.rows)
     ∙ object_at p.with_text name_of p.layout (primitive_line p) octets p.kind e
 
 pub shown-relative : (name_of : NameOf) (p : Primitive) (octets : List ℕ) → p.kind ≡ Relative
     → line_prefix p ++ object_lines p.with_text no_names p.layout true octets ≡ primitive_lines name_of p octets
 shown-relative name_of p octets e =
     let v : Value = short_value p.with_text name_of Relative octets in
-    prefix-line p v.text (row_lines p.with_text Octets p.layout 0 v.rows)
+    prefix-line p v.text (shown_row_lines p.with_text Octets p.layout v.rows)
     ∙ relative_at p.with_text name_of p.layout (primitive_line p) octets p.kind e
 
 -- values on their lines, without rows
@@ -131,9 +115,12 @@ undotted_at : (with_text : Bool) (name_of : NameOf) (kind : Kind) (layout : Layo
     → line ++ (undotted_text with_text kind row ++ 10 ∷ [])
     ≡ line
     ++ (((short_value with_text name_of kind row).text ++ 10 ∷ [])
-    ++ row_lines with_text kind layout 0 (short_value with_text name_of kind row).rows)
+    ++ shown_row_lines with_text kind layout (short_value with_text name_of kind row).rows)
 undotted_at with_text name_of kind layout line row p =
-    rw (p.0, p.1) (ap (λ (t : List ℕ). line ++ t) (sym (append-nil (undotted_text with_text kind row ++ 10 ∷ []))))
+    let text : List ℕ = undotted_text with_text kind row ++ 10 ∷ [] in
+    rw (p.0, p.1)
+    (ap (λ (t : List ℕ). line ++ t)
+    (sym (append-nil text) ∙ ap (λ (t : List ℕ). text ++ t) (sym (no-row_lines with_text kind layout))))
 
 pub shown-undotted : (name_of : NameOf) (p : Primitive) (octets : List ℕ) → (p.kind ≡ Object → ⊥)
     → (p.kind ≡ Relative → ⊥) → length octets ≤ most_on_line p.kind

@@ -5,12 +5,13 @@ ghost use Rattle.tlv_io.specs.OutLimits.{line_room};
 ghost use Rattle.tlv_io.specs.Cuts.{last_rows};
 ghost use Rattle.tlv_io.specs.LineTexts.{HasRoomFor};
 ghost use Rattle.tlv_io.specs.Out.{Puts};
-ghost use Rattle.tlv_value.specs.Layout.{inner_line, row_line};
+ghost use Rattle.tlv_value.specs.Layout.{inner_line};
 ghost use Rattle.tlv_value.specs.RowSizes.{IsOpenRow};
 ghost use Rattle.tlv_value.specs.Private.Rows.{pair_row_line, pair_row_lines, row_indent};
 ghost use Rattle.tlv_value.specs.Rows.{full_rows, open_row, rows_of};
 ghost use Rattle.tlv_value.specs.Value.{row_text};
-ghost use Rattle.tlv_value.specs.ValueLines.{row_lines};
+ghost use Rattle.tlv_value.specs.ValueLines.{shown_row_lines};
+ghost use Rattle.tlv_value.specs.ValueTextState.{row_line, row_lines};
 
 use crate::Layout;
 use crate::line_starts::row_indent;
@@ -31,7 +32,7 @@ pub(super) fn put_all_rows<D: Drain>(
 ) -> Result<(), WriteFault>
     requires { length contents.now ≤ 64 }
     ensures { Puts D.state out.old out.new
-        (row_lines with_text Kind.Octets layout 0 (rows_of Kind.Octets contents.now)) result }
+        (shown_row_lines with_text Kind.Octets layout (rows_of Kind.Octets contents.now)) result }
 {
     let form = RowForm {
         kind: Kind::Octets,

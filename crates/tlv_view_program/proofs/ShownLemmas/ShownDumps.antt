@@ -1,13 +1,12 @@
 -- The lines of a dump are printable ASCII.
-use Rattle.std.proofs.Common.{◌<◌, inl, inr, ℕ, ◌+◌, ◌*◌, ◌&&◌, Bool, true, false, eqb}
+use Rattle.std.proofs.Common.{◌<◌, inl, inr, ℕ, ◌+◌, ◌*◌, ◌&&◌, Bool, true, false}
 use Rattle.std.proofs.Common.{List, [], ◌∷◌, ◌++◌, Option, Some, None, refl, subst, sym, take}
-use Rattle.std.specs.Prelude.{codes, decimal, flat_map, if◌then◌else◌, nat_lt}
+use Rattle.std.specs.Prelude.{codes, decimal, flat_map, if◌then◌else◌, length, map, nat_lt}
 use Rattle.std.specs.FinMap as finite
 use Rattle.std.specs.List.{All}
-use Rattle.std.specs.Option.{option_map_or}
 use Rattle.std.specs.Io.KnownBytes.{Consumes}
 use Rattle.std.proofs.lemmas.Bool.{cases_Bool}
-use Rattle.std.proofs.lemmas.List.Elements.{All-append, All-cons, All-head, All-map, All-nil, All-tail, All-take}
+use Rattle.std.proofs.lemmas.List.Elements.{All-append, All-cons, All-map, All-nil, All-take}
 use Rattle.tlv_head.specs.Limits.{input_limit}
 use Rattle.tlv_head.specs.Header.{HeaderValue, announced_length, octets_of}
 use Rattle.tlv_head.specs.Tag.{tag_text}
@@ -23,10 +22,10 @@ use Rattle.tlv_value.specs.declared.finding.Finding.{Finding}
 use Rattle.tlv_head.specs.declared.kind.Kind.{Kind}
 use Rattle.tlv_value.specs.declared.layout.Layout.{Layout}
 use Rattle.tlv_value.specs.Finding.{finding_code, finding_text}
-use Rattle.tlv_value.specs.Layout.{blank_columns, columns, inner_line, line, margin, row_by_limit, row_line, spaces}
+use Rattle.tlv_value.specs.Layout.{blank_columns, columns, inner_line, line, margin, shown_rows, spaces}
 use Rattle.tlv_value.specs.Value.{NameOf, Value, is_long, row_text, whole_value}
-use Rattle.tlv_value.specs.ValueLines.{has_line, header_kind, open_lines_with, row_lines, value_lines}
-use Rattle.tlv_value.specs.ValueLines.{whole_lines_with}
+use Rattle.tlv_value.specs.ValueLines.{has_line, header_kind, open_lines_with, shown_row_lines}
+use Rattle.tlv_value.specs.ValueLines.{value_lines, whole_lines_with}
 use Rattle.tlv_show.specs.ShowJob.{top_layout}
 use Rattle.tlv_show.specs.HolderLines.{closing_line, opening_line, opening_word, padding_line, size_text}
 use Rattle.tlv_show.specs.Items.{ClosingLine, FindingAt, Item, OpenPrimitiveLines, OpeningLine, PaddingLine}
@@ -70,38 +69,35 @@ line-shown layout first text f t =
 inner-shown : (layout : Layout) (text : List ℕ) → AreShown text → AreShown (inner_line layout text)
 inner-shown layout text t = line-shown (record layout { level = layout.level + 1 }) blank_columns text refl t
 
-limited-shown : (layout : Layout) (limit : Option ℕ) (i : ℕ) (text : List ℕ) → AreShown text
-    → AreShown (option_map_or (inner_line layout) (row_by_limit limit i text) [])
-limited-shown layout None i text t = inner-shown layout text t
-limited-shown layout (Some limit) i text t = elim (cases_Bool (nat_lt i limit)) [
-  | inl below ↦ rw below (inner-shown layout text t)
-  | inr above ↦
-      rw above
-      (elim (cases_Bool (eqb i limit)) [
-        | inl same ↦ rw same (inner-shown layout (codes "...") refl)
-        | inr over ↦ rw over refl
-      ])
+limited-shown : (limit : Option ℕ) (texts : List (List ℕ)) → All AreShown texts → All AreShown (shown_rows limit texts)
+limited-shown None texts all = all
+limited-shown (Some limit) texts all = elim (cases_Bool (nat_lt limit (length texts))) [
+  | inl more ↦
+      rw more
+      (All-append AreShown (take limit texts) (codes "..." ∷ []) (All-take AreShown limit texts all)
+      (All-cons AreShown (codes "...") [] refl (All-nil AreShown)))
+  | inr no_more ↦ rw no_more all
 ]
 
-rows-shown : (with_text : Bool) (k : Kind) (layout : Layout) (i : ℕ) (rows : List (List ℕ))
-    → All (λ (row : List ℕ). AreOctets row) rows → AreShown (row_lines with_text k layout i rows)
-rows-shown with_text k layout i [] all = refl
-rows-shown with_text k layout i (row ∷ rows) all =
-    joined-shown (row_line layout i (row_text with_text k row)) (row_lines with_text k layout (i + 1) rows)
-    (limited-shown layout layout.limit i (row_text with_text k row)
-    (row-shown with_text k row (All-head (λ (r : List ℕ). AreOctets r) row rows all)))
-    (rows-shown with_text k layout (i + 1) rows (All-tail (λ (r : List ℕ). AreOctets r) row rows all))
+rows-shown : (with_text : Bool) (k : Kind) (layout : Layout) (rows : List (List ℕ))
+    → All (λ (row : List ℕ). AreOctets row) rows → AreShown (shown_row_lines with_text k layout rows)
+rows-shown with_text k layout rows all =
+    let texts : List (List ℕ) = map (row_text with_text k) rows in
+    let shown : All AreShown texts =
+    All-map AreShown (row_text with_text k) rows (λ i other less. row-shown with_text k _ (all i other less)) in
+    flat-shown (inner_line layout) AreShown (shown_rows layout.limit texts) (inner-shown layout)
+    (limited-shown layout.limit texts shown)
 
 value-shown : (with_text : Bool) (h : HeaderValue) (layout : Layout) (v : Value) → IsShownValue v
     → AreShown (value_lines with_text h layout v)
 value-shown with_text h layout v shown =
     let size : List ℕ = decimal (announced_length h.size) in
     let text : List ℕ = tag_text h.class h.number ++ v.text in
-    joined-shown (line layout (columns h.offset size) text) (row_lines with_text (header_kind h) layout 0 v.rows)
+    joined-shown (line layout (columns h.offset size) text) (shown_row_lines with_text (header_kind h) layout v.rows)
     (line-shown layout (columns h.offset size) text
     (columns-shown h.offset size (decimal-shown (announced_length h.size)))
     (joined-shown (tag_text h.class h.number) v.text (tag-shown h.class h.number) shown.text))
-    (rows-shown with_text (header_kind h) layout 0 v.rows shown.rows)
+    (rows-shown with_text (header_kind h) layout v.rows shown.rows)
 
 whole_lines-shown : (with_text : Bool) (name_of : NameOf) (h : HeaderValue) (layout : Layout) (c : List ℕ)
     → AreShownNames name_of → AreOctets c → AreShown (whole_lines_with with_text name_of h layout c)

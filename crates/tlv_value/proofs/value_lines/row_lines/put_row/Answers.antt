@@ -4,8 +4,9 @@ use Rattle.std.specs.Option.{option_map_or}
 use Rattle.std.proofs.lemmas.Bool.Decides.{nat_tests}
 use Rattle.tlv_io.proofs.Puts.{puts_line, puts_no_room, puts_text}
 use Rattle.tlv_value.specs.declared.layout.Layout.{Layout}
-use Rattle.tlv_value.specs.Layout.{inner_line, row_line}
+use Rattle.tlv_value.specs.Layout.{inner_line}
 use Rattle.tlv_value.specs.Value.{row_text}
+use Rattle.tlv_value.specs.ValueTextState.{row_line}
 use Rattle.tlv_value.proofs.value_lines.row_lines.put_row.Goals.{in_default-via-in-None-1}
 use Rattle.tlv_value.proofs.value_lines.row_lines.put_row.Goals.{in_default-via-in-Some+else-index-from}
 use Rattle.tlv_value.proofs.value_lines.row_lines.put_row.Goals as goal

@@ -5,11 +5,10 @@ use Rattle.std.proofs.lemmas.Bool.Decides.{nat_tests}
 use Rattle.std.proofs.lemmas.Grind.{common_steps}
 use Rattle.std.proofs.lemmas.List.{nil_from_length}
 use Rattle.tlv_io.proofs.Puts.{puts_as, puts_failed_in, puts_nothing, puts_then_as}
-use Rattle.tlv_value.specs.Layout.{row_line}
 use Rattle.tlv_value.specs.RowSizes.{row_size}
 use Rattle.tlv_value.proofs.RowLemmas.FilledRows.{rows_filled}
 use Rattle.tlv_value.specs.Private.Rows.{pair_row_lines}
-use Rattle.tlv_value.specs.ValueLines.{row_lines}
+use Rattle.tlv_value.specs.ValueTextState.{row_line, row_lines}
 use Rattle.tlv_value.specs.Value.{row_text}
 use Rattle.tlv_value.proofs.RowLemmas.FullRows.{splits-full_rows}
 use Rattle.tlv_value.proofs.RowLemmas.OneCut.{open-parts}

@@ -4,8 +4,7 @@ use Rattle.std.proofs.lemmas.Grind.{common_steps}
 use Rattle.tlv_io.proofs.Puts.{puts_failed_in, puts_text, puts_then_as}
 use Rattle.tlv_head.specs.declared.kind.Kind.TheVariants.{Bits}
 use Rattle.tlv_value.specs.Rows.{full_rows}
-use Rattle.tlv_value.specs.ValueLines.{row_lines}
-use Rattle.tlv_value.specs.ValueTextState.{ValueTextState, contents_lines, primitive_line}
+use Rattle.tlv_value.specs.ValueTextState.{ValueTextState, contents_lines, primitive_line, row_lines}
 use Rattle.tlv_value.specs.ValueTextFields.{value_text_state_of}
 use Rattle.tlv_value.specs.Value.{is_long, long_text, row_octets}
 use Rattle.tlv_value.proofs.TextLemmas.PrimitiveLines.{new-first, rows-first}
