@@ -97,15 +97,14 @@ pub separated-at : (whole : List ℕ) (all : TextRead) (octets text : List ℕ) 
 separated-at whole all octets [] k _ three _ _ i j = absurd (omega arith)
 separated-at whole all octets (a ∷ []) zero _ three _ _ i j = absurd (omega arith)
 separated-at whole all octets (a ∷ b ∷ []) zero _ three _ _ i j = absurd (omega arith)
-separated-at whole all octets (x ∷ y ∷ z ∷ more) zero octet three p passed i j =
-    (
-      i
+separated-at whole all octets (x ∷ y ∷ z ∷ more) zero octet three p passed i j = (
+  i
       ∙ ap (octets_then octets) (pair-first x y octet (z ∷ more) p
       ∙ ap (octets_then (octet ∷ [])) (between-passed z more passed))
       ∙ octets-and_more octets (octet ∷ []) (pairs_read more),
-      λ are.
+  λ are.
       j
       (pair-separated x y octet (z ∷ more) p (between-no_digit z passed) (between-separated z more passed are)),
-    )
+)
 separated-at whole all octets (x ∷ text) (suc k) octet three p passed i j =
     separated-at whole all octets text k octet (omega arith) p passed i j

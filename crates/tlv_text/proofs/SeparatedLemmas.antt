@@ -176,6 +176,7 @@ digit-no_prefix x y e = by (x == 48) ((y == 120) || (y == 88)) (no_x y e)
   where
     no_x : (y : ℕ) → is_hex_digit y ≡ true → ((y == 120) || (y == 88)) ≡ false
     no_x y e = search rules
+
     by : (a b : Bool) → b ≡ false → (a && b) ≡ false
     by true b none = none
     by false b none = refl
