@@ -89,6 +89,11 @@ rows-left-out : shown_row_lines true Integer one_row (codes "abc" ∷ codes "def
 unfolding encode_with
 rows-left-out = refl
 
+-- no dots if there are no more rows than the limit
+rows-up-to-limit : shown_row_lines true Integer one_row (codes "abc" ∷ []) ≡ codes "                   61 62 63  |abc|\n"
+unfolding encode_with
+rows-up-to-limit = refl
+
 -- the first row is known before the last octet
 known-rows : open_lines_with true (zero_header 17) all_rows (codes "0123456789abcdef")
     ≡ codes "       0     17: [0]\n"
