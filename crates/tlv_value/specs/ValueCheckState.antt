@@ -35,10 +35,6 @@ pub record ValueCheckState : Type 0 where
   -- the first 64 octets of a time
   pub time : List ℕ
 
--- the universal number of the type; for another class, the number of OCTET STRING, whose contents have no findings
-abbrev pub type_number : HeaderValue → ℕ
-type_number h = if is_universal h.class then h.number else universal.octet_string
-
 -- the state before any octet, for a primitive of the universal type with this number and with this many contents octets
 abbrev pub new_value_check_of : ℕ → ℕ → ValueCheckState
 new_value_check_of number size = record {
