@@ -1,5 +1,5 @@
-"""What a reader must believe: docs/PROVED.md lists the definitions that the contract of `run` reaches, and no others. And specs
-have no definition that no contract reaches."""
+"""What a reader must believe: docs/PROVED.md lists the definitions that the contract of `run_octets` reaches, and no others;
+and then those that the contract of `run` reaches besides. And specs have no definition that no contract reaches."""
 import os
 import re
 
@@ -110,21 +110,34 @@ def sources(root):
                         yield file.read()
 
 
-def test(part):
-    """Counts a test for each file that the list of docs/PROVED.md names or should, and one for each file of specs."""
-    all_of = Definitions(part.root)
-    by_file = {}
-    for file, name in all_of.texts:
-        by_file.setdefault(file, set()).add(name)
-    with open(os.path.join(part.root, "crates/tlv_run/src/run_call.rt"), encoding="utf-8") as file:
-        needed = all_of.closure(all_of.of_clauses(file.read()))
-    with open(os.path.join(part.root, "docs/PROVED.md"), encoding="utf-8") as file:
-        text = file.read().partition("## What a reader must believe")[2].partition("The contract of `run_octets`")[0]
+def of_call(all_of, root, name):
+    """Returns the definitions that the contracts in a source of tlv_run reach."""
+    with open(os.path.join(root, "crates/tlv_run/src", name), encoding="utf-8") as file:
+        return all_of.closure(all_of.of_clauses(file.read()))
+
+
+def expect_list(part, call, needed, text, by_file):
+    """Counts a test for each file that a list names or should."""
     lists = {file: by_file[file] - words if but else words for file, but, words in entries(text, by_file)}
     for file in sorted({place[0] for place in needed} | set(lists)):
         there = {name for home, name in needed if home == file}
         wrong = sorted(there ^ lists.get(file, set()))
-        part.expect(f"docs/PROVED.md lists what `run` needs of {file}", not wrong, *wrong)
+        part.expect(f"docs/PROVED.md lists what `{call}` needs of {file}", not wrong, *wrong)
+
+
+def test(part):
+    """Counts a test for each file that a list of docs/PROVED.md names or should, and one for each file of specs."""
+    all_of = Definitions(part.root)
+    by_file = {}
+    for file, name in all_of.texts:
+        by_file.setdefault(file, set()).add(name)
+    with open(os.path.join(part.root, "docs/PROVED.md"), encoding="utf-8") as file:
+        text = file.read().partition("## What a reader must believe")[2].partition("Other calls need more")[0]
+    of_octets, _, of_run = text.partition("The contract of `run`, which is for any source")
+    needed = of_call(all_of, part.root, "run_octets_call.rt")
+    expect_list(part, "run_octets", needed, of_octets, by_file)
+    more = of_call(all_of, part.root, "run_call.rt") - needed
+    expect_list(part, "run", more, of_run.partition("It reaches these")[2], by_file)
     reached = all_of.closure(set().union(*(all_of.of_clauses(source) for source in sources(part.root))))
     for file in sorted(by_file):
         idle = sorted(by_file[file] - {name for home, name in reached if home == file})
