@@ -27,8 +27,9 @@ pub(crate) fn write_full_row<const WITH_TEXT: bool>(held: &mut HeldOctets, row: 
     ensures { held.new ≡ held.old ++ line_pairs WITH_TEXT row.now }
 {
     held.spaced_row(row);
-    if WITH_TEXT {
-        write_text_behind(held, row);
+    // All are looked at, since a branch for each octet is not foreseen where they are random.
+    if WITH_TEXT && are_all_printable(row) {
+        write_between_bars(held, row);
     }
 }
 
@@ -80,6 +81,18 @@ fn write_between_bars(held: &mut HeldOctets, octets: &[u8])
     held.add(b"  |");
     held.add(octets);
     held.add(b"|");
+}
+
+/// Whether all octets of a full row are printable ASCII. None is passed over, so that all are tested at a time.
+#[inline(always)]
+fn are_all_printable(row: &[u8; 16]) -> bool
+    ensures { result ≡ list_all is_printable row.now }
+{
+    let mut all = true;
+    for octet in row {
+        all &= (*octet >= b' ') & (*octet <= b'~');
+    }
+    all
 }
 
 /// Whether all of the octets are printable ASCII.

@@ -3,8 +3,8 @@ use Rattle.tlv_io.specs.LineTexts.{spaced_pairs}
 use Rattle.tlv_io.proofs.HeldTexts.{length-added, pairs-size}
 use Rattle.tlv_value.proofs.pairs.write_full_row.Goals as goal
 
-pub write_text_behind-requires : goal.write_text_behind-requires
-write_text_behind-requires g c =
+pub write_between_bars-requires : goal.write_between_bars-requires
+write_between_bars-requires g c =
     omega (
       arith,
       length-added _ _ (spaced_pairs c.args.row.now) c.spaced_row.ensures,
