@@ -8,7 +8,8 @@ use Rattle.tlv_text.proofs.Slices.{from-on, slice_from}
 use Rattle.tlv_text.proofs.TokenLemmas.{octets-and_more}
 use Rattle.tlv_text.specs.Dump.{begins_digit}
 use Rattle.tlv_text.specs.Pairs.{is_between_pairs, pair_octet, pairs_read}
-use Rattle.tlv_text.specs.Private.PairSteps.{are_separated, octet_of}
+use Rattle.tlv_text.specs.Private.PairSteps.{octet_of}
+use Rattle.tlv_text.specs.Separated.{are_separated}
 use Rattle.tlv_text.specs.TextRead.{TextRead, octets_then}
 
 -- no digit may be between pairs
@@ -71,29 +72,37 @@ between-passed : (x : ℕ) (more : List ℕ) → is_between_pairs x ≡ true →
 between-passed x [] e = rw e refl
 between-passed x (y ∷ more) e = rw e refl
 
+pub between-same : (x : ℕ) (more : List ℕ) → is_between_pairs x ≡ true
+    → are_separated (x ∷ more) ≡ are_separated more
+between-same x [] e = rw e refl
+between-same x (y ∷ more) e = rw e refl
+
+pub digits-same : (x y : ℕ) (more : List ℕ) → is_hex_digit x ≡ true → is_hex_digit y ≡ true
+    → begins_digit more ≡ false → are_separated (x ∷ y ∷ more) ≡ are_separated more
+digits-same x y more dx dy apart = rw (digit-not_between x dx, dx, dy, apart) refl
+
+pub pair-same : (x y octet : ℕ) (more : List ℕ) → Some octet ≡ octet_of x y → begins_digit more ≡ false
+    → are_separated (x ∷ y ∷ more) ≡ are_separated more
+pair-same x y octet more e apart =
+    let digits = octet-digits x y octet e in
+    digits-same x y more digits.0 digits.1 apart
+
 pub between-separated : (x : ℕ) (more : List ℕ) → is_between_pairs x ≡ true → are_separated more ≡ true
     → are_separated (x ∷ more) ≡ true
-between-separated x [] e are = rw e refl
-between-separated x (y ∷ more) e are = rw e are
+between-separated x more e are = between-same x more e ∙ are
 
 pub digits-separated : (x y : ℕ) (more : List ℕ) → is_hex_digit x ≡ true → is_hex_digit y ≡ true
     → begins_digit more ≡ false → are_separated more ≡ true → are_separated (x ∷ y ∷ more) ≡ true
-digits-separated x y more dx dy apart are = rw (digit-not_between x dx, dx, dy, apart, are) refl
-
-pub pair-separated : (x y octet : ℕ) (more : List ℕ) → Some octet ≡ octet_of x y → begins_digit more ≡ false
-    → are_separated more ≡ true → are_separated (x ∷ y ∷ more) ≡ true
-pair-separated x y octet more e apart are =
-    let digits = octet-digits x y octet e in
-    digits-separated x y more digits.0 digits.1 apart are
+digits-separated x y more dx dy apart are = digits-same x y more dx dy apart ∙ are
 
 -- behind so many characters, a pair and a character that may be between pairs are read after other octets
 pub separated-at : (whole : List ℕ) (all : TextRead) (octets text : List ℕ) (k octet : ℕ) → k + 3 ≤ length text
     → Some octet ≡ octet_of (slice_index text k) (slice_index text (suc k))
     → is_between_pairs (slice_index text (suc (suc k))) ≡ true
     → all ≡ octets_then octets (pairs_read (drop k text))
-    → (are_separated (drop k text) ≡ true → are_separated whole ≡ true)
+    → are_separated (drop k text) ≡ are_separated whole
     → (all ≡ octets_then (octets ++ octet ∷ []) (pairs_read (drop (suc (suc (suc k))) text)))
-    × (are_separated (drop (suc (suc (suc k))) text) ≡ true → are_separated whole ≡ true)
+    × (are_separated (drop (suc (suc (suc k))) text) ≡ are_separated whole)
 separated-at whole all octets [] k _ three _ _ i j = absurd (omega arith)
 separated-at whole all octets (a ∷ []) zero _ three _ _ i j = absurd (omega arith)
 separated-at whole all octets (a ∷ b ∷ []) zero _ three _ _ i j = absurd (omega arith)
@@ -102,9 +111,7 @@ separated-at whole all octets (x ∷ y ∷ z ∷ more) zero octet three p passed
       ∙ ap (octets_then octets) (pair-first x y octet (z ∷ more) p
       ∙ ap (octets_then (octet ∷ [])) (between-passed z more passed))
       ∙ octets-and_more octets (octet ∷ []) (pairs_read more),
-  λ are.
-      j
-      (pair-separated x y octet (z ∷ more) p (between-no_digit z passed) (between-separated z more passed are)),
+  sym (between-same z more passed) ∙ sym (pair-same x y octet (z ∷ more) p (between-no_digit z passed)) ∙ j,
 )
 separated-at whole all octets (x ∷ text) (suc k) octet three p passed i j =
     separated-at whole all octets text k octet (omega arith) p passed i j

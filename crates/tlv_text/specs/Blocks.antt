@@ -9,6 +9,7 @@ use Rattle.tlv_text.specs.Pairs.{pairs_read}
 use Rattle.tlv_text.specs.Pem.{HasNoBlock, IsFirstBlock}
 use Rattle.tlv_text.specs.PemBody.{base64_part, is_encrypted}
 use Rattle.tlv_text.specs.Runs.{HasNoRun, IsFirstRun}
+use Rattle.tlv_text.specs.Separated.{are_separated}
 use Rattle.tlv_text.specs.TextRead.{TextRead, refused_at}
 use Rattle.tlv_text.specs.Tokens.{token_count, tokens_read}
 use Rattle.tlv_text.specs.declared.base64_text.Alphabet.{Alphabet}
@@ -164,3 +165,7 @@ pub record IsHexAlone (text : List ℕ) (b : BlockValue) : Type 0 where
   pub no_row : dump_read text ≡ refused_with 0
   pub hex : hex_block text ≡ b
   pub fits : is_too_long b ≡ false
+
+-- a text that is not pairs, none of which a digit follows at once, or whose block of hexadecimal is too long
+abbrev pub IsNotHexAlone : List ℕ → Type 0
+IsNotHexAlone text = are_separated text ≡ true → (pairs_read text).rest ≡ [] → is_too_long (hex_block text) ≡ true

@@ -12,4 +12,5 @@ pub mod Private
 pub mod Dump
 pub mod DumpFault
 pub mod DumpLines
+pub mod Separated
 pub mod Blocks

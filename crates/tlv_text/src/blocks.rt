@@ -1,7 +1,8 @@
 //! The blocks of a text in a form.
 ghost use Rattle.std.specs.List.{list_any};
 ghost use Rattle.std.specs.Prelude.{◌≡◌, [], ◌∷◌, IfErr, IfOk, MatchOption, false, map};
-ghost use Rattle.tlv_text.specs.Blocks.{AreBlocks, IsBlocksFault, IsHexAlone, block_value, is_too_long, or_absent};
+ghost use Rattle.tlv_text.specs.Blocks.{AreBlocks, IsBlocksFault, IsHexAlone, IsNotHexAlone, block_value};
+ghost use Rattle.tlv_text.specs.Blocks.{is_too_long, or_absent};
 
 mod lines;
 mod pem;
@@ -44,12 +45,16 @@ pub fn blocks_of(alloc: Global, form: Form, text: &[u8]) -> Result<Vec<Block>, T
 ///
 /// `AllocError` if memory for the octets is refused.
 pub fn separated_block(alloc: Global, text: &[u8]) -> Result<Option<Block>, AllocError>
-    ensures { IfOk result (λ block. MatchOption block Unit (λ b. IsHexAlone text.now (block_value b))) }
+    ensures { IfOk result (λ block. MatchOption block (IsNotHexAlone text.now)
+        (λ b. IsHexAlone text.now (block_value b))) }
 {
-    match separated_octets(alloc, text)? {
-        Some(octets) if octets.len() <= LIMIT => Ok(Some(only_block(octets, BlockState::Whole))),
-        _ => Ok(None),
+    let Some(octets) = separated_octets(alloc, text)? else {
+        return Ok(None);
+    };
+    if octets.len() > LIMIT {
+        return Ok(None);
     }
+    Ok(Some(only_block(octets, BlockState::Whole)))
 }
 
 /// The blocks of a text in a form, however long.

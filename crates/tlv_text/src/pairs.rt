@@ -1,7 +1,7 @@
 //! Octets as pairs of hexadecimal digits.
-ghost use Rattle.std.specs.Prelude.{◌≡◌, ◌≤◌, IfOk, MatchOption, OnOk, length, true};
+ghost use Rattle.std.specs.Prelude.{◌≡◌, ◌≤◌, IfOk, MatchOption, OnOk, length};
 ghost use Rattle.tlv_text.specs.Pairs.{is_between_pairs, pairs_read};
-ghost use Rattle.tlv_text.specs.Private.PairSteps.{IsSeparated, are_separated};
+ghost use Rattle.tlv_text.specs.Separated.{IsNotSeparated, IsSeparated, are_separated};
 ghost use Rattle.tlv_text.specs.TextRead.{octets_then, refused_at};
 
 use crate::Decoded;
@@ -78,7 +78,7 @@ fn take_four_pairs(text: &mut &[u8], octets: &mut Vec<u8>) -> Result<(), AllocEr
 fn take_four_separated(text: &mut &[u8], octets: &mut Vec<u8>) -> Result<(), AllocError>
     ensures read { OnOk result (octets_then octets.old.items (pairs_read text.old.now)
         ≡ octets_then octets.new.items (pairs_read text.new.now)) }
-    ensures apart { are_separated text.new.now ≡ true → are_separated text.old.now ≡ true }
+    ensures apart { are_separated text.new.now ≡ are_separated text.old.now }
     ensures less { length text.new.now ≤ length text.old.now }
 {
     let mut rest = *text;
@@ -101,7 +101,7 @@ fn take_four_separated(text: &mut &[u8], octets: &mut Vec<u8>) -> Result<(), All
 
 /// Decodes a text of pairs of which none is followed by a digit at once. `None` for another text.
 pub(crate) fn separated_octets(alloc: Global, text: &[u8]) -> Result<Option<Vec<u8>>, AllocError>
-    ensures { IfOk result (λ octets. MatchOption octets Unit (λ o. IsSeparated text.now o.items)) }
+    ensures { IfOk result (λ octets. MatchOption octets (IsNotSeparated text.now) (λ o. IsSeparated text.now o.items)) }
 {
     let mut octets = Vec::new(alloc);
     let mut rest = text;

@@ -1,10 +1,9 @@
 -- Pairs of digits.
-use Rattle.std.specs.Prelude.{◌≡◌, ℕ, ◌%◌, Bool, true, ◌&&◌, ◌||◌, not, if◌then◌else◌, List, [], ◌∷◌, length}
+use Rattle.std.specs.Prelude.{◌≡◌, ℕ, ◌%◌, ◌&&◌, if◌then◌else◌, List, [], ◌∷◌, length}
 use Rattle.std.specs.Prelude.{Option, Some, None, unwrap_or}
 use Rattle.std.specs.List.{AllPass}
 use Rattle.hex.specs.Hex.{hex_digit_value, is_hex_digit}
-use Rattle.tlv_text.specs.Dump.{begins_digit}
-use Rattle.tlv_text.specs.Pairs.{is_between_pairs, pair_octet, pairs_read}
+use Rattle.tlv_text.specs.Pairs.{pair_octet}
 
 -- digits in pairs
 pub record AreWholePairs (text : List ℕ) : Type 0 where
@@ -24,17 +23,3 @@ octet_of x y = if is_hex_digit x && is_hex_digit y then Some (pair_octet x y) el
 -- the value of a digit, or 256 for another character
 abbrev pub value_or_256 : ℕ → ℕ
 value_or_256 x = unwrap_or (hex_digit_value x) 256
-
--- a text has nothing but pairs, none of which a digit follows at once, and what may be between pairs; its last pair may
--- lack a digit
-abbrev pub are_separated : List ℕ → Bool
-are_separated [] = true
-are_separated (x ∷ []) = is_between_pairs x || is_hex_digit x
-are_separated (x ∷ y ∷ rest) =
-    if is_between_pairs x then are_separated (y ∷ rest)
-    else is_hex_digit x && is_hex_digit y && not (begins_digit rest) && are_separated rest
-
--- such a text that is pairs to its end, and its octets
-pub record IsSeparated (text octets : List ℕ) : Type 0 where
-  pub separated : are_separated text ≡ true
-  pub read : pairs_read text ≡ record { octets = octets; rest = [] }

@@ -1,13 +1,13 @@
-use Rattle.std.proofs.Common.{◌≡◌, length, true}
+use Rattle.std.proofs.Common.{◌≡◌, length}
 use Rattle.tlv_text.specs.Pairs.{pairs_read}
-use Rattle.tlv_text.specs.Private.PairSteps.{are_separated}
+use Rattle.tlv_text.specs.Separated.{are_separated}
 use Rattle.tlv_text.specs.TextRead.{octets_then}
 use Rattle.tlv_text.proofs.pairs.separated_octets.Given as goal
 
 abbrev pub invariant-loop-octets : goal.invariant-loop-octets
 invariant-loop-octets l = record {
   read : pairs_read l.text ≡ octets_then l.octets.items (pairs_read l.rest);
-  separated : are_separated l.rest ≡ true → are_separated l.text ≡ true;
+  separated : are_separated l.rest ≡ are_separated l.text;
 }
 
 abbrev pub decreases-loop-octets : goal.decreases-loop-octets

@@ -1,6 +1,6 @@
-use Rattle.std.proofs.Common.{◌≡◌, ◌≤◌, length, true}
+use Rattle.std.proofs.Common.{◌≡◌, ◌≤◌, length}
 use Rattle.tlv_text.specs.Pairs.{pairs_read}
-use Rattle.tlv_text.specs.Private.PairSteps.{are_separated}
+use Rattle.tlv_text.specs.Separated.{are_separated}
 use Rattle.tlv_text.specs.TextRead.{octets_then}
 use Rattle.tlv_text.proofs.pairs.take_four_separated.Given as goal
 
@@ -8,7 +8,7 @@ abbrev pub invariant-loop-rest : goal.invariant-loop-rest
 invariant-loop-rest l = record {
   read : octets_then l.fn.octets.items (pairs_read l.fn.text.now)
       ≡ octets_then l.octets.items (pairs_read l.rest);
-  separated : are_separated l.rest ≡ true → are_separated l.fn.text.now ≡ true;
+  separated : are_separated l.rest ≡ are_separated l.fn.text.now;
   less : length l.rest ≤ length l.fn.text.now;
 }
 
