@@ -80,7 +80,8 @@ basic_conditions_of_header h =
 -- and of a segment, by the string that holds it and what is right before it
 abbrev pub basic_conditions_of_segment : Site → HeaderValue → List (Bool × Finding)
 basic_conditions_of_segment s h =
-    -- 8.6.4: each segment of a BIT STRING but the last has a multiple of eight bits
+    -- 8.6.4: each segment of a BIT STRING but the last has a multiple of eight bits. Of a constructed segment this is
+    -- not looked at: its own last segment may have unused bits without this finding
     (in_bit_string s && leaves_unused_bits s.previous, B16)
     -- 8.6.4, 8.7.3: a segment has the tag of that type
     ∷ (in_string s && not (is_a (segment_type (in_bit_string s)) h), B17)
@@ -152,8 +153,11 @@ ends_empty (h ∷ g ∷ hs) = ends_empty (g ∷ hs)
 -- by the rules of CER, from the element's header and the headers of what it held
 abbrev pub end_conditions : HeaderValue → List HeaderValue → List (Bool × Finding)
 end_conditions h children =
-    -- 9.2: a string of at most 1000 contents octets is primitive
+    -- 9.2: a string of at most 1000 contents octets is primitive. If a segment is constructed, C03 says so, and the
+    -- contents octets are not counted
     (has_segments h && list_all is_primitive children && nat_le (length_as_primitive h children) 1000, C05)
-    -- 9.2: the last segment has one contents octet or more
+    -- 9.2 says that the last segment may be shorter than 1000 octets, and not whether it may be empty. A string has the
+    -- fewest segments if it is not, so an empty one is a finding. A segment of a BIT STRING that has only its octet for
+    -- unused bits is none
     ∷ (has_segments h && ends_empty children, C06)
     ∷ []
