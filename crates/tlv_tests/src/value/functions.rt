@@ -1,4 +1,4 @@
-//! Decimal numbers, dotted texts and times.
+//! Tests of decimal numbers, dotted texts and times.
 use crate::expect::{expect_eq_of, expect_of};
 use arrayvec::ArrayVec;
 use tlv_value::{decimal_of, dotted_of, general_canonical, general_ok, utc_canonical, utc_ok};
@@ -22,13 +22,13 @@ fn decimals(rt: HostRuntime) {
     }
 }
 
-/// Whether the dotted text of these contents is the one that is wanted, or there is none if that is empty.
+/// Returns whether the dotted text of the contents is `want`. If `want` is empty, there must be no text.
 fn is_dotted(contents: &[u8], relative: bool, text: &mut ArrayVec<u8, 320>, want: &str) -> bool {
     let is_there = dotted_of(contents, relative, text);
     text.as_slice() == want.as_bytes() && is_there != want.is_empty()
 }
 
-/// If there is no text, none is left of what was there before.
+/// If there is no dotted text, the buffer is empty: what was in it is removed.
 #[test]
 fn dotted_texts(rt: HostRuntime) {
     // 2^128 - 1, and 2^128.
@@ -64,12 +64,12 @@ fn dotted_texts(rt: HostRuntime) {
     }
 }
 
-/// Whether a UTCTime is one of the grammar, and whether it is canonical.
+/// Returns whether the octets obey the grammar of UTCTime, and whether they are canonical.
 fn utc(octets: &[u8]) -> (bool, bool) {
     (utc_ok(octets), utc_canonical(octets))
 }
 
-/// The same of a GeneralizedTime.
+/// Returns whether the octets obey the grammar of GeneralizedTime, and whether they are canonical.
 fn general(octets: &[u8]) -> (bool, bool) {
     (general_ok(octets), general_canonical(octets))
 }
