@@ -26,7 +26,7 @@ FINDING = re.compile(rb" *\d+ +[BSDC]\d\d: ")
 
 
 def parts_of(text):
-    """Reads octets as a row writes them, and returns them as pairs: octets, and how often they come there."""
+    """Parses octets in the notation of a row. Returns pairs of octets and how often they are repeated."""
     parts, group, at = [], None, 0
     while at < len(text):
         it = TOKEN.match(text, at)
@@ -52,7 +52,7 @@ def parts_of(text):
 
 
 def octets_of(text):
-    """Reads octets as a row writes them."""
+    """Parses octets in the notation of a row. Returns the octets."""
     return b"".join(octets * times for octets, times in parts_of(text))
 
 
@@ -65,7 +65,7 @@ class Row:
         self.counted, self.status = None, 0
 
     def read(self, line):
-        """Reads a line of the row."""
+        """Parses a line of the row."""
         kind, rest = line[0], line[2:]
         written = WRITTEN.fullmatch(line)
         if written:
@@ -91,20 +91,20 @@ class Row:
 
     @property
     def given(self):
-        """The octets of the input."""
+        """Returns the octets of the input."""
         return b"".join(octets * times for octets, times in self.parts)
 
     @property
     def out(self):
-        """The octets that are written."""
+        """Returns the octets that are written."""
         return b"".join(octets for _, octets in self.written)
 
     def is_timed(self):
-        """Whether each line that is written has the number of octets with which it has come."""
+        """Returns whether each line that is written has the number of input octets after which it is written."""
         return all(come is not None for come, _ in self.written)
 
     def findings(self):
-        """The number of findings that the run reports."""
+        """Returns the number of findings that the run reports."""
         match = re.fullmatch(r"findings: (\d+)", self.message)
         if self.counted is not None:
             return self.counted
@@ -115,7 +115,7 @@ class Row:
 
 
 def rows_in(row, lines):
-    """Returns the row in a list, or an empty list if the lines are a heading; stops if they are neither."""
+    """Returns a list of the row, which is empty if the lines are a heading. Stops if the lines are neither."""
     if row.words is None:
         if any(not line.startswith("#") for line in lines):
             raise ValueError(f"{row.place}: a row without words")
@@ -126,7 +126,7 @@ def rows_in(row, lines):
 
 
 def rows_of(path):
-    """The rows of a file."""
+    """Returns the rows of a file."""
     with open(path, encoding="utf-8") as file:
         text = file.read().split("\n")
     rows, lines, row = [], [], None
@@ -142,7 +142,7 @@ def rows_of(path):
 
 
 def files(root, folder="rows"):
-    """Returns the files of rows of a folder of tests, by name, and the rows of each."""
+    """Returns the rows of each file in a folder of tests, by file name."""
     folder = os.path.join(root, "tests", folder)
     names = sorted(os.listdir(folder))
     return {name.removesuffix(".rows"): rows_of(os.path.join(folder, name)) for name in names}

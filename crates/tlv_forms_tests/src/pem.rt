@@ -4,8 +4,8 @@ use std::test::Fail;
 use tlv_forms::TakenFor;
 use tlv_text::{BlockState, Form};
 
-/// Texts in PEM: plain, with a byte order mark of UTF-8 or UTF-16, after other text and without an end marker, encrypted,
-/// and with a character that is refused.
+/// Texts in PEM: plain, with a byte order mark of UTF-8 or UTF-16, after other text and without an end marker,
+/// encrypted, and with a character that is refused.
 static PEM_TEXTS: [Row<'static>; 7] = [
     (
         b"-----BEGIN X-----\nMAMCAQU=\n-----END X-----\n",
