@@ -12,11 +12,11 @@ from parts.words import files
 CRATES = ("tlv_head", "tlv_io", "tlv_walk", "tlv_value", "tlv_show", "tlv_cut", "tlv_run")
 # The sources that may name an allocator, below crates/.
 MODULES = re.compile(r"tlv_value/src/names(?:\.rt|/\w+\.rt)|tlv_run/src/text\.rt")
-# What these crates may use of others: modules of std and its lemmas, and crates of the kit. None of these gives an
-# allocator.
+# What these crates may use of others: modules of std and its lemmas, and crates of the kit.
+# None of these gives an allocator.
 STD, KIT = {"io", "marker", "mem", "proofs"}, {"arrayvec", "hex", "itoa", "simdutf8", "thiserror"}
-# Allocators, the runtime that makes one, the types of std that hold one, and ways to make a value of a type that is not
-# named.
+# Allocators, the runtime that makes one, the types of std that
+# hold one, and ways to make a value of a type that is not named.
 ALLOCATORS = "Alloc AllocGlobal Allocator AnyAllocGlobal Global HostRuntime LibcRuntime LocalHeap alloc"
 HOLDERS = "Arc BTreeMap BTreeSet BinaryHeap Box BufReader BufWriter CString Cow HashMap HashSet LinkedList OsString PathBuf Rc"
 HOLDERS += " String ToString Vec VecDeque"

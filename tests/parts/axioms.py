@@ -51,8 +51,8 @@ def are_of_ci(part, crate):
 
 
 def listed(part, crate):
-    """Returns the functions that the prover lists (None if the program is not proved), its output, and the seconds it
-    took.
+    """Returns the functions that the prover lists (None if the
+    program is not proved), its output, and the seconds it took.
     """
     began = time.time()
     asked = words(part, crate) if are_of_ci(part, crate) else ["rt", "check", "--list-axioms"]

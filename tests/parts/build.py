@@ -16,8 +16,8 @@ from parts.fake_kit import top_of, wait_for
 
 
 def not_on_a_terminal(part):
-    """Without a terminal, a build prints a line for each crate, and the program then runs on its input. The next run
-    builds nothing.
+    """Without a terminal, a build prints a line for each crate, and the program then runs on its input.
+    The next run builds nothing.
     """
     script = make_clone(part, "clone")
     octets = bytes.fromhex("3003020201")
@@ -251,8 +251,8 @@ WAITS = "tlvdump: another run builds the program; this one waits for it\n"
 
 
 def two_at_once(part):
-    """A second run waits for the first, and then builds nothing. If the first has ended without a program, the second
-    builds.
+    """A second run waits for the first, and then builds nothing.
+    If the first has ended without a program, the second builds.
     """
     if not part.has("flock"):
         return

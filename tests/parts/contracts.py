@@ -1,5 +1,5 @@
-"""Checks that docs/CONTRACTS.md matches the comments and clauses of the sources, and has each public item of the
-libraries.
+"""Checks that docs/CONTRACTS.md matches the comments and clauses
+of the sources, and has each public item of the libraries.
 """
 import os
 

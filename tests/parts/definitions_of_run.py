@@ -15,8 +15,8 @@ ENTRY = re.compile(r"(?P<crate>tlv_\w+)|`(?P<file>[A-Z]\w*)`(?:\s+\((?P<but>all 
 
 
 def blocks(text):
-    """Yields the name and the text of each definition in a file of specs. The text ends where the next definition
-    begins.
+    """Yields the name and the text of each definition in a file of specs.
+    The text ends where the next definition begins.
     """
     name, inside, lines = None, None, []
     for line in text.split("\n"):
@@ -95,8 +95,8 @@ class Definitions:
 
 
 def entries(text, files):
-    """Yields each file in a list, whether all its definitions are needed except those named or only those named, and
-    the names.
+    """Yields each file in a list, whether all its definitions are
+    needed except those named or only those named, and the names.
     """
     crate = None
     for entry in ENTRY.finditer(text):

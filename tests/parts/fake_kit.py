@@ -204,8 +204,8 @@ def has_old(script):
 
 
 def start_waiting(part, script, name):
-    """Starts a build that waits. Returns the process of the script, and the number of a process that rt has started in
-    it.
+    """Starts a build that waits. Returns the process of the
+    script, and the number of a process that rt has started in it.
     """
     child = start(part, script, ["--version"], how="waits", RT_CHILD=part.path(name))
     return child, int(await_file(part.path(name)) or 0)

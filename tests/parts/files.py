@@ -25,8 +25,8 @@ OPEN = "E5 cannot open the file"
 
 
 def closing(*descriptors):
-    """Returns what the child does before it becomes the program: it closes these descriptors, as `<&-` of the shell
-    does.
+    """Returns what the child does before it becomes the program:
+    it closes these descriptors, as `<&-` of the shell does.
     """
 
     def close():

@@ -43,8 +43,8 @@ def levels(part):
 
 
 def check_table(part):
-    """Checks the table of docs/FINDINGS.md: each example has its finding, under the rule sets that are named, and no
-    other.
+    """Checks the table of docs/FINDINGS.md: each example has its
+    finding, under the rule sets that are named, and no other.
     """
     with open(os.path.join(part.root, "docs", "FINDINGS.md"), encoding="utf-8") as file:
         rows = [line.strip("| \n").split(" | ") for line in file if re.match(r"\| [BSDC]\d\d ", line)]

@@ -178,8 +178,8 @@ def nothing_left(part, what, prefix):
 
 
 def check_failures(part):
-    """If a file cannot be installed or removed, the status is 1, also for root. The other files are installed, and
-    nothing else is left.
+    """If a file cannot be installed or removed, the status is 1, also for root.
+    The other files are installed, and nothing else is left.
     """
     others = [place for place in PLACES if place != "bin/tlvdump"]
     printed = "".join(f"in-the-way/{place}\n" for place in others)
@@ -231,8 +231,8 @@ def check_running(part):
 
 
 def check_signals(part):
-    """A signal while a file is written leaves nothing of the file. The program is read from a pipe that gives nothing,
-    so the script waits.
+    """A signal while a file is written leaves nothing of the file.
+    The program is read from a pipe that gives nothing, so the script waits.
     """
     os.mkfifo(part.path("slow"))
     env = dict(os.environ, TLVDUMP=part.path("slow"), TLVDUMP_SHOW=part.suite.show_program)

@@ -50,8 +50,8 @@ def compare(pipe, first, again, times, last):
 
 
 def long_run(part, what, words, given, wanted):
-    """Writes `given`, and compares the output with `wanted`. Each has a beginning, a part to repeat, a count, and an
-    end.
+    """Writes `given`, and compares the output with `wanted`.
+    Each has a beginning, a part to repeat, a count, and an end.
     """
     pipes = {"stdin": subprocess.PIPE, "stdout": subprocess.PIPE, "stderr": subprocess.PIPE}
     child = part.start(words, bufsize=MEGABYTE, **pipes)

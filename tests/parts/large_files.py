@@ -1,5 +1,5 @@
-"""Tests files of more than 2^31 and 2^32 octets, and very many findings. The files are sparse, so they take little
-room.
+"""Tests files of more than 2^31 and 2^32 octets, and very many findings.
+The files are sparse, so they take little room.
 """
 import os
 import shutil
@@ -9,8 +9,8 @@ from parts.harness import Done, message
 
 GIGABYTE = 1 << 30
 BOOLEAN, LAST = b"\x01\x01\x01", b"\x02\x01\x05"
-# A file system in memory, where the holes of a file are read without a disk. If it is missing, the part's own folder is
-# used.
+# A file system in memory, where the holes of a file are read without a disk.
+# If it is missing, the part's own folder is used.
 SHARED = "/dev/shm"
 
 

@@ -209,8 +209,8 @@ def go(folder):
 
 
 def authorities(folder):
-    """Reads the policies of certificate authorities in zcrypto: a map for each kind, with the authority in a comment
-    above its lines.
+    """Reads the policies of certificate authorities in zcrypto: a map
+    for each kind, with the authority in a comment above its lines.
     """
     kinds = {"ExtendedValidation": "EV", "OrganizationValidation": "OV", "DomainValidation": "DV"}
     for text in texts(folder, "usr/share/gocode/src/github.com/zmap/zcrypto/x509/extensions.go"):

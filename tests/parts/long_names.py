@@ -40,8 +40,8 @@ def encoding_of(arcs):
 
 
 def long_text(octets, number):
-    """Returns a text of `octets` octets whose last arc is this number. With more than 256 octets it is too long to be
-    shown.
+    """Returns a text of `octets` octets whose last arc is this number.
+    With more than 256 octets it is too long to be shown.
     """
     end = f".{100_000 + number}"
     return "2." + "9" * (octets - 2 - len(end)) + end

@@ -281,8 +281,8 @@ def made(part):
 
 
 def coming(part, text):
-    """Runs for each task the commands of other programs that are installed, and the one of this program, on each kind
-    of input.
+    """Runs for each task the commands of other programs that are
+    installed, and the one of this program, on each kind of input.
     """
     section = re.split(r"\n\.S[hs] ", text.split("\n.Ss Coming from dumpasn1, openssl asn1parse, unber\n")[1])[0]
     blocks = [block.splitlines() for block in re.findall(r"^\.Bd -literal.*?\n(.*?)^\.Ed", section, re.M | re.S)]

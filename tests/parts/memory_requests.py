@@ -2,8 +2,8 @@
 
 tests/parts/refuse.c is loaded before the C library. It numbers the requests that the program makes, refuses some, and
 reports how many came before each file was opened. So the tests know which requests are those of the words and which are
-those of the names file: the words come first, then the names file is read, then FILE is opened, and a run allocates
-nothing.
+those of the names file: the words come first, then the names
+file is read, then FILE is opened, and a run allocates nothing.
 """
 import os
 
@@ -51,8 +51,8 @@ TAKEN = [
 # Command lines after which `clap` prints help, or a message on standard error.
 PRINTED = ["--help", "extract --help", "--version", "", "dump a b", "dump --limit", "extract a.der"]
 PRINTED += ["dump --pure --pure", "indef --padding=1"]
-# Command lines for which `clap` looks for similar words. If only one request is refused there, it may print a message
-# without them.
+# Command lines for which `clap` looks for similar words.
+# If only one request is refused there, it may print a message without them.
 ALIKE = ["dump --lim 1", "nonsense", "extrac --offset 0", "check --limit 1"]
 
 
@@ -74,8 +74,8 @@ class Program:
 
 
 class Requests:
-    """The report of refuse.c: the files that were opened with the number of requests before each, and the number of all
-    requests.
+    """The report of refuse.c: the files that were opened with the
+    number of requests before each, and the number of all requests.
     """
 
     def __init__(self, path):
@@ -96,8 +96,8 @@ class Requests:
 
 
 class Line:
-    """A command line: its result if no request is refused, and which requests belong to the words and to the names
-    file.
+    """A command line: its result if no request is refused, and
+    which requests belong to the words and to the names file.
     """
 
     def __init__(self, program, text, may_pass=False):

@@ -161,8 +161,8 @@ def without_tool(part):
 
 
 def check_signals(part):
-    """A signal while the script works leaves nothing. The program is slow to print its version, so that the signal
-    comes in time.
+    """A signal while the script works leaves nothing.
+    The program is slow to print its version, so that the signal comes in time.
     """
     slow = part.write("slow", b'#!/bin/sh\n: >"$SLOW"\nexec sleep 1\n')
     os.chmod(slow, 0o755)

@@ -11,8 +11,8 @@ import subprocess
 from parts.completions import show_options, words_of
 from parts.install import clone
 
-# Commands that are not run: the gate, which runs this part, and those that change the system, which have tests of their
-# own.
+# Commands that are not run: the gate, which runs this part, and
+# those that change the system, which have tests of their own.
 NOT_RUN = [".ci/run", "./install", "./install", "./package"]
 TOOLS = ("openssl", "xxd")
 # An input for each fault, F01 first, in hexadecimal. The last is read with --inside 0.

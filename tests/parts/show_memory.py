@@ -41,8 +41,8 @@ FILES = {
     "cut": bytes.fromhex("0402 0500 3009 0c02c3a9 04020d0a"),
 }
 PRINTED = ["--help", "--version", "--limit", "--check --pure"]
-# Command lines for which `clap` looks for similar words. If only one request is refused there, it may print a message
-# without them.
+# Command lines for which `clap` looks for similar words.
+# If only one request is refused there, it may print a message without them.
 ALIKE = ["--nonsense", "--lim 1"]
 WORDS, NAMES, INPUT = "U3 out of memory", "N6 out of memory", "E8 out of memory"
 MB = 1_000_000
@@ -79,8 +79,8 @@ class Line:
     def is_fine(self, got, number):
         """Returns whether the result is allowed for a run in which this request is refused.
 
-        Before a file is opened, and while files are read, the whole run ends. Later only one FILE or block ends, and
-        the others are shown.
+        Before a file is opened, and while files are read, the whole run ends.
+        Later only one FILE or block ends, and the others are shown.
         """
         before = [name for name, count in self.opened if count < number]
         ends = [] if before else [WORDS]
@@ -180,8 +180,8 @@ def string(octets):
 
 
 def in_all(part, program):
-    """The memory of a run is at most that of a run on a small input, and twice the input, 8 octets for each opened
-    string, and 2 MB.
+    """The memory of a run is at most that of a run on a small input,
+    and twice the input, 8 octets for each opened string, and 2 MB.
     """
     small = most_memory(part, program, [])
     for what, octets, strings in (

@@ -75,8 +75,8 @@ class Program:
     def agrees(self, what, octets, *jobs, is_large=False):
         """Counts tests: for each of these jobs, or for all three, it does what the second opinion expects.
 
-        In a large input the reasons are compared with those of --why, because the second opinion would take minutes for
-        them.
+        In a large input the reasons are compared with those of --why,
+        because the second opinion would take minutes for them.
         """
         for job in jobs or ("dump", "check", "offsets"):
             words = [] if job == "dump" else [f"--{job}"]

@@ -26,8 +26,8 @@ def string(octets, tag=4):
 
 
 def wanted_of(program, row, name=""):
-    """Returns the expected result of a row, with the reasons after its message. If the input is a FILE, its name
-    precedes the message.
+    """Returns the expected result of a row, with the reasons after its message.
+    If the input is a FILE, its name precedes the message.
     """
     said = "\n".join(f"{name}{line}" for line in row.message.splitlines())
     return Done(row.status, row.out, message(program.with_reasons(said, row.given, *row.words)))

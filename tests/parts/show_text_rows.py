@@ -165,8 +165,8 @@ def handed_on(part, program):
 
 
 def words(part, program):
-    """Each row of RAW gives its output with --raw. A value of --as that is out of range is reported after those of
-    other options.
+    """Each row of RAW gives its output with --raw.
+    A value of --as that is out of range is reported after those of other options.
     """
     for given, text, status, out, note in RAW:
         program.gives(["--raw", *given], text, status, out, note, what=f"--raw {' '.join(given)} {text[:40]!r}")

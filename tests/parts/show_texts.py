@@ -65,8 +65,8 @@ class Texts:
         self.part.expect(what, fine, *got.lines())
 
     def begins(self, what, text, octets, form=None):
-        """Counts tests: --raw writes a prefix of these octets, possibly empty. The last octet may lack a digit of its
-        token.
+        """Counts tests: --raw writes a prefix of these octets, possibly empty.
+        The last octet may lack a digit of its token.
         """
         got = self.raw(what, text, form)
         last = 1 if b"0x" in text[-6:].lower() else 0
@@ -180,8 +180,8 @@ def damaged_dumps(checks, octets):
         ):
             place = at + more
             if name.startswith("od") and "-Ax" not in name:
-                # A dump with octal offsets is refused where it would be with hexadecimal ones: at its second row, which
-                # then does not fit.
+                # A dump with octal offsets is refused where it would be with
+                # hexadecimal ones: at its second row, which then does not fit.
                 kept, place = width, 2
             checks.refused(f"{name}, {what}", b"".join(changed), octets[:kept], form, place)
 
@@ -211,8 +211,8 @@ def len_of_row(name):
 
 
 def drawn(part, program):
-    """20,000 random texts, in batches of FILEs: the output is printable, and --raw writes what the second opinion
-    expects.
+    """20,000 random texts, in batches of FILEs: the output is
+    printable, and --raw writes what the second opinion expects.
     """
     for batch in range(BATCHES):
         rng = random.Random(f"texts {batch}")

@@ -63,8 +63,8 @@ def ends_early(part):
 
 
 def closed_early(part):
-    """If the reader of the output closes it, the program ends with E2 if SIGPIPE is ignored, and is ended by SIGPIPE
-    otherwise.
+    """If the reader of the output closes it, the program ends with
+    E2 if SIGPIPE is ignored, and is ended by SIGPIPE otherwise.
     """
     nulls = b"\x05\x00" * 100_000
     for ignored in (True, False):
@@ -85,8 +85,8 @@ def closed_early(part):
 
 
 def heed(number):
-    """Gives a signal its default effect in the program, even if it is ignored here, as SIGINT is in the background of a
-    shell.
+    """Gives a signal its default effect in the program, even if
+    it is ignored here, as SIGINT is in the background of a shell.
     """
     if number != signal.SIGKILL:
         signal.signal(number, signal.SIG_DFL)

@@ -21,8 +21,8 @@ class Broken:
 
 
 class Strings:
-    """The strings of an input: `opened` has the offsets of those that are opened, in rising order, and `broken` the
-    broken ones.
+    """The strings of an input: `opened` has the offsets of those
+    that are opened, in rising order, and `broken` the broken ones.
     """
 
     def __init__(self, octets, padding=False):
@@ -32,8 +32,8 @@ class Strings:
         self.look(Reading(octets, padding=padding).items, None, 0, 0)
 
     def look(self, items, parent, base, level):
-        """Examines the elements that `parent` holds. Their offsets count from `base`, and `level` elements are open
-        around them.
+        """Examines the elements that `parent` holds.
+        Their offsets count from `base`, and `level` elements are open around them.
         """
         for element in items:
             if not isinstance(element, Element):
@@ -58,16 +58,16 @@ class Strings:
                 self.broken.append(Broken(base + string.offset, looks))
 
     def faults(self):
-        """Yields each broken string with the fault of the input in which this string is named too and octets follow the
-        input.
+        """Yields each broken string with the fault of the input in
+        which this string is named too and octets follow the input.
         """
         for broken in self.broken:
             yield broken, Reading(self.octets + NULL, [*self.opened, broken.offset], self.padding).fault
 
 
 def inner_octets(string):
-    """Returns the octets that may be encodings, or None: the contents, or of a BIT STRING those after an initial octet
-    00.
+    """Returns the octets that may be encodings, or None: the
+    contents, or of a BIT STRING those after an initial octet 00.
     """
     if string.is_universal(OCTET_STRING):
         return string.contents

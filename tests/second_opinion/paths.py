@@ -11,8 +11,8 @@ def file_name(rng, usual):
 
 
 def path_to(rng, name):
-    """Returns a path, and whether it can be opened: mostly the name itself, or a longer path to it, rarely one that no
-    file has.
+    """Returns a path, and whether it can be opened: mostly the name
+    itself, or a longer path to it, rarely one that no file has.
     """
     choice, octets = rng.random(), len(name.encode())
     if choice < 0.75:

@@ -58,8 +58,8 @@ class Reading:
     """
 
     def __init__(self, octets, inside=(), padding=False, around=0):
-        """Reads the octets. The strings at the offsets `inside` are wrappers, and `around` elements are open around the
-        input.
+        """Reads the octets. The strings at the offsets `inside` are
+        wrappers, and `around` elements are open around the input.
         """
         self.octets, self.inside, self.padding, self.around = octets, set(inside), padding, around
         self.at = self.kept = 0
@@ -167,8 +167,8 @@ class Reading:
         return length
 
     def is_wrapper(self, element):
-        """Strings that hold encodings: a primitive OCTET STRING, or a primitive BIT STRING with contents, that is
-        named.
+        """Strings that hold encodings: a primitive OCTET STRING,
+        or a primitive BIT STRING with contents, that is named.
         """
         if element.constructed or element.offset not in self.inside:
             return False

@@ -100,8 +100,8 @@ class Dump:
         return Line("repeat", place, text) if REPEAT.fullmatch(text) else None
 
     def items_of(self, lines):
-        """Returns the lines from the first row on, without empty lines, and the place of a line that cannot stand
-        there.
+        """Returns the lines from the first row on, without empty
+        lines, and the place of a line that cannot stand there.
         """
         items = []
         for place, text in lines:
@@ -133,8 +133,8 @@ class Dump:
         return self.before is not None and len(self.before) != self.width
 
     def fits_offset(self, offset):
-        """Returns whether an offset fits. After a repeat it does if one or more rows fill the octets up to it, which
-        are added.
+        """Returns whether an offset fits.
+        After a repeat it does if one or more rows fill the octets up to it, which are added.
         """
         more = offset - self.next_offset
         if not self.is_repeated:

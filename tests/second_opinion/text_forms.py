@@ -28,8 +28,8 @@ LIST = re.compile(rb"\[(%s)\]|\{(%s)\}" % (NUMBERS, NUMBERS))
 
 
 def of_base64(text, section=None):
-    """Returns what a text in base64 gives. If no section of RFC 4648 is given, it is 5 if the text has - or _, and else
-    4.
+    """Returns what a text in base64 gives.
+    If no section of RFC 4648 is given, it is 5 if the text has - or _, and else 4.
     """
     section = section or (5 if re.search(rb"[-_]", text) else 4)
     symbol = rb"[%s%s]" % (LETTERS_AND_DIGITS, SIGNS[section])

@@ -78,8 +78,8 @@ def blocks_of(octets, as_form=None):
 
 
 def text_of(octets):
-    """Returns the text of an input. A byte order mark of UTF-8 is dropped, and ASCII in UTF-16 with a mark becomes
-    ASCII.
+    """Returns the text of an input. A byte order mark of UTF-8
+    is dropped, and ASCII in UTF-16 with a mark becomes ASCII.
     """
     if octets.startswith(MARK):
         return octets[len(MARK) :]
@@ -97,8 +97,8 @@ def of_any(octets):
     blocks = None if has_control(text) else of_known_form(text, 0)
     if blocks:
         return blocks
-    # An input with a byte order mark is no encoding, though it may parse: in UTF-16 each character is an element
-    # without contents.
+    # An input with a byte order mark is no encoding, though it may
+    # parse: in UTF-16 each character is an element without contents.
     if has_control(text) or octets is text and is_whole(octets) or not is_utf8(text) or not text.strip(WHITE_SPACE):
         return [Block("octets", octets)]
     first = "".join(chr(it) if 0x20 <= it <= 0x7E else "?" for it in text[:MOST_SHOWN])
@@ -135,8 +135,8 @@ def of_known_form(text, layers):
 
 
 def sound(form, decoded, not_in_front=None):
-    """Returns the block of a text that is not refused, and that gives octets that do not begin with `not_in_front`; or
-    None.
+    """Returns the block of a text that is not refused, and that
+    gives octets that do not begin with `not_in_front`; or None.
     """
     if decoded.place is not None or not decoded.octets or not_in_front and decoded.octets.startswith(not_in_front):
         return None
@@ -188,8 +188,8 @@ def counts(octets):
 
 
 def in_turn(decoded, layers):
-    """Returns the blocks of the text inside base64, or None if it has no form. The base64 is itself inside `layers`
-    layers.
+    """Returns the blocks of the text inside base64, or None if it has no form.
+    The base64 is itself inside `layers` layers.
     """
     if decoded.place is not None or layers == MOST_LAYERS:
         return None

@@ -66,8 +66,8 @@ def short_value(element, names):
 
 
 def long_value(element):
-    """Returns the text and the complete rows of a long value. Its line is complete after the header, or after the first
-    contents octet.
+    """Returns the text and the complete rows of a long value.
+    Its line is complete after the header, or after the first contents octet.
     """
     contents, whole = element.contents, element.end is not None
     if element.is_universal(BIT_STRING):
@@ -139,8 +139,8 @@ def subidentifiers(contents):
 
 
 def object_identifier(element, names):
-    """Returns the arcs, with the name if there is one. If they cannot be shown, returns pairs, in rows if there are
-    more than 16.
+    """Returns the arcs, with the name if there is one.
+    If they cannot be shown, returns pairs, in rows if there are more than 16.
     """
     numbers = subidentifiers(element.contents)
     if numbers is None or any(number >= 1 << 128 for number in numbers):

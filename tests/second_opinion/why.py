@@ -71,8 +71,8 @@ def lines_of(octets, padding):
 
 @functools.lru_cache(maxsize=16)
 def lines_of_string(octets, padding, inside):
-    """Returns the lines about the string at the last of these offsets, which breaks. The strings at the others are
-    opened.
+    """Returns the lines about the string at the last of these offsets, which breaks.
+    The strings at the others are opened.
     """
     stand = Stand(octets, padding, inside)
     return (*reasons(stand), *why_search.other_length(octets, padding, stand.candidates(), inside))

@@ -7,8 +7,8 @@ from second_opinion.showing import File, Show
 
 
 def case_of(seed):
-    """Returns the case of a seed. The same seed always gives the same case. The input is taken as octets, whatever it
-    looks like.
+    """Returns the case of a seed. The same seed always gives the same case.
+    The input is taken as octets, whatever it looks like.
     """
     rng = random.Random(f"tlvdump-show --why {seed}")
     octets, padding = why_drawing.input_octets(rng)

@@ -18,8 +18,8 @@ START = ("From offset {} on it parses: what stands in front may be a header of t
 
 
 def remedies(octets, padding, candidates):
-    """Returns the lines about changes that would make an input parse. The candidates are elements whose length may be
-    wrong.
+    """Returns the lines about changes that would make an input parse.
+    The candidates are elements whose length may be wrong.
     """
     return [*other_length(octets, padding, candidates), *text_change(octets, padding), *other_kind(octets),
             *other_start(octets, padding)]
@@ -41,8 +41,8 @@ def header_at(octets, offset):
 
 
 def other_length(octets, padding, candidates, inside=()):
-    """Returns the line about the first candidate whose length can be changed so that everything parses, with these
-    strings as wrappers.
+    """Returns the line about the first candidate whose length can be
+    changed so that everything parses, with these strings as wrappers.
     """
     if len(octets) > MOST_SEARCHED:
         return []

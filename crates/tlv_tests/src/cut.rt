@@ -10,8 +10,8 @@ const INPUT: &[u8] = b"\x30\x03\x02\x01\x05";
 /// `INPUT` in the indefinite form.
 const INDEFINITE: &[u8] = b"\x30\x80\x02\x01\x05\x00\x00";
 
-/// Walks over `INPUT` with the follower. Returns whether the walk succeeds and the follower writes exactly these
-/// octets.
+/// Walks over `INPUT` with the follower.
+/// Returns whether the walk succeeds and the follower writes exactly these octets.
 fn writes<F: Follow>(follower: &mut F, written: &[u8]) -> bool {
     let mut room = [0; 8];
     let mut source = MemSource::new(INPUT, &[], None);

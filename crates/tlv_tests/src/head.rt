@@ -80,8 +80,8 @@ fn expect_shape(rt: &impl Abort, found: &Option<Header>, shape: &Shape<'_>) {
     );
 }
 
-/// A header is read the same whether its octets come one by one or at once, and whether its contents just fit or there
-/// is no bound.
+/// A header is read the same whether its octets come one by one or
+/// at once, and whether its contents just fit or there is no bound.
 #[test]
 fn headers_are_read(rt: HostRuntime) {
     for shape in &SHAPES {

@@ -30,8 +30,8 @@ static STRINGS: [Row<'static>; 13] = [
     (b"\x04\x03\x05\x00\x00", &[]),
 ];
 
-/// Strings inside other elements: with findings in their contents, in segments, in inputs that are cut off, and with
-/// padding.
+/// Strings inside other elements: with findings in their contents,
+/// in segments, in inputs that are cut off, and with padding.
 static ELEMENTS: [Row<'static>; 9] = [
     (b"\x30\x0b\x04\x09\x30\x07\x13\x05foo@b", &[2]),
     (b"\x30\x08\x04\x02\x05\x00\x04\x02\x06\x00", &[2]),
@@ -78,8 +78,8 @@ fn strings_are_opened(rt: HostRuntime) -> Result<(), Fail> {
     expect_opened(&rt, rt.alloc(), &[padded], true)
 }
 
-/// Checks the strings that are opened of an input in which `depth` nested elements of indefinite length hold one
-/// string.
+/// Checks the strings that are opened of an input in which
+/// `depth` nested elements of indefinite length hold one string.
 fn expect_deep(rt: &impl Abort, alloc: Global, depth: usize, offsets: &[u64]) -> Result<(), Fail> {
     let mut input = Vec::new(alloc);
     for _ in 0..depth {

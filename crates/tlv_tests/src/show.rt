@@ -154,8 +154,8 @@ fn lines_with(octets: u64) -> &'static [u8] {
     }
 }
 
-/// Reads the constructed string in two pieces, of which the first has this number of octets. Checks what is written
-/// after each.
+/// Reads the constructed string in two pieces, of which the first has this number of octets.
+/// Checks what is written after each.
 fn expect_turns(rt: &impl Abort, first: u64) {
     let mut room = [0; 200];
     let mut piece = [0; 11];

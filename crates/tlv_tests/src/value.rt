@@ -157,8 +157,8 @@ fn expect_lines(rt: &impl Abort, element: &[u8], layout: Layout, lines: &[&str])
     expect_lines_named(rt, element, layout, &OneName, lines);
 }
 
-/// Checks the lines of an element in every cut of its contents into two pieces, and octet by octet, with the names of a
-/// table.
+/// Checks the lines of an element in every cut of its contents
+/// into two pieces, and octet by octet, with the names of a table.
 fn expect_lines_named<N: NameTable>(
     rt: &impl Abort,
     element: &[u8],

@@ -206,8 +206,8 @@ fn runs_come_in_order(rt: HostRuntime) -> Result<(), Fail> {
     Ok(())
 }
 
-/// Separated pairs of digits are one block. They may have any separators that the form allows, in groups of four pairs
-/// or one by one.
+/// Separated pairs of digits are one block.
+/// They may have any separators that the form allows, in groups of four pairs or one by one.
 #[test]
 fn separated_pairs_are_one_block(rt: HostRuntime) -> Result<(), Fail> {
     let rows: [(&[u8], &[u8]); 4] = [

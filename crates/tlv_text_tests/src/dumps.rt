@@ -59,8 +59,8 @@ static DUMPS: [Row<'static>; 14] = [
         b"\x30\x03\x02\x01",
         Some(30),
     ),
-    // Words of 16 bits, as hexdump and od -tx2 write them, and of 32 bits, are refused: the order of their octets is
-    // unknown.
+    // Words of 16 bits, as hexdump and od -tx2 write them, and of
+    // 32 bits, are refused: the order of their octets is unknown.
     (b"0000000 0330 0102 0005\n0000005\n", b"", Some(0)),
     (b"0000000 0330 0102 0005\n", b"", Some(0)),
     (b"0000000 02010330 00000005\n0000005\n", b"", Some(0)),

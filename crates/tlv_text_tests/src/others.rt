@@ -4,8 +4,8 @@ use std::process::Abort;
 use std::test::Fail;
 use tlv_text::{PemBody, decode_tokens, first_run, has_tokens, numbers_of, pem_body};
 
-/// A text, whether it has at least two tokens, the octets decoded, and the number of characters before the one that is
-/// refused.
+/// A text, whether it has at least two tokens, the octets decoded,
+/// and the number of characters before the one that is refused.
 type TokenRow<'a> = (&'a [u8], bool, &'a [u8], Option<usize>);
 
 static TOKENS: [TokenRow<'static>; 17] = [

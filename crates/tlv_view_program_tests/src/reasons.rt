@@ -51,8 +51,8 @@ const DAMAGED_TEXT: &[u8] =
     where M is its offset and 1.\n\
     If the header at offset 2 said 1 octet and not 2, all would parse.\n";
 
-/// A broken string is reported with its reasons, and the status is at least 1. With `--closed` or `--offset` strings
-/// are not examined.
+/// A broken string is reported with its reasons, and the status is at least 1.
+/// With `--closed` or `--offset` strings are not examined.
 #[test]
 fn broken_strings_are_explained(rt: HostRuntime) -> Result<(), Fail> {
     let rows = [

@@ -3,8 +3,8 @@ use crate::row::{NOTHING, ShowRow, expect_rows, expect_run, places_of};
 use std::test::Fail;
 use tlv_program::NoWords;
 
-/// Each file is read in full and then closed. Without a file, and for `-`, standard input is read. A names file is read
-/// first.
+/// Each file is read in full and then closed. Without a file, and for `-`, standard input is read.
+/// A names file is read first.
 #[test]
 fn files_are_shown(rt: HostRuntime) -> Result<(), Fail> {
     let rows = [
@@ -67,8 +67,8 @@ fn files_are_shown(rt: HostRuntime) -> Result<(), Fail> {
     expect_rows(&rt, rt.alloc(), &rows)
 }
 
-/// Each of several files has a title. A message about a file begins with the name of the file. The status is the
-/// highest of all.
+/// Each of several files has a title. A message about a file begins with the name of the file.
+/// The status is the highest of all.
 #[test]
 fn several_files_are_shown(rt: HostRuntime) -> Result<(), Fail> {
     let rows = [

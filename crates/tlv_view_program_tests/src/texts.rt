@@ -50,8 +50,8 @@ fn blocks_are_shown(rt: HostRuntime) -> Result<(), Fail> {
     expect_rows(&rt, rt.alloc(), &rows)
 }
 
-/// A text that is refused is reported. The octets decoded before the refusal are shown, and the status says that they
-/// are not all.
+/// A text that is refused is reported.
+/// The octets decoded before the refusal are shown, and the status says that they are not all.
 #[test]
 fn refused_texts_are_said(rt: HostRuntime) -> Result<(), Fail> {
     let refused = b"wrong: taken for PEM, A; X2 refused in line 2, where base64 is expected\n";

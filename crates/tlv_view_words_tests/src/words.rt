@@ -82,8 +82,8 @@ fn options_have_meanings(rt: HostRuntime) {
     }
 }
 
-/// Options that exclude each other are refused. `clap` refuses unknown words, and answers those for help and the
-/// version.
+/// Options that exclude each other are refused.
+/// `clap` refuses unknown words, and answers those for help and the version.
 #[test]
 fn refused_words_have_meanings(rt: HostRuntime) {
     for rows in [

@@ -76,8 +76,8 @@ fn element(offset: u64, number: u64, size: u64) -> Element {
     }
 }
 
-/// The facts of an input that ends with the header of an OCTET STRING whose length is too great. A NULL and a SEQUENCE
-/// precede it.
+/// The facts of an input that ends with the header of an OCTET STRING whose length is too great.
+/// A NULL and a SEQUENCE precede it.
 #[test]
 fn facts_are_those_of_the_reading(rt: HostRuntime) {
     let octets = b"\x05\x00\x30\x06\x02\x01\x07\x04\x05\xaa";

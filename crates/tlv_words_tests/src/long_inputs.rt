@@ -41,8 +41,8 @@ fn push_indentation(text: &mut Vec<u8>, level: u64) -> Result<(), Fail> {
     push_times(text, b"  ", level)
 }
 
-/// Adds the opening lines of `count` nested SEQUENCEs of indefinite length. The outermost has this offset and this
-/// level.
+/// Adds the opening lines of `count` nested SEQUENCEs of indefinite length.
+/// The outermost has this offset and this level.
 fn push_openings(
     alloc: Global,
     text: &mut Vec<u8>,

@@ -26,8 +26,8 @@ fn expect<const N: usize>(
     expect_eq_of(rt, "status", run.report.status, status);
 }
 
-/// Runs the case over its input in these pieces. Checks the result, or that a write fails if the output is longer than
-/// the room.
+/// Runs the case over its input in these pieces.
+/// Checks the result, or that a write fails if the output is longer than the room.
 fn expect_case(rt: &impl Abort, case: &Case<'_>, cuts: &[u64]) {
     let run = run_octets::<256>(
         &case.command,

@@ -1,5 +1,5 @@
-//! Tests of the program over files in memory: what it requests of the system, in which order, and what it writes and
-//! reports.
+//! Tests of the program over files in memory: what it requests of
+//! the system, in which order, and what it writes and reports.
 ghost use Rattle.tlv_program.specs.System.{unknown_system};
 
 use crate::expect::expect_eq_of;
@@ -186,8 +186,8 @@ fn first_refusal_is_reported(rt: HostRuntime) -> Result<(), Fail> {
     expect_rows(&rt, rt.alloc(), &rows)
 }
 
-/// A text of `clap` is printed. If printing fails, help and the version report a failed write, and a usage error keeps
-/// its status.
+/// A text of `clap` is printed. If printing fails, help and the
+/// version report a failed write, and a usage error keeps its status.
 #[test]
 fn texts_of_clap_are_printed(rt: HostRuntime) -> Result<(), Fail> {
     let rows = [

@@ -1,5 +1,5 @@
-//! Checks of runs of a case over memory: from whatever pieces, over each prefix of the input, and with devices that
-//! fail.
+//! Checks of runs of a case over memory: from whatever pieces,
+//! over each prefix of the input, and with devices that fail.
 use crate::expect::expect_eq_of;
 use crate::row::{Case, number};
 use crate::{ONES, READ_FAILED, WRITE_FAILED};
@@ -71,8 +71,8 @@ fn result_in<'a>(report: &'a Report, written: &'a [u8]) -> RunResult<'a> {
     }
 }
 
-/// Returns whether further octets cannot change this result, because an octet was refused or the element of `extract`
-/// was written.
+/// Returns whether further octets cannot change this result, because
+/// an octet was refused or the element of `extract` was written.
 fn is_final(command: &Command<'_>, run_result: RunResult<'_>) -> bool {
     if run_result.status == 2 {
         let text = run_result.message;
@@ -136,8 +136,8 @@ fn count_with(case: &Case<'_>, octets: u64) -> Result<Option<u64>, Fail> {
     Ok(Some(count))
 }
 
-/// Checks that what was written after this number of octets is a prefix of the output, and has the length that the case
-/// says.
+/// Checks that what was written after this number of octets is a
+/// prefix of the output, and has the length that the case says.
 fn expect_prefix(
     rt: &impl Abort,
     case: &Case<'_>,
@@ -152,8 +152,8 @@ fn expect_prefix(
     Ok(())
 }
 
-/// Checks the output of each proper prefix of the input. For short inputs, checks that it does not depend on the
-/// pieces.
+/// Checks the output of each proper prefix of the input.
+/// For short inputs, checks that it does not depend on the pieces.
 pub(crate) fn expect_prefixes(
     rt: &impl Abort,
     case: &Case<'_>,

@@ -4,8 +4,8 @@ use super::{header_of, is_of_shape, unnamed_header};
 use crate::expect::{expect_eq, expect_eq_of, expect_of};
 use tlv_head::{Header, HeaderFields, Size, spell_indefinite};
 
-/// Returns the second octet of the identifier and of the length of the header at the start of the octets. Each is 0 if
-/// it is absent.
+/// Returns the second octet of the identifier and of the length of the header at the start of the octets.
+/// Each is 0 if it is absent.
 fn second_octets(octets: &[u8]) -> Option<(u8, u8)> {
     let header = unnamed_header(octets)?;
     Some((
@@ -60,8 +60,8 @@ fn fields_make_headers(rt: HostRuntime) {
     }
 }
 
-/// Returns whether the octets begin with the header of a constructed element, and the indefinite form of this header is
-/// `want`.
+/// Returns whether the octets begin with the header of a constructed
+/// element, and the indefinite form of this header is `want`.
 fn becomes(octets: &[u8], want: &[u8]) -> bool {
     match unnamed_header(octets) {
         Some(header) if header.constructed => spell_indefinite(&header).as_slice() == want,

@@ -7,8 +7,8 @@ use std::test::Fail;
 use tlv_open::{BrokenString, Strings, broken_line, strings_of};
 use tlv_walk::INPUT_LIMIT;
 
-/// Returns the strings of the input that are opened and those that are broken. Checks first that the input is not too
-/// long.
+/// Returns the strings of the input that are opened and those that are broken.
+/// Checks first that the input is not too long.
 fn strings_in(rt: &impl Abort, alloc: Global, octets: &[u8]) -> Result<Strings, AllocError> {
     assert!(rt; octets.len() as u64 <= INPUT_LIMIT, "too long");
     strings_of(alloc, octets, false)

@@ -182,8 +182,8 @@ fn show_with_text(element: &[u8], layout: Layout, pieces: Pieces, room: &mut [u8
     Some(drain.written().len())
 }
 
-/// Writes the lines of the element, with or without text, from its whole contents. Returns the number of octets
-/// written.
+/// Writes the lines of the element, with or without text, from its whole contents.
+/// Returns the number of octets written.
 fn show_at_once(element: &[u8], layout: Layout, with_text: bool, room: &mut [u8]) -> Option<usize> {
     let (header, contents) = element_at(0, element)?;
     let mut drain = MemDrain::new(room, 7);

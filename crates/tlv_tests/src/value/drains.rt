@@ -104,8 +104,8 @@ fn drains_without_room(rt: HostRuntime) {
     expect_eq(&rt, seen, [true, true, false, true, true]);
 }
 
-/// Writes the element into a room that is too small. Returns whether the right call fails and the room has all that
-/// fits.
+/// Writes the element into a room that is too small.
+/// Returns whether the right call fails and the room has all that fits.
 fn fails_in(room: &mut [u8], element: &[u8], whole: &[u8]) -> bool {
     let size = room.len();
     let mut drain = MemDrain::new(room, 4096);
@@ -126,8 +126,8 @@ fn fills(room: &mut [u8], element: &[u8]) -> bool {
 }
 
 /// The rows of one piece may be longer than an `Out` holds. The call with the contents then writes to the drain
-/// whenever there is no room for a further row: the line and 60 rows, then 60 rows. The last five rows are written by
-/// the flush.
+/// whenever there is no room for a further row: the line and 60 rows, then 60 rows.
+/// The last five rows are written by the flush.
 #[test]
 fn rows_without_room(rt: HostRuntime) {
     let mut element = [0; 2004];

@@ -16,8 +16,8 @@ fn one_name(alloc: Global) -> Option<Names> {
     Names::read(alloc, &mut source).ok()
 }
 
-/// An object identifier is followed by its name. A relative object identifier is not, even if its dotted text is in the
-/// table.
+/// An object identifier is followed by its name.
+/// A relative object identifier is not, even if its dotted text is in the table.
 #[test]
 fn names_of_a_file_are_shown(rt: HostRuntime) {
     let Some(names) = one_name(rt.alloc()) else {
@@ -67,8 +67,8 @@ fn lines_have_offsets_and_levels(rt: HostRuntime) {
     }
 }
 
-/// If there are more rows than the limit, a row of three dots stands for the rest. If there are exactly as many, all
-/// are written.
+/// If there are more rows than the limit, a row of three dots stands for the rest.
+/// If there are exactly as many, all are written.
 #[test]
 fn rows_are_left_out(rt: HostRuntime) {
     let integer = LARGE_NUMBERS[2].element;

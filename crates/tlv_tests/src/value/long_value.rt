@@ -6,8 +6,8 @@ use crate::expect::expect_of;
 const ROW: &str =
     "                   \"aaaaaaaaaaaaaaaaaaaaaaaaaaaaaaaaaaaaaaaaaaaaaaaaaaaaaaaaaaaaaaaa\"\n";
 
-/// Returns whether the octets are the lines of a UTF8String of 8193 letters: 128 rows of 64 letters and a row of one
-/// letter.
+/// Returns whether the octets are the lines of a UTF8String of
+/// 8193 letters: 128 rows of 64 letters and a row of one letter.
 fn are_letters(octets: &[u8]) -> bool {
     let Some(mut rest) = octets.strip_prefix(b"       0   8193: UTF8String\n".as_slice()) else {
         return false;

@@ -29,8 +29,8 @@ fn openings(alloc: Global) -> Result<Vec<(u64, RowEvent)>, Fail> {
     Ok(events)
 }
 
-/// Adds the closing events of 128 nested elements. The end-of-contents octets of the innermost element have the offset
-/// 256.
+/// Adds the closing events of 128 nested elements.
+/// The end-of-contents octets of the innermost element have the offset 256.
 fn push_closings(events: &mut Vec<(u64, RowEvent)>) -> Result<(), Fail> {
     for i in 128..256_u64 {
         let offset = i.saturating_mul(2);

@@ -5,8 +5,8 @@ use crate::expect::expect_eq;
 use std::process::Abort;
 use tlv_walk::{Ending, Framing, INPUT_LIMIT, MemDrain, MemSource, Run, drive};
 
-/// Walks over an input with a follower that has enough after `ends` elements have ended. Checks the result and what is
-/// written.
+/// Walks over an input with a follower that has enough after `ends` elements have ended.
+/// Checks the result and what is written.
 fn expect_enough(rt: &impl Abort, ends: u64, reads: ReadPlan<'_>, run: Run, text: &[u8]) {
     let mut room = [0; 1024];
     let mut source = MemSource::new(
@@ -32,8 +32,8 @@ const FIRST_END: Run = Run {
     unused: None,
 };
 
-/// Once the follower has enough, no further octet is followed. It makes no difference whether that octet would be
-/// refused.
+/// Once the follower has enough, no further octet is followed.
+/// It makes no difference whether that octet would be refused.
 #[test]
 fn octets_after_enough_are_not_followed(rt: HostRuntime) {
     let first = b"open 0000 30 80\nbegin 0002 02 01\n 05 end\n";

@@ -6,8 +6,8 @@ use std::alloc::Global;
 use std::process::Abort;
 use std::test::Fail;
 
-/// Checks that the text is written, and the row's result, from the whole input, octet by octet, and in every cut into
-/// two pieces.
+/// Checks that the text is written, and the row's result, from the
+/// whole input, octet by octet, and in every cut into two pieces.
 fn expect_row_in_pieces(rt: &impl Abort, row: &Row<'_>, text: &[u8], room: &mut [u8]) {
     expect_row(rt, row, text, WHOLE, room);
     let singly = ReadPlan {
