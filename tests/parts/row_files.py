@@ -1,20 +1,20 @@
 """Reads the rows of tests/rows and tests/show_rows: words, octets, and what is written and reported.
 
-A row is some lines, and ends before an empty line. The first character of a line says what it is:
+A row is a group of lines that ends before an empty line. The first character of a line says what it is:
 
     # text             a comment; the last one before the words is the title of the row
-    $ dump --limit 1   the words, as a shell reads them (names: the row's names file)
-    @ 1.2.840 us       a line of that names file
-    < 30 80 (00)*3 "a" octets of the input: in hexadecimal, text in quotation marks, repeated
+    $ dump --limit 1   the words, as a shell reads them (`names` stands for the row's names file)
+    @ 1.2.840 us       a line of the names file
+    < 30 80 (00)*3 "a" octets of the input: in hexadecimal, repeated, or as text in quotation marks
     | text             a line that is written
     > 30 80            octets that are written
     ! text             the message on standard error, or a line of it
-    % 1                the number of findings, if neither the lines nor the message have it
+    % 1                the number of findings, if neither the lines nor the message say it
     = 2                the status (0 if the row has no such line)
 
-A number in front of `|` or `>`, as in `7| text`, is the number of octets of the input with which the line,
-or the octets, have come: before the last of these octets nothing of it is written. Either all such lines of a
-row have one, or none. Lines without words are a heading, and have comments alone.
+A number in front of `|` or `>`, as in `7| text`, is the number of octets of the input after which the line, or the
+octets, are written: nothing of them is written before. Either all such lines of a row have a number, or none has.
+A group of lines without words is a heading, which consists only of comments.
 """
 import os
 import re

@@ -41,7 +41,7 @@ fn expect_text(rt: &impl Abort, events: &[Event<'_>], text: &[u8]) {
 }
 
 #[test]
-fn a_constructed_string(rt: HostRuntime) {
+fn a_constructed_string_is_dumped(rt: HostRuntime) {
     let events = [
         Event::Open(header(&rt, 0, false, &[0x3a, 9])),
         Event::Begin(header(&rt, 2, false, &[4, 3])),
@@ -62,7 +62,7 @@ fn a_constructed_string(rt: HostRuntime) {
 }
 
 #[test]
-fn the_indefinite_form(rt: HostRuntime) {
+fn the_indefinite_form_is_dumped(rt: HostRuntime) {
     let events = [
         Event::Open(header(&rt, 0, false, &[0x3a, 0x80])),
         Event::Begin(header(&rt, 2, false, &[4, 3])),
@@ -85,7 +85,7 @@ const ROWS: &[u8] = b"       0     17: INTEGER
 ";
 
 #[test]
-fn rows_from_one_piece(rt: HostRuntime) {
+fn rows_are_written_from_one_piece(rt: HostRuntime) {
     let events = [
         Event::Begin(header(&rt, 0, false, &[2, 17])),
         Event::Bytes(&CONTENTS),
@@ -95,7 +95,7 @@ fn rows_from_one_piece(rt: HostRuntime) {
 }
 
 #[test]
-fn rows_from_pieces(rt: HostRuntime) {
+fn rows_are_written_from_pieces(rt: HostRuntime) {
     for cut in 0..=17 {
         let (front, after) = CONTENTS.split_at(cut);
         let events = [
@@ -109,7 +109,7 @@ fn rows_from_pieces(rt: HostRuntime) {
 }
 
 #[test]
-fn a_wrapper_and_padding(rt: HostRuntime) {
+fn a_wrapper_and_padding_are_dumped(rt: HostRuntime) {
     let events = [
         Event::Pad(&[0]),
         Event::Pad(&[0, 0]),
@@ -130,7 +130,7 @@ fn a_wrapper_and_padding(rt: HostRuntime) {
 }
 
 #[test]
-fn a_drain_without_room(rt: HostRuntime) {
+fn a_drain_without_room_fails(rt: HostRuntime) {
     let events = [Event::Begin(header(&rt, 0, false, &[5, 0])), Event::End];
     let mut room = [0; 10];
     let mut drain = MemDrain::new(&mut room, 400);

@@ -16,7 +16,7 @@ const ROOM: usize = 50_000;
 /// A way to run a case.
 #[derive(Clone, Copy)]
 pub(crate) enum Way {
-    /// The whole input, from whatever pieces.
+    /// The whole input, whatever the pieces.
     Whole,
     /// Each proper prefix of the input.
     Prefixes,

@@ -1,4 +1,4 @@
-//! Checks of runs of a case over memory: from whatever pieces,
+//! Checks of runs of a case over memory: whatever the pieces are,
 //! over each prefix of the input, and with devices that fail.
 use crate::expect::expect_eq_of;
 use crate::row::{Case, number};

@@ -1,4 +1,4 @@
-//! Tests of the findings on contents, from whatever pieces.
+//! Tests of the findings on contents, whatever the pieces.
 use super::found_rows::{BITS, Found, NUMBERS, OBJECTS, STRINGS, TIMES};
 use crate::expect::{expect_eq, expect_of};
 use crate::inputs::element_at;

@@ -83,7 +83,7 @@ fn failing_call_in(room: &mut [u8], letters: usize) -> (Option<Call>, bool) {
 /// fewer than 1024 are free. So the number of letters decides which call fails. Whichever it is, the drain has all that
 /// fits. A full row needs less room than the line before it, so the call with the contents does not fail here.
 #[test]
-fn drains_without_room(rt: HostRuntime) {
+fn drains_without_room_take_what_fits(rt: HostRuntime) {
     let mut room = [0; 4300];
     let mut seen = [false; 5];
     for i in 0..140 {
@@ -129,7 +129,7 @@ fn fills(room: &mut [u8], element: &[u8]) -> bool {
 /// whenever there is no room for a further row: the line and 60 rows, then 60 rows.
 /// The last five rows are written by the flush.
 #[test]
-fn rows_without_room(rt: HostRuntime) {
+fn rows_without_room_are_written_as_far_as_they_fit(rt: HostRuntime) {
     let mut element = [0; 2004];
     element[0] = 0x04;
     element[1] = 0x82;

@@ -44,7 +44,7 @@ fn has_unused_bits(element: &[u8]) -> Option<bool> {
 }
 
 #[test]
-fn unused_bits(rt: HostRuntime) {
+fn unused_bits_are_detected(rt: HostRuntime) {
     for row in &ROWS {
         expect_eq_of(
             &rt,

@@ -98,7 +98,7 @@ fn a_129th_element_is_refused(rt: HostRuntime) -> Result<(), Fail> {
 
 /// A string that holds encodings counts among the open elements. So one inside 128 open elements is refused.
 #[test]
-fn a_named_string_inside_128_elements(rt: HostRuntime) -> Result<(), Fail> {
+fn a_named_string_inside_128_elements_is_refused(rt: HostRuntime) -> Result<(), Fail> {
     let input = nested(rt.alloc(), 128, b"\x04\x00")?;
     let events = openings(rt.alloc())?;
     let row = Row {
@@ -115,7 +115,7 @@ fn a_named_string_inside_128_elements(rt: HostRuntime) -> Result<(), Fail> {
 }
 
 #[test]
-fn a_string_that_is_not_named_inside_128_elements(rt: HostRuntime) -> Result<(), Fail> {
+fn a_string_that_is_not_named_inside_128_elements_is_read(rt: HostRuntime) -> Result<(), Fail> {
     let input = nested(rt.alloc(), 128, b"\x04\x00")?;
     let mut events = openings(rt.alloc())?;
     push_string(&mut events)?;

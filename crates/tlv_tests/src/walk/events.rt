@@ -1,4 +1,4 @@
-//! Tests of the events that a walker yields, from whatever pieces of the input.
+//! Tests of the events that a walker yields, whatever the pieces of the input.
 use super::rows::{Row, RowEvent};
 use super::steps::{finish, step};
 use super::{tables, walked};
@@ -136,7 +136,7 @@ pub(crate) fn expect_events_in_pieces(rt: &impl Abort, row: &Row<'_>) {
     }
 }
 
-/// Checks the events of each row, from whatever pieces.
+/// Checks the events of each row, whatever the pieces.
 fn expect_each_in_pieces(rt: &impl Abort, rows: &[Row<'_>]) {
     for row in rows {
         expect_events_in_pieces(rt, row);

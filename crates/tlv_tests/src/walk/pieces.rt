@@ -1,4 +1,4 @@
-//! Tests of what a walk over memory writes, from whatever pieces of the input.
+//! Tests of what a walk over memory writes, whatever the pieces of the input.
 use super::rows::{ENCODINGS, Row, WRAPPED};
 use super::{ONES, ROOM, ReadPlan, WHOLE, expect_row, tables, text_of};
 use crate::expect::expect_eq_of;
@@ -24,7 +24,7 @@ fn expect_row_in_pieces(rt: &impl Abort, row: &Row<'_>, text: &[u8], room: &mut 
     }
 }
 
-/// Checks that the lines of all events of the row are written, from whatever pieces.
+/// Checks that the lines of all events of the row are written, whatever the pieces.
 pub(crate) fn expect_lines_in_pieces(
     rt: &impl Abort,
     alloc: Global,
@@ -35,7 +35,7 @@ pub(crate) fn expect_lines_in_pieces(
     Ok(())
 }
 
-/// Checks the lines of each row, from whatever pieces.
+/// Checks the lines of each row, whatever the pieces.
 fn expect_each_in_pieces(rt: &impl Abort, alloc: Global, rows: &[Row<'_>]) -> Result<(), Fail> {
     for row in rows {
         expect_lines_in_pieces(rt, alloc, row)?;

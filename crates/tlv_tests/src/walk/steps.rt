@@ -65,7 +65,7 @@ fn expect_need(rt: &impl Abort, walker: &mut Walker<'_>, octets: &[u8]) {
 }
 
 #[test]
-fn a_header_is_cut(rt: HostRuntime) {
+fn a_header_may_be_cut(rt: HostRuntime) {
     let framing = Framing::plain();
     let mut walker = Walker::new(&framing);
     expect_state(&rt, &walker, 0, 0, 0, false);
@@ -91,7 +91,7 @@ fn a_header_is_cut(rt: HostRuntime) {
 
 /// Contents are yielded in the pieces in which they come. The ends that follow need no further octet.
 #[test]
-fn contents_are_cut(rt: HostRuntime) {
+fn contents_are_yielded_in_pieces(rt: HostRuntime) {
     let framing = Framing::plain();
     let mut walker = Walker::new(&framing);
     let mut piece: &[u8] = b"\x30\x05\x04\x03\xaa";
@@ -119,7 +119,7 @@ fn expect_fault(rt: &impl Abort, walker: &mut Walker<'_>, octets: &[u8], fault: 
 
 /// After a fault the walker is as it was before the refused octet, which here is the length octet of the third header.
 #[test]
-fn what_is_open_stays_so_after_a_fault(rt: HostRuntime) {
+fn open_elements_stay_open_after_a_fault(rt: HostRuntime) {
     let framing = Framing::plain();
     let mut walker = Walker::new(&framing);
     let mut piece: &[u8] = b"\x30\x80\x30\x80\x04\x80";
