@@ -1,11 +1,11 @@
-/* The yardstick: a plain dumper in C with the layout of tlvdump, written for reading. Speeds are compared with its speed.
+/* The yardstick: a plain dumper in C with the layout of tlvdump, written to be read. Speeds are measured relative to its.
 
    usage: yardstick <INPUT       writes the dump of INPUT
           yardstick w <INPUT     walks INPUT in the same way, and writes nothing
 
-   For a whole input without findings its text is that of "tlvdump dump" (docs/FORMAT.md). Shown otherwise are contents of
-   RELATIVE-OID, BMPString and UniversalString (as pairs), rows of a UTF8String that is not all ASCII, arcs of 2^128 and more.
-   There are no findings, no names of object identifiers, no options. It reads at most 4096 octets at a time, and writes 4096.
+   For a whole input without findings it writes the text of "tlvdump dump" (docs/FORMAT.md). It shows differently: contents
+   of RELATIVE-OID, BMPString and UniversalString (as pairs), rows of a UTF8String that is not ASCII, arcs of 2^128 and more.
+   There are no findings, no names of object identifiers, no options. Each read and write is of at most 4096 octets.
    Status: 0 if the input is whole, 2 if it is damaged or ends too early, 3 if a read or a write fails. */
 #include <stdint.h>
 #include <stdlib.h>
@@ -17,11 +17,11 @@ typedef uint64_t number;
 typedef unsigned __int128 wide;
 enum { PIECE = 4096, HELD = 64, LINE = 1024, DEEPEST = 128, TYPES = 37 };
 
-/* How contents are shown. Those of more octets than MOST says are in rows. */
+/* How contents are shown. Contents of more octets than MOST are shown in rows. */
 enum kind { PAIRS, TRUTH, INTEGER, BITS, ARCS, TEXT, UTF8 };
 static const octet MOST[] = {16, 16, 16, 9, HELD, HELD, HELD};
 
-/* Universal types by their numbers; the first is for all others. */
+/* Universal types by tag number. Entry 0 stands for all other tags. */
 static const octet KIND[TYPES] = {[1] = TRUTH, [2] = INTEGER, [3] = BITS, [6] = ARCS, [7] = TEXT, [10] = INTEGER, [12] = UTF8,
                                   [18] = TEXT, TEXT, TEXT, TEXT, TEXT, TEXT, TEXT, TEXT, TEXT, TEXT};
 static const char NAME[TYPES][20] = {
@@ -31,19 +31,19 @@ static const char NAME[TYPES][20] = {
     "VisibleString", "GeneralString", "UniversalString", "CHARACTER STRING", "BMPString", "DATE", "TIME-OF-DAY", "DATE-TIME",
     "DURATION", "OID-IRI", "RELATIVE-OID-IRI"};
 
-/* The walk: what comes next (from CONTENTS on: what has come), where, the last header, what its contents lack. */
+/* The walk: what is expected next (from CONTENTS on: what was read), the offset, the last header, contents octets left. */
 static enum stage { IDENTIFIER, TAG_NUMBER, FIRST_LENGTH, LATER_LENGTH, SECOND_ZERO, CONTENTS, END, REFUSED } stage;
 static number offset, start, tag, length, left;
 static int tag_class, is_constructed, is_indefinite, octets_of_number;
-static number type; /* the place in the tables of types */
+static number type; /* the index in the tables of types */
 static enum kind kind;
 
-/* The open elements, the input first: where they end, or may not go beyond if two octets 00 end them. */
+/* The open elements, the input first: where they end, or the bound before which end-of-contents octets must come. */
 static number bound[DEEPEST + 1] = {UINT64_MAX};
 static char ends_by_zeros[DEEPEST + 1];
 static size_t depth;
 
-/* What was read; octets of a value or row that is not whole; the line that is made; lines that are not written. Copies of a
+/* Octets read; octets of an unfinished value or row; the line being made; lines not yet written. Copies of a
    fixed size are fast, but go beyond the end. So there is more room. */
 enum { MORE = 64 };
 static octet piece[PIECE + MORE], held[HELD + MORE];
@@ -57,7 +57,7 @@ static void write_output(void) {
     output_count = 0;
 }
 
-/* Puts the line, whose text ends at END, to the output. */
+/* Adds the line, whose text ends at END, to the output. */
 static void put_line(char *end) {
     *end++ = '\n';
     const size_t count = (size_t)(end - line);
@@ -66,7 +66,7 @@ static void put_line(char *end) {
     output_count += count;
 }
 
-/* Parts of a line. Each of these functions adds text at TO, and returns where it ends. */
+/* Parts of a line. Each of these functions adds text at TO and returns its end. */
 
 static const char DIGIT[] = "0123456789abcdef";
 static char TWO_DIGITS[100][2], PAIR[256][4]; /* in decimal; a space and two digits in hexadecimal */
@@ -84,7 +84,7 @@ static char *add_spaces(char *to, size_t count) {
     return to + count;
 }
 
-/* Adds IT in decimal, with spaces before it if it has less than WIDTH digits; WIDTH is 1, 6 or 8. */
+/* Adds IT in decimal, padded with spaces to WIDTH columns. WIDTH is 1, 6 or 8. */
 static char *add_number(char *to, int width, number it) {
     number most = width == 8 ? 100000000 : width == 6 ? 1000000 : 10;
     for (; it >= most && width < 20; width++) most *= 10;
@@ -103,9 +103,9 @@ static char *add_wide(char *to, wide it) {
     return to;
 }
 
-/* The next functions add what is held, after a space. */
+/* The next functions add a space and the text of the octets in `held`. */
 
-/* Adds the pairs of 16 octets or less. */
+/* Adds at most 16 octets as pairs of digits. */
 static char *add_pairs(char *to) {
 #pragma GCC unroll 16
     for (int it = 0; it < 16; it++) memcpy(to + 3 * it, PAIR[held[it]], 4);
@@ -132,7 +132,7 @@ static char *add_arcs(char *to) {
     for (size_t at = 0; at < held_count; at++) {
         arc = arc << 7 | (held[at] & 127);
         if (held[at] > 127) continue;
-        if (is_first) { /* it is two arcs */
+        if (is_first) { /* it encodes two arcs */
             to = stpcpy(to, arc < 40 ? " 0" : arc < 80 ? " 1" : " 2");
             arc -= arc < 40 ? 0 : arc < 80 ? 40 : 80;
         }
@@ -171,7 +171,7 @@ static char *add_value(char *to) {
     return add_pairs(to);
 }
 
-/* Adds the front of the line of an element, with its tag. */
+/* Adds the beginning of the line of an element, up to the tag. */
 static char *add_front(char *to) {
     static const char CLASS[4][14] = {"[UNIVERSAL ", "[APPLICATION ", "[", "[PRIVATE "};
     static const octet CLASS_SIZE[] = {11, 13, 1, 9};
@@ -183,14 +183,14 @@ static char *add_front(char *to) {
     return stpcpy(add_number(to + CLASS_SIZE[tag_class], 1, tag), "]");
 }
 
-/* Puts what is held: a value with the line of its element, or a row of a long one. */
+/* Writes the octets in `held`: a value with the line of its element, or a row of a long value. */
 static void put_held(int is_long) {
     char *to = is_long ? add_spaces(line, 18 + 2 * depth) : add_front(line);
     put_line(!is_long ? add_value(to) : kind < TEXT ? add_pairs(to) : add_text(to));
     held_count = 0;
 }
 
-/* Takes COUNT octets of a primitive, and puts what is whole. LEFT octets were to come before these. */
+/* Takes COUNT octets of a primitive, and writes what is complete. LEFT octets were missing before these. */
 static void take_contents(const octet *at, size_t count) {
     const octet *end = at + count;
     number rest = left;
@@ -213,7 +213,7 @@ static void take_contents(const octet *at, size_t count) {
 
 static void put_end(char *to) { put_line(stpcpy(add_spaces(to, 2 * depth), "}")); }
 
-/* Takes an octet that is no contents, and returns the next stage. */
+/* Takes an octet of a header or an end-of-contents octet. Returns the next stage. */
 static enum stage take_header(octet next) {
     switch (stage) {
     case IDENTIFIER:
@@ -232,7 +232,7 @@ static enum stage take_header(octet next) {
         type = tag_class == 0 && tag < TYPES ? tag : 0;
         length = next < 128 ? next : 0;
         is_indefinite = next == 128;
-        octets_of_number = next & 127; /* from here on, how many are to come */
+        octets_of_number = next & 127; /* from here on, the number of octets missing */
         if (next < 128 || (is_indefinite && is_constructed)) return CONTENTS;
         return is_indefinite || next == 255 ? REFUSED : LATER_LENGTH;
     case LATER_LENGTH:
@@ -243,7 +243,7 @@ static enum stage take_header(octet next) {
     }
 }
 
-/* Takes a piece of the input, and returns 0 if an octet of it is refused. */
+/* Takes a piece of the input. Returns 0 if an octet of it is refused. */
 static int take_piece(const octet *at, const octet *end, int writes) {
     while (at < end) {
         if (stage != CONTENTS) {

@@ -1,6 +1,8 @@
-"""Which sources could take memory: docs/PROVED.md says that of the crates of a run two modules alone name an allocator
-or a type of the kit that holds one, `names` of tlv_value and `text` of tlv_run. Without an allocator no memory can be
-had, and without the runtime, which `main` is given, no allocator can be made.
+"""Checks which sources can allocate memory.
+
+docs/PROVED.md says that in the crates of a run only two modules name an allocator, or a type of the kit that holds one:
+`names` of tlv_value and `text` of tlv_run. Memory cannot be requested without an allocator, and an allocator cannot be
+made without the runtime, which only `main` receives.
 """
 import os
 import re
@@ -8,17 +10,19 @@ import re
 from parts.words import files
 
 CRATES = ("tlv_head", "tlv_io", "tlv_walk", "tlv_value", "tlv_show", "tlv_cut", "tlv_run")
-# The sources that may, below crates/.
+# The sources that may name an allocator, below crates/.
 MODULES = re.compile(r"tlv_value/src/names(?:\.rt|/\w+\.rt)|tlv_run/src/text\.rt")
-# What these crates use of others: modules of std, and its lemmas; crates of the kit. No allocator can be had of these.
+# What these crates may use of others: modules of std and its lemmas, and crates of the kit.
+# None of these gives an allocator.
 STD, KIT = {"io", "marker", "mem", "proofs"}, {"arrayvec", "hex", "itoa", "simdutf8", "thiserror"}
-# Allocators, and the runtime that makes one; the types of std that hold one; and what could make a value of a type unseen.
+# Allocators, the runtime that makes one, the types of std that
+# hold one, and ways to make a value of a type that is not named.
 ALLOCATORS = "Alloc AllocGlobal Allocator AnyAllocGlobal Global HostRuntime LibcRuntime LocalHeap alloc"
 HOLDERS = "Arc BTreeMap BTreeSet BinaryHeap Box BufReader BufWriter CString Cow HashMap HashSet LinkedList OsString PathBuf Rc"
 HOLDERS += " String ToString Vec VecDeque"
 UNSEEN = {"extern", "unsafe"}
 WORD = re.compile(rf"\b(?:{'|'.join([*ALLOCATORS.split(), *HOLDERS.split(), *UNSEEN])})\b|\b(?:format|vec)!")
-# Comments, texts, and lines that only the prover reads.
+# Comments, literals, and lines that only the prover reads.
 NO_CODE = re.compile(r'//[^\n]*|b?"(?:\\.|[^"\\])*"|ghost use [^;]*;', re.S)
 
 
@@ -27,12 +31,12 @@ def code_of(text):
 
 
 def reasons(code):
-    """Returns the words by which a source could take memory, and the modules of std that it uses besides those above."""
+    """Returns the words by which a source could allocate memory, and the modules of std that it uses beyond STD."""
     return set(WORD.findall(code)) | {f"std::{name}" for name in re.findall(r"\bstd::(\w+)", code) if name not in STD}
 
 
 def uses(root):
-    """Returns what crates.txt says that each crate uses."""
+    """Returns the crates that each crate uses, as crates.txt says."""
     with open(os.path.join(root, "crates.txt"), encoding="utf-8") as file:
         lines = [line.partition(":") for line in file.read().splitlines() if not line.startswith("#")]
     return {name.strip(): set(below.split()) for name, _, below in lines}

@@ -1,9 +1,11 @@
-"""The functions of C whose contracts the verdict on a program rests on: those that the prover lists are those in
-tests/axioms, and docs/TRUST.md names those of tlvdump, and says which of them the program calls.
+"""Checks which functions of C the verdict on a program rests on.
 
-The prover lists them for a program that is proved. `rt check` asks it, which begins with what earlier runs kept. After
-`rt ci` alone nothing is kept but the built libraries, in crates/*/out: then the prover is asked over these, so that it
-proves the functions of the program's own crate alone.
+The functions that the prover lists must be those in tests/axioms. docs/TRUST.md must name those of tlvdump, and say
+which of them the program calls.
+
+For a proved program the list comes from `rt check`, which starts from the results of earlier runs. After `rt ci` alone
+only the built libraries are kept, in crates/*/out. Then the prover is run over these libraries, so that it proves only
+the functions of the program's own crate.
 """
 import os
 import re
@@ -18,18 +20,18 @@ PROVED = re.compile(r"^logic=proved .* axioms=(\d+) ", re.M)
 
 
 def kit():
-    """Returns the kit's folder, in which is the page that `rt doc` names."""
+    """Returns the folder of the kit, which holds the page that `rt doc` names."""
     return os.path.dirname(subprocess.run(["rt", "doc"], capture_output=True, text=True).stdout.strip())
 
 
 def below(named, crate):
-    """Returns the libraries of this repository below a crate."""
+    """Returns all libraries of this repository that a crate depends on."""
     own = [name for name in named[crate] if name in named]
     return {*own, *[name for one in own for name in below(named, one)]}
 
 
 def words(part, crate):
-    """Returns the words of a check of a program over the built libraries, with the list."""
+    """Returns the command that checks a program over the built libraries and prints the list."""
     named, home = uses(part.root), kit()
     out = lambda name: os.path.join(part.root, "crates", name, "out", "rlib")
     found = [f"{home}/bin/rattle", "check", "--crate-name", crate, "src/main.rt", "--list-axioms"]
@@ -43,13 +45,15 @@ def words(part, crate):
 
 
 def are_of_ci(part, crate):
-    """Returns whether `rt ci` made the libraries below, and no other command, which leaves a stamp."""
+    """Returns whether `rt ci` built the libraries below. Any other command leaves a stamp."""
     places = [os.path.join(part.root, "crates", name, "out", "rlib") for name in below(uses(part.root), crate)]
     return not any(os.path.exists(f"{place}/stamp") for place in places) and all(os.path.isdir(place) for place in places)
 
 
 def listed(part, crate):
-    """Returns the functions that the prover lists, or none if the program is not proved; what it said; and the seconds."""
+    """Returns the functions that the prover lists (None if the
+    program is not proved), its output, and the seconds it took.
+    """
     began = time.time()
     asked = words(part, crate) if are_of_ci(part, crate) else ["rt", "check", "--list-axioms"]
     how = {"cwd": os.path.join(part.root, "crates", crate), "stdin": subprocess.DEVNULL, "stdout": subprocess.PIPE}
@@ -75,7 +79,7 @@ def named(text, heading):
 
 
 def page(part):
-    """docs/TRUST.md names each function, and says which of them the program has."""
+    """docs/TRUST.md names each function, and says which of them the program calls."""
     with open(os.path.join(part.root, "docs", "TRUST.md"), encoding="utf-8") as file:
         text = file.read()
     called, others = named(text, "Functions that the program calls"), named(text, "Functions that it does not call")
@@ -87,7 +91,7 @@ def page(part):
 
 
 def is_of_readme(part):
-    """Returns whether the kit is the one that README names: another may have another standard library."""
+    """Returns whether the kit is the one that README names. Another kit may have another standard library."""
     version = subprocess.run(["rt", "version"], cwd=part.root, capture_output=True, text=True).stdout.strip()
     with open(os.path.join(part.root, "README.md"), encoding="utf-8") as file:
         return f"Proved with `{version}` " in file.read()

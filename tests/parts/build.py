@@ -1,7 +1,6 @@
-"""./tlvdump and ./tlvdump-show: that they build a program that is missing or old, what they print meanwhile, and what ends a
-build.
+"""Tests ./tlvdump and ./tlvdump-show: when they build the program, what they print meanwhile, and how a build can end.
 
-In the place of the kit's rt is a script that takes little time: parts/fake_kit.py.
+In place of the kit's rt they run a script that takes little time (parts/fake_kit.py).
 """
 import os
 import pty
@@ -17,7 +16,9 @@ from parts.fake_kit import top_of, wait_for
 
 
 def not_on_a_terminal(part):
-    """A line for each crate, and then the program on these octets; the next run says nothing of a build."""
+    """Without a terminal, a build prints a line for each crate, and the program then runs on its input.
+    The next run builds nothing.
+    """
     script = make_clone(part, "clone")
     octets = bytes.fromhex("3003020201")
     wanted = part.run(["dump"], octets)
@@ -35,7 +36,7 @@ def not_on_a_terminal(part):
 
 
 def on_a_terminal(part):
-    """One line that changes, and is empty in the end."""
+    """On a terminal, a build prints one line that changes, and clears it at the end."""
     script = make_clone(part, "terminal")
     main, side = pty.openpty()
     how = {"env": environment(part), "stdin": subprocess.DEVNULL, "stdout": subprocess.PIPE}
@@ -68,14 +69,15 @@ def on_a_terminal(part):
         "tlvdump: all crates are proved; the program is compiled, N s",
         "tlvdump: built, N s",
     ]
-    # A busy machine may miss one.
+    # A busy machine may miss some of the states.
     in_order = [state for state in wanted if state in states] == states
     part.expect("the line that changes", in_order and len(states) >= 5 and states[-1] == wanted[-1], *states)
     part.expect("no state is wider than a line", max(map(len, lines[1].split("\r"))) <= 78)
 
 
 def words_and_links(part):
-    """The words come to the program as they are, after a build too. The script may be called by a link or the PATH."""
+    """The words reach the program unchanged, also after a build. The script may be called through a link or the PATH.
+    """
     script = make_clone(part, "a clone")
     octets = b"\x05\x00"
     part.write("two  blanks", octets)
@@ -104,7 +106,7 @@ def words_and_links(part):
 
 
 def changes(part):
-    """Any change of what the program is made of builds it anew, once; a change during a build does so too."""
+    """Each change of a source of the program causes one build. So does a change during a build."""
     script = make_clone(part, "changes")
     run(part, script, ["--version"], how="quick")
     sources = ["crates.txt", "crates/tlv_low/src/lib.rt"]
@@ -135,7 +137,9 @@ def changes(part):
 
 
 def failing(part):
-    """Status 70, with the end of the log, or if there is no rt. An old program is not run, and stays."""
+    """If a build fails, the status is 70 and the end of the log is printed. The same holds if there is no rt. An old
+    program is kept, but it is not run.
+    """
     script = make_clone(part, "failing")
     end = "two\nfn tlv_low::f: not proved\nrt: the library tlv_low did not build\ntlvdump: not built\n"
     for program in ("none", "old"):
@@ -144,7 +148,7 @@ def failing(part):
         part.expect("what a failed build leaves", left_of(script) == [], *left_of(script))
         part.expect(f"the program after a build that fails: {program}", program == "none" or has_old(script))
         put_old(script)
-    # A machine without the kit: a PATH with the script's tools alone.
+    # A machine without the kit: a PATH that has only the tools of the script.
     tools = part.path("tools")
     os.mkdir(tools)
     for name in ("sh", "dirname", "readlink", "find"):
@@ -156,7 +160,7 @@ def failing(part):
 
 
 def read_only(part, script):
-    """Runs the script in a tree that cannot be written, or returns nothing if this machine has no way to make one."""
+    """Runs the script in a tree that cannot be written. Returns None if this machine has no way to make one."""
     folder = os.path.dirname(log_of(script))
     if os.geteuid():
         os.chmod(folder, 0o555)
@@ -171,7 +175,7 @@ def read_only(part, script):
 
 
 def not_writable(part):
-    """Status 70 too if the tree cannot be written. A folder or a file in the way stops root too."""
+    """If the tree cannot be written, the status is 70. A folder or file in the way stops root, too."""
     script = make_clone(part, "not-writable")
     put_old(script)
     for log in ("no log", "a log"):
@@ -196,7 +200,7 @@ def not_writable(part):
 
 
 def signals(part):
-    """A signal to the script alone ends all that a build has started, and leaves nothing but the old program."""
+    """A signal to the script alone ends everything that the build has started. Only the old program is left."""
     script = make_clone(part, "signals")
     put_old(script)
     for name, status in (("INT", 130), ("TERM", 143), ("HUP", 129), ("PIPE", 141), ("QUIT", 131)):
@@ -217,12 +221,12 @@ def signals(part):
 
 
 def killed(part):
-    """A script that is killed leaves no lock, and what else it leaves is gone soon, or with the next build."""
+    """A script that is killed leaves no lock. Anything else that it leaves is removed soon, or by the next build."""
     script = make_clone(part, "killed")
     put_old(script)
     child, below = start_waiting(part, script, "child-KILL")
     child.kill()
-    # Its parent has not heard of it yet.
+    # Its parent has not yet noticed its end.
     os.waitid(os.P_PID, child.pid, os.WEXITED | os.WNOWAIT)
     if part.has("flock"):
         free = subprocess.run(["flock", "-n", os.path.dirname(log_of(script)), "true"]).returncode == 0
@@ -247,7 +251,9 @@ WAITS = "tlvdump: another run builds the program; this one waits for it\n"
 
 
 def two_at_once(part):
-    """The second waits for the first, and builds nothing; it builds if the first is gone without a program."""
+    """A second run waits for the first, and then builds nothing.
+    If the first has ended without a program, the second builds.
+    """
     if not part.has("flock"):
         return
     script = make_clone(part, "two")
@@ -282,7 +288,7 @@ def two_at_once(part):
 
 
 def the_other_program(part):
-    """./tlvdump-show builds its own program so, and runs it, which finds the names of the clone."""
+    """./tlvdump-show builds and runs its own program in the same way. The program finds the names file of the clone."""
     top = top_of(make_clone(part, "show"))
     part.write("show/crates.txt", b"tlvdump_show: tlv_low clap\ntlv_low: hex\n")
     script, env = os.path.join(top, "tlvdump-show"), environment(part, "quick", RT_PROGRAM=part.suite.show_program)

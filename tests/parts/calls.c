@@ -1,13 +1,13 @@
 /*
- * Writes down which calls of read and write the program makes, and fails some of them.
+ * Logs the calls of read and write that the program makes, and makes one of them fail.
  *
- * It is loaded in front of the C library (LD_PRELOAD). The environment says what to do:
+ * It is loaded before the C library (LD_PRELOAD). The environment says what to do:
  *
- *   CALLS_LOG    a file to which a line is added for each call: its name, the descriptor, the octets asked for,
- *                and what it returned, or the negative error; so "read 0 4096 7", "write 1 22 -11"
- *   CALLS_FAIL   "read 0 3 11" if the third call of read with the descriptor 0 fails with the error 11, and
- *                "write 1 2 0" if the second write to the descriptor 1 takes nothing
- *   CALLS_MOST   the most octets that a call takes or gives
+ *   CALLS_LOG    a file that gets a line for each call: its name, the descriptor, the size requested, and the
+ *                result or the negative error, as in "read 0 4096 7" and "write 1 22 -11"
+ *   CALLS_FAIL   the call that fails: "read 0 3 11" makes the third read from descriptor 0 fail with error 11,
+ *                and "write 1 2 0" makes the second write to descriptor 1 take nothing
+ *   CALLS_MOST   the largest number of octets that a call transfers
  */
 #define _GNU_SOURCE
 #include <errno.h>
@@ -26,7 +26,7 @@ __attribute__((constructor)) static void start(void) {
     const char *name = getenv("CALLS_LOG"), *fail = getenv("CALLS_FAIL"), *octets = getenv("CALLS_MOST");
     if (name) {
         int file = (int)syscall(SYS_openat, AT_FDCWD, name, O_WRONLY | O_APPEND | O_CREAT, 0600);
-        /* A number that the program's own files do not get. */
+        /* A descriptor that the files of the program do not get. */
         log_file = fcntl(file, F_DUPFD_CLOEXEC, 100);
         syscall(SYS_close, file);
     }
@@ -36,12 +36,12 @@ __attribute__((constructor)) static void start(void) {
         most = strtoul(octets, NULL, 10);
 }
 
-/* Whether this call is the one that fails. */
+/* Returns whether this call must fail. */
 static int fails(const char *call, int file) {
     return file == failing_file && strcmp(call, failing_call) == 0 && --failing_number == 0;
 }
 
-/* Writes down a call and what it returned, and returns that. */
+/* Logs a call with its result. Returns the result. */
 static ssize_t noted(const char *call, int file, size_t size, ssize_t result) {
     char line[96];
     int error = errno;

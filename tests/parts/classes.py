@@ -1,11 +1,11 @@
-"""The object identifiers among the constants of Java classes, as Bouncy Castle has them."""
+"""Reads the object identifiers among the constants of Java classes, as Bouncy Castle declares them."""
 import struct
 import zipfile
 
 MADE = "(Ljava/lang/String;)V"
-# How many octets follow each opcode that the constants are made with.
+# The number of octets after each opcode that is used to make the constants.
 FOLLOW = {0x12: 1, 0x13: 2, 0x59: 0, 0xB1: 0, 0xB2: 2, 0xB3: 2, 0xB6: 2, 0xB7: 2, 0xBB: 2}
-# How many octets each kind of constant has.
+# The size in octets of each kind of constant.
 SIZES = {3: 4, 4: 4, 5: 8, 6: 8, 7: 2, 8: 2, 9: 4, 10: 4, 11: 4, 12: 4, 15: 3, 16: 2, 17: 4, 18: 4}
 SIZES |= {19: 2, 20: 2}
 
@@ -23,7 +23,7 @@ class Reader:
 
 
 def pool_of(reader):
-    """Returns the constants of a class: texts, and the places of other constants."""
+    """Returns the constants of a class: texts, and references to other constants."""
     pool, count, index = {}, reader.number(2), 1
     while index < count:
         tag = reader.number(1)
@@ -37,14 +37,14 @@ def pool_of(reader):
 
 
 def member(pool, index):
-    """Returns class, name and type of a field or method."""
+    """Returns the class, the name and the type of a field or method."""
     owner, both = pool[index]
     name, kind = pool[both]
     return pool[pool[owner][0]], pool[name], pool[kind]
 
 
 def skip_attributes(reader, pool):
-    """Returns the octets of the attribute Code, if there is one."""
+    """Skips attributes. Returns the octets of the attribute Code, if there is one."""
     code = b""
     for _ in range(reader.number(2)):
         name, octets = pool[reader.number(2)], reader.take(reader.number(4))
@@ -53,7 +53,7 @@ def skip_attributes(reader, pool):
 
 
 def start_of(octets):
-    """Returns the constants of a class, and the code that is run when it is loaded."""
+    """Returns the constants of a class, and the code that runs when it is loaded."""
     reader = Reader(octets)
     reader.take(8)
     pool = pool_of(reader)
@@ -71,7 +71,7 @@ def start_of(octets):
 
 
 class Classes:
-    """The classes of some archives. What is not understood of a class is passed over."""
+    """The classes of some archives. Anything in a class that is not understood is skipped."""
 
     def __init__(self, paths):
         self.archives = [zipfile.ZipFile(path) for path in paths]
@@ -83,7 +83,7 @@ class Classes:
                     self.places[name[:-len(".class")]] = archive
 
     def fields(self, name):
-        """Returns the object identifiers that are fields of a class, by the names of the fields."""
+        """Returns the object identifiers that are fields of a class, by field name."""
         if name not in self.known:
             self.known[name] = {}
             if name in self.places:

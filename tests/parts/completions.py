@@ -1,11 +1,11 @@
-"""The completions for bash and zsh: that they are those of the program's help."""
+"""Checks that the completions for bash and zsh match the help of the programs."""
 import os
 import re
 import subprocess
 
 
 def words_of(part):
-    """The commands, and the options of each, by the program's own help."""
+    """Returns the commands and the options of each, from the program's own help."""
     top = part.run(["--help"]).out.decode()
     commands = re.findall(r"^  (\w+)  ", top.split("Commands:")[1].split("Options:")[0], re.M)
     options = {}
@@ -15,12 +15,12 @@ def words_of(part):
 
 
 def show_options(part):
-    """The options of tlvdump-show, by its own help."""
+    """Returns the options of tlvdump-show, from its own help."""
     text = part.run(["--help"], program=part.suite.show_program).out.decode()
     return set(re.findall(r"^ {6}(--[a-z-]+)", text, re.M))
 
 
-# What tlvdump-show takes the input for, by --as.
+# The values of --as of tlvdump-show.
 FORMS = {"octets", "ber", "der", "cer", "pem", "dump", "hex", "numbers", "base64", "runs"}
 
 
@@ -73,7 +73,7 @@ def bash(part, options):
 
 
 def zsh(part, options):
-    """The function is run with commands in place of zsh's, which write what they are given."""
+    """Runs the function with commands in place of zsh's own, which write their arguments."""
     if not part.has("zsh"):
         return
     stubs = '_arguments() { print -rl -- "$@" }; _describe() { print -rl -- "${(P@)2}" }; _files() { }\n'

@@ -1,4 +1,5 @@
-"""The text of docs/CONTRACTS.md, which `tests/make-contracts` makes of the comments and clauses in the sources."""
+"""Makes the text of docs/CONTRACTS.md from the comments and clauses in the sources. `tests/make-contracts` writes it.
+"""
 import os
 import re
 
@@ -28,7 +29,7 @@ def read(*parts):
 
 
 def sources(folder):
-    """Yields the path below the folder of each of its sources, and its text."""
+    """Yields the path of each source below the folder, and its text."""
     for at, _, names in sorted(os.walk(folder)):
         for name in sorted(names):
             if name.endswith(".rt"):
@@ -36,7 +37,7 @@ def sources(folder):
 
 
 def public_names(library):
-    """Returns the names that the `pub use` lines of lib.rt make public, but for those of another crate."""
+    """Returns the names that the `pub use` lines of lib.rt make public, except those of other crates."""
     found = set()
     for group, single in re.findall(r"^pub use (?!tlv_)[\w:]+::(?:\{([^}]*)\}|(\w+));", library, re.M):
         found |= set(re.findall(r"\w+", group or single))
@@ -44,7 +45,7 @@ def public_names(library):
 
 
 def first_paragraph(text, at):
-    """Returns the first paragraph of the comment that stands in front of this place."""
+    """Returns the first paragraph of the comment before this place."""
     lines = []
     for line in reversed(text[:at].split("\n")[:-1]):
         bare = line.strip()
@@ -56,7 +57,7 @@ def first_paragraph(text, at):
 
 
 def braced(text, at):
-    """Returns the text in the braces that begin here, in one line, and where it ends."""
+    """Returns the text of the braces that begin at this place, on one line, and the place after them."""
     depth, end = 0, at
     while True:
         depth += {"{": 1, "}": -1}.get(text[end], 0)
@@ -66,7 +67,7 @@ def braced(text, at):
 
 
 def clauses(text, at):
-    """Yields the kind, the name and the text of each clause of the function whose line begins here."""
+    """Yields the kind, the name and the text of each clause of the function whose line begins at this place."""
     while True:
         end = text.index("\n", at)
         clause = CLAUSE.match(text, at)
@@ -80,7 +81,7 @@ def clauses(text, at):
 
 
 def definitions(text):
-    """Returns, by the word that a source names, the module of specs that defines it."""
+    """Returns the module of specs that defines each word, by the word as the source names it."""
     found = {}
     for line in USE.finditer(text):
         for name in line["names"].split(","):
@@ -89,21 +90,22 @@ def definitions(text):
 
 
 def link(root, word, module):
-    """Returns a word with a link to the file that defines it; what the prover makes of a type of the sources has none."""
+    """Returns the word with a link to the file that defines it. A word that the prover derives from a type has no link.
+    """
     crate, _, path = module.partition(".specs.")
     file = os.path.join("crates", crate, "specs", *path.split(".")) + ".antt"
     return f"[{word}](../{file})" if os.path.exists(os.path.join(root, file)) else f"`{word}`"
 
 
 def promise(root, homes, kind, label, said):
-    """Returns what is said of a clause."""
+    """Returns the line of a clause."""
     words = [word for word in dict.fromkeys(re.findall(r"[^\s(){}\[\],.;]+", said)) if word in homes]
     name = f"{kind} *{label}*" if label else kind
     return f"{name}: " + (", ".join(link(root, word, homes[word]) for word in words) or f"`{said}`")
 
 
 def entry(root, text, at, name):
-    """Returns the lines about an item."""
+    """Returns the lines of an item."""
     homes = definitions(text)
     lines = wrapped("- ", f"`{name}`: " + LINK.sub(r"\1", first_paragraph(text, at)))
     for clause in clauses(text, at) if FUNCTION.match(text, at) else ():
@@ -112,7 +114,7 @@ def entry(root, text, at, name):
 
 
 def wrapped(mark, said):
-    """Returns a list item, or a paragraph if there is no mark, as lines."""
+    """Returns a list item, or a paragraph if there is no mark, wrapped into lines."""
     lines = [mark]
     for word in said.split():
         if lines[-1] != mark and len(lines[-1]) + len(word) >= WIDTH:
@@ -122,7 +124,7 @@ def wrapped(mark, said):
 
 
 def items(text, names, is_law):
-    """Yields the place and the name of each public item of a source; `names` are those that its crate makes public."""
+    """Yields the place and the name of each public item of a source. `names` has those that its crate makes public."""
     owners = [(it.start(), text.index("\n}", it.end()), it) for it in OWNER.finditer(text)]
     for item in sorted([*FUNCTION.finditer(text), *ITEM.finditer(text)], key=lambda it: it.start()):
         name, is_public = item["name"], item.re is ITEM or item["word"].startswith("pub")
@@ -134,7 +136,7 @@ def items(text, names, is_law):
 
 
 def crate_lines(root, crate):
-    """Returns the lines about a crate."""
+    """Returns the lines of a crate."""
     folder = os.path.join(root, "crates", crate, "src")
     library = read(folder, "lib.rt")
     title = "\n".join(line[3:].strip() for line in library.split("\n") if line.startswith("//!")).split("\n\n")[0]
@@ -148,6 +150,6 @@ def crate_lines(root, crate):
 
 
 def page(root):
-    """Returns the page."""
+    """Returns the text of the page."""
     lines = [line for crate in CRATES for line in crate_lines(root, crate)]
     return BEGINNING + "\n" + "\n".join(lines)

@@ -1,11 +1,13 @@
-"""docs/CONTRACTS.md is what the comments and clauses of the sources say, and has each public item of the libraries."""
+"""Checks that docs/CONTRACTS.md matches the comments and clauses
+of the sources, and has each public item of the libraries.
+"""
 import os
 
 from . import contract_pages
 
 
 def test(part):
-    """Counts a test for the page, one for each crate that makes something public, and one for each public name."""
+    """Counts a test for the page, one for each crate with public names, and one for each public name."""
     page = contract_pages.read(part.root, "docs", "CONTRACTS.md")
     part.expect("docs/CONTRACTS.md is as tests/make-contracts writes it", page == contract_pages.page(part.root))
     for crate in sorted(os.listdir(os.path.join(part.root, "crates"))):

@@ -1,5 +1,8 @@
-"""What a reader must believe: docs/PROVED.md lists the definitions that the contract of `run_octets` reaches, and no others;
-and then those that the contract of `run` reaches besides. And specs have no definition that no contract reaches."""
+"""Checks "What a reader must believe" of docs/PROVED.md.
+
+The page must list exactly the definitions that the contract of `run_octets` reaches, and then exactly those that the
+contract of `run` reaches besides. Each definition in specs must be reached by some contract.
+"""
 import os
 import re
 
@@ -12,7 +15,9 @@ ENTRY = re.compile(r"(?P<crate>tlv_\w+)|`(?P<file>[A-Z]\w*)`(?:\s+\((?P<but>all 
 
 
 def blocks(text):
-    """Yields each definition of a file of specs as its name and its text, which ends where the next begins."""
+    """Yields the name and the text of each definition in a file of specs.
+    The text ends where the next definition begins.
+    """
     name, inside, lines = None, None, []
     for line in text.split("\n"):
         code = without_comment(line).rstrip()
@@ -30,7 +35,7 @@ def blocks(text):
 
 
 class Definitions:
-    """The definitions of all files of specs, as pairs of a file and a name, and what each cites."""
+    """The definitions of all files of specs, as pairs of file and name, and the definitions that each cites."""
 
     def __init__(self, root):
         self.homes, self.texts, self.imports = {}, {}, {}
@@ -44,7 +49,7 @@ class Definitions:
                     self.homes[file, constructor] = (file, name)
 
     def home(self, file, name):
-        """Returns where the name that this file shows is defined, if it is defined in specs."""
+        """Returns the place in specs where the name that this file exports is defined, if there is one."""
         found = self.homes.get((file, name))
         for crate, other, names, _ in () if found else self.imports.get(file, ()):
             if name in re.findall(r"[^\s,]+", names):
@@ -52,7 +57,7 @@ class Definitions:
         return found
 
     def citations(self, text, imports, file=None):
-        """Returns the definitions that a text cites, by the imports that it is below."""
+        """Returns the definitions that a text cites, resolved by the imports above it."""
         names, aliases = set(), {}
         for crate, other, group, alias in imports:
             aliases[alias] = f"{crate}.{other}"
@@ -77,7 +82,7 @@ class Definitions:
         return reached
 
     def of_clauses(self, source):
-        """Returns what the clauses, views and invariants of a source in Rust cite."""
+        """Returns the definitions that the clauses, views and invariants of a source cite."""
         code = re.sub(r"//.*|ghost use [^;]*;", "", source)
         found = set()
         for clause in CLAUSE.finditer(code):
@@ -90,7 +95,9 @@ class Definitions:
 
 
 def entries(text, files):
-    """Yields each file that a list names, with whether all but the words are needed, or these alone, and the words."""
+    """Yields each file in a list, whether all its definitions are
+    needed except those named or only those named, and the names.
+    """
     crate = None
     for entry in ENTRY.finditer(text):
         crate = entry["crate"] or crate
@@ -117,7 +124,7 @@ def of_call(all_of, root, name):
 
 
 def expect_list(part, call, needed, text, by_file):
-    """Counts a test for each file that a list names or should."""
+    """Counts a test for each file that a list names or should name."""
     lists = {file: by_file[file] - words if but else words for file, but, words in entries(text, by_file)}
     for file in sorted({place[0] for place in needed} | set(lists)):
         there = {name for home, name in needed if home == file}
@@ -126,7 +133,8 @@ def expect_list(part, call, needed, text, by_file):
 
 
 def test(part):
-    """Counts a test for each file that a list of docs/PROVED.md names or should, and one for each file of specs."""
+    """Counts a test for each file that a list of docs/PROVED.md names or should name, and one for each file of specs.
+    """
     all_of = Definitions(part.root)
     by_file = {}
     for file, name in all_of.texts:

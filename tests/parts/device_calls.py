@@ -1,8 +1,9 @@
-"""The calls of read and write that the program makes: none again after one that failed, and before each read all
-lines that the octets so far allow are written.
+"""Tests the calls of read and write that tlvdump makes.
 
-tests/parts/calls.c is loaded before the C library. It writes down the calls, and fails one of them once, so that to try
-again would succeed. What is wanted after a failure are the calls before it, the call that failed, and the message.
+A call that failed is not repeated. Before each read, all lines for the octets read so far have been written.
+
+tests/parts/calls.c is loaded before the C library. It logs the calls, and makes one of them fail, once: so a repeated
+call would succeed and be seen. After a failure only the message may be written.
 """
 import errno
 import fcntl
@@ -16,34 +17,34 @@ from parts.row_files import files
 
 NULL, NAMES = b"\x05\x00", b"1.2.840 us\n" + b"# x\n" * 2500
 READ, WRITE, UNREAD = "E1 read failed", "E2 write failed", "N5 names file not read"
-# The most octets of one read.
+# The largest number of octets that a read asks for.
 PIECE = 4096
-# Four reads: two that give 4096 octets, one that gives the rest, and one that gives nothing.
+# Input for four reads: two of 4096 octets, one of the rest, and one at the end.
 GIVEN = NULL * 5000
 FEW = (errno.EAGAIN, errno.EINTR, errno.EIO, errno.ENOSPC)
 COMMANDS = (["dump"], ["check"], ["indef"], ["extract", "--offset", str(len(GIVEN) - 2)])
 
 
 def null_lines(octets):
-    """The lines of a dump of so many octets 05 00."""
+    """Returns the lines of the dump of `octets` octets, which are NULLs 05 00."""
     return b"".join(b"%8d      0: NULL\n" % offset for offset in range(0, octets - 1, 2))
 
 
-# What each command has written when it has read so many octets.
+# What each command has written after reading this number of octets.
 WRITTEN = {"dump": null_lines, "check": lambda octets: b"", "indef": lambda octets: GIVEN[:octets]}
 WRITTEN["extract"] = lambda octets: NULL if octets == len(GIVEN) else b""
 
 
 class Calls:
-    """The program with calls.c in front of the C library."""
+    """Runs the program with calls.c loaded before the C library."""
 
     def __init__(self, part, loaded):
         self.part, self.loaded, self.log = part, loaded, part.path("log")
 
     def run(self, words, given=b"", fail=None, most=None):
-        """Runs it on a file with these octets as standard input, and returns what it did and its calls.
+        """Runs it with a file of these octets as standard input. Returns what it did, and its calls.
 
-        A call is "read" or "write", descriptor, size, and result.
+        A call is "read" or "write", the descriptor, the size, and the result.
         """
         env = dict(os.environ, LD_PRELOAD=self.loaded, CALLS_LOG=self.log)
         env |= {"CALLS_FAIL": " ".join(map(str, fail))} if fail else {}
@@ -58,16 +59,17 @@ class Calls:
 
 
 def failing(calls, name, file, number, error):
-    """Returns the calls up to the one of this name, descriptor and number, and that it fails with this error."""
+    """Returns the calls up to the one with this name, descriptor and number, which fails with this error."""
     places = [place for place, call in enumerate(calls) if call[:2] == (name, file)]
     place = places[number - 1]
     return [*calls[:place], (*calls[place][:3], -error)]
 
 
 def fails_once(part, calls, what, words, given, fail, wanted, own):
-    """If the call `fail` fails, the program makes no call after it but the one of its message, and does what is wanted.
+    """Checks that after the failed call `fail` the program makes no call but the one of its message, and ends as
+    wanted.
 
-    `own` are the calls that it makes if none fails.
+    `own` has the calls of a run in which none fails.
     """
     got, made = calls.run(words, given, fail=fail)
     said = len(wanted.err)
@@ -78,7 +80,7 @@ def fails_once(part, calls, what, words, given, fail, wanted, own):
 
 
 def reads_that_fail(part, calls):
-    """A read that fails is not made again, whatever the error; the lines of the octets before it are written."""
+    """A failed read is not repeated, whatever the error. The lines of the octets before it are written."""
     for words in COMMANDS:
         got, own = calls.run(words, GIVEN)
         written = WRITTEN[words[0]]
@@ -93,7 +95,7 @@ def reads_that_fail(part, calls):
 
 
 def files_that_fail(part, calls):
-    """The same of FILE and of the names file."""
+    """A failed read of FILE or of the names file is not repeated, whatever the error."""
     part.write("input", GIVEN)
     part.write("names", NAMES)
     words = ["dump", "--names", "names", "input"]
@@ -101,7 +103,7 @@ def files_that_fail(part, calls):
     part.same("a dump with names", got, Done(0, null_lines(len(GIVEN)), b""))
     opened = dict.fromkeys(call[1] for call in own if call[0] == "read")
     part.expect("two files are read", 1 <= len(opened) <= 2, str(own[:9]))
-    # The file is opened after the names file is closed, and may have its number: its reads are the last four.
+    # The file is opened after the names file is closed, and may get the same descriptor. Its reads are the last four.
     file, count = own[-1][1], sum(call[0] == "read" for call in own)
     for number in range(1, count + 1):
         is_of_names = number <= count - 4
@@ -112,7 +114,7 @@ def files_that_fail(part, calls):
 
 
 def writes_that_fail(part, calls):
-    """A write that fails, or takes nothing, is not made again, and no read is made after it."""
+    """A write that fails or takes nothing is not repeated, and no read is made after it."""
     for words in (["dump"], ["indef"], ["extract", "--offset", "0"]):
         given = GIVEN if words[0] != "extract" else b"\x04\x82\x27\x10" + GIVEN
         got, own = calls.run(words, given)
@@ -127,7 +129,8 @@ def writes_that_fail(part, calls):
 
 
 def messages_that_fail(part, calls):
-    """A message that is not taken is not written again, and the status stays. Help that is not taken is E2."""
+    """A message that cannot be written is not written again, and the status stays. Help that cannot be written is E2.
+    """
     for words in (["--help"], ["dump", "--help"], ["--version"]):
         for error in (errno.EAGAIN, errno.EIO, errno.ENOSPC, 0):
             got, made = calls.run(words, fail=("write", 1, 1, error))
@@ -142,7 +145,7 @@ def messages_that_fail(part, calls):
 
 
 def reads_of(row):
-    """How many reads a row makes that gives one octet for each; None if the row does not say it."""
+    """Returns how many reads of single octets a row needs, or None if the row does not say it."""
     fault = re.fullmatch(r"fault at (\d+): (F\d\d) .*", row.message)
     if fault and fault[2] not in ("F01", "F02"):
         return int(fault[1]) + 1
@@ -154,7 +157,8 @@ def reads_of(row):
 
 
 def late_lines(row, made):
-    """Returns what is wrong with the calls of a row: before each read all that is due is written, and no more."""
+    """Returns how the calls of a row are wrong: before each read exactly the output that is due must have been written.
+    """
     wrong, octets, written = [], 0, 0
     for name, file, size, result in made:
         if (name, file) == ("write", 1):
@@ -168,7 +172,7 @@ def late_lines(row, made):
 
 
 def rows_in_single_octets(part, calls):
-    """Each row, if each read gives one octet, and each write takes one."""
+    """Runs each row with reads and writes of single octets."""
     for rows in files(part.root).values():
         for row in rows:
             if row.names is not None:
@@ -184,12 +188,12 @@ def rows_in_single_octets(part, calls):
 
 
 def waiting(pipe):
-    """How many octets are in the pipe."""
+    """Returns the number of octets in the pipe."""
     return struct.unpack("i", fcntl.ioctl(pipe, termios.FIONREAD, b"\0" * 4))[0]
 
 
 def full_disk(part):
-    """Of what a pipe offers, one piece is read if the disk is full."""
+    """If the disk is full, only one piece is read from a pipe."""
     for words in (["dump"], ["indef"], ["extract", "--offset", "0", "--contents"], ["dump", "/dev/stdin"]):
         reading, writing = os.pipe()
         os.write(writing, b"\x04\x83\x01\x00\x00" + bytes(50_000))
@@ -203,7 +207,7 @@ def full_disk(part):
 
 
 def pipes_that_do_not_wait(part):
-    """A pipe that does not wait fails if it is empty, or full."""
+    """A pipe that does not block fails if it is empty or full."""
     reading, writing = os.pipe()
     os.set_blocking(reading, False)
     for words in COMMANDS:

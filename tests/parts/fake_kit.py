@@ -1,5 +1,5 @@
-"""A false rt, which writes the lines of a build, slowly or not, and then puts the program of the tests; what starts
-./tlvdump with it, and looks at what a build leaves.
+"""A false rt, which writes the lines of a build and then installs a program of the tests, and functions that start
+./tlvdump with it and examine what a build leaves.
 """
 import os
 import signal
@@ -8,10 +8,10 @@ import time
 
 from parts.install import clone, content
 
-# Lines as rt writes them: of the sources, of two crates in turn, and of the program's run. As rt, it puts the program in
-# its place whole, and leaves it as it is if nothing has changed. It reads what it is given. RT_HOW is what else it may
-# do: it `fails`; it `waits` for a minute, with what it has started in the file RT_CHILD; it is `quick`; it finds all the
-# `same`; it `edits` a source while it builds.
+# Writes the lines of rt: for the sources, for two crates in turn, and for the run of the program. As rt does, it
+# replaces the program in one step, leaves it if nothing has changed, and reads its input. RT_HOW changes this:
+# `fails`; `waits` for a minute, with the number of a process that it started in the file RT_CHILD; `quick`; `same`, if
+# nothing has changed; `edits` a source while it builds.
 RT = r"""#!/bin/sh
 [ "$1" = run ] || exit 2
 cat >/dev/null
@@ -68,7 +68,7 @@ pub fn one(f: u8) -> u8 {
 
 
 def make_clone(part, name):
-    """A clone without the program, of two crates: the program uses tlv_low, and another crate is not used."""
+    """Makes a clone of two crates without the program. The program uses tlv_low. Another crate is not used."""
     script = os.path.join(os.path.dirname(clone(part, name, False)), "tlvdump")
     part.write(f"{name}/crates.txt", b"tlvdump: tlv_low clap\ntlv_low: hex # a comment\ntlv_tests: tlv_low\n")
     os.makedirs(part.path(f"{name}/crates/tlv_low/src"))
@@ -82,14 +82,14 @@ def environment(part, how="", **more):
 
 
 def run(part, script, words, given=b"", how="", **more):
-    """Runs the script on these octets, and returns its status, its output and its errors."""
+    """Runs the script on these octets. Returns its status, its output and its errors."""
     more = {"cwd": part.folder, "env": environment(part, how), "capture_output": True, "timeout": 60, **more}
     got = subprocess.run([script, *words], input=given, **more)
     return got.returncode, got.stdout, got.stderr.decode()
 
 
 def start(part, script, words, how="", **more):
-    """Starts the script on no input, with the signals of a program that a shell starts."""
+    """Starts the script without input, with the signals of a program that a shell starts."""
 
     def usual():
         for number in (signal.SIGHUP, signal.SIGINT, signal.SIGPIPE, signal.SIGQUIT, signal.SIGTERM):
@@ -100,11 +100,11 @@ def start(part, script, words, how="", **more):
 
 
 def end_of(child):
-    """The status, the output and the errors of a script that was started."""
+    """Waits for a script that was started. Returns its status, its output and its errors."""
     try:
         out, err = child.communicate(timeout=60)
     except subprocess.TimeoutExpired:
-        # What it has started may have its pipes still.
+        # Processes that it has started may still hold its pipes.
         child.kill()
         child.stdout.close()
         child.stderr.close()
@@ -113,7 +113,7 @@ def end_of(child):
 
 
 def await_file(path):
-    """Waits until a file is there, and returns what it holds."""
+    """Waits until a file exists. Returns its contents."""
     for _ in range(600):
         if os.path.exists(path):
             with open(path, encoding="ascii") as file:
@@ -123,7 +123,7 @@ def await_file(path):
 
 
 def await_waiters(script, count):
-    """Waits until so many processes wait for the script's lock, and returns whether they do."""
+    """Waits until `count` processes wait for the lock of the script. Returns whether they do."""
     lock = f":{os.stat(os.path.dirname(log_of(script))).st_ino} "
     for _ in range(600):
         with open("/proc/locks", encoding="ascii") as file:
@@ -134,7 +134,7 @@ def await_waiters(script, count):
 
 
 def wait_for(child):
-    """Waits until a script has ended, whoever has its pipes."""
+    """Waits until a script has ended, even if other processes still hold its pipes."""
     try:
         child.wait(timeout=60)
     except subprocess.TimeoutExpired:
@@ -142,7 +142,7 @@ def wait_for(child):
 
 
 def runs(pid):
-    """Whether a process is there and has not ended."""
+    """Returns whether a process exists and has not ended."""
     try:
         with open(f"/proc/{pid}/stat", encoding="ascii") as file:
             return file.read().rsplit(") ", 1)[1][0] not in "ZX"
@@ -171,12 +171,12 @@ def log_of(script):
 
 
 def left_of(script):
-    """The names of what a build left beside the program and its log."""
+    """Returns the names of what a build left besides the program and its log."""
     return sorted(set(os.listdir(os.path.dirname(log_of(script)))) - {"tlvdump", "build.log", "incremental"})
 
 
 def builds_of(script):
-    """How many builds were begun."""
+    """Returns how many builds were begun."""
     with open(os.path.join(top_of(script), "builds"), encoding="ascii") as file:
         return file.read().count("begun\n")
 
@@ -190,7 +190,7 @@ OLD = b"#!/bin/sh\necho the old program\n"
 
 
 def put_old(script):
-    """Puts a program in its place that is older than a source."""
+    """Installs a program that is older than a source."""
     with open(program_of(script), "wb") as file:
         file.write(OLD)
     os.chmod(program_of(script), 0o755)
@@ -198,12 +198,14 @@ def put_old(script):
 
 
 def has_old(script):
-    """Whether the old program is in its place, as it was."""
+    """Returns whether the old program is in its place, unchanged."""
     path = program_of(script)
     return os.access(path, os.X_OK) and content(path) == OLD
 
 
 def start_waiting(part, script, name):
-    """Starts a build that waits. Returns the script's process, and a process that rt has started in it."""
+    """Starts a build that waits. Returns the process of the
+    script, and the number of a process that rt has started in it.
+    """
     child = start(part, script, ["--version"], how="waits", RT_CHILD=part.path(name))
     return child, int(await_file(part.path(name)) or 0)

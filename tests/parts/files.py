@@ -1,4 +1,4 @@
-"""Where octets come from and go to: FILE, standard input and output, devices that fail."""
+"""Tests the sources and destinations of octets: FILE, standard input and output, and devices that fail."""
 import os
 import pwd
 import resource
@@ -25,7 +25,9 @@ OPEN = "E5 cannot open the file"
 
 
 def closing(*descriptors):
-    """What a child does before it becomes the program: `<&-` and its kin of the shell."""
+    """Returns what the child does before it becomes the program:
+    it closes these descriptors, as `<&-` of the shell does.
+    """
 
     def close():
         for it in descriptors:
@@ -35,7 +37,7 @@ def closing(*descriptors):
 
 
 def inputs(part):
-    """FILE and standard input that give nothing."""
+    """FILE, or standard input, that gives nothing."""
     os.mkdir(part.path("folder"))
     part.write("null", NULL)
     for words in COMMANDS:
@@ -56,7 +58,7 @@ def inputs(part):
 
 
 def standard_input_by_name(part):
-    """/dev/stdin as FILE: a pipe, a file, and nothing."""
+    """/dev/stdin as FILE: a pipe, a file, and an empty input."""
     for words, out in ((["dump"], NULL_LINE), (["check"], b""), (["extract", "--offset=0"], NULL), (["indef"], NULL)):
         part.gives([*words, "/dev/stdin"], NULL, 0, out)
         with open(part.path("null"), "rb") as file:
@@ -70,7 +72,7 @@ def standard_input_by_name(part):
 def as_another_user(part):
     """Returns how to run the program as a user who may not read each file: nobody, if the tests run as root.
 
-    Nobody may not enter the folder of the tests, so a copy of the program is where the child already is.
+    Nobody may not enter the folder of the tests, so a copy of the program is put where the child already is.
     """
     if os.geteuid():
         return {}
@@ -82,7 +84,7 @@ def as_another_user(part):
 
 
 def files_that_may_not_be_read(part):
-    """A file of mode 0 does not open: E5 for FILE, N5 for a names file."""
+    """A file of mode 0 cannot be opened: E5 for FILE, N5 for a names file."""
     how = as_another_user(part)
     object_octets, named = b"\x06\x03\x2a\x86\x48", b"       0      3: OBJECT IDENTIFIER 1.2.840 (us)\n"
     for name, octets in (("object", object_octets), ("names", b"1.2.840 us\n"), ("wrong", b"1.40 x\n")):
@@ -107,20 +109,20 @@ def files_that_may_not_be_read(part):
 
 
 def inputs_that_break(part):
-    """A read that fails after octets: what they allow is written."""
-    # A socket whose other end went away with octets unread gives what came, and then an error.
+    """If a read fails, the output of the octets before it is written."""
+    # A socket whose other end was closed with unread octets gives what came, and then an error.
     near, far = socket.socketpair()
     near.sendall(b"unread")
     far.sendall(JONES[:4])
     far.close()
     part.gives(["dump"], None, 3, JONES_LINES[0], READ, stdin=near)
     near.close()
-    # A pipe that does not wait fails if it is empty, and its writer is still open.
+    # A pipe that does not block fails if it is empty while its writer is open.
     reading, writing = os.pipe()
     os.set_blocking(reading, False)
     os.write(writing, JONES[:7])
     part.gives(["dump"], None, 3, b"".join(JONES_LINES[:2]), READ, stdin=reading)
-    # No read is made after a fault, or after the whole element.
+    # No read is made after a fault, or after the element of `extract`.
     os.write(writing, b"\x05\x00\x04\xff")
     said = "fault at 3: F07 length octet ff is reserved"
     part.gives(["dump"], None, 2, NULL_LINE, said, stdin=reading)
@@ -131,7 +133,7 @@ def inputs_that_break(part):
 
 
 def outputs_that_fail(part):
-    """No room, and no output at all."""
+    """A full disk, and a closed standard output."""
     for words in COMMANDS:
         with open("/dev/full", "wb") as full:
             part.gives(words, NULL, 3, err=WRITE, stdout=full)
@@ -144,7 +146,7 @@ def outputs_that_fail(part):
     with open("/dev/full", "wb") as full:
         missing = "E4 no element at offset 7"
         part.gives(["extract", "--offset", "7"], NULL, 1, err=missing, stdout=full)
-    # With standard output closed the file that is opened must not be written to.
+    # If standard output is closed, nothing may be written to the file that is opened.
     path = part.write("kept", NULL)
     got = part.run(["dump", "kept"], stdout=None, preexec_fn=closing(1))
     part.same("dump kept, standard output closed", got, Done(3, b"", message(WRITE)))
@@ -153,7 +155,7 @@ def outputs_that_fail(part):
 
 
 def messages_that_fail(part):
-    """A message that cannot be written changes nothing but itself."""
+    """A message that cannot be written is lost, but the output and the status stay the same."""
     fault = b"\x30\x03\x02\x02\x01"
     line = b"       0      3: SEQUENCE {\n"
     with open("/dev/full", "wb") as full:
@@ -168,7 +170,7 @@ def messages_that_fail(part):
 
 
 def outputs_that_fill_up(part):
-    """A file that may not grow past some octets: it has a prefix of the output, and no more."""
+    """If a file may not grow beyond a size, it gets a prefix of the output."""
     whole = b"".join(JONES_LINES)
     for room in (0, 1, 7, 17, len(whole) - 1):
 

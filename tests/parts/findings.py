@@ -1,4 +1,5 @@
-"""Findings in long and deep inputs, in pieces, and if a device fails. The lines are computed here."""
+"""Tests findings in long and deep inputs, in pieces, and with devices that fail. The expected lines are computed here.
+"""
 import os
 import re
 
@@ -18,7 +19,7 @@ def count_of(rows):
 
 
 def segments(part):
-    """A string of 1000 segments: each but the first follows one that is not full, and all fit in one."""
+    """A string of 1000 segments. Each but the first follows one that is not full, and all would fit in one."""
     part.gives(["check", "--rules", "ber"], STRING, 0)
     rows = [(2 + 3 * number, "C04", SEGMENT) for number in range(1, 1000)] + [(0, "C05", FITS)]
     part.gives(["check", "--rules", "cer"], STRING, 1, finding_lines(rows), count_of(rows))
@@ -28,7 +29,7 @@ def segments(part):
 
 
 def levels(part):
-    """128 levels deep, with a finding at each."""
+    """128 nested elements, each with a finding."""
     deep = b"\x30\x80" * 128 + b"\x00\x00" * 128
     rows = [(2 * level, "D01", "indefinite length") for level in range(128)]
     part.gives(["check"], deep, 1, finding_lines(rows), count_of(rows))
@@ -42,7 +43,9 @@ def levels(part):
 
 
 def check_table(part):
-    """The table of docs/FINDINGS.md: each example has its finding, under the rule sets that are named, and no other."""
+    """Checks the table of docs/FINDINGS.md: each example has its
+    finding, under the rule sets that are named, and no other.
+    """
     with open(os.path.join(part.root, "docs", "FINDINGS.md"), encoding="utf-8") as file:
         rows = [line.strip("| \n").split(" | ") for line in file if re.match(r"\| [BSDC]\d\d ", line)]
     part.expect("31 findings", len(rows) == 31)
@@ -54,8 +57,8 @@ def check_table(part):
             part.expect(f"{code} under {rules}", there == (rules in sets.split(", ")), got)
 
 
-# What breaks a rule of X.690, 8 to 11, that is not looked for: a word of its line in the table, octets, and the rules by
-# which nothing else is found.
+# Violations of X.690 clauses 8 to 11 that the program does not look for: a word of the line in the table, octets, and
+# the rule sets under which nothing else is found.
 UNSEEN = [
     ("default values", "30 03 01 01 00", "ber der"),
     ("not universal", "81 02 00 7f", "ber der cer"),
@@ -82,14 +85,14 @@ UNSEEN = [
     ("time that is one", "37 03 04 01 2a", "ber"),
     ("unused bits inside", "23 0a 23 04 03 02 01 00 03 02 00 ff", "ber"),
 ]
-# Where a user looks for it, and what has to be named there.
+# The pages where a user looks for them, and the words that each page must have.
 NAMED = ("default values", "SET and SET OF", "REAL", "EXTERNAL", "EMBEDDED PDV", "CHARACTER STRING")
 NAMED += ("OID-IRI", "RELATIVE-OID-IRI", "TIME")
 PLACES = {"README.md": r"\n\n", "tests/help/check.txt": r"\n\n", "man/tlvdump.1": r"\nThe codes"}
 
 
 def check_unseen(part):
-    """What the pages say is not looked for: nothing is found of it, and each page names it."""
+    """The program finds nothing in the violations that it does not look for, and the pages name them."""
     with open(os.path.join(part.root, "docs", "FINDINGS.md"), encoding="utf-8") as file:
         lines = file.read().split("## What is not looked for\n")[-1].splitlines()
     table = [line.strip("| ").split(" | ") for line in lines if line.startswith("| ")][1:]

@@ -1,4 +1,4 @@
-"""Runs the program, compares what it did with what is wanted, and counts."""
+"""Runs the program, compares the results with the expected ones, and counts the tests."""
 import functools
 import os
 import shutil
@@ -8,12 +8,12 @@ import sys
 import tempfile
 
 HERE = os.path.dirname(os.path.realpath(__file__))
-# No run of a test takes longer, on a busy machine too.
+# The time limit of a run, which must hold on a busy machine.
 SECONDS = 120
 
 
 class Done:
-    """What a run came to: its status (or the signal, negative), and what it wrote."""
+    """The result of a run: its status (or the signal, negative), and what it wrote."""
 
     def __init__(self, status, out, err):
         self.status, self.out, self.err = status, out, err
@@ -41,12 +41,12 @@ def shown(octets):
 
 
 def message(text):
-    """The message of a run on standard error: one line, or nothing."""
+    """Returns what a run writes to standard error for this message: one line, or nothing."""
     return text.encode() + b"\n" if text else b""
 
 
 class Suite:
-    """Counts over all parts, and owns the temporary folder. `find_show` returns the path of the program tlvdump-show."""
+    """The counts of all parts, and the temporary folder. `find_show` returns the path of tlvdump-show."""
 
     def __init__(self, program, find_show, root, may_be_missing):
         self.program, self.find_show, self.root, self.may_be_missing = program, find_show, root, may_be_missing
@@ -61,7 +61,7 @@ class Suite:
 
     @functools.cached_property
     def show_program(self):
-        """The path of tlvdump-show, which is built if a part asks for it."""
+        """Returns the path of tlvdump-show. It is built when a part first asks for it."""
         return self.find_show()
 
     def part(self, name):
@@ -71,7 +71,7 @@ class Suite:
 
 
 class Part:
-    """What the tests of one part use. `folder` is the folder that its runs are in."""
+    """The functions that the tests of one part use. `folder` is the folder in which its runs are made."""
 
     def __init__(self, suite, name, folder):
         self.suite, self.name, self.folder = suite, name, folder
@@ -81,22 +81,22 @@ class Part:
         return os.path.join(self.folder, name)
 
     def write(self, name, octets):
-        """Writes a file in the part's folder, and returns its path."""
+        """Writes a file in the part's folder. Returns its path."""
         with open(self.path(name), "wb") as file:
             file.write(octets)
         return self.path(name)
 
     def start(self, words, program=None, called=None, **how):
-        """Starts the program, or the one at another path, by its path or the name `called`.
+        """Starts the program, or the one at another path, under its path or the name `called`.
 
-        Its signals are those of a program that a shell starts.
+        It has the signals of a program that a shell starts.
         """
         how.setdefault("cwd", self.folder)
         path = program or self.program
         return subprocess.Popen([called or path, *words], executable=path, **how)
 
     def run(self, words, given=b"", **how):
-        """Runs the program on these octets, by a pipe, or on `stdin`, and returns what it did."""
+        """Runs the program with these octets on a pipe, or with `stdin`. Returns the result."""
         if "stdin" not in how:
             how["stdin"] = subprocess.PIPE
         how.setdefault("stdout", subprocess.PIPE)
@@ -112,9 +112,9 @@ class Part:
         return Done(child.returncode, out or b"", err or b"")
 
     def made_of(self, source):
-        """Compiles a C source of this folder for LD_PRELOAD, and returns the path of the object.
+        """Compiles a C source of this folder for LD_PRELOAD. Returns the path of the object.
 
-        If it is not made, that is a failure, and there is no path.
+        If it cannot be compiled, that is a failure, and the path is None.
         """
         if not self.has("cc"):
             return None
@@ -125,7 +125,7 @@ class Part:
         return path if got.returncode == 0 else None
 
     def has(self, tool):
-        """Returns whether the machine has this tool. If it has not, that is a failure, or reported in a note."""
+        """Returns whether the machine has this tool. If it has not, that is a failure, or is reported in a note."""
         if shutil.which(tool):
             return True
         if tool in self.suite.may_be_missing:
@@ -135,7 +135,7 @@ class Part:
         return False
 
     def expect(self, what, fine, *lines):
-        """Counts one test, and reports it if it fails."""
+        """Counts one test. Reports it if it fails."""
         if fine:
             self.suite.passed += 1
             return
@@ -146,16 +146,16 @@ class Part:
         sys.stdout.flush()
 
     def same(self, what, got, wanted):
-        """Counts one test: that this run did what is wanted."""
+        """Counts one test: the result is the wanted one."""
         got_lines, wanted_lines = got.lines(), wanted.lines()
         differing = [f"wanted {w}\n       got {g}" for g, w in zip(got_lines, wanted_lines) if g != w]
         self.expect(what, got == wanted, *differing)
 
     def gives(self, words, given, status, out=b"", err="", **how):
-        """Counts one test: that the program with these words gives status, output and message."""
+        """Counts one test: with these words the program gives this status, output and message."""
         got = self.run(words, given, **how)
         self.same(" ".join(words) or "no words", got, Done(status, out, message(err)))
 
     def note(self, text):
-        """Prints a figure. It is no test."""
+        """Prints a note. It is not counted as a test."""
         print(f"{self.name}: {text}")

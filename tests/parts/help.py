@@ -1,4 +1,4 @@
-"""Help and the version, octet by octet as the files of tests/help have them."""
+"""Compares help and the version with the files of tests/help, octet by octet."""
 import os
 
 from parts.harness import Done
@@ -7,7 +7,7 @@ COMMANDS = ("dump", "check", "extract", "indef")
 
 
 def whole(part, words, name):
-    """The program with these words writes the file, and nothing else. Returns what it did."""
+    """With these words the program writes exactly the contents of the file. Returns the result."""
     with open(os.path.join(part.root, "tests", "help", name), "rb") as file:
         text = file.read()
     got, wanted = part.run(words), Done(0, text, b"")
@@ -19,7 +19,7 @@ def whole(part, words, name):
 
 
 def before_all_else(part, name, wanted):
-    """Help takes precedence over words that are refused, values out of range and files, and reads nothing."""
+    """Help takes precedence over words that are refused, values out of range and files. Nothing is read."""
     part.same(f"{name} --help --nonsense", part.run([name, "--help", "--nonsense"]), wanted)
     part.same(f"{name} missing --help", part.run([name, "missing", "--help"]), wanted)
     twice = part.run([name, "--padding", "--help", "--padding"])

@@ -1,4 +1,4 @@
-"""install: what it puts where, what it takes away; the completions that it puts."""
+"""Tests ./install: the files that it installs and removes, and the completions among them."""
 import glob
 import os
 import resource
@@ -21,13 +21,14 @@ PLACES = {
     "share/bash-completion/completions/tlvdump-show": "completions/tlvdump.bash",
     "share/zsh/site-functions/_tlvdump": "completions/_tlvdump",
 }
-# What an earlier version put, which --remove takes away too.
+# Files that an earlier version installed. --remove removes them, too.
 OLD = ("lib/tlvdump/tlvdump-show", "bin/tlvdump-inside", "share/man/man1/tlvdump-inside.1",
        "share/bash-completion/completions/tlvdump-inside")
 
 
 def install(part, *words, program=None, **how):
-    """Runs the script with the programs of the tests, or another one, and returns its status, its output and its errors."""
+    """Runs the script with the programs of the tests, or with another. Returns its status, its output and its errors.
+    """
     env = dict(os.environ, TLVDUMP=program or part.program, TLVDUMP_SHOW=part.suite.show_program)
     script = os.path.join(part.root, "install")
     how = {"cwd": part.folder, "env": env, "capture_output": True, "text": True, "timeout": 60, **how}
@@ -46,13 +47,13 @@ def files_below(folder):
 
 
 def all_below(folder):
-    """The files and the folders."""
+    """Returns the files and the folders below a folder."""
     found = [os.path.join(path, name) for path, folders, names in os.walk(folder) for name in [*folders, *names]]
     return sorted(os.path.relpath(path, folder) for path in found)
 
 
 def places(part, prefix):
-    """That each file is below this prefix, as its source has it, and nothing else."""
+    """Checks that exactly the wanted files are below this prefix, each with the contents of its source."""
     part.expect(f"files below {prefix}", files_below(part.path(prefix)) == sorted(PLACES), *files_below(part.path(prefix)))
     for place, source in PLACES.items():
         path = os.path.join(part.folder, prefix, place)
@@ -64,13 +65,13 @@ def places(part, prefix):
 
 
 def check_install(part):
-    """Puts, puts again, takes away."""
+    """Installs, installs again, and removes."""
     printed = "".join(f"there/{place}\n" for place in PLACES)
     for what in ("first", "again"):
         got = install(part, "there")
         part.expect(f"install, {what}", got == (0, printed, ""), *map(str, got))
         places(part, "there")
-    # What is installed works by itself.
+    # The installed programs work by themselves.
     octets = part.write("cert", b"\x30\x07\x06\x03\x55\x04\x03\x05\x00")
     env = {"PATH": os.path.join(part.folder, "there", "bin") + ":" + os.environ["PATH"]}
     got = subprocess.run(["tlvdump", "dump", "--pure", "--names", "there/share/tlvdump/names.txt", octets],
@@ -98,7 +99,7 @@ def check_install(part):
 
 
 def check_old(part):
-    """What an earlier version put goes with the rest, and is not touched when this one is put."""
+    """--remove also removes the files of an earlier version. Installing leaves them alone."""
     for place in OLD:
         os.makedirs(os.path.dirname(part.path(f"earlier/{place}")), exist_ok=True)
         part.write(f"earlier/{place}", b"old")
@@ -112,7 +113,7 @@ def check_old(part):
 
 
 def check_folders(part):
-    """Folders of others stay, and links to folders; those of a system stay, also if they are empty."""
+    """Folders and links to folders that others made stay. The folders of a system stay, even if they are empty."""
     for folder in ("shared/bin", "shared/share/zsh/mine", "elsewhere/man1", "shared/lib/tlvdump/mine"):
         os.makedirs(part.path(folder))
     part.write("shared/bin/other", b"")
@@ -123,7 +124,7 @@ def check_folders(part):
     part.expect("remove among others", got[0] == 0 and not got[2], *map(str, got))
     stays = ["bin", "bin/other", "lib", "lib/tlvdump", "lib/tlvdump/mine", "share", "share/man", "share/zsh", "share/zsh/mine"]
     part.expect("what others have stays", all_below(part.path("shared")) == stays, *all_below(part.path("shared")))
-    # Standing in for /usr/local: a folder of that name in a system of its own, which root alone can make.
+    # An empty folder is mounted as /usr/local. Only root can do this, in a mount namespace.
     script = 'mount -t tmpfs none /usr/local && mkdir -p /usr/local/lib/tlvdump && true >/usr/local/lib/tlvdump/tlvdump-show && '
     script += '"$0" && "$0" --remove && cd /usr/local && find . | LC_ALL=C sort'
     if os.geteuid() or subprocess.run(["unshare", "-m", "true"], capture_output=True).returncode:
@@ -139,7 +140,7 @@ def check_folders(part):
 
 
 def check_links(part):
-    """A link that lies in the way, at a target or where another script would write first, is not followed."""
+    """A link at the place of a file or of a temporary file is not followed."""
     os.makedirs(part.path("linked/bin"))
     os.makedirs(part.path("linked/share/tlvdump"))
     victim = part.write("victim", b"not to be written")
@@ -165,19 +166,21 @@ def check_links(part):
 
 
 def limit_files():
-    """No file may have more than 64 kilobytes; a write of more fails."""
+    """Limits files to 64 kilobytes. A write beyond that fails."""
     signal.signal(signal.SIGXFSZ, signal.SIG_IGN)
     resource.setrlimit(resource.RLIMIT_FSIZE, (65536, 65536))
 
 
 def nothing_left(part, what, prefix):
-    """Counts one test: that the script left none of its temporary folders below this prefix."""
+    """Counts one test: the script left no temporary folder below this prefix."""
     left = [path for path in all_below(part.path(prefix)) if os.path.basename(path).startswith(".")]
     part.expect(f"{what}: nothing is left", not left, *left)
 
 
 def check_failures(part):
-    """Status 1 if a file cannot be put or removed, also for root; the others are put, and nothing else is left."""
+    """If a file cannot be installed or removed, the status is 1, also for root.
+    The other files are installed, and nothing else is left.
+    """
     others = [place for place in PLACES if place != "bin/tlvdump"]
     printed = "".join(f"in-the-way/{place}\n" for place in others)
     os.makedirs(part.path("in-the-way/bin/tlvdump"))
@@ -195,7 +198,7 @@ def check_failures(part):
     count = sum(not place.startswith("share/man/") for place in PLACES)
     status, out, err = install(part, "no-folder")
     part.expect("a file in place of a folder", status == 1 and out.count("\n") == count and err, str(status), out, err)
-    # What goes wrong while the program is written: the one that is there stays.
+    # If the write of the program fails, the installed program stays.
     part.expect("install before that", install(part, "full")[0] == 0)
     for what, how in (
         ("no room", {"preexec_fn": limit_files}),
@@ -212,7 +215,7 @@ def check_failures(part):
 
 
 def check_running(part):
-    """The program is put while it runs: it goes on, and the new one is another file."""
+    """The program is replaced while it runs. The old one goes on, and the new one is another file."""
     path = part.path("there/bin/tlvdump")
     install(part, "there")
     child = part.start(["dump"], program=path, stdin=subprocess.PIPE, stdout=subprocess.PIPE)
@@ -228,7 +231,9 @@ def check_running(part):
 
 
 def check_signals(part):
-    """A signal while a file is written: nothing is left of it. The program is read from a pipe that gives nothing."""
+    """A signal while a file is written leaves nothing of the file.
+    The program is read from a pipe that gives nothing, so the script waits.
+    """
     os.mkfifo(part.path("slow"))
     env = dict(os.environ, TLVDUMP=part.path("slow"), TLVDUMP_SHOW=part.suite.show_program)
     for name, wanted in (("TERM", 143), ("INT", 130), ("HUP", 129)):
@@ -249,7 +254,7 @@ def check_signals(part):
 
 
 def check_umask(part):
-    """Under umask 077 others can still read what was put, and the folders too."""
+    """With umask 077, other users can still read the installed files and folders."""
     before = os.umask(0o077)
     got = install(part, "masked/prefix")
     os.umask(before)
@@ -261,7 +266,7 @@ def check_umask(part):
 
 
 def clone(part, name, built):
-    """A clone with what the script needs; its programs are newer than their sources, or missing."""
+    """Makes a clone with what the script needs. Its programs are newer than their sources, or missing."""
     root = part.path(name)
     for place in ("src", "specs", "proofs", "out"):
         for crate in ("tlvdump", "tlvdump_show"):
@@ -277,14 +282,14 @@ def clone(part, name, built):
 
 
 def builds(part):
-    """Without TLVDUMP the programs of the clone are taken; if one cannot be built nothing is put."""
-    # On the PATH the kit of this machine comes after one that builds nothing.
+    """Without TLVDUMP the programs of the clone are installed. If one of them cannot be built, nothing is installed."""
+    # The PATH begins with an rt that builds nothing, before the kit of this machine.
     part.write("rt", b"#!/bin/sh\nexit 1\n")
     os.chmod(part.path("rt"), 0o755)
     env = {"PATH": f"{part.folder}:{os.environ['PATH']}"}
     how = {"cwd": part.folder, "env": env, "capture_output": True, "text": True, "timeout": 60}
     script = clone(part, "built", True)
-    # Others cannot read the files of this clone, but those that it puts.
+    # Other users cannot read the files of this clone. They must be able to read the installed files.
     for path in files_below(part.path("built")):
         os.chmod(part.path(f"built/{path}"), 0o700 if os.access(part.path(f"built/{path}"), os.X_OK) else 0o600)
     got = subprocess.run([script, "from-clone"], **how)

@@ -1,4 +1,4 @@
-"""300 MB through a pipe: the output is right, and memory stays small. Records are an eighth of it."""
+"""Sends 300 MB through a pipe, or an eighth of that as records: the output is right, and the memory stays small."""
 import subprocess
 import threading
 
@@ -8,7 +8,7 @@ MOST_KILOBYTES = 8 * 1024
 
 
 def highest(child):
-    """The resident memory of the program at its highest so far, in kilobytes."""
+    """Returns the peak resident memory of the program, in kilobytes."""
     with open(f"/proc/{child.pid}/status", encoding="ascii") as file:
         for line in file:
             if line.startswith("VmHWM:"):
@@ -17,7 +17,7 @@ def highest(child):
 
 
 class Feeder(threading.Thread):
-    """Writes octets over and over, and takes the measure before the input ends."""
+    """Writes octets repeatedly. Measures the memory before the input ends."""
 
     def __init__(self, child, first, again, times, last):
         super().__init__()
@@ -30,7 +30,7 @@ class Feeder(threading.Thread):
             pipe.write(self.first)
             for _ in range(self.times):
                 pipe.write(self.again)
-            # The last octets are held back until the others are in the pipe or read.
+            # The last octets are written only when all others are in the pipe or read.
             pipe.flush()
             self.kilobytes = highest(self.child)
             pipe.write(self.last)
@@ -40,7 +40,7 @@ class Feeder(threading.Thread):
 
 
 def compare(pipe, first, again, times, last):
-    """Whether the pipe gives just `first`, then `again` so many times, then `last`."""
+    """Returns whether the pipe gives exactly `first`, then `again` repeated `times` times, then `last`."""
     if pipe.read(len(first)) != first:
         return False
     for _ in range(times):
@@ -50,7 +50,9 @@ def compare(pipe, first, again, times, last):
 
 
 def long_run(part, what, words, given, wanted):
-    """Feeds `given` and compares with `wanted`: each is what begins, what comes again, how often, and the end."""
+    """Writes `given`, and compares the output with `wanted`.
+    Each has a beginning, a part to repeat, a count, and an end.
+    """
     pipes = {"stdin": subprocess.PIPE, "stdout": subprocess.PIPE, "stderr": subprocess.PIPE}
     child = part.start(words, bufsize=MEGABYTE, **pipes)
     feeder = Feeder(child, *given)
@@ -79,7 +81,7 @@ def test(part):
     line = f"{0:8} {TOTAL:6}: OCTET STRING\n".encode()
     long_run(part, "dump of one string", ["dump"], (string, block, times, b""), (line, text, times, b""))
 
-    # The last octets come after the measure, since the program ends with them.
+    # The last octets come after the measurement, since the program ends when it has read them.
     words = ["extract", "--offset", "2", "--contents"]
     given = (b"\x30\x80" + string, block, times - 1, block + b"\x00\x00")
     long_run(part, "extract of one string", words, given, (b"", block, times, b""))

@@ -1,4 +1,6 @@
-"""Files of more than 2^31 and 2^32 octets, and very many findings. The files have holes, so they take little room."""
+"""Tests files of more than 2^31 and 2^32 octets, and very many findings.
+The files are sparse, so they take little room.
+"""
 import os
 import shutil
 import tempfile
@@ -7,7 +9,8 @@ from parts.harness import Done, message
 
 GIGABYTE = 1 << 30
 BOOLEAN, LAST = b"\x01\x01\x01", b"\x02\x01\x05"
-# Memory of the system, where a hole is read without a disk; else the files are in the part's own folder.
+# A file system in memory, where the holes of a file are read without a disk.
+# If it is missing, the part's own folder is used.
 SHARED = "/dev/shm"
 
 
@@ -26,7 +29,7 @@ def string_header(length):
 
 
 def write_file(path, length, after):
-    """Writes an OCTET STRING of so many octets 00, and these octets after it. Returns where it ends."""
+    """Writes an OCTET STRING of `length` octets 00, and these octets after it. Returns where the string ends."""
     header = string_header(length)
     end = len(header) + length
     with open(path, "wb") as file:
@@ -38,7 +41,7 @@ def write_file(path, length, after):
 
 
 def past_the_limits_of_32_bits(part, folder):
-    """Offsets, lengths and sizes of more than 2^32."""
+    """Offsets, lengths and sizes above 2^32 are right."""
     path = os.path.join(folder, "five")
     end = write_file(path, 5 * GIGABYTE, LAST + BOOLEAN)
     found = f"{end + 3} S02 TRUE is not ff\n".encode()
@@ -54,12 +57,12 @@ def past_the_limits_of_32_bits(part, folder):
         file.write(b"\x04\xff")
     fault = f"fault at {end + 7}: F07 length octet ff is reserved"
     part.gives(["check", "--rules", "ber", path], b"", 2, err=fault)
-    # A names file of that size is read up to its limit.
+    # A names file of that size is read only up to its limit.
     part.gives(["dump", "--names", path], LAST, 4, err="N4 names file too large")
 
 
 def past_the_limits_of_31_bits(part, folder):
-    """A dump of more than 2^31 octets, of which one row is shown."""
+    """A dump of an input of more than 2^31 octets, with one row shown."""
     path = os.path.join(folder, "two")
     end = write_file(path, 2 * GIGABYTE, LAST)
     lines = f"{0:8} {2 * GIGABYTE:6}: OCTET STRING\n{' ' * 19}{'00 ' * 15}00\n{' ' * 19}...\n{end:8} {1:6}: INTEGER 5\n"
@@ -67,7 +70,7 @@ def past_the_limits_of_31_bits(part, folder):
 
 
 def many_findings(part):
-    """Each finding has its line, and the message has their number, however many there are."""
+    """Each finding has its line, and the message counts them, however many there are."""
     for count in (1, 255, 256, 257, 65_535, 65_536, 65_537, 100_000, 1_000_000):
         given, said = BOOLEAN * count, message(f"findings: {count}")
         lines = "".join(f"{3 * number} S02 TRUE is not ff\n" for number in range(count)).encode()

@@ -1,7 +1,7 @@
-"""Readers of the lists of object identifiers that Debian's packages carry.
+"""Reads the lists of object identifiers in Debian's packages.
 
-Each takes the folder that the packages are unpacked in, `/` if they are installed, and returns
-pairs of dotted arcs and a name. A list that is not there has no pairs.
+Each reader takes the folder in which the packages are unpacked, `/` if they are installed, and returns pairs of dotted
+arcs and a name. A missing list has no pairs.
 """
 import ast
 import glob
@@ -23,7 +23,7 @@ MACROS = "OBJECT IDENTIFIER|OBJECT-TYPE|OBJECT-IDENTITY|MODULE-IDENTITY|NOTIFICA
 
 
 def texts(folder, *patterns):
-    """Yields the texts of the files that the patterns name."""
+    """Yields the texts of the files that match the patterns."""
     for pattern in patterns:
         for path in sorted(glob.glob(os.path.join(folder, pattern), recursive=True)):
             if os.path.isfile(path):
@@ -32,7 +32,7 @@ def texts(folder, *patterns):
 
 
 def dotted_of(numbers):
-    """Returns `1.3.6` of `1, 3, 6`, and nothing of a list that is none of numbers."""
+    """Returns `1.3.6` for the list `1, 3, 6`, and None if it is not a list of numbers."""
     arcs = [arc.strip() for arc in numbers.split(",") if arc.strip()]
     return ".".join(arcs) if all(arc.isdigit() for arc in arcs) else ""
 
@@ -43,7 +43,7 @@ def output_of(*words):
 
 
 def openssl(folder):
-    """The objects of the command `openssl`, which is run if the folder is that of the machine."""
+    """Reads the objects that `openssl` prints. It is run only if the folder is that of the machine."""
     if folder != "/" or not shutil.which("openssl"):
         return
     shown = output_of("openssl", "list", "-objects")
@@ -65,7 +65,7 @@ def asn1crypto(folder):
 
 
 def pyasn1_modules(folder):
-    """The assignments of the modules, as `a = univ.ObjectIdentifier('1.2')` and `b = _OID(a, 3)`."""
+    """Reads the assignments in the modules, such as `a = univ.ObjectIdentifier('1.2')` and `b = _OID(a, 3)`."""
     made = r"(?:univ\.ObjectIdentifier|_OID|_buildOid)"
     for text in texts(folder, f"{PYTHON}/pyasn1_modules/rfc*.py"):
         known = {}
@@ -106,7 +106,7 @@ def ldap3(folder):
 
 
 def schemas(folder):
-    """The schemas of OpenLDAP and of 389 Directory Server."""
+    """Reads the schemas of OpenLDAP and of 389 Directory Server."""
     where = ("etc/ldap/schema/*.schema", "usr/share/dirsrv/schema/*.ldif")
     for text in texts(folder, *where):
         for arcs, names in re.findall(rf"\(\s*({DOTTED})\s+NAME\s+(\([^)]*\)|'[^']*')", text):
@@ -114,7 +114,7 @@ def schemas(folder):
 
 
 def active_directory(folder):
-    """The schema of Active Directory, as samba-ad-provision has it."""
+    """Reads the schema of Active Directory in samba-ad-provision."""
     for text in texts(folder, "usr/share/samba/setup/ad-schema/*"):
         for block in re.split(r"\n\s*\n", text):
             fields = {key.lower(): value for key, value in re.findall(r"^(\w+): (\S+)", block, re.M)}
@@ -124,14 +124,14 @@ def active_directory(folder):
 
 
 def headers(folder):
-    """The header of OpenLDAP, and those of Windows that mingw-w64-common has."""
+    """Reads the header of OpenLDAP, and the headers of Windows in mingw-w64-common."""
     for text in texts(folder, "usr/include/ldap.h", "usr/share/mingw-w64/include/win*.h"):
         for name, arcs in re.findall(rf'#define\s+(\w+)\s+"({DOTTED})"', text):
             yield arcs, name
 
 
 def bouncy_castle(folder):
-    """The fields of the classes in the archives bcprov and bcutil."""
+    """Reads the fields of the classes in the archives bcprov and bcutil."""
     classes = Classes(glob.glob(os.path.join(folder, "usr/share/java/bc*.jar")))
     for name in sorted(classes.places):
         if "/asn1/" in name:
@@ -145,7 +145,7 @@ def heimdal(folder):
 
 
 def assigned_values(all_texts):
-    """The values that ASN.1 modules and MIBs assign, each resolved by the names of the others."""
+    """Returns the values that ASN.1 modules and MIBs assign, each resolved by the names of the others."""
     pending = {}
     for text in all_texts:
         text = re.sub(r'"[^"]*"|--.*', "", text)
@@ -160,7 +160,7 @@ def assigned_values(all_texts):
 
 
 def resolve(right, known):
-    """Returns the arcs of `{ id-pkix 3 }` or `{ iso(1) org(3) }`, or nothing if a name is not known."""
+    """Returns the arcs of `{ id-pkix 3 }` or `{ iso(1) org(3) }`, or None if a name is not known."""
     arcs = []
     for word in re.findall(r"[\w-]+\s*\(\s*\d+\s*\)|[\w-]+", right):
         number = re.search(r"\((\s*\d+\s*)\)|^(\d+)$", word)
@@ -184,13 +184,13 @@ def erlang_headers(folder):
 
 
 def mibs(folder):
-    """The MIBs of libsnmp-base and of snmp-mibs-downloader."""
+    """Reads the MIBs of libsnmp-base and of snmp-mibs-downloader."""
     where = ("usr/share/snmp/mibs/*.txt", "var/lib/snmp/mibs/**/*", "usr/share/mibs/**/*")
     return assigned_values(texts(folder, *where))
 
 
 def pysnmp(folder):
-    """The MIBs of python3-pysnmp4-mibs and python3-pysnmp4, which are compiled to Python."""
+    """Reads the MIBs of python3-pysnmp4-mibs and python3-pysnmp4, which are compiled to Python."""
     pattern = r"^(\w+) = (Mib\w+|ModuleIdentity|ObjectIdentity|NotificationType|ObjectGroup)\(\(([\d, ]+)\)"
     where = (f"{PYTHON}/pysnmp_mibs/*.py", f"{PYTHON}/pysnmp/smi/mibs/*.py")
     for text in texts(folder, *where):
@@ -200,7 +200,7 @@ def pysnmp(folder):
 
 
 def go(folder):
-    """The object identifiers of zlint, Fulcio, step, cfssl and go-sev-guest, which are written in Go."""
+    """Reads the object identifiers of zlint, Fulcio, step, cfssl and go-sev-guest, which are written in Go."""
     where = ("github.com/zmap/z*", "github.com/sigstore/fulcio", "go.step.sm/crypto")
     where += ("github.com/cloudflare/cfssl", "github.com/google/go-sev-guest")
     for text in texts(folder, *(f"usr/share/gocode/src/{place}/**/*.go" for place in where)):
@@ -209,7 +209,9 @@ def go(folder):
 
 
 def authorities(folder):
-    """The policies of authorities in zcrypto: a map for each kind, with the authority in a comment before its lines."""
+    """Reads the policies of certificate authorities in zcrypto: a map
+    for each kind, with the authority in a comment above its lines.
+    """
     kinds = {"ExtendedValidation": "EV", "OrganizationValidation": "OV", "DomainValidation": "DV"}
     for text in texts(folder, "usr/share/gocode/src/github.com/zmap/zcrypto/x509/extensions.go"):
         for map_name, lines in re.findall(r"^var (\w+)OIDs = map[^\n]*\{\n(.*?)^\}", text, re.M | re.S):
@@ -230,7 +232,7 @@ def capture(wanted):
 
 
 def wireshark(folder, wanted=()):
-    """The names that tshark shows for the object identifiers of a capture file made of them."""
+    """Reads the names that tshark shows for the object identifiers, which are put into a capture file."""
     if folder != "/" or not shutil.which("tshark"):
         return
     kind = 'uat:user_dlts:"User 0 (DLT=147)","ber","0","","0",""'

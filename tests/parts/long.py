@@ -1,4 +1,4 @@
-"""Long words, long names of files, names with unusual characters, and lines of many words."""
+"""Tests long words, long file names, file names with unusual characters, and command lines of many words."""
 import os
 
 from parts.harness import Done, message
@@ -9,24 +9,24 @@ NAMED = b"       0      3: OBJECT IDENTIFIER 2.5.4.3 (commonName)\n"
 NAMES = b"# x\n2.5.4.3 commonName\n"
 OPEN = "E5 cannot open the file"
 UNREAD = "N5 names file not read"
-# The most octets of a file's name, of a path, and of a word that the system passes on.
+# The largest number of octets of a file name, of a path, and of a word that the system passes on.
 LONGEST_NAME, LONGEST_PATH, LONGEST_WORD = 255, 4095, 131_071
 LENGTHS = (31, 32, 63, 64, 99, 100, 101, 127, 128, 199, 200, 201, 254, 255)
 # Lengths of words that name no file.
 LONG_WORDS = (5_001, *range(6_007, 60_000, 6_000), 59_999, 65_535, 65_536, 100_003, LONGEST_WORD)
-# Characters that begin and end the ranges of two, three and four octets, and some that have a meaning elsewhere: those
-# that join, that change the direction, that say how octets are ordered, and a face.
+# The first and last characters that have two, three and four octets in UTF-8, and some characters with special effects:
+# characters that join others or change the direction, the byte order mark, and an emoji.
 WIDE = "\u0080\u00e9\u07ff\u0800\u20ac\u0301\u200d\u202e\ufeff\ufffd\uffff\U00010000\U0001f600\U0010ffff"
 
 
 def name_of(octets, letter="a"):
-    """A name of so many octets that begins with the number, and has two-octet characters after it."""
+    """Returns a name of `octets` octets, which begins with the number and goes on with characters of two octets."""
     name = f"{octets}{letter}"
     return name + "é" * ((octets - len(name)) // 2) + "z" * ((octets - len(name)) % 2)
 
 
 def path_of(name, octets):
-    """A path of so many octets to the file of this name."""
+    """Returns a path of `octets` octets to the file of this name."""
     more = octets - len(name.encode())
     path = ("./" * (more // 2)).replace("./", ".//", more % 2) + name
     assert len(path.encode()) == octets
@@ -34,7 +34,7 @@ def path_of(name, octets):
 
 
 def check_opening(part, path, names):
-    """FILE and NAMES of these paths are opened by each command that takes them."""
+    """Checks that each command that takes FILE or NAMES opens them at these paths."""
     what = f"{len(path.encode())} octets of FILE, {len(names.encode())} of NAMES"
     for words, out in [
         (["dump", path], PLAIN),
@@ -49,7 +49,7 @@ def check_opening(part, path, names):
 
 
 def names_of_files(part):
-    """Names of up to 255 octets, and paths of up to 4095."""
+    """Names of up to 255 octets and paths of up to 4095 octets are opened."""
     for octets in LENGTHS:
         part.write(name_of(octets), OBJECT)
         part.write(name_of(octets, "n"), NAMES)
@@ -66,7 +66,7 @@ def names_of_files(part):
 
 
 def characters_in_names(part):
-    """Names with each character that a name may have: all of ASCII in one name and each by itself, and some others."""
+    """Names may have any character but NUL and slash: all of ASCII in one name and each by itself, and some others."""
     ascii_characters = [chr(number) for number in range(1, 128) if chr(number) != "/"]
     names = ["".join(ascii_characters), WIDE, "a:b", "C:\\a", "%s", "a\n", " ", "...", "\U0001f600", "\U0001f600:" * 50]
     names += [character for character in ascii_characters if character not in ".-"]
@@ -83,7 +83,7 @@ def characters_in_names(part):
 
 
 def names_of_no_file(part):
-    """Names as long that no file has, and names that are too long for the system."""
+    """Long names that no file has, and names that are too long for the system, do not open."""
     good = name_of(200, "n")
     missing = [name_of(200, "m"), name_of(LONGEST_NAME, "m"), "m" * 256, "m" * 300, "m" * 1000]
     missing += [path_of(name_of(200), LONGEST_PATH + 1), "m" * 4096, "m" * 70_000]
@@ -98,7 +98,7 @@ def names_of_no_file(part):
 
 
 def values(part):
-    """Long values of options are out of range, whatever number they are."""
+    """Long values of options are out of range, whatever their number is."""
     longest = LONGEST_WORD - len("--inside=")
     for octets in (14, 64, 100, 128, 200, 254, 255, 256, 257, 300, 5000, *LONG_WORDS[:-1], longest):
         for words, name in [
@@ -117,7 +117,7 @@ def values(part):
 
 
 def is_refused(part, what, words, said):
-    """The parser refuses the words, and names the word that it stops at."""
+    """Checks that the parser refuses the words, and names the word at which it stops."""
     got = part.run(words, OBJECT)
     said_so = got.err.startswith(f"error: {said}\n".encode()) and got.err.endswith(b"'--help'.\n")
     part.expect(what, (got.status, got.out) == (4, b"") and said_so, *got.lines())
@@ -128,7 +128,7 @@ def unexpected_text(word):
 
 
 def check_long_words(part):
-    """Long words that the parser refuses: each is reported whole."""
+    """If the parser refuses a long word, it reports it in full."""
     for octets in (200, 256, 300, 5000, 5001, 20_000, 59_999, 100_003):
         word, size = "x" * octets, f"{octets} octets"
         is_refused(part, f"a command of {size}", [word], f"unrecognized subcommand '{word}'")
@@ -142,7 +142,7 @@ def check_long_words(part):
 
 
 def check_many_words(part):
-    """Lines of many words."""
+    """Command lines of many words."""
     again = "the argument '--pure' cannot be used multiple times"
     for count in (20, 255, 256, 257, 2000, 20_000, 25_000, 100_000):
         is_refused(part, f"{count} words", ["dump", "a"] + ["b"] * (count - 2), unexpected_text("b"))
@@ -170,7 +170,7 @@ def longest_lines(part):
     extract[4] = rising
     far = Done(1, b"", b"E4 no element at offset 6\n")
     part.same("an extract with a longest list", part.run(extract), far)
-    # The program's own name is a word as well.
+    # The name of the program is a word, too.
     for octets in (256, 5000):
         got = part.run(["dump"], OBJECT, called="p" * octets)
         part.same(f"a program's name of {octets} octets", got, Done(0, PLAIN, b""))

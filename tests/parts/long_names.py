@@ -1,24 +1,28 @@
-"""Names files with long object identifiers, long names and many entries, and those that come in small pieces: all are
-taken. There is memory for the largest, so none of them is N6."""
+"""Tests names files with long object identifiers, long names and many entries, and names files that come in small
+pieces.
+
+All are accepted. There is memory for the largest, so none gives N6.
+"""
 import fcntl
 import os
 import random
 import threading
 
 FILE_LIMIT, ENTRY_LIMIT, LINE_LIMIT = 1_048_576, 65_536, 400
-# The object identifier of a certificate template: 69 octets as a text. Its encoding is that of `openssl asn1parse`.
+# The object identifier of a certificate template: 69 octets as text. `openssl asn1parse` gives its encoding.
 TEMPLATE = "1.3.6.1.4.1.311.21.8.15041462.15123212.9520540.10244456.12914242.71.1"
 TEMPLATE_OCTETS = bytes.fromhex("061f2b060104018237150887968736879b860c84c58b1c84f1a26886949c424701")
 US = (b"1.2.840 us\n", b"\x06\x03\x2a\x86\x48", "1.2.840 (us)")
-# The lengths of the texts that are shown here. A longer text is that of more than 64 octets, which have rows.
+# The shortest and the longest text in these inputs. The encoding of a longer text has more than 64 octets, so it is
+# shown in rows, without a name.
 SHORTEST_TEXT, LONGEST_TEXT = 5, 256
 
 
 def arcs_of(octets):
-    """Returns the arcs of an object identifier whose text has so many octets; each subidentifier is below 128."""
+    """Returns the arcs of an object identifier whose text has `octets` octets. Each subidentifier is below 128."""
     arcs, left = ([1, 3], octets - 3) if octets < LONGEST_TEXT else ([2, 47], octets - 4)
     while left:
-        # An arc with the dot before it has two to four octets.
+        # An arc and the dot before it take two to four octets.
         width = next(width for width in (4, 3, 2) if left >= width and left - width != 1)
         arcs.append({4: 127, 3: 50, 2: 7}[width])
         left -= width
@@ -36,19 +40,21 @@ def encoding_of(arcs):
 
 
 def long_text(octets, number):
-    """Returns a text of so many octets whose last arc is this number: too long to be shown, if it has more than 256."""
+    """Returns a text of `octets` octets whose last arc is this number.
+    With more than 256 octets it is too long to be shown.
+    """
     end = f".{100_000 + number}"
     return "2." + "9" * (octets - 2 - len(end)) + end
 
 
 class Names:
-    """A names file, and encodings with what their lines have for it."""
+    """A names file, and an input with the expected lines."""
 
     def __init__(self):
         self.lines, self.given, self.wanted = [], b"", []
 
     def add(self, text, name, encoding=None):
-        """Adds an entry; its object identifier is in the input if it has an encoding."""
+        """Adds an entry. If an encoding is given, its object identifier is in the input."""
         self.lines.append(f"{text} {name}\n".encode())
         if encoding:
             self.wanted.append(f"{len(self.given):8} {encoding[1]:6}: OBJECT IDENTIFIER {text} ({name})\n")
@@ -64,7 +70,7 @@ class Names:
 
 
 def takes(part, what, names):
-    """The names file is taken, and its names are shown."""
+    """Checks that the names file is accepted and its names are shown."""
     octets = names.octets
     assert len(octets) <= FILE_LIMIT and max(map(len, names.lines)) <= LINE_LIMIT + 1
     part.write("names", octets)
@@ -79,7 +85,7 @@ def template():
 
 
 def all_lengths():
-    """Entries with texts of all lengths, and with names of all lengths."""
+    """Returns entries with texts of all lengths, and with names of all lengths."""
     names = Names()
     for octets in range(SHORTEST_TEXT, LONGEST_TEXT + 1):
         arcs = arcs_of(octets)
@@ -95,7 +101,7 @@ def all_lengths():
 
 
 def many_long_lines():
-    """As many lines of 400 octets as a file may have, each with a long text, or a long name, or both."""
+    """Returns as many lines of 400 octets as a file may have, each with a long text, a long name, or both."""
     names = Names()
     for number in range(FILE_LIMIT // (LINE_LIMIT + 1)):
         octets = (LINE_LIMIT - 2, 20, 66, 200, 255)[number % 5]
@@ -107,7 +113,7 @@ def many_long_lines():
 
 
 def full_table():
-    """As many entries as a table may have; one in 128 has a long name or a long text, the last one too."""
+    """Returns as many entries as a table may have. One in 128, and the last, has a long name or a long text."""
     names = Names()
     for number in range(ENTRY_LIMIT - 1):
         if number % 128 < 127:
@@ -122,7 +128,7 @@ def full_table():
 
 
 def in_packets(octets, sizes):
-    """Returns the octets in pieces of these sizes, over and over."""
+    """Returns the octets in pieces of these sizes, which are repeated."""
     place, number = 0, 0
     while place < len(octets):
         size = sizes[number % len(sizes)]
@@ -131,7 +137,7 @@ def in_packets(octets, sizes):
 
 
 def feed(writing, octets, sizes):
-    """Writes the octets so that each read gives one of the pieces, until all are read or the reader has gone."""
+    """Writes the octets so that each read gives one of the pieces, until all are read or the reader has ended."""
     fcntl.fcntl(writing, fcntl.F_SETFL, os.O_DIRECT)
     try:
         for piece in in_packets(octets, sizes):
@@ -156,7 +162,7 @@ def run_with_fifo(part, octets, sizes, given):
 
 
 def run_with_pipe(part, octets, sizes, given):
-    """Runs `dump` with a names file that is a pipe, as in `--names <(..)` of bash."""
+    """Runs `dump` with a names file that is a pipe, as with `--names <(..)` in bash."""
     reading, writing = os.pipe()
     feeder = threading.Thread(target=feed, args=(writing, octets, sizes))
     feeder.start()
@@ -167,13 +173,13 @@ def run_with_pipe(part, octets, sizes, given):
 
 
 def takes_pieces(part, what, names, sizes, run=run_with_fifo):
-    """The names file is taken in whatever pieces it comes."""
+    """Checks that the names file is accepted, whatever the pieces."""
     got = run(part, names.octets, sizes, names.given)
     part.expect(what, (got.status, got.out, got.err) == (0, names.out, b""), *got.lines())
 
 
 def refuses_pieces(part):
-    """What is refused in one piece is refused in single octets."""
+    """A names file that is refused in one piece is also refused in single octets."""
     long_line, comment = b"#" * (LINE_LIMIT + 1) + b"\n", b"#" * LINE_LIMIT + b"\n"
     full = comment * (FILE_LIMIT // len(comment))
     full += b"#" * (FILE_LIMIT - len(full))

@@ -1,4 +1,4 @@
-"""man/tlvdump.1: it renders without a warning, names what the program has, and its recipes work word for word."""
+"""Tests man/tlvdump.1: it renders without warnings, names what the program has, and its recipes work as written."""
 import base64
 import os
 import re
@@ -11,9 +11,9 @@ from parts.show_made import command, element
 from second_opinion.opened import Strings
 
 NULL = b"\x05\x00"
-# What the manual has for other programs: inputs that tests/make-data makes, and the offset of an element in each.
+# The inputs of the commands of other programs: files that tests/make-data makes, and the offset of an element in each.
 DATA = {"certificate.der": 4, "signed.ber": 20, "keys.p12": 4, "revoked.der": 4, "snmp.ber": 13, "ldap.ber": 7, "tap.ber": 58}
-# The codes of docs/USE.md and docs/FINDINGS.md, as the program writes them.
+# The codes in docs/USE.md and docs/FINDINGS.md, as the program writes them.
 MESSAGES = [f"F{number:02}" for number in range(1, 13)] + [f"E{number}" for number in (1, 2, 3, 4, 5, 7, 8)]
 MESSAGES += [f"B{number:02}" for number in range(1, 20)] + [f"S{number:02}" for number in range(1, 5)]
 MESSAGES += ["D01", "D02"] + [f"C{number:02}" for number in range(1, 7)]
@@ -21,19 +21,19 @@ MESSAGES += [f"N{number}" for number in range(1, 7)] + [f"{letter}{number}" for 
 
 
 def check_rendering(part, page):
-    """The tools that know mdoc have nothing to say."""
+    """The tools that know mdoc report nothing."""
     tools = [["mandoc", "-T", "lint", "-W", "warning"], ["groff", "-ww", "-mdoc", "-Tascii", "-z"]]
     for tool in tools:
         if not part.has(tool[0]):
             continue
         got = subprocess.run([*tool, page], capture_output=True, text=True)
-        # mandoc also reports which pages the machine lacks; that is no fault of this one.
+        # mandoc also reports pages that the machine lacks. That is no fault of this page.
         reported = [line for line in (got.stdout + got.stderr).splitlines() if "mandoc.db" not in line]
         part.expect(" ".join(tool), got.returncode == 0 and not reported, *reported)
 
 
 def complete(part, text):
-    """Each command, option, status and code is in it; and no option that the program does not have."""
+    """The manual has each command, option, status and code, and no option that the program lacks."""
     options = words_of(part)
     for name in options:
         part.expect(f"the command {name}", f".Cm {name}" in text and f".Ss {name}\n" in text)
@@ -63,7 +63,7 @@ def recipes_of(text):
 
 
 def indefinite(octets):
-    """These elements with the indefinite form of each constructed length."""
+    """Returns these elements with all constructed lengths in the indefinite form."""
     made, place = b"", 0
     while place < len(octets):
         tag, length, start = octets[place], octets[place + 1], place + 2
@@ -82,7 +82,7 @@ def read(part, name):
 
 
 def make_files(part):
-    """The files that the recipes are about."""
+    """Writes the files that the recipes use."""
     command(part, "openssl req -x509 -newkey rsa:2048 -nodes -keyout key.pem -out cert.pem -days 9 -subj /C=DE/CN=x"
                   " -addext keyUsage=critical,digitalSignature -addext subjectAltName=DNS:x.example")
     command(part, "openssl x509 -in cert.pem -outform DER -out cert.der")
@@ -110,7 +110,7 @@ def shown_of(part, octets, *words):
     return part.run(list(words), octets, program=part.path(f"there/{SHOW}")).out
 
 
-# What --why says first of the file in which a length is damaged.
+# The first lines of --why for the file with a damaged length.
 WHY = """\
 It does not parse: fault at 10: F11 element runs past the enclosing length.
 The octet at offset 10 completes the header of the INTEGER at offset 9. The header at offset 9, 02 02, says that its contents are 2 octets.
@@ -120,7 +120,7 @@ The header at offset 7, 30 03, says that its contents are 3 octets.
 
 
 class Server:
-    """A server with the certificate of the recipes, which says on which port it listens."""
+    """A server with the certificate of the recipes. It reports the port on which it listens."""
 
     def __init__(self, part):
         line = "openssl s_server -accept 127.0.0.1:0 -cert cert.pem -key key.pem"
@@ -139,7 +139,9 @@ class Server:
 
 
 def wanted_of(part, record):
-    """What each recipe comes to, in their order: its status, its output, of --why how that begins, and what a file then holds."""
+    """Returns the expected results of the recipes, in their order: the status, the output (of --why its beginning), and
+    the file that is written.
+    """
     cert, p12 = read(part, "cert.der"), read(part, "file.p12")
     data = p12[30 : 30 + int.from_bytes(p12[28:30], "big")]
     inside = ",".join(map(str, Strings(cert).opened))
@@ -214,7 +216,7 @@ def replace_names(line, **values):
 
 
 def replacements(part, text):
-    """The commands that take the place of other programs' options, with F, N, M, out and hex put in."""
+    """Returns the commands that replace options of other programs, with the values of F, N, M, out and hex."""
     section = text.split("\n.Ss Options of other programs\n")[1].split("\n.Sh ")[0]
     commands = [line[4:].removesuffix(" ,").replace("\\e", "\\") for line in section.splitlines() if line.startswith(".Li ")]
     commands = [line for line in commands if line.startswith(("tlvdump", "tail", "head", "echo", "xxd"))]
@@ -225,7 +227,7 @@ def replacements(part, text):
     part.write("text", element(4, b"abc"))
     part.write("nested", element(0x30, element(0x30, NULL)))
     null = b"       0      0: NULL\n"
-    # What those write that do not show a NULL: the file, N and M, and the output.
+    # The expected output of those that do not show a NULL: the file, N and M, and the output.
     special = {
         "tlvdump-show --no-text F": ("octets", "0", "1", dump_of(part, element(4, NULL), "--inside", "0")),
         "tlvdump-show --closed F": ("text", "0", "1", b"       0      3: OCTET STRING 61 62 63  |abc|\n"),
@@ -250,7 +252,7 @@ def replacements(part, text):
 
 
 def by_task(part, octets, offset):
-    """What the command here gives for each task, in their order, from the program itself."""
+    """Returns the output of the command of this program for each task, in the order of the tasks."""
     shown, short = shown_of(part, octets), dump_of(part, octets, "--limit", "0")
     cut = part.run(["extract", "--offset", str(offset)], octets).out
     outline = b"".join(line for line in short.splitlines(True) if line.endswith((b"{\n", b"}\n")))
@@ -262,7 +264,7 @@ def by_task(part, octets, offset):
 
 
 def made(part):
-    """tests/make-data makes the files of tests/data: what openssl has no part in octet by octet."""
+    """tests/make-data makes the files of tests/data. Those made without openssl are the same octet by octet."""
     if not part.has("openssl"):
         return
     folder, kept = part.path("made"), os.path.join(part.root, "tests", "data")
@@ -279,7 +281,9 @@ def made(part):
 
 
 def coming(part, text):
-    """For each task the commands of other programs, if they are installed, and the one here, on each kind of input."""
+    """Runs for each task the commands of other programs that are
+    installed, and the one of this program, on each kind of input.
+    """
     section = re.split(r"\n\.S[hs] ", text.split("\n.Ss Coming from dumpasn1, openssl asn1parse, unber\n")[1])[0]
     blocks = [block.splitlines() for block in re.findall(r"^\.Bd -literal.*?\n(.*?)^\.Ed", section, re.M | re.S)]
     there = [tool for tool in ("openssl", "dumpasn1", "unber") if part.has(tool)]
@@ -297,10 +301,10 @@ def coming(part, text):
                 if tool != "tlvdump" and tool not in there:
                     continue
                 got = in_shell(part, script)
-                # dumpasn1 counts what it finds, and takes a file of telephony records for base64.
+                # The status of dumpasn1 counts errors. It takes a file of telephony records for base64.
                 fine = got.returncode == 0 or tool == "dumpasn1"
                 if tool == "tlvdump":
-                    # A check that finds something, and a grep that finds nothing, end with 1.
+                    # A check with findings, and a grep that finds nothing, end with status 1.
                     fine = got.stdout == out and got.returncode == (1 if "check" in line and out else 0)
                 part.expect(f"{name}: {line}", fine, f"status {got.returncode}", str(got.stdout[:200]), str(got.stderr[:200]))
                 if line.endswith("> out"):
@@ -308,7 +312,7 @@ def coming(part, text):
 
 
 def remarks(part, text):
-    """What the manual says in passing."""
+    """Checks remarks in the manual."""
     got = part.run(["dump", "--version"])
     part.expect("dump --version is refused", got.status == 4 and b"tlvdump dump --version" in text.encode())
     part.write("many", NULL * 200_000)
@@ -320,7 +324,7 @@ def remarks(part, text):
     part.expect("a name that is not UTF-8", (got.returncode, got.stderr) == (4, b"U1 an argument is not UTF-8\n"), str(got))
     got = in_shell(part, b"tlvdump dump < caf\xe9")
     part.expect("it as standard input", (got.returncode, got.stdout) == (0, b"       0      0: NULL\n"), str(got))
-    # What indef does not make alike, dump --pure shows alike.
+    # Two inputs that indef writes differently, though dump --pure shows them alike.
     padded, plain = element(0x30, b"\x04\x81\x01\x07"), element(0x30, b"\x04\x01\x07")
     unlike = part.run(["indef"], padded).out != part.run(["indef"], plain).out
     part.expect("padded lengths of primitives", unlike and dump_of(part, padded, "--pure") == dump_of(part, plain, "--pure"))

@@ -1,8 +1,8 @@
-"""Want of memory: with less and less of it the program reports U3 or N6, and does nothing else.
+"""Runs the program with less and less memory: it reports U3 or N6, and does nothing else.
 
-If there is too little even to load the program, it reports nothing, and that is no fault of its own. A copy
-of the program shows with how much that is: its first instructions, to which the loader hands over, end it
-with a status of their own. If the copy ends so, the program has been loaded as well, and must report.
+If there is too little memory even to load the program, it reports nothing, which is no fault of the program. A copy of
+the program shows how much that is: its first instructions, which the loader starts, end it with a status of their own.
+If the copy ends so, the program has been loaded as well, and must report.
 """
 import os
 import resource
@@ -17,7 +17,7 @@ LOADED = 42
 # exit_group(42) of Linux on x86-64: mov edi, 42; mov eax, 231; syscall.
 ENDS = b"\xbf\x2a\x00\x00\x00\xb8\xe7\x00\x00\x00\x0f\x05"
 X86_64, LOAD = 62, 1
-# In kilobytes: small steps while the words take memory, wider ones while the names do.
+# Sizes in kilobytes: small steps where the words take memory, wider steps where the names do.
 STEPS = [*range(0, 512, 8), *range(512, 16384, 48)]
 
 
@@ -32,7 +32,7 @@ def place_of(octets, address):
 
 
 def ended_at_once(part):
-    """Writes the copy of the program, and returns its path."""
+    """Writes the copy of the program. Returns its path."""
     with open(part.program, "rb") as file:
         octets = bytearray(file.read())
     _, machine, _, entry = struct.unpack_from("<HHIQ", octets, 16)
@@ -45,7 +45,7 @@ def ended_at_once(part):
 
 
 def run_with(part, octets, program=None):
-    """Runs the program, or the one at this path, with so many octets of data, and returns what it did."""
+    """Runs the program, or the one at this path, with a limit of `octets` octets of data. Returns the result."""
 
     def limit():
         resource.setrlimit(resource.RLIMIT_DATA, (octets, octets))

@@ -1,15 +1,15 @@
-"""Each request for memory refused in turn: the program reports U3 or N6 and does nothing else.
+"""Refuses each request for memory of tlvdump in turn: the program reports U3 or N6 and does nothing else.
 
-tests/parts/refuse.c is loaded before the C library. It numbers the requests that the program makes,
-refuses some, and reports after how many of them each file is opened. So the tests know which requests are
-those of the words, and which are those of the names file: the words come first, then the names file is
-read, then FILE is opened, and a run takes no memory.
+tests/parts/refuse.c is loaded before the C library. It numbers the requests that the program makes, refuses some, and
+reports how many came before each file was opened. So the tests know which requests are those of the words and which are
+those of the names file: the words come first, then the names
+file is read, then FILE is opened, and a run allocates nothing.
 """
 import os
 
 from parts.harness import Done, message
 
-# An OCTET STRING with an INTEGER, an empty one at offset 5, and an OBJECT IDENTIFIER at offset 7.
+# An OCTET STRING with an INTEGER, an empty OCTET STRING at offset 5, and an OBJECT IDENTIFIER at offset 7.
 OCTETS = bytes.fromhex("0403020105 0400 0603550403")
 LINES = (
     b"       0      3: OCTET STRING 02 01 05\n"
@@ -30,7 +30,7 @@ NO_NAMES = Done(5, b"", b"N6 out of memory\n")
 LAST = 1_000_000_000
 OPEN, UNREAD, VALUE = "E5 cannot open the file", "N5 names file not read", "U2 value out of range: --limit"
 
-# Lines that `clap` takes, what comes of them if no request is refused, and the files that are opened.
+# Command lines that `clap` accepts, with the results if no request is refused, and the files that are opened.
 TAKEN = [
     ("dump --limit 4294967295", 0, PLAIN, "", ""),
     ("dump --rules der", 0, PLAIN, "", ""),
@@ -41,29 +41,29 @@ TAKEN = [
     ("dump --inside 0,5 --padding --names names a.der", 0, INSIDE, "", "names a.der"),
     ("dump --names many", 0, NAMED, "", "many"),
     ("dump --rules=der --limit 9 --inside 0,5 --padding --names names a.der", 0, INSIDE, "", "names a.der"),
-    # If a file is missing too, or a value is out of range, whatever comes first is reported.
+    # If a file is also missing, or a value out of range, the first fault is reported.
     ("dump --names names missing", 3, b"", OPEN, "names missing"),
     ("dump --names missing missing", 4, b"", UNREAD, "missing"),
     ("dump --names wrong missing", 4, b"", "N1 line 2: not an object identifier", "wrong"),
     ("indef missing", 3, b"", OPEN, "missing"),
     ("dump --limit x --names missing missing", 4, b"", VALUE, ""),
 ]
-# Lines of words after which `clap` prints: help, or what it says on standard error.
+# Command lines after which `clap` prints help, or a message on standard error.
 PRINTED = ["--help", "extract --help", "--version", "", "dump a b", "dump --limit", "extract a.der"]
 PRINTED += ["dump --pure --pure", "indef --padding=1"]
-# Lines for which it looks for words that are alike. If one request alone is refused there, it may say what it
-# says otherwise.
+# Command lines for which `clap` looks for similar words.
+# If only one request is refused there, it may print a message without them.
 ALIKE = ["dump --lim 1", "nonsense", "extrac --offset 0", "check --limit 1"]
 
 
 class Program:
-    """The program with refuse.c in front of the C library."""
+    """Runs the program with refuse.c loaded before the C library."""
 
     def __init__(self, part, refusing):
         self.part, self.refusing, self.log, self.runs = part, refusing, part.path("log"), 0
 
     def run(self, words, first=0, last=0):
-        """Runs it with requests `first` to `last` refused. Returns what it did, and what was reported."""
+        """Runs it, with the requests `first` to `last` refused. Returns the result, and the report of refuse.c."""
         env = dict(os.environ, LD_PRELOAD=self.refusing, REFUSE_LOG=self.log)
         env |= {"REFUSE_FIRST": str(first), "REFUSE_LAST": str(last)}
         if os.path.exists(self.log):
@@ -74,7 +74,9 @@ class Program:
 
 
 class Requests:
-    """What refuse.c reported: the files that were opened, with the requests before each, and all requests."""
+    """The report of refuse.c: the files that were opened with the
+    number of requests before each, and the number of all requests.
+    """
 
     def __init__(self, path):
         self.opened, self.requests, self.refused = [], None, None
@@ -94,18 +96,20 @@ class Requests:
 
 
 class Line:
-    """A line of words: what comes of it if no request is refused, and which requests are whose."""
+    """A command line: its result if no request is refused, and
+    which requests belong to the words and to the names file.
+    """
 
     def __init__(self, program, text, may_pass=False):
         self.program, self.text, self.may_pass = program, text or "no words", may_pass
         self.words = text.split()
         self.own, log = program.run(self.words)
         self.files, self.requests = log.files(), log.requests or 0
-        # Those of the words end when the first file is opened.
+        # The requests of the words end where the first file is opened.
         self.of_words = log.opened[0][1] if log.opened else self.requests
 
     def expected_results(self, number, is_alone):
-        """Returns what may come of it if this request is refused, and the files that are opened then."""
+        """Returns the allowed results if this request is refused, and the files that are opened then."""
         if number > self.requests:
             return [self.own], self.files
         if number > self.of_words:
@@ -115,7 +119,7 @@ class Line:
     def refuse(self, number, is_alone):
         """Refuses this request, alone or with all after it.
 
-        Returns whether one was refused, and what came of it if that may not be.
+        Returns how many were refused, and lines about the result if it is not allowed.
         """
         got, log = self.program.run(self.words, number, number if is_alone else LAST)
         wanted, files = self.expected_results(number, is_alone)
@@ -126,7 +130,7 @@ class Line:
         return log.refused, lines
 
     def refuse_each(self):
-        """Refuses each request in turn, until a run passes in which none was refused."""
+        """Refuses each request in turn, until a run makes no request that is refused."""
         for is_alone in (True, False):
             refused, number, wrong = 1, 0, []
             while refused:

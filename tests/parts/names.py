@@ -1,4 +1,4 @@
-"""Names files: what is read, and each refusal."""
+"""Tests names files: what is accepted, and each refusal."""
 import os
 
 OBJECT = b"\x06\x03\x2a\x86\x48"
@@ -11,7 +11,7 @@ def line_for(name):
     return f"       0      3: OBJECT IDENTIFIER 1.2.840{shown}\n".encode()
 
 
-# What is taken, and the name that 1.2.840 has then.
+# Names files that are accepted, and the name that 1.2.840 then has.
 TAKEN = [
     (b"", None),
     (b"\n\n", None),
@@ -80,13 +80,13 @@ def lines(part):
         refuses(part, f"{line}", b"1.2.840 us\n" + line, "N2 line 2: no usable name")
     for line in (b"2.5.4.3 cn", b"2.5.4.3 commonName", b"\t2.5.4.3\tcn\r"):
         refuses(part, f"{line}", b"# x\n2.5.4.3 commonName\n" + line + b"\n", "N3 line 3: repeated")
-    # The first refused line is reported, and a line without a name takes precedence over a repeated one.
+    # The first refused line is reported. A line without a name takes precedence over a repeated one.
     refuses(part, "two lines", b"2.5.4.3\n1.40 x\n", "N2 line 1: no usable name")
     refuses(part, "a repeat without a name", b"2.5.4.3 a\n2.5.4.3\n", "N2 line 2: no usable name")
 
 
 def entries(count):
-    """So many entries, in a small file."""
+    """Returns a names file of `count` short entries."""
     return b"".join(b"1.2.%d n\n" % number for number in range(count))
 
 
@@ -111,7 +111,7 @@ def limits(part):
 
 
 def unread(part):
-    """Names files that cannot be read, and which refusal takes precedence over which."""
+    """Names files that cannot be read, and which refusal takes precedence."""
     said = "N5 names file not read"
     os.mkdir(part.path("folder"))
     part.write("input", OBJECT)
@@ -123,20 +123,20 @@ def unread(part):
     part.gives(["dump", "--names", "names", "missing"], b"", 3, err="E5 cannot open the file")
     part.gives(["dump", "--names", "names", "input"], b"", 0, line_for("us"))
     part.gives(["dump", "--names=names", "input"], b"", 0, line_for("us"))
-    # A names file can have the name `-`, which is never standard input.
+    # A names file may be called `-`. It is never standard input.
     part.write("-", b"1.2.840 a dash\n")
     part.gives(["dump", "--names", "-"], OBJECT, 0, line_for("a dash"))
     part.gives(["dump", "--names=-", "input"], b"1.2.840 standard input\n", 0, line_for("a dash"))
     os.remove(part.path("-"))
     for words in (["dump", "--names", "-"], ["dump", "--names=-", "input"]):
         part.gives(words, OBJECT, 4, err=said)
-    # The names may come by a pipe, if FILE is named.
+    # The names may come through a pipe if FILE is named.
     by_pipe = ["dump", "--names", "/dev/stdin", "input"]
     part.gives(by_pipe, b"1.2.840 by a pipe\n", 0, line_for("by a pipe"))
     part.gives(by_pipe, b"1.40 x\n", 4, err="N1 line 1: not an object identifier")
 
 
-# Names files that are refused, and what is said of them.
+# Names files that are refused, with the messages.
 WRONG = {
     "no-identifier": (b"1.40 x\n", "N1 line 1: not an object identifier"),
     "no-name": (b"1.2.840 us\n2.5.4.3\n", "N2 line 2: no usable name"),
@@ -146,7 +146,7 @@ WRONG = {
     "missing": (None, "N5 names file not read"),
     "": (None, "N5 names file not read"),
 }
-# What is wrong with FILE: it does not open, it gives nothing, it has a fault.
+# FILEs that do not open, are empty, or have a fault.
 FILES = ("also-missing", "folder", "", "input/below", "fault")
 
 
@@ -161,7 +161,7 @@ def words_first(part, names, file):
 
 
 def order(part):
-    """The words are judged first, then the names file is read, then FILE is opened."""
+    """The words are checked first, then the names file is read, then FILE is opened."""
     part.write("fault", b"\x04\xff")
     for names, (octets, said) in WRONG.items():
         if octets:
@@ -172,14 +172,14 @@ def order(part):
     for names in WRONG:
         for file in ("also-missing", "folder", "fault"):
             words_first(part, names, file)
-    # Whoever opens a pipe that nobody writes to waits.
+    # To open a pipe without a writer blocks. So these runs would not end if the program opened it.
     os.mkfifo(part.path("pipe"))
     words_first(part, "pipe", "pipe")
     part.gives(["dump", "--names", "no-name", "pipe"], b"", 4, err="N2 line 2: no usable name")
     part.write("names", b"1.2.840 us\n")
     part.gives(["dump", "--names", "names", "folder"], OBJECT, 3, err="E1 read failed")
     part.gives(["dump", "--names", "names", "fault"], OBJECT, 2, err="fault at 1: F07 length octet ff is reserved")
-    # If both are the same pipe, the names file takes all that comes.
+    # If both are the same pipe, the names file takes all octets.
     empty = "fault at 0: F01 empty input"
     part.gives(["dump", "--names", "/dev/stdin"], b"1.2.840 us\n", 2, err=empty)
     twice = ["dump", "--names", "/dev/stdin", "/dev/stdin"]

@@ -1,4 +1,4 @@
-"""package: what the Debian package holds, that it installs and goes away cleanly, and what lintian says of it."""
+"""Tests ./package: the contents of the Debian package, its installation and removal, and the report of lintian."""
 import gzip
 import hashlib
 import math
@@ -18,13 +18,13 @@ DOCUMENTS = ["usr/share/doc/tlvdump/changelog.gz", "usr/share/doc/tlvdump/copyri
 
 
 def environment(part, program=None, **more):
-    """Temporary files go to a folder of their own."""
+    """Returns an environment in which temporary files go to a folder of their own."""
     more = {"TLVDUMP_SHOW": part.suite.show_program, **more}
     return dict(os.environ, TLVDUMP=program or part.program, TMPDIR=part.path("work"), **more)
 
 
 def package(part, *words, program=None, **more):
-    """Runs the script with the program of the tests, or another, and returns its status, its output and its errors."""
+    """Runs the script with the program of the tests, or with another. Returns its status, its output and its errors."""
     how = {"cwd": part.folder, "env": environment(part, program, **more), "timeout": 120}
     got = subprocess.run([os.path.join(part.root, "package"), *words], capture_output=True, text=True, **how)
     left = os.listdir(part.path("work"))
@@ -37,19 +37,21 @@ def said_by(*words):
 
 
 def place_of(path):
-    """The place in the package of what ./install puts there below its PREFIX."""
+    """Returns the path in the package of a file that ./install puts at this path below its PREFIX."""
     path = path.replace("zsh/site-functions", "zsh/vendor-completions")
     return f"usr/{path}" + ".gz" * path.startswith("share/man/")
 
 
 def with_paths(page):
-    """The manual page with the paths of the package, and without the sentence on PREFIX."""
+    """Returns the manual page with the paths of the package, and without the sentence on PREFIX."""
     page = re.sub(rb"\.Pa PREFIX\n.*?\.Pa /usr/local \.\n", b"", page, flags=re.S)
     return page.replace(b"PREFIX/", b"/usr/")
 
 
 def holds(part, made):
-    """The files of ./install, the manual compressed and with the paths of the package; modes, owners and sums."""
+    """The package has the files of ./install, with the manual compressed and with the paths of the package. Modes,
+    owners and checksums are right.
+    """
     said_by("dpkg-deb", "-R", made, part.path("tree"))
     install(part, part.path("there"))
     put = files_below(part.path("there"))
@@ -81,14 +83,14 @@ def control(part, made, version):
     wanted = {"Package": "tlvdump", "Version": version, "Architecture": "amd64"}
     part.expect("fields of the package", {key: fields[key] for key in wanted} == wanted, str(fields))
     depends(part, fields["Depends"], *(part.path(f"tree/usr/{place}") for place in (PROGRAM, SHOW)))
-    # As dpkg-gencontrol has it: kilobytes of each file, rounded up, and one for each folder.
+    # The installed size as dpkg-gencontrol computes it: kilobytes of each file, rounded up, and one for each folder.
     tree = [part.path(f"tree/{path}") for path in all_below(part.path("tree")) if path.split("/")[0] == "usr"]
     size = sum(1 if os.path.isdir(path) else math.ceil(os.path.getsize(path) / 1024) for path in tree)
     part.expect("Installed-Size", fields["Installed-Size"] == str(size), fields["Installed-Size"], str(size))
 
 
 def depends(part, field, *programs):
-    """The field names the highest version of the C library of which a program has a symbol."""
+    """Depends names the highest version of the C library from which a program has a symbol."""
     found = re.findall(r"\bGLIBC_([0-9.]+)\b", said_by("objdump", "-T", *programs))
     highest = max(found, key=lambda version: [int(number) for number in version.split(".")])
     fine = len(set(found)) > 1 and field == f"libc6 (>= {highest})"
@@ -96,7 +98,7 @@ def depends(part, field, *programs):
     return highest
 
 
-# A program that has symbols of versions whose order as texts is another one, as 2.34 and 2.4 are.
+# A program with symbols of versions that sort differently as texts, such as 2.34 and 2.4.
 OTHER_PROGRAM = r"""
 #include <stdio.h>
 int main(int count, char **words) {
@@ -123,7 +125,7 @@ def depends_of_another(part, version):
 
 
 def check_links(part, name):
-    """A link in the way is not followed; a folder in the way is a failure; nothing is left of either."""
+    """A link at the place of the output is replaced, not followed. A folder there is a failure. Nothing else is left."""
     os.mkdir(part.path("linked"))
     victim = part.write("victim", b"not to be written")
     for ending in ("", ".new", ".tmp", "~"):
@@ -144,7 +146,7 @@ def check_links(part, name):
 
 
 def without_tool(part):
-    """A machine without one of the tools: a PATH that has all others."""
+    """If a tool is missing, the script names it and makes nothing. The PATH has all other tools."""
     for name in ("dpkg-deb", "gzip", "readelf", "strip"):
         folder = part.path(f"without-{name}")
         os.mkdir(folder)
@@ -159,7 +161,9 @@ def without_tool(part):
 
 
 def check_signals(part):
-    """A signal while it works leaves nothing. The program takes its time to say its version."""
+    """A signal while the script works leaves nothing.
+    The program is slow to print its version, so that the signal comes in time.
+    """
     slow = part.write("slow", b'#!/bin/sh\n: >"$SLOW"\nexec sleep 1\n')
     os.chmod(slow, 0o755)
     os.mkdir(part.path("stopped"))
@@ -181,7 +185,7 @@ def check_signals(part):
 
 
 def works(part):
-    """The programs of the package, from which strip took the symbols, do what those of the tests do."""
+    """The programs of the package, which are stripped, do the same as those of the tests."""
     path = part.path(f"tree/usr/{PROGRAM}")
     for words, octets in ((["--help"], b""), (["dump"], b"\x30\x05\x02\x01\x05\x05\x00"), (["check"], b"\x30\x80\x00\x00"), (["dump"], b"\x30\x03\x02")):
         part.same(f"the package: {' '.join(words)}", part.run(words, octets, program=path), part.run(words, octets))
@@ -192,7 +196,7 @@ def works(part):
 
 
 def installs(part, made):
-    """dpkg puts it in a system of its own that has libc6 alone, and takes all of it away."""
+    """dpkg installs the package in a system of its own that has only libc6, and removes all of it."""
     if os.geteuid():
         part.note("not root: the package is not installed")
         return

@@ -1,21 +1,22 @@
-"""What pages name is there: the pages and sections that they link to, files by their names or their paths, and in docs/READING.md
-the files of definitions of each crate."""
+"""Checks that what the pages name exists: the pages and sections that they link to, files by their names or paths, and
+in docs/READING.md the files of definitions of each crate.
+"""
 import glob
 import os
 import re
 
 PAGES = ("README.md", "CONTRIBUTING.md", "bench/README.md", "docs/*.md")
-# A file that a page names as an example, or that is made.
+# Names that stand for any file, or for files that are built.
 MADE = {"MODULE", "FUNCTION", "NAME", "out"}
 
 
 def without_blocks(text):
-    """Returns a page without its indented and fenced blocks of code."""
+    """Returns a page without its blocks of code, indented or fenced."""
     return re.sub(r"^```.*?^```", "", text, flags=re.M | re.S)
 
 
 def anchors(text):
-    """Returns the anchors of a page's headings, as they are made of them."""
+    """Returns the anchors that are made from the headings of a page."""
     heads = re.findall(r"^#+ (.*)", without_blocks(text), re.M)
     return {re.sub(r"[^\w -]", "", head.lower()).strip().replace(" ", "-") for head in heads}
 
@@ -33,14 +34,14 @@ def broken_links(root, page, text, texts):
 
 
 def missing_files(text, known):
-    """Yields the files of code that a page names, by a name or the end of a path, and that are not there."""
+    """Yields the source files that a page names, by name or end of path, and that do not exist."""
     for name in re.findall(r"`([\w./+-]+\.(?:antt|rt|rows|py))`", without_blocks(text)):
         if not MADE & set(name.split("/")) and not any(path == name or path.endswith("/" + name) for path in known):
             yield name
 
 
 def missing_definitions(root, text):
-    """Yields the files of definitions that docs/READING.md names of a crate and that the crate has not."""
+    """Yields the files of definitions that docs/READING.md names for a crate and that the crate lacks."""
     for row in re.findall(r"^\| .*", text, re.M):
         for crate, names in re.findall(r"`(tlv_\w+)`: ((?:`\w+`(?: \([^)]*\))?(?:, )?)+)", row):
             for name in re.findall(r"`(\w+)`", re.sub(r"\([^)]*\)", "", names)):

@@ -1,5 +1,5 @@
-"""README.md: its examples word for word, the options of its synopsis, its links, and the logic of the kit that it names; the faults of
-docs/USE.md.
+"""Tests README.md: its examples as written, the options in its synopsis, its links, and the kit that it names. Tests
+also the table of faults in docs/USE.md.
 
 The examples run one after another at the top of a copy of this repository in which the program is built.
 """
@@ -11,20 +11,21 @@ import subprocess
 from parts.completions import show_options, words_of
 from parts.install import clone
 
-# What is not run: the gate, of which this is a part; and what puts files into the system, which has tests of its own.
+# Commands that are not run: the gate, which runs this part, and
+# those that change the system, which have tests of their own.
 NOT_RUN = [".ci/run", "./install", "./install", "./package"]
 TOOLS = ("openssl", "xxd")
-# An input for each fault, F01 first, in hexadecimal; the last is read with --inside 0.
+# An input for each fault, F01 first, in hexadecimal. The last is read with --inside 0.
 FAULTS = ["", "30", "00", "3080 0001", "3002 3080 05", "1f" + "81" * 9, "04ff", "0480", "048601", "3080" * 129, "3003 020201", "030201"]
 
 
 def blocks_of(text):
-    """The language and the lines of each block of code."""
+    """Returns the language and the lines of each block of code."""
     return [(name, lines.splitlines()) for name, lines in re.findall(r"^```(\w*)\n(.*?)^```$", text, re.M | re.S)]
 
 
 def commands_of(lines):
-    """Each command of an example, the line after "$ ", with the lines that it writes."""
+    """Returns the commands of an example, each the line after "$ ", with the lines that it writes."""
     commands = []
     for line in lines:
         if line.startswith("$ "):
@@ -47,7 +48,7 @@ def examples(part, blocks):
 
 
 def not_run(part, blocks):
-    """What is in the other blocks of the shell: commands that are there."""
+    """Checks that the other shell blocks contain only commands that exist."""
     named = [line.split()[0] for name, lines in blocks if name == "sh" for line in lines]
     part.expect("commands that are not run", named == NOT_RUN, *named)
     for name in set(named):
@@ -57,7 +58,7 @@ def not_run(part, blocks):
 
 
 def synopsis(part, blocks, text):
-    """The commands and options are those of the programs' help."""
+    """The synopsis has the commands and options of the programs' help."""
     lines = [line.split() for name, block in blocks if not name for line in block if line.startswith("tlvdump")]
     wanted = {name: options - {"--help"} for name, options in words_of(part).items()}
     wanted["tlvdump-show"] = show_options(part) - {"--help", "--version"}
@@ -89,8 +90,9 @@ def faults(part):
 
 
 def kit(part, text):
-    """README names the kit that it is proved with. Kits of one logic prove by the same rules, so that of this machine may have another
-    name, which is noted, but no other logic."""
+    """README names the kit that the program is proved with. The kit of this machine may have another version, which is
+    noted, but must have the same logic: kits of one logic prove by the same rules.
+    """
     if not part.has("rt"):
         return
     got = subprocess.run(["rt", "version"], cwd=part.root, capture_output=True, text=True)
@@ -103,7 +105,7 @@ def kit(part, text):
 
 
 def logic_of(kit):
-    """The logic of a kit, by the line that names the kit."""
+    """Returns the logic of a kit, from the line that names the kit."""
     return kit.partition(" logic ")[2]
 
 

@@ -1,11 +1,12 @@
-"""Encodings as people have them: certificates of the machine, what openssl makes, and the files of tests/data."""
+"""Returns encodings as people have them: certificates of the machine, what openssl makes, and the files of tests/data.
+"""
 import base64
 import glob
 import os
 import subprocess
 
 ANCHORS = "/etc/ssl/certs"
-# What openssl makes, one after another, each in the file that comes after -out (or -reqout).
+# Commands of openssl, run in order. Each writes the file named after -out (or -reqout).
 COMMANDS = """
 openssl genrsa -traditional -out rsa.pem 2048
 openssl rsa -in rsa.pem -traditional -outform DER -out rsa.key
@@ -79,7 +80,7 @@ def octets_of(path):
 
 
 def anchors(step):
-    """Gives the certificates of the machine, each so many-th, as names and octets."""
+    """Yields the name and octets of every `step`-th certificate of the machine."""
     paths = {os.path.realpath(path) for path in glob.glob(os.path.join(ANCHORS, "*.pem"))}
     for path in sorted(paths)[::step]:
         body = octets_of(path).partition(b"-----BEGIN CERTIFICATE-----")[2].partition(b"-----END")[0]
@@ -87,7 +88,7 @@ def anchors(step):
 
 
 def made(part):
-    """Gives what openssl makes in the folder of the part, as names and octets, but what is PEM."""
+    """Yields the name and octets of each file that openssl makes in the folder of the part, except PEM."""
     for name, text in (("cnf", CONFIGURATION), ("ca", CA), ("index", "".join(map(REVOKED.format, range(9)))), ("number", "01\n")):
         part.write(name, text.encode())
     for line in COMMANDS.split("\n")[1:-1]:
@@ -101,11 +102,12 @@ def made(part):
 
 
 def kept(root):
-    """Gives the files of tests/data, and the certificate of data, as names and octets."""
+    """Yields the name and octets of the files of tests/data, and of the certificate in data."""
     for path in [*sorted(glob.glob(os.path.join(root, "tests", "data", "*"))), os.path.join(root, "data", "certificate.der")]:
         yield os.path.relpath(path, root), octets_of(path)
 
 
 def encodings(part, step):
-    """Returns all of these, as names and octets; of the certificates of the machine each so many-th."""
+    """Returns the names and octets of all these encodings. Of the certificates of the machine every `step`-th is taken.
+    """
     return [*anchors(step), *made(part), *kept(part.root)]

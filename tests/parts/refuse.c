@@ -1,14 +1,14 @@
 /*
  * Refuses requests for memory that the program makes, and counts them.
  *
- * It is loaded in front of the C library (LD_PRELOAD). A request is a call of malloc, calloc, realloc,
- * reallocarray, aligned_alloc or posix_memalign by the program itself; what the loader and the C library
- * take for themselves is not counted and not refused. The environment says what to do:
+ * It is loaded before the C library (LD_PRELOAD). A request is a call of malloc, calloc, realloc,
+ * reallocarray, aligned_alloc or posix_memalign by the program itself. Requests of the loader and of the
+ * C library are neither counted nor refused. The environment says what to do:
  *
- *   REFUSE_FIRST, REFUSE_LAST   the requests with these numbers and those between are refused, from 1 on
- *   REFUSE_LOG                  a file to which lines are added: "open N NAME" when the program opens a
- *                               file after N requests, and "end N M" when it ends after N requests, of
- *                               which M were refused
+ *   REFUSE_FIRST, REFUSE_LAST   the first and the last request that are refused, counted from 1
+ *   REFUSE_LOG                  a file that gets a line "open N NAME" when the program opens a file after
+ *                               N requests, and a line "end N M" when it ends after N requests, of which
+ *                               M were refused
  */
 #define _GNU_SOURCE
 #include <errno.h>
@@ -32,7 +32,7 @@ extern void *__libc_memalign(size_t, size_t);
 static unsigned long first, last, count, refused;
 static uintptr_t begin, end;
 
-/* Finds where the program itself is in memory: it is the first of the objects that are loaded. */
+/* Finds the addresses of the program itself, which is the first of the loaded objects. */
 static int place(struct dl_phdr_info *info, size_t size, void *data) {
     (void)size, (void)data;
     for (int index = 0; index < info->dlpi_phnum; index++) {
@@ -63,7 +63,7 @@ static int is_own(const void *caller) {
     return (uintptr_t)caller >= begin && (uintptr_t)caller < end;
 }
 
-/* Counts a request, and says whether it is refused. */
+/* Counts a request. Returns whether it is refused. */
 static int is_refused(const void *caller) {
     if (!is_own(caller))
         return 0;

@@ -1,20 +1,20 @@
 """Reads the rows of tests/rows and tests/show_rows: words, octets, and what is written and reported.
 
-A row is some lines, and ends before an empty line. The first character of a line says what it is:
+A row is a group of lines that ends before an empty line. The first character of a line says what it is:
 
     # text             a comment; the last one before the words is the title of the row
-    $ dump --limit 1   the words, as a shell reads them (names: the row's names file)
-    @ 1.2.840 us       a line of that names file
-    < 30 80 (00)*3 "a" octets of the input: in hexadecimal, text in quotation marks, repeated
+    $ dump --limit 1   the words, as a shell reads them (`names` stands for the row's names file)
+    @ 1.2.840 us       a line of the names file
+    < 30 80 (00)*3 "a" octets of the input: in hexadecimal, repeated, or as text in quotation marks
     | text             a line that is written
     > 30 80            octets that are written
     ! text             the message on standard error, or a line of it
-    % 1                the number of findings, if neither the lines nor the message have it
+    % 1                the number of findings, if neither the lines nor the message say it
     = 2                the status (0 if the row has no such line)
 
-A number in front of `|` or `>`, as in `7| text`, is the number of octets of the input with which the line,
-or the octets, have come: before the last of these octets nothing of it is written. Either all such lines of a
-row have one, or none. Lines without words are a heading, and have comments alone.
+A number in front of `|` or `>`, as in `7| text`, is the number of octets of the input after which the line, or the
+octets, are written: nothing of them is written before. Either all such lines of a row have a number, or none has.
+A group of lines without words is a heading, which consists only of comments.
 """
 import os
 import re
@@ -26,7 +26,7 @@ FINDING = re.compile(rb" *\d+ +[BSDC]\d\d: ")
 
 
 def parts_of(text):
-    """Reads octets as a row writes them, and returns them as pairs: octets, and how often they come there."""
+    """Parses octets in the notation of a row. Returns pairs of octets and how often they are repeated."""
     parts, group, at = [], None, 0
     while at < len(text):
         it = TOKEN.match(text, at)
@@ -52,7 +52,7 @@ def parts_of(text):
 
 
 def octets_of(text):
-    """Reads octets as a row writes them."""
+    """Parses octets in the notation of a row. Returns the octets."""
     return b"".join(octets * times for octets, times in parts_of(text))
 
 
@@ -65,7 +65,7 @@ class Row:
         self.counted, self.status = None, 0
 
     def read(self, line):
-        """Reads a line of the row."""
+        """Parses a line of the row."""
         kind, rest = line[0], line[2:]
         written = WRITTEN.fullmatch(line)
         if written:
@@ -91,20 +91,20 @@ class Row:
 
     @property
     def given(self):
-        """The octets of the input."""
+        """Returns the octets of the input."""
         return b"".join(octets * times for octets, times in self.parts)
 
     @property
     def out(self):
-        """The octets that are written."""
+        """Returns the octets that are written."""
         return b"".join(octets for _, octets in self.written)
 
     def is_timed(self):
-        """Whether each line that is written has the number of octets with which it has come."""
+        """Returns whether each line that is written has the number of input octets after which it is written."""
         return all(come is not None for come, _ in self.written)
 
     def findings(self):
-        """The number of findings that the run reports."""
+        """Returns the number of findings that the run reports."""
         match = re.fullmatch(r"findings: (\d+)", self.message)
         if self.counted is not None:
             return self.counted
@@ -115,7 +115,7 @@ class Row:
 
 
 def rows_in(row, lines):
-    """Returns the row in a list, or an empty list if the lines are a heading; stops if they are neither."""
+    """Returns a list of the row, which is empty if the lines are a heading. Stops if the lines are neither."""
     if row.words is None:
         if any(not line.startswith("#") for line in lines):
             raise ValueError(f"{row.place}: a row without words")
@@ -126,7 +126,7 @@ def rows_in(row, lines):
 
 
 def rows_of(path):
-    """The rows of a file."""
+    """Returns the rows of a file."""
     with open(path, encoding="utf-8") as file:
         text = file.read().split("\n")
     rows, lines, row = [], [], None
@@ -142,7 +142,7 @@ def rows_of(path):
 
 
 def files(root, folder="rows"):
-    """Returns the files of rows of a folder of tests, by name, and the rows of each."""
+    """Returns the rows of each file in a folder of tests, by file name."""
     folder = os.path.join(root, "tests", folder)
     names = sorted(os.listdir(folder))
     return {name.removesuffix(".rows"): rows_of(os.path.join(folder, name)) for name in names}

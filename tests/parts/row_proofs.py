@@ -1,15 +1,15 @@
 """Writes the rows of tests/rows as statements that the prover shows by computing.
 
-Each says what the definitions make of an input.
+Each statement says what the definitions make of an input.
 """
 import re
 
 HEAD = """-- What commands make of the inputs of tests/rows/{file}.rows, shown by computing.
 -- `tests/make-rows` writes this file.
 """
-# The most columns of a line.
+# The largest number of columns of a line.
 WIDTH = 118
-# What the statements may name, by the module that has it.
+# The names that the statements may use, by the module that has them.
 NAMES = {
     "Rattle.std.proofs.Common": "◌≡◌ false true [] ◌∷◌ ◌++◌ None Some codes refl",
     "Rattle.std.specs.Prelude": "Ok replicate",
@@ -43,7 +43,7 @@ FAULT = re.compile(r"fault at (\d+): (F\d\d) .*")
 
 
 def module(name):
-    """The name of the proof file for a file of rows."""
+    """Returns the name of the proof file for a file of rows."""
     return "".join(word.capitalize() for word in name.split("_")) + "Rows"
 
 
@@ -56,7 +56,7 @@ def in_brackets(text):
 
 
 def octets(parts):
-    """Octets, from pairs of octets and how often they come there."""
+    """Returns the octets as an expression, from pairs of octets and how often they are repeated."""
     texts, plain = [], b""
     for group, times in parts:
         if times > 16 and len(group) == 1:
@@ -70,7 +70,7 @@ def octets(parts):
 
 
 def join_texts(first, second):
-    """Both texts, in one line if there is room."""
+    """Joins two texts, on one line if there is room."""
     is_short = len(first) + len(second.partition("\n")[0]) < WIDTH and "\n" not in first
     return f"{first} {second}" if is_short else f"{first}\n    {second}"
 
@@ -80,7 +80,7 @@ def string(text):
 
 
 def output_of(row):
-    """The octets that the row writes: lines of a dump or a check, and else octets."""
+    """Returns the output of the row as an expression: the lines of a dump or a check, octets otherwise."""
     if not row.out:
         return "[]"
     if row.words[0] in ("dump", "check"):
@@ -90,7 +90,7 @@ def output_of(row):
 
 
 def options(words):
-    """The options of words, by name: their values, or True for a flag."""
+    """Returns the values of the options by name, or True for a flag."""
     found, at = {}, 1
     while at < len(words):
         name, sign, value = words[at].partition("=")
@@ -109,7 +109,7 @@ def truth(value):
 
 
 def framing(given):
-    """How the input is read."""
+    """Returns the framing with which the input is read."""
     if not {"--inside", "--padding"} & set(given):
         return "plain_framing"
     offsets = [str(int(offset)) for offset in given.get("--inside", "").split(",") if offset]
@@ -117,7 +117,7 @@ def framing(given):
 
 
 def command(words):
-    """The command of the words."""
+    """Returns the command of the words."""
     given = options(words)
     rules = given.get("--rules", "der" if words[0] == "check" else "ber").capitalize()
     if words[0] == "dump":
@@ -131,7 +131,7 @@ def command(words):
 
 
 def made(row):
-    """The end of a statement: what the row says that is made of its input."""
+    """Returns the end of a statement: the output that the row expects for its input."""
     fault = FAULT.fullmatch(row.message)
     if fault:
         said = f"fault_result {row.findings()} {CODES[fault[2]]} {fault[1]} {string(row.message)}"
@@ -143,20 +143,20 @@ def made(row):
 
 
 def entries(row):
-    """The entries of the row's names file."""
+    """Returns the entries of the row's names file."""
     pairs = [line.split(" ", 1) for line in row.names.decode().splitlines()]
     return in_brackets(list_of(f"(codes {string(dotted)}, codes {string(name)})" for dotted, name in pairs))
 
 
 def read_names(name, row):
-    """That the table of these entries is what the row's names file gives."""
+    """Returns the statement that the row's names file gives the table of these entries."""
     text = "lines " + in_brackets(list_of(string(line) for line in row.names.decode().splitlines()))
     proof = f"{name}-names = refl\n"
     return join_texts(f"{name}-names : names_of ({text})", f"≡ Ok (entries_table {entries(row)})\n{proof}")
 
 
 def statement(number, row):
-    """The row as a statement with its proof."""
+    """Returns the row as a statement with its proof."""
     name, asked, given = f"row-{number}", command(row.words), in_brackets(octets(row.parts))
     proof, result = "refl", "result"
     if row.names is not None:
@@ -172,14 +172,14 @@ def statement(number, row):
 
 
 def use(module, names):
-    """The lines that bring in names of a module."""
+    """Returns the lines that import names of a module."""
     line = f"use {module}.{{{', '.join(names)}}}\n"
     half = len(names) // 2
     return line if len(line) <= WIDTH else use(module, names[:half]) + use(module, names[half:])
 
 
 def uses(body):
-    """The lines that bring in what the statements name."""
+    """Returns the lines that import what the statements name."""
     words = set(re.findall(r"[^\s(){},;]+", re.sub(r'"(?:\\.|[^"\\])*"|--.*', "", body)))
     for module, names in NAMES.items():
         named = [name for name in names.split() if name.strip("◌") in words]
@@ -188,6 +188,6 @@ def uses(body):
 
 
 def text(name, rows):
-    """The proof file of a file of rows."""
+    """Returns the text of the proof file for a file of rows."""
     body = "\n".join(statement(number, row) for number, row in enumerate(rows, 1))
     return f"{HEAD.format(file=name)}{''.join(uses(body))}\n{body}"

@@ -1,9 +1,9 @@
-"""Writes the rows of tests/rows as one table in Rust, for the tests that run each of them in many pieces.
+"""Writes the rows of tests/rows as a table in Rust, for the tests that run each row in many ways.
 
-Each row is a line of text, as crates/tlv_words_tests/src/row.rt has it.
+Each row is a line of text, in the notation of crates/tlv_words_tests/src/row.rt.
 """
 
-# The most characters of a line in the file, but for the backslash at its end.
+# The largest number of characters of a line in the file, without the backslash at its end.
 WIDTH = 110
 
 HEAD = """//! The rows of tests/rows/{file}.rows. `tests/make-rows` writes this file.
@@ -21,7 +21,7 @@ pub(crate) fn tables() -> [&'static str; {count}] {{
 
 
 def groups(parts):
-    """Octets as groups, from pairs of octets and how often they come there."""
+    """Returns octets as groups, from pairs of octets and how often they are repeated."""
     texts, plain = [], ""
     for octets, times in parts:
         if times > 16:
@@ -33,7 +33,7 @@ def groups(parts):
 
 
 def come(row):
-    """With how many octets of the input how many of the output have come, line by line."""
+    """Returns the field that says how many octets of the output are written after how many octets of the input."""
     pairs, count = [], 0
     for number, octets in row.written:
         count += len(octets)
@@ -42,7 +42,7 @@ def come(row):
 
 
 def wrap_line(text):
-    """The line as a string of Rust has it, in pieces of which each but the last ends with a backslash."""
+    """Returns the line as part of a string literal, in pieces of which each but the last ends with a backslash."""
     pieces = []
     while len(text) > WIDTH:
         at = max(place for place in range(WIDTH) if text[place] != " ")
@@ -52,7 +52,7 @@ def wrap_line(text):
 
 
 def line(row):
-    """The row as a line of text."""
+    """Returns the row as a line of text."""
     fields = [row.place, " ".join(row.words), (row.names or b"").hex(), groups(row.parts), row.out.hex()]
     fields += [come(row), str(row.status), str(row.findings()), row.message]
     if any(character in field for field in fields for character in '|"\\\\'):
@@ -61,12 +61,12 @@ def line(row):
 
 
 def text(name, rows):
-    """The table of a file of rows."""
+    """Returns the text of the table for a file of rows."""
     return HEAD.format(file=name, name=name.upper(), lines="".join(wrap_line(line(row)) for row in rows))
 
 
 def list_text(names):
-    """The file that names the tables."""
+    """Returns the text of the file that names the tables."""
     modules = "".join(f"mod {name};\n" for name in names)
     tables = ", ".join(f"{name}::{name.upper()}" for name in names)
     return LIST.format(modules=modules, count=len(names), tables=tables)

@@ -1,8 +1,8 @@
-"""The rows of tests/rows: words, octets, and what is written and reported (parts/row_files.py reads them).
+"""Runs the rows of tests/rows: words, octets, and what is written and reported (parts/row_files.py reads them).
 
-Each row is run four times: on a pipe, octet by octet through a pipe (up to 64 octets), on a file as
-standard input, and on FILE. And what `tests/make-rows` writes of the rows must be what the repository has. Besides them
-there is a row for each octet that follows an element whose bound is reached.
+Each row is run four times: on a pipe, octet by octet through a pipe (up to 64 octets), on a file as standard input, and
+on FILE. The files that `tests/make-rows` writes from the rows must be up to date. Further tests put each octet after an
+element whose bound is reached.
 """
 import fcntl
 import importlib.machinery
@@ -18,7 +18,7 @@ from parts.row_files import files
 
 
 def waiting(pipe):
-    """How many octets are in the pipe, written and not read."""
+    """Returns the number of octets in the pipe that are written and not yet read."""
     return struct.unpack("i", fcntl.ioctl(pipe, termios.FIONREAD, b"\0" * 4))[0]
 
 
@@ -55,7 +55,7 @@ def run_row(part, row):
         part.same(f"{what}, single octets", in_single_octets(part, row), wanted)
 
 
-# An indefinite element whose bound is reached without its end: no octet may follow.
+# An indefinite element that reaches its bound without end-of-contents octets. No octet may follow.
 UNENDED = bytes.fromhex("30053080020105")
 UNENDED_WRITTEN = {
     "dump": b"       0      5: SEQUENCE {\n       2  indef:   SEQUENCE {\n       4      1:     INTEGER 5\n",
@@ -65,7 +65,7 @@ UNENDED_WRITTEN = {
 
 
 def any_octet_after_the_bound(part):
-    """Whatever octet follows there is F05, alone and with more after it."""
+    """Any octet after the bound is F05, alone and with more after it."""
     said = message("fault at 7: F05 no end-of-contents inside the enclosing length")
     for octet in range(256):
         for rest in (b"", b"\x00\x00"):
@@ -75,7 +75,7 @@ def any_octet_after_the_bound(part):
 
 
 def stale_files(part):
-    """The files that `tests/make-rows` would write otherwise than they are."""
+    """The files that `tests/make-rows` writes are up to date."""
     loader = importlib.machinery.SourceFileLoader("make_rows", os.path.join(part.root, "tests", "make-rows"))
     script = importlib.util.module_from_spec(importlib.util.spec_from_loader("make_rows", loader))
     loader.exec_module(script)

@@ -1,6 +1,6 @@
-"""A second implementation of docs/FORMAT.md and docs/FINDINGS.md (tests/second_opinion) agrees with the program.
+"""Compares the program with a second implementation of docs/FORMAT.md and docs/FINDINGS.md (tests/second_opinion).
 
-By hand, with any seeds: tests/second.
+To run it by hand, with any seeds: tests/second.
 """
 from second_opinion.running import Runner
 

@@ -1,7 +1,7 @@
-"""The calls of read and write that tlvdump-show makes: none again after one that failed, and what is done then.
+"""Tests the calls of read and write that tlvdump-show makes, and what it does if one fails.
 
-tests/parts/calls.c is loaded before the C library (parts/device_calls.py). After a read that failed nothing of that input
-is shown; before a write that failed the lines are right.
+A call that failed is not repeated. tests/parts/calls.c is loaded before the C library (parts/device_calls.py). After a
+failed read nothing of that input is shown. The lines before a failed write are right.
 """
 import errno
 
@@ -12,7 +12,7 @@ from parts.show_program import Program
 NULL = b"\x05\x00"
 GIVEN = NULL * 5000
 STRINGS = b"\x04\x02\x05\x00" * 2000
-# After many elements a string that breaks, and an octet that is refused.
+# Many elements, followed by a string that breaks, or by an octet that begins an element without its end.
 BROKEN, CUT = GIVEN + bytes.fromhex("300b0603551d0f0404030305a0"), GIVEN + b"\x04"
 READ, WRITE = "E1 read failed", "E2 write failed"
 ERRORS = (errno.EAGAIN, errno.EINTR, errno.EIO, errno.ENOSPC)
@@ -20,14 +20,14 @@ JOBS = (["--names", "none"], ["--check"], ["--offsets"], ["--offset", "4"], ["--
 
 
 class ShowCalls(Calls):
-    """tlvdump-show with calls.c in front of the C library."""
+    """Runs tlvdump-show with calls.c loaded before the C library."""
 
     def __init__(self, part, loaded, program):
         super().__init__(part, loaded)
         self.path = program.path
 
     def run(self, words, given=b"", fail=None, most=None):
-        """Runs it with its words as the other program is run, and returns what it did and its calls."""
+        """Runs it in the same way as tlvdump. Returns what it did, and its calls."""
         part, path = self.part, self.path
         start = part.start
         part.start = lambda words, program=None, **how: start(words, program=path, **how)
@@ -43,7 +43,7 @@ def of(calls, name, descriptor):
 
 
 def reads(part, calls):
-    """Each read that fails: E1, nothing of the input is shown, and it is not read again."""
+    """Each failed read gives E1. Nothing of the input is shown, and the read is not repeated."""
     for words in JOBS:
         got, own = calls.run(words, GIVEN)
         count = len(of(own, "read", 0))
@@ -66,9 +66,9 @@ def reads(part, calls):
 
 
 def writes(part, calls):
-    """Each write that fails, or takes nothing: E2, the lines before it are right, and there is no write after it.
+    """Each write that fails or takes nothing gives E2. The lines before it are right, and no write follows.
 
-    The strings that break have their lines after E2; there are no reasons.
+    The lines of broken strings follow E2, without reasons.
     """
     for words, given in ((["--names", "none"], GIVEN), (["--names", "none"], STRINGS), (["--offsets"], STRINGS),
                          (["--offset", "0"], b"\x04\x82\x27\x10" + GIVEN), (["--check"], b"\x02\x02\x00\x05" * 500),
@@ -90,7 +90,7 @@ def writes(part, calls):
 
 
 def messages(part, calls):
-    """Each write to standard error that fails changes no output and no status, and it is not made again."""
+    """Each failed write to standard error changes neither output nor status, and is not repeated."""
     for words, given in ((["--names", "none"], BROKEN[-13:]), (["--check"], CUT), (["--offsets"], CUT), (["--why"], BROKEN)):
         whole, own = calls.run(words, given)
         lengths = [call[3] for call in of(own, "write", 2)]
@@ -104,7 +104,7 @@ def messages(part, calls):
 
 
 def small_pieces(part, calls):
-    """Reads and writes of one octet, of three, and of many give the same."""
+    """Reads and writes of one octet, of three, and of many give the same results."""
     for words, given in ((["--names", "none"], STRINGS[:400]), (["--check"], b"\x02\x02\x00\x05" * 5), (["--offsets"], STRINGS[:400])):
         wanted, _ = calls.run(words, given)
         for most in (1, 3, 1000):

@@ -1,4 +1,4 @@
-"""tlvdump-show on octets: its words, several FILEs, names files, and what cannot be opened, read or written."""
+"""Tests tlvdump-show on octets: its words, several FILEs, names files, and what cannot be opened, read or written."""
 import os
 import resource
 import signal
@@ -10,7 +10,7 @@ from second_opinion.running import put
 
 NULL = b"\x05\x00"
 NULL_LINE = b"       0      0: NULL\n"
-# keyUsage in a string, and a string that says one octet too many.
+# keyUsage in a string, and a string in which a length is one too many.
 SOUND, BROKEN = bytes.fromhex("300b0603551d0f04040302 05a0"), bytes.fromhex("300b0603551d0f0404030305a0")
 NAMED = "OBJECT IDENTIFIER 2.5.29.15 (keyUsage)"
 LINES = (
@@ -37,7 +37,7 @@ REFUSED = [
     "--offset 0 --offset 0", "--limits 1", "--inside 0", "--limit -1", "--as", "--as ber --as ber", "--raw --raw", "--raw=1",
     "--why --why", "--why=1",
 ]
-# Options that are not for each other.
+# Options that exclude each other.
 ALONE = [
     ("--check --limit 1", "not with --check: --limit"), ("--pure --check", "not with --check: --pure"),
     ("--check --names n", "not with --check: --names"), ("--check --no-text", "not with --check: --no-text"),
@@ -71,7 +71,7 @@ VALUES += [(LIMIT, ["--as", "x", "--limit", "x"]), (OFFSET, ["--as", "x", "--off
 
 
 def words(part, program):
-    """Which words are taken, and which are refused."""
+    """Words that are accepted, and words that are refused."""
     for text in REFUSED:
         program.refuses(text.split(), NULL)
     for text, said in ALONE:
@@ -100,7 +100,7 @@ def words(part, program):
 
 
 def several(part, program):
-    """Several FILEs: a line before each, messages with names, the highest status."""
+    """Several FILEs: a title before each, messages with names, and the highest status."""
     for name, octets in (("sound", SOUND), ("broken", BROKEN), ("cut", SOUND[:-1]), ("null", NULL)):
         part.write(name, octets)
     program.gives(["sound"], b"", 0, LINES)
@@ -135,7 +135,7 @@ def several(part, program):
 
 
 def names(part, program):
-    """The names file of the installation, of the tree, another one, and none."""
+    """The names file of the installation, that of the tree, another one, and none."""
     alone = put(program.path, part.path("alone/tlvdump-show"))
     in_tree = put(program.path, part.path("tree/crates/tlvdump_show/out/tlvdump_show"))
     os.makedirs(part.path("tree/data"))
@@ -168,7 +168,7 @@ def names(part, program):
 
 
 def inputs(part, program):
-    """FILE and standard input that give nothing, or fail."""
+    """FILE, or standard input, that gives nothing or fails."""
     os.mkdir(part.path("folder"))
     for given in ([], ["--check"], ["--offsets"], ["--offset", "0"]):
         for name in ("missing", "null/below", ""):
@@ -188,7 +188,7 @@ def inputs(part, program):
 
 
 def outputs(part, program):
-    """A full disk, a pipe that nobody reads, and a limit on the size of a file."""
+    """A full disk, a pipe without a reader, and a limit on the size of a file."""
     for given, octets in (([], SOUND), (["--check"], b"\x02\x02\x00\x05"), (["--offsets"], SOUND), (["--offset", "0"], SOUND),
                           (["--help"], b""), (["--version"], b"")):
         with open("/dev/full", "wb") as full:

@@ -1,4 +1,5 @@
-"""tlvdump-show on what people have: a large CRL, certificates, damaged ones too, those of Debian, PKCS#12 and CMS."""
+"""Tests tlvdump-show on common inputs: a large CRL, certificates (also damaged, and those of Debian), PKCS#12 and CMS.
+"""
 import base64
 import glob
 import itertools
@@ -33,13 +34,13 @@ SEQUENCE, OCTETS = 0x30, 0x04
 
 
 def element(tag, *contents):
-    """Returns an element with the shortest length."""
+    """Returns an element with the shortest length octets."""
     octets = b"".join(contents)
     return bytes([tag]) + shortest(len(octets)) + octets
 
 
 def extension(number, value):
-    """Returns an extension below 2.5.29, with this element in its string."""
+    """Returns an extension below 2.5.29 whose string holds this element."""
     return element(SEQUENCE, element(6, bytes([0x55, 0x1D, number])), element(OCTETS, value))
 
 
@@ -51,7 +52,7 @@ def entry(number):
 
 
 def crl(entries):
-    """Returns a CRL, of which the last string is the number of the list (2.5.29.20)."""
+    """Returns a CRL. Its last string is the CRL number (2.5.29.20)."""
     algorithm = element(SEQUENCE, element(6, bytes.fromhex("2b6570")))
     name = element(SEQUENCE, element(0x31, element(SEQUENCE, element(6, b"\x55\x04\x03"), element(0x0C, b"x"))))
     times = element(0x17, b"261127120000Z") + element(0x17, b"261227120000Z")
@@ -62,7 +63,7 @@ def crl(entries):
 
 
 def large_crl(part, program):
-    """All strings of a list of 20,000 entries are opened."""
+    """All strings in a CRL of 20,000 entries are opened."""
     octets = crl(ENTRIES)
     place, offsets = 0, []
     while (place := octets.find(b"\x06\x03\x55\x1d", place)) >= 0:
@@ -94,7 +95,7 @@ def octets_of(part, name):
 
 
 def certificate(part):
-    """Makes a certificate with extensions, and returns its octets."""
+    """Makes a certificate with extensions. Returns its octets."""
     part.write("cnf", CONFIGURATION.encode())
     command(part, "openssl req -x509 -newkey ec -pkeyopt ec_paramgen_curve:P-256 -nodes -keyout key -out cert -days 9"
                   " -subj /C=DE/O=Example/CN=a.example -config cnf -extensions extensions")
@@ -109,7 +110,8 @@ def values_of(octets):
 
 
 def length_places(octets, value):
-    """Returns the offsets of the length octets of all that is in a string, strings in it opened too."""
+    """Returns the offsets of the length octets in the contents of a string, and in the strings that are opened there.
+    """
     places = []
     reading = Reading(octets, Strings(octets).opened)
     for it in reading.elements():
@@ -120,9 +122,9 @@ def length_places(octets, value):
 
 
 def damaged_certificates(part, program, octets):
-    """One more or one less in each length octet inside an extension: that extension is named.
+    """Each length octet inside an extension is made one more or one less: the program names that extension.
 
-    Rarely the octets parse all the same, and something in them is found.
+    In rare cases the octets still parse, and have a finding.
     """
     values, named, found = values_of(octets), 0, 0
     part.expect("the extensions of a certificate", len(values) == EXTENSIONS.count(" = "), str(len(values)))
@@ -145,7 +147,7 @@ def damaged_certificates(part, program, octets):
 
 
 def stores(part, program):
-    """PKCS#12, CMS and a CRL by openssl, and PKCS#12 with one segment in an indefinite string, as NSS writes it."""
+    """PKCS#12, CMS and a CRL from openssl, and PKCS#12 with one segment in an indefinite string, as NSS writes it."""
     command(part, "openssl pkcs12 -export -in cert -inkey key -passout pass:x -certpbe NONE -out file.p12")
     command(part, "openssl cms -sign -binary -nodetach -in cert.der -signer cert -inkey key -outform DER -out file.cms")
     command(part, "openssl cms -sign -binary -nodetach -stream -in cert.der -signer cert -inkey key -outform DER -out stream.cms")
@@ -172,7 +174,7 @@ def stores(part, program):
 
 
 def by_both(part, program, what, octets):
-    """Counts one test: that tlvdump, given the list of strings that are opened, writes what tlvdump-show does."""
+    """Counts one test: given the list of opened strings, tlvdump writes the same as tlvdump-show."""
     listed = program.run(["--offsets"], octets).out.decode().strip()
     words = ["--inside", listed] if listed else []
     names = part.path("prefix/share/tlvdump/names.txt")
@@ -180,7 +182,7 @@ def by_both(part, program, what, octets):
 
 
 def anchors(part, program):
-    """Some of the certificates of Debian's ca-certificates, as octets and as they lie there, in PEM."""
+    """Some of the certificates of Debian's ca-certificates, as octets and in PEM, in which they are installed."""
     files = sorted(glob.glob(os.path.join(ANCHORS, "*.crt")))
     part.expect("ca-certificates", files, f"there are no certificates in {ANCHORS}")
     for path in files[::20]:

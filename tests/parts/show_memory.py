@@ -1,8 +1,8 @@
-"""Each request of tlvdump-show for memory refused in turn: it reports U3, N6 or E8, and writes nothing wrong.
+"""Refuses each request for memory of tlvdump-show in turn: it reports U3, N6 or E8, and writes nothing wrong.
 
-tests/parts/refuse.c does that for this program too (parts/memory_requests.py). The words come first, then the names
-file is read, then each FILE is opened and read whole, and then all are shown. After its messages a block has reasons, for
-which memory is needed too. Then the memory that it takes in all.
+tests/parts/refuse.c does this (parts/memory_requests.py). The words come first, then the names file is read, then each
+FILE is opened and read into memory, and then all are shown. After its messages a block has reasons, which need memory
+too. Further tests measure the memory of whole runs.
 """
 import base64
 import os
@@ -16,15 +16,15 @@ from parts.memory_requests import LAST, Requests
 from parts.show_program import Program
 from second_opinion.findings import shortest
 
-# A string that holds a string, a broken one, and an object identifier with a name.
+# A string that holds a string, a broken string, and an object identifier with a name.
 OCTETS = bytes.fromhex("0404040205 00 300b0603551d0f0404030305a0 0603550403".replace(" ", ""))
 PEM = b"".join(b"-----BEGIN %c-----\n%s-----END %c-----\n" % (label, base64.encodebytes(OCTETS), label) for label in b"AB")
-# Lines of words, whether the run on OCTETS reads FILE, and whether it reads a names file.
+# Command lines, whether the run on OCTETS reads FILE, and whether it reads a names file.
 TAKEN = ["", "--check --rules der", "--offsets", "--offset 4", "--closed a.der", "--names names a.der", "--pure --padding a.der"]
 TAKEN += ["many.der", "--offsets many.der", "--check many.der a.der", "a.der many.der", "--names names - a.der"]
 TAKEN += ["chain.pem", "--raw chain.pem a.der", "--check base64 a.der", "--as hex digits", "--offset 4 --as dump dump"]
 TAKEN += ["--raw --as runs runs"]
-# Those with reasons, after messages or as what is shown, of a broken string and of a fault.
+# Command lines that give reasons, after messages or as output, for a broken string or a fault.
 EXPLAINED = ["", "--check --rules der", "many.der -", "cut", "--check cut a.der", "--offsets cut", "--offset 4 cut", "--why a.der"]
 EXPLAINED += ["--why cut"]
 TAKEN += [text for text in EXPLAINED if text not in TAKEN]
@@ -37,23 +37,24 @@ FILES = {
     "dump": b"".join(b"%04x: %s\n" % (at, OCTETS[at : at + 16].hex(" ").encode()) for at in range(0, len(OCTETS), 16)),
     "runs": b"name:: " + base64.b64encode(OCTETS * 3) + b"\nother:: " + base64.b64encode(OCTETS * 2) + b"\n",
     "names": b"2.5.4.3 commonName\n",
-    # One octet is missing; and it may be a text.
+    # An input that lacks one octet, and that could be a damaged text.
     "cut": bytes.fromhex("0402 0500 3009 0c02c3a9 04020d0a"),
 }
 PRINTED = ["--help", "--version", "--limit", "--check --pure"]
-# Words for which it looks for others that are alike: if one request alone is refused there, it may say so otherwise.
+# Command lines for which `clap` looks for similar words.
+# If only one request is refused there, it may print a message without them.
 ALIKE = ["--nonsense", "--lim 1"]
 WORDS, NAMES, INPUT = "U3 out of memory", "N6 out of memory", "E8 out of memory"
 MB = 1_000_000
 
 
 def blocks_of(out):
-    """Returns what is written of each block, without the line before it."""
+    """Returns what is written of each block, without its title."""
     return re.split(rb"^# block .*\n", out, flags=re.M)
 
 
 class Line:
-    """A line of words: what comes of it if no request is refused, and the files that it opens."""
+    """A command line: its result if no request is refused, and the files that it opens."""
 
     def __init__(self, part, program, refusing, text):
         self.part, self.program, self.refusing, self.text = part, program, refusing, text or "no words"
@@ -67,7 +68,7 @@ class Line:
         self.refused_reasons = 0
 
     def run(self, first, last):
-        """Runs it with these requests refused, and returns what it did, and what was reported."""
+        """Runs it with these requests refused. Returns the result, and the report of refuse.c."""
         env = dict(os.environ, LD_PRELOAD=self.refusing, REFUSE_LOG=self.log)
         env |= {"REFUSE_FIRST": str(first), "REFUSE_LAST": str(last)}
         if os.path.exists(self.log):
@@ -76,10 +77,10 @@ class Line:
         return got, Requests(self.log)
 
     def is_fine(self, got, number):
-        """Returns whether a run with this request refused did what it may.
+        """Returns whether the result is allowed for a run in which this request is refused.
 
-        Before a file is opened, and while all are read, the whole run ends. Else it ends for one FILE or block, and the
-        others are shown.
+        Before a file is opened, and while files are read, the whole run ends.
+        Later only one FILE or block ends, and the others are shown.
         """
         before = [name for name, count in self.opened if count < number]
         ends = [] if before else [WORDS]
@@ -91,9 +92,9 @@ class Line:
         return got in [Done(5, b"", f"{end}\n".encode()) for end in ends] or self.is_part(got)
 
     def is_part(self, got):
-        """Returns whether it wrote part of each block, and reported E8 or what it reports otherwise.
+        """Returns whether the run wrote part of each block, and reported E8 or its usual messages.
 
-        A FILE for which memory is refused is one block, also if it has several.
+        A FILE for which memory is refused counts as one block, even if it has several.
         """
         said, own = got.err.decode().splitlines(), self.own.err.decode().splitlines()
         refused = [line for line in said if self.refusal.fullmatch(line)]
@@ -103,7 +104,7 @@ class Line:
         return got.status == 5 and is_prefix and bool(refused) and set(said) <= {*refused, *own}
 
     def is_all_but_reasons(self, out, said, refused):
-        """Returns whether this is all that it writes, but for reasons: E8 comes where they end."""
+        """Returns whether the run wrote everything except reasons, which E8 ends."""
         if "--why" in self.words:
             return out not in (b"", self.own.out)
         own, at = self.own.err.decode().splitlines(), said.index(refused[0]) if refused else 0
@@ -123,13 +124,13 @@ class Line:
 
 
 def requests(part, program):
-    """Each request of each line of words."""
+    """Refuses each request of each command line."""
     refusing = part.made_of("refuse.c")
     if not refusing:
         return
     for name, octets in FILES.items():
         part.write(name, octets)
-    # A names file of one line, since each line takes some requests.
+    # A names file of one line, because each line takes some requests.
     part.write("prefix/share/tlvdump/names.txt", b"2.5.4.3 commonName\n")
     total = 0
     for text in TAKEN + PRINTED + ALIKE:
@@ -144,7 +145,7 @@ def requests(part, program):
 
 
 def resident(pid):
-    """Returns the most resident memory of a process so far, in octets; 0 if it has ended."""
+    """Returns the peak resident memory of a process, in octets, or 0 if it has ended."""
     try:
         with open(f"/proc/{pid}/status", encoding="ascii") as file:
             found = re.search(r"VmHWM:\s*(\d+) kB", file.read())
@@ -154,9 +155,10 @@ def resident(pid):
 
 
 def most_memory(part, program, words):
-    """Returns the most resident memory of a run, in octets: its lines are taken one piece after another.
+    """Returns the peak resident memory of a run, in octets. The output is read piece by piece, so that the run does not
+    end before the measurement.
 
-    What the system reports of a process that has ended counts the one that started it too.
+    The figure that the system reports after the end of a process includes the process that started it.
     """
     child = part.start(words, program=program.path, stdin=subprocess.PIPE, stdout=subprocess.PIPE, stderr=subprocess.DEVNULL)
     most, piece = 0, True
@@ -178,7 +180,9 @@ def string(octets):
 
 
 def in_all(part, program):
-    """At most twice the input, 8 octets for each opened string, and 2 MB, beside what a small input takes."""
+    """The memory of a run is at most that of a run on a small input,
+    and twice the input, 8 octets for each opened string, and 2 MB.
+    """
     small = most_memory(part, program, [])
     for what, octets, strings in (
         ("a long string", b"\x04" + shortest(20 * MB) + bytes(20 * MB), 0),
@@ -193,7 +197,7 @@ def in_all(part, program):
 
 
 def nested(levels, size):
-    """Returns strings, each in the one before, the innermost with about so many octets."""
+    """Returns nested strings. The innermost has about `size` octets."""
     octets = b"\x05\x00" * (size // 2)
     for _ in range(levels):
         octets = string(octets)
@@ -201,7 +205,7 @@ def nested(levels, size):
 
 
 def limited(part, program):
-    """With a limit on all memory the run ends with E8, or with its lines."""
+    """With a limit on all memory, the run ends with E8 or writes its lines."""
     part.write("large", b"\x04\x02\x05\x00" * 5 * MB)
 
     def limit():

@@ -1,4 +1,4 @@
-"""The built program tlvdump-show, put below a prefix as ./install does, and runs of it."""
+"""Runs the built program tlvdump-show, installed below a prefix as ./install does it."""
 import itertools
 import os
 
@@ -8,18 +8,18 @@ from second_opinion.running import put
 from second_opinion.showing import File, Show, run
 
 
-# Jobs that are without reasons after their messages, and those in which no string is looked at.
+# Options without reasons after the messages, and options with which no string is examined.
 WITHOUT_REASONS, WITHOUT_STRINGS = {"--raw", "--why"}, {"--offset", "--offsets"}
 
 
 def words_of_why(words):
-    """Returns those of the words that --why has too."""
+    """Returns those of the words that --why accepts, too."""
     kept = [word for word in words if word in ("--padding", "--closed") or word.startswith("--as=")]
     return kept + [f"--as={value}" for word, value in itertools.pairwise(words) if word == "--as"]
 
 
 class Program:
-    """tlvdump-show below the folder "prefix" of a part, with the names file of this tree."""
+    """Runs tlvdump-show below the folder "prefix" of a part, with the names file of this tree."""
 
     def __init__(self, part):
         self.part = part
@@ -29,11 +29,11 @@ class Program:
             self.names = read_names(file.read())
 
     def run(self, words, given=b"", **how):
-        """Runs it on these octets, by a pipe, or on `stdin`, and returns what it did."""
+        """Runs it with these octets on a pipe, or with `stdin`. Returns the result."""
         return self.part.run(words, given, program=self.path, **how)
 
     def gives(self, words, given, status, out=b"", err="", what="", **how):
-        """Counts one test: that it gives status, output and lines on standard error with these words."""
+        """Counts one test: with these words it gives this status, output and lines on standard error."""
         got = self.run(words, given, **how)
         what = what or " ".join(words) or "no words"
         self.part.same(what, got, Done(status, out, f"{err}\n".encode() if err else b""))
@@ -41,7 +41,7 @@ class Program:
     def reasons(self, octets, *words):
         """Returns the lines that follow the messages of a run with these words on these octets, which are one block.
 
-        They are those that --why writes, without the lines in front of the reasons.
+        They are the lines of --why after those that precede the reasons.
         """
         options = {word.partition("=")[0] for word in words}
         if options & WITHOUT_REASONS:
@@ -49,7 +49,7 @@ class Program:
         got = self.run(["--why", *words_of_why(words)], octets)
         lines = got.out.decode().splitlines()
         front = ("It does not parse: ",) if got.status == 2 else ("It parses: ", "By the rules of BER: ", "The string at ")
-        # Without a broken string, the third of these lines is missing, and so are reasons.
+        # If no string is broken, the third of these lines is absent, and there are no reasons.
         is_whole = all(line.startswith(it) for line, it in zip(lines, front)) and len(lines) >= min(len(front), 2)
         self.part.expect(f"--why of {octets[:20].hex()}: the lines in front", is_whole, *got.lines())
         if got.status != 2 and options & WITHOUT_STRINGS:
@@ -57,25 +57,26 @@ class Program:
         return lines[len(front) :]
 
     def with_reasons(self, said, octets, *words):
-        """Returns the lines of messages, and after them the reasons of these octets."""
+        """Returns the lines of messages, followed by the reasons of these octets."""
         return "\n".join([said, *self.reasons(octets, *words)]) if said else ""
 
     def refuses(self, words, given=b"", **how):
-        """Counts one test: that it refuses these words, with a text of the library that reads them."""
+        """Counts one test: it refuses these words with a text of `clap`."""
         got = self.run(words, given, **how)
         fine = got.status == 4 and not got.out and got.err.startswith(b"error: ")
         self.part.expect(f"refused: {' '.join(words)}", fine, *got.lines())
 
     def wanted(self, job, octets, **options):
-        """Returns what the second opinion says of a run on standard input."""
+        """Returns what the second opinion expects of a run on standard input."""
         show = Show(job, files=[File("-", octets, True)], **options)
         wanted = run(show, lambda: self.names)
         return Done(wanted.status, wanted.out, wanted.err)
 
     def agrees(self, what, octets, *jobs, is_large=False):
-        """Counts tests: that it does what the second opinion says, for each of these jobs, or for all three.
+        """Counts tests: for each of these jobs, or for all three, it does what the second opinion expects.
 
-        The reasons in a large input are compared with those of --why in place of the second opinion, which takes minutes for them.
+        In a large input the reasons are compared with those of --why,
+        because the second opinion would take minutes for them.
         """
         for job in jobs or ("dump", "check", "offsets"):
             words = [] if job == "dump" else [f"--{job}"]

@@ -1,6 +1,7 @@
-"""tlvdump-show: why octets do not parse, or a string in them breaks, after the messages of a run; and of a string with --why.
+"""Tests the reasons of tlvdump-show why octets do not parse, or why a string in them breaks: after the messages of a
+run, and with --why.
 
-The rows of parts/show_why.py have the sentences about faults, and those here the sentences about strings.
+The rows in parts/show_why.py have the sentences about faults, and those here the sentences about strings.
 """
 from parts.harness import Done
 from parts.show_why import ANEW, FAULTS, INDEFINITE, NULL, WHOLE, WRONG, Why, element, findings, header, sound, string
@@ -10,13 +11,13 @@ BREAKS = bytes.fromhex("300b0603551d0f0404030305a0")
 
 
 def broken(place):
-    """Returns the line on standard error about the string in BREAKS that breaks, for BREAKS at an offset."""
+    """Returns the line on standard error about the broken string in BREAKS, where BREAKS is at this offset."""
     return (f"string at {7 + place} is the value of an extension and breaks at {10 + place}:"
             " F11 element runs past the enclosing length")
 
 
 def why_broken(place):
-    """Returns the sentences about that string, without the last."""
+    """Returns the sentences about the broken string in BREAKS, without the last."""
     return [f"The octet at offset {10 + place} completes the header of the BIT STRING at offset {9 + place}. "
             + header(9 + place, "03 03", "3 octets"),
             f"It would end at offset {14 + place}, but the OCTET STRING at offset {7 + place} ends at offset {13 + place}. "
@@ -24,22 +25,22 @@ def why_broken(place):
 
 
 def mended(place):
-    """Returns the last sentence about that string."""
+    """Returns the last sentence about the broken string in BREAKS."""
     return f"If the header at offset {9 + place} said 2 octets and not 3, all would parse."
 
 
 LEFT, BEFORE = "Whole encodings end at offset {0}. Left over: {1} octets.", element(0x30, string(NULL) * 2)
-# Octets with a string that breaks, the lines about such strings, and the sentences about the first.
+# Octets with broken strings, the lines about these strings, and the sentences about the first.
 STRINGS = [
     (BREAKS, [broken(0)], [*why_broken(0), mended(0)]),
-    # In a string that is opened.
+    # A broken string inside a string that is opened.
     (element(0x30, string(BREAKS) + NULL), [broken(4)], [*why_broken(4), mended(4)]),
-    # Elements stand in front of it, and one after it; in the second, strings that are opened.
+    # A broken string after and before other elements. In the second row these include strings that are opened.
     (NULL * 9 + BREAKS + NULL, [broken(18)], [LEFT.format(18, 15), WHOLE.format(18), *why_broken(18), mended(18)]),
     (BEFORE + BREAKS + NULL, [broken(10)], [*why_broken(10), LEFT.format(10, 15), WHOLE.format(10), mended(10)]),
-    # One of two: with another length in the first alone, all would parse, since the second is not read as encodings.
+    # Two broken strings. A change of the first alone would make all parse, because the second is not read as encodings.
     (element(0x30, BREAKS * 2), [broken(2), broken(15)], [*why_broken(2), mended(2)]),
-    # The string ends with the input.
+    # A string that ends with the input.
     (bytes.fromhex("300c 0603551d0f 0405 3080020105"),
      ["string at 7 is the value of an extension and breaks at 14: F05 no end-of-contents inside the enclosing length"],
      ["The input ends inside the SEQUENCE at offset 9. " + header(9, "30 80", INDEFINITE),
@@ -48,12 +49,12 @@ STRINGS = [
       "Try: look for a length that is too small, or fetch the input anew, in binary.",
       "If the header at offset 2 said 6 octets and not 3, all would parse."]),
 ]
-# Runs in which a fault has reasons after its message.
+# Runs in which the reasons of a fault follow its message.
 JOBS = ([], ["--closed"], ["--check"], ["--offsets"], ["--offset", "1099511627776"])
 
 
 def faults(why):
-    """After the message of a fault stand the lines of --why but the first; not with --raw."""
+    """The message of a fault is followed by the lines of --why, without the first. With --raw there are none."""
     for _, digits, words, _ in FAULTS:
         octets = bytes.fromhex(digits)
         message, (_, lines) = why.part.run(["dump", *words], octets).err, why.said(octets, *words)
@@ -66,7 +67,8 @@ def faults(why):
 
 
 def strings(why):
-    """The first string that breaks is explained, with the offsets of the input; not with --closed, --offset and --offsets."""
+    """The first broken string is explained, with offsets in the input. With --closed, --offset and --offsets it is not.
+    """
     for octets, said, reasons in STRINGS:
         what, front = f"why a string breaks, {octets.hex()}", [sound(octets), findings(0, 0)]
         for words, status, err in (([], 1, said), (["--closed"], 0, [])):
@@ -83,7 +85,7 @@ def strings(why):
 
 
 def strings_and_faults(why):
-    """If there is a fault, the fault is explained, and each string that breaks has its line alone."""
+    """If there is a fault, only the fault is explained. Each broken string has its line."""
     for octets, said, _ in STRINGS:
         wrong = octets + b"\x04"
         message = f"fault at {len(wrong)}: F02 input ends inside an encoding"
@@ -96,7 +98,7 @@ def strings_and_faults(why):
 
 
 def several(why):
-    """Of several FILEs and blocks, each has its reasons after its messages, and names stand in front of these alone."""
+    """With several FILEs and blocks, the reasons of each follow its messages. Only the messages have names in front."""
     part, cut = why.part, bytes.fromhex("3005 0201")
     octets, said, reasons = STRINGS[0]
     part.write("broken", octets)

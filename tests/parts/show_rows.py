@@ -1,8 +1,8 @@
-"""tlvdump-show on octets, by rows: those of tests/show_rows, and those of tests/rows.
+"""Runs tlvdump-show on the rows of tests/show_rows and tests/rows.
 
 Each row is run on a pipe, on a file as standard input, and on FILE. Rows of tests/rows are run with --closed and
---no-text, which gives what the row says, and without, which gives what the second opinion says. Then strings of
-each size, and strings within strings.
+--no-text, which gives what the row says, and without these options, which gives what the second opinion expects.
+Further tests have strings of each size, and strings within strings.
 """
 import os
 import re
@@ -15,7 +15,7 @@ from second_opinion.findings import shortest
 from second_opinion.opened import Strings
 
 NULL = b"\x05\x00"
-# Options of rows that choose something that tlvdump-show has not.
+# Options of rows that tlvdump-show lacks.
 FOREIGN = ("--inside",)
 MOST_SIZE = 300
 
@@ -26,7 +26,9 @@ def string(octets, tag=4):
 
 
 def wanted_of(program, row, name=""):
-    """Returns what a row gives: after its message the reasons. If its input is a FILE, its name is in front of the message."""
+    """Returns the expected result of a row, with the reasons after its message.
+    If the input is a FILE, its name precedes the message.
+    """
     said = "\n".join(f"{name}{line}" for line in row.message.splitlines())
     return Done(row.status, row.out, message(program.with_reasons(said, row.given, *row.words)))
 
@@ -45,7 +47,7 @@ def run_row(part, program, row):
 
 
 def words_of(row):
-    """Returns the words by which tlvdump-show does what a row of tests/rows does, or None."""
+    """Returns the words with which tlvdump-show does the same as tlvdump in a row of tests/rows, or None."""
     if any(word.startswith(FOREIGN) for word in row.words) or row.message.startswith("U"):
         return None
     command, *rest = row.words
@@ -53,13 +55,13 @@ def words_of(row):
 
 
 def octets_of(text):
-    """Returns the octets that a cell of a table of docs/FORMAT.md has: `30 80` 127 times, `05 00`."""
+    """Returns the octets that a cell of a table of docs/FORMAT.md describes: `30 80` 127 times, `05 00`."""
     found = re.findall(r"`([0-9a-f ]+)`(?: (\d+) times)?", text)
     return b"".join(bytes.fromhex(octets) * int(times or 1) for octets, times in found)
 
 
 def page(part, program):
-    """The table of docs/FORMAT.md that says which strings are opened."""
+    """The table of docs/FORMAT.md says which strings are opened."""
     with open(os.path.join(part.root, "docs", "FORMAT.md"), encoding="utf-8") as file:
         table = file.read().partition("| Octets | Opened |\n|---|---|\n")[2].partition("\n\n")[0]
     part.expect("the table of docs/FORMAT.md", table.count("\n") > 10, table)
@@ -72,7 +74,7 @@ def page(part, program):
 
 
 def rows_of_tlvdump(part, program):
-    """The rows of tests/rows: closed, where they give what the row says, and open."""
+    """Runs the rows of tests/rows with strings closed, as the row says, and with strings opened."""
     for rows in files(part.root).values():
         for row in rows:
             if row.names is not None:
@@ -90,7 +92,7 @@ def rows_of_tlvdump(part, program):
 
 
 def sizes(part, program):
-    """Strings of each size: with encodings, and with encodings of which the last octet is wrong."""
+    """Strings of each size that hold encodings, and encodings of which the last octet is wrong."""
     for size in range(2, MOST_SIZE + 1):
         sound = NULL * (size // 2) if size % 2 == 0 else NULL * (size // 2 - 1) + b"\x02\x01\x05"
         wrong = NULL * (size // 2 - 1) + b"\x05\x01" if size % 2 == 0 else NULL * (size // 2) + b"\x05"
@@ -100,7 +102,7 @@ def sizes(part, program):
 
 
 def depths(part, program):
-    """Strings within strings: 128 are opened, and no more."""
+    """Of nested strings 128 are opened, and no more."""
     for count in (1, 2, 127, 128, 129, 200):
         octets, offsets = NULL, []
         for _ in range(count):
@@ -115,7 +117,7 @@ def depths(part, program):
 
 
 def inner_size(count):
-    """Returns how many octets the outermost of so many strings holds."""
+    """Returns how many octets the outermost of `count` nested strings holds."""
     size = len(NULL)
     for _ in range(count - 1):
         size += 1 + len(shortest(size))

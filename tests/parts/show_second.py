@@ -1,6 +1,7 @@
-"""A second implementation of docs/FORMAT.md, docs/TEXTS.md and docs/WHY.md (tests/second_opinion) agrees with tlvdump-show.
+"""Compares tlvdump-show with a second implementation of docs/FORMAT.md, docs/TEXTS.md and docs/WHY.md
+(tests/second_opinion).
 
-By hand, with any seeds: tests/second --show, and tests/second --why.
+To run it by hand, with any seeds: tests/second --show, and tests/second --why.
 """
 import os
 

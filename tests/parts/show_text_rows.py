@@ -1,4 +1,4 @@
-"""Rows for tlvdump-show on texts: words, a text, and what docs/TEXTS.md says of them."""
+"""Rows for tlvdump-show on texts: words, a text, and the results that docs/TEXTS.md describes."""
 import base64
 import re
 import subprocess
@@ -9,13 +9,13 @@ from second_opinion.findings import shortest
 
 
 def element(tag, octets):
-    """Returns an element with the shortest length."""
+    """Returns an element with the shortest length octets."""
     return bytes([tag]) + shortest(len(octets)) + octets
 
 
 NULL = b"\x05\x00"
 NULL_LINE = b"       0      0: NULL\n"
-# Encodings with a name, with a string that holds encodings, and with text; others with a finding.
+# Encodings with a name, a string that holds encodings, and text. The others have findings.
 SOUND = element(0x30, b"\x06\x03\x55\x04\x03" + element(4, NULL) + b"\x0c\x03abc")
 FOUND = element(0x30, b"\x02\x02\x00\x05")
 DIGITS, BASE64 = SOUND.hex(), base64.b64encode(SOUND)
@@ -57,7 +57,7 @@ def t2(taken, line, expected="base64"):
 
 
 def t1(text):
-    """Returns the note of a text of no form."""
+    """Returns the note of a text of unknown form."""
     return f'X1 text of no form that is known: "{text}"; {KNOWN}'
 
 
@@ -67,9 +67,9 @@ SEALED = pem(b"RSA PRIVATE KEY", b"\xd3\x9d\x34\xff", b"Proc-Type: 4,ENCRYPTED\n
 SLASHES = b'["' + pem(b"CMS", element(4, b"\xff" * 9)).replace(b"/", b"\\/").replace(b"\n", b"\\r\\n") + b'"]'
 BOTH = element(0xA0, element(4, b"\0" * 21)).hex().upper().encode()
 WRAPPED = element(12, pem(b"CMS", NULL))
-# An encoding of printable characters alone.
+# An encoding that consists of printable characters.
 PRIVATE = element(0x41, b"cn=admin,dc=example,dc=org".ljust(40))
-# Words, a text, the status, what --raw writes, and the note.
+# Words, a text, the status, the output of --raw, and the note.
 RAW = [
     ([], SLASHES, 0, element(4, b"\xff" * 9), CMS),
     ([], b"let a = [0x30u8, 0x03, 0x02];", 2, b"", t1("let a = [0x30u8, 0x03, 0x02];")),
@@ -109,7 +109,7 @@ RAW = [
     ([], b"caf\xe9", 0, b"caf\xe9", ""), ([], b" \n", 0, b" \n", ""), ([], b"", 0, b"", ""),
     *((words, b"", 4, b"", f"U2 value out of range: {FORMS}") for words in (["--as=x"], ["--as="], ["--as=PEM"])),
 ]
-# Options that are not for each other, and what is said.
+# Options that exclude each other, and the message.
 ALONE = [
     ("--raw --check", "not with --check: --raw"), ("--raw --offset 0", "not with --offset: --raw"),
     ("--raw --offsets", "not with --offsets: --raw"), ("--raw --rules ber", "not with --raw: --rules"),
@@ -128,7 +128,7 @@ ALONE = [
 
 
 def same(part, program):
-    """Each text of SOUND, by a pipe and by a file: its dump, and its octets."""
+    """Each text of SOUND, on a pipe and as a file, gives the dump of SOUND, and with --raw its octets."""
     out = program.run(["--as=octets"], SOUND).out
     part.expect("names and an open string", b"(commonName)" in out and b" wraps {" in out)
     for what, given, note in SAME:
@@ -142,7 +142,7 @@ def same(part, program):
 
 
 def handed_on(part, program):
-    """Options, faults and broken strings are those of the octets, with the note before the messages."""
+    """Options, faults and broken strings apply to the decoded octets. The note precedes the messages."""
     part.write("mine", b"2.5.4.3 cn\n")
     long = element(0x30, b"\x06\x03\x55\x04\x03" + element(4, b"\x05" * 99))
     breaks = bytes.fromhex("300b0603551d0f0404030305a0")
@@ -165,7 +165,9 @@ def handed_on(part, program):
 
 
 def words(part, program):
-    """What --raw writes of each row of RAW; --as that is out of range comes after the other options; --raw with others."""
+    """Each row of RAW gives its output with --raw.
+    A value of --as that is out of range is reported after those of other options.
+    """
     for given, text, status, out, note in RAW:
         program.gives(["--raw", *given], text, status, out, note, what=f"--raw {' '.join(given)} {text[:40]!r}")
         if status == 2 and not out:
@@ -181,7 +183,7 @@ def words(part, program):
 
 
 def statuses(part, program):
-    """The status of a text that is refused is that of the octets before the place, and 4 if that is 0."""
+    """The status of a text that is refused is that of the octets before the refusal, or 4 if that is 0."""
     for text, status, raw in (
         (b"BQAF*", 2, b"\x05\x00\x05"), (b"AgIABQIC*", 2, b"\x02\x02\x00\x05\x02\x02"),
         (b"AgIABQUA*", 1, b"\x02\x02\x00\x05\x05\x00"), (b"BQAFAAUA*", 4, NULL * 3),
@@ -196,7 +198,7 @@ def statuses(part, program):
 
 
 def blocks(part, program):
-    """Several blocks of one FILE."""
+    """A FILE with several blocks."""
     given = pem(b"A", SOUND) + pem(b"B", FOUND) + pem(b"C", NULL)
     shows = [program.run(["--as=octets"], octets).out for octets in (SOUND, FOUND, NULL)]
     out = b"".join(b"# block %d of 3: %c\n%s" % (number, 64 + number, of) for number, of in enumerate(shows, 1))
@@ -218,7 +220,7 @@ def blocks(part, program):
 
 
 def several(part, program):
-    """Several FILEs: octets and texts; all are read before the first is shown."""
+    """Several FILEs of octets and texts. All are read before the first is shown."""
     for name, octets in (("a.der", SOUND), ("b.der", NULL), ("a text", SOUND.hex().encode()),
                          ("it's.pem", pem(b"X", NULL) * 2), ("none", b"Dear Sir")):
         part.write(name, octets)
@@ -237,7 +239,7 @@ def several(part, program):
 
 
 def made(part, program):
-    """A certificate as openssl makes it: in PEM, and after its text."""
+    """A certificate made by openssl: in PEM, and after a text."""
     if not part.has("openssl"):
         return
     for command in ("openssl req -x509 -newkey ec -pkeyopt ec_paramgen_curve:P-256 -nodes -keyout key.pem -out cert.pem"

@@ -1,6 +1,7 @@
-"""tlvdump-show on texts (docs/TEXTS.md): sound ones as tools make them, cut at many places, and damaged; then drawn ones.
+"""Tests tlvdump-show on texts (docs/TEXTS.md): sound texts as tools make them, cut at many places, and damaged; then
+random texts.
 
-What --raw writes is compared with the octets that a tool was given, and each run with the second opinion.
+The output of --raw is compared with the octets that the tool was given, and each run with the second opinion.
 """
 import os
 import random
@@ -22,7 +23,7 @@ NO_PEM_END = "its end marker is missing"
 
 
 def element(tag, octets):
-    """Returns an element with the shortest length."""
+    """Returns an element with the shortest length octets."""
     return bytes([tag]) + shortest(len(octets)) + octets
 
 
@@ -40,7 +41,7 @@ def inputs(part):
 
 
 class Texts:
-    """Runs of the program on texts, each compared with the second opinion too."""
+    """Runs the program on texts. Each run is also compared with the second opinion."""
 
     def __init__(self, part, program):
         """Keeps the part, the program, and the tools that the machine has."""
@@ -51,34 +52,36 @@ class Texts:
         return text_makers.all_of(self.part, self.tools, octets)
 
     def raw(self, what, text, form=None):
-        """Runs --raw on a text, compares it with the second opinion, and returns what it did."""
+        """Runs --raw on a text, and compares it with the second opinion. Returns the result."""
         got = self.program.run(["--raw"] + ([f"--as={form}"] if form else []), text)
         self.part.same(f"{what}, by the second opinion", got, self.program.wanted("raw", text, as_form=form))
         self.part.expect(f"{what}: what is reported is printable", PLAIN.fullmatch(got.err), *got.lines())
         return got
 
     def same(self, what, text, octets, form=None, blocks=1):
-        """Counts tests: that --raw writes these octets, and reports what so many blocks were taken for."""
+        """Counts tests: --raw writes these octets, and reports the form of each of `blocks` blocks."""
         got = self.raw(what, text, form)
         fine = got.status == 0 and got.out == octets and got.err.count(b"taken for ") == blocks
         self.part.expect(what, fine, *got.lines())
 
     def begins(self, what, text, octets, form=None):
-        """Counts tests: that --raw writes the first of these octets, or none. The last may lack a digit of its token."""
+        """Counts tests: --raw writes a prefix of these octets, possibly empty.
+        The last octet may lack a digit of its token.
+        """
         got = self.raw(what, text, form)
         last = 1 if b"0x" in text[-6:].lower() else 0
         fine = got.status in (0, 2) and octets.startswith(got.out[: len(got.out) - last])
         self.part.expect(f"{what}: no other octets", fine, *got.lines())
 
     def refused(self, what, text, octets, form, line):
-        """Counts tests: that --raw writes these octets, and names this line."""
+        """Counts tests: --raw writes these octets, and names this line."""
         got = self.raw(what, text, form)
         said = f"X2 refused in line {line}, where {texts.EXPECTED[form]} is expected\n".encode()
         self.part.expect(what, (got.status, got.out) == (2, octets) and got.err.endswith(said), *got.lines())
 
 
 def sound(checks, octets, has_iconv):
-    """Each text as it is, and changed so that the octets are the same; then its dump."""
+    """Each text as it is, and with changes that leave the octets the same. Then its dump."""
     for name, form, text in checks.all_of(octets):
         what = f"{name}, {len(octets)} octets"
         checks.same(what, text, octets)
@@ -98,7 +101,7 @@ def sound(checks, octets, has_iconv):
 
 
 def shown(checks, what, text, octets):
-    """The dump of a text is that of its octets, by a pipe and by a file."""
+    """The dump of a text is that of its octets, on a pipe and as a file."""
     part, program = checks.part, checks.program
     wanted = program.run([], octets)
     got = program.run([], text)
@@ -110,7 +113,7 @@ def shown(checks, what, text, octets):
 
 
 def cuts(checks, octets):
-    """Each text cut at many places: with --as, no octets but the first ones are written."""
+    """Each text is cut at many places. With --as, only octets from the beginning are written."""
     rng = random.Random(len(octets))
     for name, form, text in checks.all_of(octets):
         for place in sorted(rng.sample(range(1, len(text)), CUTS)):
@@ -121,7 +124,7 @@ def cuts(checks, octets):
 
 
 def damaged_base64(checks, octets):
-    """A character that is none of base64, in each third line of PEM and of base64; a missing line; markers."""
+    """A character that is not base64 in each third line of PEM and of base64, a missing line, and damaged markers."""
     body = text_makers.in_lines(octets).splitlines(True)
     label = b"-----BEGIN CERTIFICATE-----\n"
     end = b"-----END CERTIFICATE-----\n"
@@ -156,7 +159,8 @@ def damaged_digits(checks, octets):
 
 
 def damaged_dumps(checks, octets):
-    """A wrong offset or digit, a line that is missing or put in: the line is named, and what is before is shown."""
+    """A wrong offset or digit, a missing line, or an added line: the line is named, and the octets before it are shown.
+    """
     for name, form, text in checks.all_of(octets):
         lines = text.splitlines(True)
         rows = [at for at, line in enumerate(lines) if ROW.match(line)]
@@ -176,13 +180,14 @@ def damaged_dumps(checks, octets):
         ):
             place = at + more
             if name.startswith("od") and "-Ax" not in name:
-                # Octal offsets: it is refused as with hexadecimal ones, with which the second row does not fit.
+                # A dump with octal offsets is refused where it would be with
+                # hexadecimal ones: at its second row, which then does not fit.
                 kept, place = width, 2
             checks.refused(f"{name}, {what}", b"".join(changed), octets[:kept], form, place)
 
 
 def repeats(checks):
-    """Dumps whose second line is a repeat; and dumps in words and in bits, which are not taken for octets."""
+    """Dumps whose second line repeats a row. Dumps in words and in bits are not taken for octets."""
     for octets in (element(4, bytes(14)) * 5 + b"\x05\0", element(4, bytes(14)) * 3, bytes(48), bytes(58)):
         for command in ("od -tx1", "od -Ax -tx1", "hexdump -C"):
             words = command.split()
@@ -206,7 +211,9 @@ def len_of_row(name):
 
 
 def drawn(part, program):
-    """20,000 drawn texts, in batches of FILEs: what is written is printable, and --raw is what the second opinion says."""
+    """20,000 random texts, in batches of FILEs: the output is
+    printable, and --raw writes what the second opinion expects.
+    """
     for batch in range(BATCHES):
         rng = random.Random(f"texts {batch}")
         given = {f"{batch}.{number}": show_cases.text(rng) for number in range(EACH)}

@@ -1,6 +1,6 @@
-"""tlvdump-show --why: whether octets parse, and if not, why, in sentences.
+"""Tests tlvdump-show --why: whether octets parse, and if not, why, in sentences.
 
-Its rows have octets, and the sentences that are to be said of them.
+The rows have octets, and the sentences that must be written about them.
 """
 import random
 import re
@@ -14,7 +14,7 @@ NULL = b"\x05\x00"
 
 
 def element(tag, octets):
-    """Returns an element with a definite length."""
+    """Returns an element of definite length."""
     return bytes([tag]) + shortest(len(octets)) + octets
 
 
@@ -33,7 +33,7 @@ INDEFINITE = "an indefinite number of octets"
 ANEW = "Try: fetch the input anew, in binary; or go on at the next record, with tail -c +M FILE, where M is its offset and 1."
 START = "No encoding begins so. Try: file FILE, which knows files of other kinds."
 WHOLE = "Try: head -c {0} FILE, for the whole encodings."
-# For each fault: the octets, the words, and the sentences after "It does not parse".
+# For each fault: the code, the octets, the words, and the sentences after "It does not parse".
 FAULTS = [
     ("F01", "", [], ["The input is empty.", "Try: look whether the program that should write it failed."]),
     ("F01", "00 00", ["--padding"],
@@ -107,7 +107,7 @@ FAULTS = [
 
 
 def sound(octets):
-    """Returns the sentence that begins what is said of octets that parse."""
+    """Returns the first sentence about octets that parse."""
     return f"It parses: {len(octets)} octets, which are whole encodings."
 
 
@@ -117,7 +117,7 @@ def findings(ber, der):
 
 
 BODY = element(0x30, b"\x02\x01\x05" * 9 + b"\x04\x02\xe9\x0a")
-# What to try: another start, a copy as a text, a file of another kind. Each with words that are said, and the status.
+# Hints for a wrong start, a copy as text, and files of other kinds: words that must be written, and the status.
 HINTS = [
     ("a wrong start", b"\0\0\0" + BODY, "From offset 3 on it parses", 2),
     ("the command for it", b"\0\0\0" + BODY, "Try: tail -c +4 FILE | tlvdump-show", 2),
@@ -132,11 +132,11 @@ HINTS = [
     ("XML", b"<?xml version", "the character <", 2),
     ("OpenSSH", b"openssh-key-v1\0", "a key of OpenSSH", 2),
 ]
-# Octets of which another start may not be said: those after whole encodings.
+# Octets for which no other start may be suggested: those after whole encodings.
 NO_START = [BODY + b"garbage\n", BODY + b"\x41\x82\x13\x04\x30"]
 # A header that is named: "the header at offset 2", "the INTEGER at offset 2", "the [1] at offset 2".
 NAMED = re.compile(r"(?:eader|[A-Z][A-Za-z0-9-]*|\]) at offset (\d+)")
-# So many headers of each encoding are changed, and of the certificates of the machine each so many-th is taken.
+# The number of headers of each encoding that are changed, and the step by which certificates of the machine are taken.
 CHANGES, STEP = 12, 8
 PEM = b"-----BEGIN A-----\nMAMCAQU=\n-----END A-----\n-----BEGIN B-----\nMAMCAQ==\n-----END B-----\n"
 
@@ -148,22 +148,22 @@ class Why:
         self.part, self.program = part, Program(part)
 
     def run(self, words, given=b""):
-        """Returns what it did. Counts a test: that all it writes is printable."""
+        """Runs --why with these words. Returns the result. Counts a test: the output is printable."""
         got = self.program.run(["--why", *words], given)
         odd = {*got.out, *got.err} - {10, *range(32, 127)}
         self.part.expect(f"--why {words} of {given[:30].hex()}: what it writes is printable", not odd, str(odd))
         return got
 
     def said(self, octets, *words):
-        """Returns the status and the lines that it writes of these octets, which are taken as they are."""
+        """Returns the status and the lines that it writes about these octets, which are not taken for a text."""
         got = self.run(["--as", "octets", *words], octets)
         return got.status, got.out.decode(errors="replace").splitlines()
 
 
 def faults(why):
-    """A sentence for each fault, with the header at fault, and what is missing or left over."""
+    """Each fault has its sentences, with the header at fault, and the number of missing or remaining octets."""
     part = why.part
-    # F12 is about strings that are named, and here none is.
+    # F12 requires strings that are named, and none is named here.
     part.expect("each fault", {code for code, *_ in FAULTS} == {f"F{number:02}" for number in range(1, 12)})
     for code, digits, words, wanted in FAULTS:
         octets = bytes.fromhex(digits)
@@ -178,7 +178,7 @@ def faults(why):
 
 
 def hints(why):
-    """What to try, and that it helps."""
+    """The hints are given, and following one helps."""
     for what, octets, wanted, ends in HINTS:
         status, lines = why.said(octets)
         why.part.expect(f"hint: {what}", status == ends and wanted in "\n".join(lines), str(status), *lines)
@@ -192,7 +192,7 @@ def hints(why):
 
 
 def cuts(why):
-    """Each prefix of an encoding: what is missing in all is reported, and so much is missing."""
+    """Each prefix of an encoding is reported with the number of octets that it lacks."""
     octets = element(0x30, b"\x02\x01\x05" + element(0x31, string(b"\x05" * 130) + NULL))
     wrong = []
     for size in [*range(4, 20), *range(len(octets) - 6, len(octets))]:
@@ -204,7 +204,7 @@ def cuts(why):
 
 
 def wrong_lengths(rng, octets):
-    """Gives the offset of a drawn header, and the octets with its last length octet changed by 1 to 5."""
+    """Yields the offset of a random header, and the octets with its last length octet changed by 1 to 5."""
     headers = [it for it in Reading(octets).elements() if it.length is not None]
     for it in rng.choices(headers, k=CHANGES):
         last = it.length_octets[-1] + rng.choice([-5, -4, -3, -2, -1, 1, 2, 3, 4, 5])
@@ -213,9 +213,9 @@ def wrong_lengths(rng, octets):
 
 
 def real_headers(why):
-    """Real encodings with one length changed by 1 to 5: that header is named in more than nine of ten.
+    """In real encodings with one length changed by 1 to 5, that header is named in more than nine of ten cases.
 
-    Those that parse all the same do not count.
+    Encodings that still parse do not count.
     """
     part, rng, named, mended, unnamed = why.part, random.Random(1), 0, 0, []
     for name, octets in real_encodings.encodings(part, STEP):
@@ -234,7 +234,7 @@ def real_headers(why):
 
 
 def texts(why):
-    """Of a text each block of octets; of several FILEs the highest status."""
+    """Each block of a text is explained. The status of several FILEs is the highest."""
     part, octets = why.part, element(0x30, b"\x02\x01\x05")
     got = why.run([], octets.hex().encode())
     fine = (got.status, got.err) == (0, b"taken for hexadecimal\n") and got.out.startswith(sound(octets).encode())

@@ -1,7 +1,7 @@
-"""The rows of tests/show_rows tell wrong ways to open strings from the right one.
+"""Checks that the rows of tests/show_rows distinguish wrong ways to open strings from the right one.
 
-Each wrong way is a change of the second opinion (tests/second_opinion/opened.py). The second opinion gives what each row
-says, and with each change it gives something else for some row.
+Each wrong way is a change of the second opinion (tests/second_opinion/opened.py). The second opinion must give the
+result of each row, and with each change it must fail for some row.
 """
 from contextlib import ExitStack
 from unittest.mock import patch
@@ -34,9 +34,9 @@ def show_of(row):
 
 
 def gives(row, names):
-    """Returns whether the second opinion gives what a row says.
+    """Returns whether the second opinion gives the result of a row.
 
-    A wrong way may find a broken string without a fault, or with F12, of which there are no reasons.
+    A wrong way may find a broken string without a fault, or with F12. Such a string has no reasons.
     """
     known = read_names(row.names) if row.names is not None else names
     try:
@@ -47,13 +47,13 @@ def gives(row, names):
 
 
 def has_clean_ends(reading, codes):
-    """Returns whether a reading has no fault, or one of these, and its outermost elements have no finding."""
+    """Returns whether a reading has no fault, or one of these, and no finding in its outermost elements."""
     is_fine = reading.fault is None or reading.fault.code in codes
     return is_fine and bool(reading.items) and all(it.constructed or it.end and opened.is_clean(it) for it in reading.items)
 
 
 def is_clean_by_rules(element):
-    """Returns whether BER finds nothing in an element, of any class."""
+    """Returns whether an element of any class has no finding of BER."""
     found = opened.findings
     return not found.of_header(element, None, None, "ber") + found.of_end(element, "ber")
 
@@ -64,7 +64,7 @@ def all_inner_octets(string):
 
 
 class NotInside(opened.Strings):
-    """Nothing is looked for inside an opened string."""
+    """Does not look inside a string that is opened."""
 
     def look(self, items, parent, base, level):
         if base == 0:
@@ -72,7 +72,7 @@ class NotInside(opened.Strings):
 
 
 class NotTheLast(opened.Strings):
-    """The last string with which the input ends is lost."""
+    """Loses the last string if the input ends with it."""
 
     def __init__(self, octets, padding=False):
         super().__init__(octets, padding)
@@ -81,7 +81,7 @@ class NotTheLast(opened.Strings):
 
 
 class NotWithAFault(opened.Strings):
-    """Nothing is opened in an input that has a fault."""
+    """Opens nothing in an input that has a fault."""
 
     def __init__(self, octets, padding=False):
         super().__init__(octets, padding)
@@ -90,7 +90,7 @@ class NotWithAFault(opened.Strings):
 
 
 class NotAfterBroken(opened.Strings):
-    """Nothing is opened after a string that breaks."""
+    """Opens nothing after a string that breaks."""
 
     def string(self, string, parent, base, level):
         if not self.broken:
@@ -98,14 +98,14 @@ class NotAfterBroken(opened.Strings):
 
 
 class NoneBroken(opened.Strings):
-    """A string that breaks is taken for a random one."""
+    """Takes a string that breaks for a random one."""
 
     def faults(self):
         return iter(())
 
 
 def without_own_depth(octets, *more, around=0, **others):
-    """Reads octets as if the string that holds them did not count."""
+    """Reads octets as if the string that holds them did not count as open."""
     return Reading(octets, *more, around=max(around - 1, 0), **others)
 
 

@@ -1,4 +1,4 @@
-"""Time and order: lines that come before the input ends, pipes that close early, signals, depth."""
+"""Tests time and order: lines that are written before the input ends, pipes that close early, signals, and depth."""
 import os
 import select
 import signal
@@ -11,7 +11,7 @@ PIPES = {"stdin": subprocess.PIPE, "stdout": subprocess.PIPE, "stderr": subproce
 
 
 def read_so_far(pipe, count):
-    """Reads so many octets, or fewer if no more come in time."""
+    """Reads `count` octets, or fewer if no more come in time."""
     got, until = b"", time.monotonic() + SECONDS
     while len(got) < count and time.monotonic() < until:
         if select.select([pipe], [], [], 1)[0]:
@@ -22,7 +22,7 @@ def read_so_far(pipe, count):
     return got
 
 
-# Octets, and what is written once they have come, before the input ends.
+# Octets, and what is written after them before the input ends.
 STEPS = [
     (bytes.fromhex("3a09"), b"       0      9: VisibleString {\n"),
     (bytes.fromhex("04034a6f6e"), b"       2      3:   OCTET STRING 4a 6f 6e\n"),
@@ -63,7 +63,9 @@ def ends_early(part):
 
 
 def closed_early(part):
-    """The reader of the output goes away: E2 if SIGPIPE is ignored, else a quiet end by it."""
+    """If the reader of the output closes it, the program ends with
+    E2 if SIGPIPE is ignored, and is ended by SIGPIPE otherwise.
+    """
     nulls = b"\x05\x00" * 100_000
     for ignored in (True, False):
         action = signal.SIG_IGN if ignored else signal.SIG_DFL
@@ -83,13 +85,16 @@ def closed_early(part):
 
 
 def heed(number):
-    """Has a signal its usual effect in the program, also if it has none here, as SIGINT in the background of a shell."""
+    """Gives a signal its default effect in the program, even if
+    it is ignored here, as SIGINT is in the background of a shell.
+    """
     if number != signal.SIGKILL:
         signal.signal(number, signal.SIG_DFL)
 
 
 def signals(part):
-    """A signal ends the program as it ends any; what was written stays. A pause changes nothing."""
+    """A signal ends the program in the usual way, and what was written stays. Stopping and continuing changes nothing.
+    """
     for number in (signal.SIGTERM, signal.SIGINT, signal.SIGHUP, signal.SIGKILL):
         child = part.start(["dump"], **PIPES, preexec_fn=lambda: heed(number))
         child.stdin.write(STEPS[0][0])
@@ -110,13 +115,13 @@ def signals(part):
 
 
 def nested_lines(depth):
-    """The lines of so many open SEQUENCEs of indefinite length."""
+    """Returns the lines of `depth` open SEQUENCEs of indefinite length."""
     lines = [f"{2 * level:8}  indef: {'  ' * level}SEQUENCE {{\n" for level in range(depth)]
     return "".join(lines).encode()
 
 
 def depth(part):
-    """128 elements may be open, and a wrapper counts among them."""
+    """At most 128 elements may be open, and a wrapper counts as one."""
     opened = b"\x30\x80" * 128
     ends = [f"{256 + 2 * n:8}    end: {'  ' * (127 - n)}}}\n".encode() for n in range(128)]
     part.gives(["dump"], opened + bytes(256), 0, nested_lines(128) + b"".join(ends))

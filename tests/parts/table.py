@@ -1,11 +1,11 @@
-"""data/names.txt: its form, a list of well-known pairs, and the certificates of Debian's ca-certificates."""
+"""Tests data/names.txt: its form, some well-known names, and the certificates of Debian's ca-certificates."""
 import glob
 import os
 import ssl
 
 ANCHORS = "/usr/share/ca-certificates/mozilla"
 
-# Written down from the standards, apart from the file.
+# Copied from the standards, independently of the file.
 KNOWN = """
 2.5.4.3 commonName
 2.5.4.5 serialNumber
@@ -91,7 +91,7 @@ def arcs_of(dotted):
 
 
 def contents_of(dotted):
-    """The contents octets of an object identifier (X.690 8.19)."""
+    """Returns the contents octets of an object identifier (X.690, 8.19)."""
     first, second, *rest = arcs_of(dotted)
     octets = b""
     for number in (40 * first + second, *rest):
@@ -107,7 +107,7 @@ def pairs_of(lines):
 
 
 def form(part, path):
-    """What the file promises beyond what the program asks of it. Returns its pairs."""
+    """Checks what the file promises beyond what the program requires. Returns its pairs."""
     with open(path, "rb") as file:
         octets = file.read()
     lines = octets.decode("ascii").split("\n")
@@ -128,7 +128,7 @@ def form(part, path):
 
 
 def check_names(part, path, what, pairs):
-    """That the program reads the file and names each of these object identifiers so."""
+    """Checks that the program reads the file and shows these names for these object identifiers."""
     octets = b""
     wanted = []
     for dotted, name in pairs:
@@ -142,12 +142,12 @@ def check_names(part, path, what, pairs):
 
 
 def strings_of(lines):
-    """The offsets of the primitive OCTET STRINGs in a dump, as those of a certificate's extensions."""
+    """Returns the offsets of the primitive OCTET STRINGs in a dump, such as those of a certificate's extensions."""
     return [line.split()[0] for line in lines if line[17:].lstrip().startswith("OCTET STRING")]
 
 
 def anchors(part, path):
-    """Each object identifier in the certificates of ca-certificates has a name, also within extensions."""
+    """Each object identifier in the certificates of ca-certificates has a name, also inside extensions."""
     files = sorted(glob.glob(os.path.join(ANCHORS, "*.crt")))
     part.expect("ca-certificates", files, f"there are no certificates in {ANCHORS}")
     count, without = 0, set()

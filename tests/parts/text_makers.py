@@ -1,6 +1,6 @@
-"""Texts of encodings, as usual tools make them and as they are written by hand.
+"""Makes texts of encodings, as common tools write them and as people write them by hand.
 
-Each is a name, the value of --as, and the text. What a form is, docs/TEXTS.md says.
+Each text is a name, the value of --as, and the text. docs/TEXTS.md defines the forms.
 """
 import base64
 import re
@@ -8,7 +8,7 @@ import subprocess
 
 from second_opinion import text_dump_drawing as rows
 
-# What is made of octets by a command that reads a file "octets".
+# Commands that make texts from a file "octets".
 COMMANDS = (
     ("dump", "xxd octets"), ("dump", "xxd -u octets"), ("dump", "xxd -g1 octets"), ("dump", "xxd -g4 octets"),
     ("dump", "xxd -c8 octets"), ("dump", "xxd -c32 octets"), ("dump", "xxd -g0 octets"), ("dump", "xxd -o4096 octets"),
@@ -24,12 +24,12 @@ CAPTURE = b"12:00:01.500000 IP 192.0.2.1.389 > 192.0.2.7.40000: Flags [P.], leng
 
 
 def tools_of(part):
-    """Returns the tools of these commands that the machine has."""
+    """Returns those of the tools that the machine has."""
     return {tool for tool in sorted({command.split()[0] for _, command in COMMANDS}) if part.has(tool)}
 
 
 def made(part, tools, octets):
-    """Returns texts of octets by the commands of these tools."""
+    """Returns the texts that the commands of these tools make of octets."""
     part.write("octets", octets)
     found = []
     for form, command in COMMANDS:
@@ -57,7 +57,7 @@ def dump(octets, row, width=16):
 
 
 def dumps(octets):
-    """Returns hex dumps as programs write them that the machine has not."""
+    """Returns hex dumps as written by programs that the machine may lack."""
     return [
         ("tcpdump -x", "dump", CAPTURE + dump(octets, lambda at, it, width: f"\t0x{at:04x}:  {rows.joined(it, 2)}")),
         ("tcpdump -X", "dump", CAPTURE + dump(octets, rows.tcpdump)),
@@ -78,7 +78,7 @@ def digits(octets, front):
 
 
 def others(octets):
-    """Returns texts in hexadecimal, in numbers, in PEM and in base64 by hand."""
+    """Returns texts in hexadecimal, numbers, PEM and base64, as written by hand."""
     text, listed = base64.b64encode(octets), b", ".join(b"%d" % it for it in octets)
     signed = b", ".join(b"%d" % (it - 256 if it > 127 else it) for it in octets)
     block = pem(b"CERTIFICATE", octets)
@@ -114,5 +114,5 @@ def runs(octets):
 
 
 def all_of(part, tools, octets):
-    """Returns all texts of octets, those of these tools among them."""
+    """Returns all texts of octets, including those of these tools."""
     return made(part, tools, octets) + dumps(octets) + others(octets) + runs(octets)

@@ -1,10 +1,10 @@
-"""The command line: which words are refused, and how."""
+"""Tests the command line: which words are refused, and how."""
 from parts.harness import Done, message
 
 NULL = b"\x05\x00"
 NULL_LINE = b"       0      0: NULL\n"
 
-# Words that the parser refuses: status 4, its own text on standard error.
+# Words that the parser refuses, with status 4 and a message of its own on standard error.
 REFUSED = [
     "",
     "dumpx",
@@ -94,13 +94,13 @@ VALUES += [
     ("--limit", ["dump", "--inside", "y", "--limit", "x"]),
     ("--offset", ["extract", "--inside", "y", "--offset", "x"]),
     ("--offset", ["extract", "--offset", "x", "--inside", "y"]),
-    # The values pass before the names file and FILE.
+    # Values are checked before the names file and FILE are opened.
     ("--limit", ["dump", "--limit", "x", "--names", "missing", "missing"]),
     ("--inside", ["dump", "--names", "missing", "--inside", "x"]),
     ("--offset", ["extract", "--offset", "x", "missing"]),
 ]
 
-# Words that are taken, for the octets 05 00, and what is written.
+# Words that are accepted, and what is written for the octets 05 00.
 TAKEN = [
     ("dump", NULL_LINE),
     ("dump --limit=1", NULL_LINE),
@@ -147,12 +147,12 @@ def check_taken(part):
     part.gives(["extract", "--offset", "1099511627776"], NULL, 1, err=far)
 
 
-# Octets that are no UTF-8, by themselves or within a word.
+# Octets that are not UTF-8, alone or inside a word.
 NO_TEXTS = [b"\xff", b"\xff\xfe", b"\xc3", b"\x80", b"\xc0\x80", b"\xe2\x82", b"\xed\xa0\x80"]
 NO_TEXTS += [b"\xf0\x9f\x98", b"\xf4\x90\x80\x80", b"a\xffb", b"ab\xe9", b"\xc3\xa9\xff"]
 NO_TEXTS += [b"x" * 299 + b"\xff", b"\xff" * 300]
 
-# The places of such a word: *.
+# The places of such a word in a command line, as `*`.
 PLACES = [
     "*",
     "* dump",
@@ -175,7 +175,7 @@ PLACES = [
     "extract --offset=0 --inside=* null",
     "indef *",
     "indef --padding -- *",
-    # It takes precedence over all that is refused for another reason, and over help.
+    # An argument that is not UTF-8 takes precedence over all other refusals, and over help.
     "nonsense *",
     "dump --nonsense *",
     "dump a b *",
@@ -203,7 +203,7 @@ def not_utf_8(part):
 
 
 def files(part):
-    """Words that name files, with `--` and without."""
+    """Words that name files, with and without `--`."""
     for name in ("--pure", "-", "a b", "dump", "\u00e9.der", "help"):
         part.write(name, NULL)
     for words in ("dump -- --pure", "dump -", "dump -- -", "dump dump", "dump \u00e9.der", "dump help"):

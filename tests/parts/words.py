@@ -1,6 +1,9 @@
-"""The words of specs: each has one definition in the repository, those of proofs included, so that no reader meets one with two
-meanings. And no file of specs calls a tactic: what a reader has to believe is written out. And each edit that the prover must
-refuse is named by a function of the file that it changes."""
+"""Checks the words of specs.
+
+Each word has one definition in the repository, including proofs, so that no reader meets one with two meanings. No file
+of specs calls a tactic: what a reader has to believe is written out. Each edit that the prover must refuse is named
+after a function of the file that it changes.
+"""
 import os
 import re
 
@@ -13,12 +16,12 @@ OF_PROOFS = re.compile(
 
 
 def without_comment(line):
-    """Returns a line of specs up to its comment, which begins with "--" outside of a text."""
+    """Returns a line of specs up to its comment, which begins with "--" outside of a literal."""
     return CODE.match(line)[0]
 
 
 def definitions(text):
-    """Yields the names that a file of specs defines: not the fields of a record, nor the constructors of its data."""
+    """Yields the names that a file of specs defines, except fields of records and constructors of data."""
     inside = None
     for line in text.split("\n"):
         depth = len(line) - len(line.lstrip())
@@ -33,8 +36,9 @@ def definitions(text):
 
 
 def definitions_of_proofs(text):
-    """Yields the names that a file of proofs defines, on its top level and in its modules: no field, and nothing that is
-    defined inside a lemma."""
+    """Yields the names that a file of proofs defines at its top level and in its modules, except fields and what is
+    defined inside a lemma.
+    """
     in_module = False
     for line in text.split("\n"):
         depth = len(line) - len(line.lstrip())
@@ -46,7 +50,7 @@ def definitions_of_proofs(text):
 
 
 def files(root, folder):
-    """Yields the path of each file in folders of this name below the root, and its text."""
+    """Yields the path and the text of each file in folders of this name below the root."""
     for crate in sorted(os.listdir(os.path.join(root, "crates"))):
         for at, _, names in sorted(os.walk(os.path.join(root, "crates", crate, folder))):
             for name in sorted(names):
@@ -56,7 +60,7 @@ def files(root, folder):
 
 
 def edits(root):
-    """Yields the path of each edit, the function that it is named by, and the text of the file that it changes."""
+    """Yields the path of each edit, the function after which it is named, and the text of the file that it changes."""
     for crate in sorted(os.listdir(os.path.join(root, "crates"))):
         folder = os.path.join(root, "crates", crate, "must-fail")
         for name in sorted(os.listdir(folder)) if os.path.isdir(folder) else ():

@@ -1,4 +1,4 @@
-"""Draws a case from a seed: an input, a names file, and the commands that are run on them."""
+"""Draws a random case from a seed: an input, a names file, and the commands to run on them."""
 import random
 from dataclasses import dataclass, field
 
@@ -12,7 +12,7 @@ LIMITS = ("0", "1", "2", "3", "5", "62", "256", "007", "0000000000001", "4294967
 
 @dataclass
 class Run:
-    """The options of a run, its words, and whether it reads a pipe."""
+    """A run: its options, its words, and whether it reads a pipe."""
 
     options: Options
     words: list
@@ -21,9 +21,9 @@ class Run:
 
 @dataclass
 class Case:
-    """An input and the runs on it, with the names of the file that the input is in and of the names file.
+    """An input and the runs on it, with the name of its file and that of the names file.
 
-    `more` has further inputs, by the names of their files.
+    `more` has further inputs, by file name.
     """
 
     seed: int
@@ -36,7 +36,7 @@ class Case:
 
 
 def case_of(seed):
-    """Returns the case of a seed; it is the same at each call."""
+    """Returns the case of a seed. The same seed always gives the same case."""
     rng = random.Random(f"tlvdump {seed}")
     octets, padding = drawing.input_octets(rng)
     files = [paths.file_name(rng, "input"), paths.file_name(rng, "names")]
@@ -46,7 +46,7 @@ def case_of(seed):
 
 
 def run_of(rng, command, octets, padding, files):
-    """Returns a run of this command with drawn options."""
+    """Returns a run of this command with random options."""
     options = Options(command, padding=padding if rng.random() < 0.95 else not padding)
     if command != "indef" and rng.random() < 0.6:
         options.inside = inside(rng, octets, options.padding)
@@ -65,7 +65,7 @@ def run_of(rng, command, octets, padding, files):
 
 
 def inside(rng, octets, padding):
-    """Returns a list of offsets, mostly of strings that hold encodings; None if there is none."""
+    """Returns a list of offsets, mostly of strings that hold encodings, or None."""
     named = set()
     for _ in range(rng.choice([1, 2, 3, 9])):
         elements = [it for it in Reading(octets, named, padding).elements() if it.offset not in named]
@@ -81,13 +81,13 @@ def inside(rng, octets, padding):
 
 
 def holds_elements(rng, string):
-    """Returns whether the contents of a string are encodings, or now and then whether they begin so."""
+    """Returns whether the contents of a string are encodings, or sometimes whether they begin like one."""
     held = Reading(string.contents[1:] if string.is_universal(BIT_STRING) else string.contents)
     return len(held.items) > 0 and (held.fault is None or rng.random() < 0.2)
 
 
 def offset(rng, octets, options):
-    """Returns the offset of an element, mostly; or another."""
+    """Returns the offset of an element, or sometimes another offset."""
     named = [int(text) for text in options.inside.split(",")] if options.inside else []
     elements = Reading(octets, named, options.padding).elements()
     if elements and rng.random() < 0.9:
@@ -109,9 +109,9 @@ def out_of_range(rng, options):
 
 
 def words(rng, options, by_pipe, file, names):
-    """Returns the words: the command, the options in any order, and FILE if the input is no pipe.
+    """Returns the words: the command, the options in any order, and FILE unless the input is a pipe.
 
-    It notes in the options whether the files open.
+    Notes in the options whether the files can be opened.
     """
     given = []
     for name in ("rules", "limit", "offset", "inside"):
@@ -143,13 +143,13 @@ REFUSED_LINES = (
 
 
 def name_for(rng, arcs):
-    """Returns a name, rarely one as long as the line may be, or nearly."""
+    """Returns a name, rarely one that is about as long as the line may be."""
     name = f"name of {arcs}"[:150]
     return name if rng.random() < 0.8 else name.ljust(rng.randrange(100, 400 - len(arcs)), "-")
 
 
 def names_file(rng):
-    """Returns a names file: comments, known object identifiers and others.
+    """Returns a names file with comments, known object identifiers and others.
 
     Rarely it has a line that is refused, or very many lines.
     """

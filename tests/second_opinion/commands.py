@@ -1,4 +1,4 @@
-"""The four commands and their endings: "Use" in README.md, docs/FORMAT.md from "What a dump writes" on."""
+"""Runs the four commands: "Use" in README.md, and docs/FORMAT.md from "What a dump writes" on."""
 import re
 from dataclasses import dataclass
 
@@ -23,14 +23,14 @@ LARGEST_LIMIT, LARGEST_OFFSET, MOST_NAMED = (1 << 32) - 1, 1 << 40, 16
 
 
 class Refused(Exception):
-    """The words or the names file are refused: the message, with status 4."""
+    """The words or the names file are refused, with this message and status 4."""
 
 
 @dataclass
 class Options:
-    """The options of a command. A value is the text in the words; None if there is none.
+    """The options of a command. A value is the text in the words, or None if it is not given.
 
-    The names file and FILE open, unless their names are those of no file, or are too long for the system.
+    The names file and FILE can be opened, unless no file has their name or it is too long for the system.
     """
 
     command: str
@@ -49,7 +49,7 @@ class Options:
 
 @dataclass
 class Values:
-    """What the texts of the options mean."""
+    """The values that the texts of the options stand for."""
 
     rules: str
     limit: int
@@ -67,12 +67,12 @@ class Result:
 
 
 def in_range(text, largest):
-    """Returns whether this is a number up to the largest, in 1 to 13 decimal digits (docs/DECISIONS.md)."""
+    """Returns whether the text is a number up to the largest, of 1 to 13 decimal digits (docs/DECISIONS.md)."""
     return re.fullmatch("[0-9]{1,13}", text) is not None and int(text) <= largest
 
 
 def values_of(options):
-    """Returns the values; the first of rules, limit, offset and inside that is out of range is reported (U2)."""
+    """Returns the values. The first of rules, limit, offset and inside that is out of range is reported (U2)."""
     rules = options.rules if options.rules is not None else "ber" if options.command == "dump" else "der"
     limit = options.limit if options.limit is not None else str(LARGEST_LIMIT)
     offset = options.offset if options.offset is not None else "0"
@@ -103,7 +103,7 @@ def run(options, octets, names):
 
 
 def answer(options, given, known, octets):
-    """Returns the result of a command whose options have these values, on an input; `known` has names by arcs."""
+    """Returns the result of a command with these values on an input. `known` has names by arcs."""
     reading = Reading(octets, given.inside, options.padding)
     if options.command == "extract":
         return extract(reading, given.offset, options.contents)
@@ -115,7 +115,7 @@ def answer(options, given, known, octets):
 
 
 def known_names(options, names):
-    """Returns the names by arcs, if there is a names file; N5 refuses one that does not open."""
+    """Returns the names by arcs, if there is a names file. A names file that cannot be opened is N5."""
     if not options.names:
         return {}
     if not options.names_open:
@@ -129,7 +129,7 @@ def fault_text(fault):
 
 
 def ending(reading, inside, found, out):
-    """Returns the result: a fault takes precedence over E7 and findings, and E7 over findings."""
+    """Returns the result. A fault takes precedence over E7 and findings, and E7 over findings."""
     if reading.fault:
         return Result(2, out, fault_text(reading.fault))
     wrappers = {element.offset for element in reading.elements() if element.wraps}
@@ -140,23 +140,23 @@ def ending(reading, inside, found, out):
 
 
 class Report:
-    """The lines of `dump` or of `check`, and the number of findings."""
+    """Collects the lines of `dump` or `check`, and counts the findings."""
 
     def __init__(self, options, given, known):
-        """Begins a report by the options, their values, and the names."""
+        """Begins a report with the options, their values, and the names."""
         self.is_check, self.pure, self.text = options.command == "check", options.pure, options.text
         self.rules, self.limit, self.known = given.rules, given.limit, known
         self.lines, self.found = [], 0
 
     def line(self, level, text, offset=None, middle=""):
-        """Adds a line of a dump: the first 17 columns, which `--pure` leaves out; indentation; text."""
+        """Adds a line of a dump: the first 17 columns (unless `--pure`), the indentation, and the text."""
         if self.is_check:
             return
         columns = " " * 17 if offset is None else f"{offset:>8} {middle:>6}: "
         self.lines.append(f"{'' if self.pure else columns}{'  ' * level}{text}\n")
 
     def findings(self, element, level, codes):
-        """Adds a line for each finding, and counts them; with `--pure` they have no line."""
+        """Counts the findings, and adds a line for each unless `--pure`."""
         self.found += len(codes)
         for code in codes:
             if self.is_check:
@@ -165,7 +165,7 @@ class Report:
                 self.line(level, findings.TEXTS[code], element.offset, code)
 
     def siblings(self, items, parent, level):
-        """Adds the lines of elements that come one after another, and of padding."""
+        """Adds the lines of elements and padding that follow each other."""
         previous = None
         for item in items:
             if isinstance(item, Padding):
@@ -175,7 +175,7 @@ class Report:
                 previous = item
 
     def element(self, element, parent, previous, level):
-        """Adds what is found from the header, the lines that came, and what is found at the end."""
+        """Adds the findings on the header, the lines of the element, and the findings on the whole element."""
         self.findings(element, level, findings.of_header(element, parent, previous, self.rules))
         if element.opens():
             self.opened(element, level)
@@ -195,7 +195,7 @@ class Report:
             self.line(level, "}")
 
     def primitive(self, element, level):
-        """Adds the line of a primitive and its rows; with `--limit` so many, and `...` (Layout)."""
+        """Adds the line of a primitive and its rows, of which `--limit` may replace some by `...` (Layout)."""
         text, rows = values.shown(element, self.known)
         if text is None:
             return
@@ -210,7 +210,7 @@ class Report:
 
 
 def extract(reading, offset, contents_alone):
-    """Returns the result of `extract`: nothing counts that comes after the element."""
+    """Returns the result of `extract`. Nothing after the element counts."""
     chosen = next((element for element in reading.elements() if element.offset == offset), None)
     if chosen is None:
         if reading.fault:
@@ -226,7 +226,7 @@ def extract(reading, offset, contents_alone):
 
 
 def indef(reading, items):
-    """Returns what `indef` writes: the indefinite form of each constructed element."""
+    """Returns the output of `indef`: the indefinite form of each constructed element."""
     out = b""
     for item in items:
         if isinstance(item, Padding):

@@ -1,18 +1,18 @@
-"""Draws contents of primitives: mostly sound ones of the type, and about a fifth with something wrong."""
+"""Draws contents of primitives at random: about four fifths are right for the type, the others have something wrong."""
 LENGTHS = (0, 1, 2, 3, 7, 8, 9, 10, 11, 15, 16, 17, 18, 31, 32, 33, 48, 49, 63, 64, 65, 66)
 LENGTHS += (100, 127, 128, 129, 130, 200)
 LONG = (255, 256, 257, 999, 1000, 1001, 1002, 2000)
 LONG += (4080, 4090, 4094, 4095, 4096, 4097, 4100, 5000, 8190, 9000)
-# Object identifiers: those that a names file is likely to have, and others.
+# Object identifiers that a names file is likely to have, and others.
 KNOWN = ("2.5.4.3", "2.5.4.6", "2.5.29.15", "1.2.840.113549.1.1.1", "1.2.840", "1.3.6.1", "2.999")
 KNOWN += ("0.9.2342", "1.3.101.112")
-# Some with long texts, of up to 64 octets of contents.
+# Some with long texts, whose encodings have up to 64 octets.
 KNOWN += ("1.3.6.1.4.1.311.21.8.15041462.15123212.9520540.10244456.12914242.71.1", "2.47" + ".127" * 63)
 KNOWN += (f"2.5.{(1 << 128) - 1}.7.{(1 << 127) + 1}", "1.3" + ".7" * 63, "2.25.329800735698586629295641978511506172918")
 
 
 def some_length(rng, most=1 << 20):
-    """Returns a length: small, near the width of a row, or now and then near a read of 4096 octets."""
+    """Returns a length: small, near the width of a row, or sometimes near a read of 4096 octets."""
     choice = rng.random()
     if choice < 0.05:
         return min(rng.choice(LONG), most)
@@ -20,7 +20,7 @@ def some_length(rng, most=1 << 20):
 
 
 def any_octets(rng, most=1 << 20):
-    """Returns octets of any kind."""
+    """Returns random octets."""
     length = some_length(rng, most)
     return bytes([rng.randrange(256)]) * length if rng.random() < 0.3 else rng.randbytes(length)
 
@@ -38,12 +38,12 @@ def of_type(rng, number):
 
 
 def boolean(rng):
-    """Returns FALSE, TRUE, another TRUE, or another number of octets."""
+    """Returns FALSE, TRUE, another value of TRUE, or a wrong number of octets."""
     return rng.choice([b"\0", b"\xff", b"\xff", b"\x01", b"\xfe", b"", b"\xff\x00", rng.randbytes(17)])
 
 
 def null(rng):
-    """Returns no octet, or some that are wrong."""
+    """Returns no octets, or rarely some, which are wrong."""
     return b"" if rng.random() < 0.8 else any_octets(rng)
 
 
@@ -60,7 +60,7 @@ def integer(rng):
 
 
 def bit_string(rng):
-    """Returns a number of unused bits, mostly with these clear, and bits."""
+    """Returns a number of unused bits, and bits. Mostly the unused bits are 0."""
     octets = rng.randbytes(some_length(rng))
     unused = rng.choice([0, 0, 0, rng.randrange(8), rng.randrange(8), 8, 255])
     if octets and unused <= 7 and rng.random() < 0.7:
@@ -69,7 +69,7 @@ def bit_string(rng):
 
 
 def base_128(number, padding=0):
-    """Returns a subidentifier, with octets 80 in front."""
+    """Returns a subidentifier, with `padding` octets 80 in front."""
     octets = [number & 0x7F]
     while number > 127:
         number >>= 7
@@ -81,7 +81,7 @@ LARGE = (1 << 127, (1 << 128) - 1, 1 << 128, (1 << 128) + 39, (1 << 128) + 80, 1
 
 
 def identifier(rng, relative):
-    """Returns an object identifier: a known one, or some subidentifiers; rarely padded or unfinished."""
+    """Returns an object identifier: a known one, or random subidentifiers. Rarely it is padded or unfinished."""
     if rng.random() < 0.4:
         numbers = [int(arc) for arc in rng.choice(KNOWN).split(".")]
         if not relative:
@@ -102,7 +102,7 @@ def identifier(rng, relative):
 
 
 def digits(rng, least, most, count=2):
-    """Returns a number in decimal, rarely past its range."""
+    """Returns a number in decimal, rarely out of its range."""
     number = rng.choice([least, most, rng.randint(least, most), rng.randint(least, most)])
     if rng.random() < 0.02:
         number = rng.choice([0, most + 1, most + 2])
@@ -110,7 +110,7 @@ def digits(rng, least, most, count=2):
 
 
 def time(rng):
-    """Returns a UTCTime or GeneralizedTime, mostly of its grammar."""
+    """Returns a UTCTime or GeneralizedTime, which mostly obeys its grammar."""
     whole = digits(rng, 0, 9999, rng.choice([2, 4]))
     whole += digits(rng, 1, 12) + digits(rng, 1, 31) + digits(rng, 0, 23)
     for most in (59, 59, 60):
@@ -134,7 +134,7 @@ WRONG = (b"\0", b"\x1f", b"\x7f", b"\x80", b"\xff", b"A", b"*", b"@", b"&", b"_"
 
 
 def text(rng, number):
-    """Returns a string of characters of this type, rarely with one that is not of it."""
+    """Returns a string of characters of this type, rarely with another character."""
     if number in (12, 28, 30):
         return wide_text(rng, number)
     alphabet = ALPHABETS.get(number, bytes(range(256)))
@@ -154,7 +154,7 @@ ILL_FORMED = tuple(map(bytes.fromhex, (
 
 
 def wide_text(rng, number):
-    """Returns characters of UTF8String, UniversalString or BMPString, rarely with octets that are none."""
+    """Returns characters of UTF8String, UniversalString or BMPString, rarely with octets that are no character."""
     codes = CODES + (HIGH_CODES if number != 30 else ())
     most, plain = rng.choice([some_length(rng, 5000), rng.randrange(60, 140)]), rng.random() < 0.4
     octets = b""
@@ -169,7 +169,7 @@ def wide_text(rng, number):
 
 
 def encoded(number, code):
-    """Returns a character's octets."""
+    """Returns the octets of a character."""
     if number == 12:
         return chr(code).encode()
     return code.to_bytes(4 if number == 28 else 2, "big")

@@ -1,4 +1,4 @@
-"""Draws encodings: sound ones, and those with a little that is wrong. All comes from one random.Random."""
+"""Draws encodings at random: sound ones, and some with small faults. All randomness comes from one random.Random."""
 from second_opinion import contents
 from second_opinion.findings import shortest
 
@@ -10,7 +10,7 @@ MOST_LEVELS = 5
 
 
 def identifier(rng, number, tag_class=0, constructed=False, odd=0.03):
-    """Returns identifier octets; rarely a high form for a small number, or one with octets 80 in front."""
+    """Returns identifier octets. Rarely a small number has the high-tag-number form, or octets 80 in front."""
     first = tag_class << 6 | constructed << 5
     if number < 31 and rng.random() >= odd:
         return bytes([first | number])
@@ -24,7 +24,7 @@ def identifier(rng, number, tag_class=0, constructed=False, odd=0.03):
 
 
 def length_octets(rng, length, odd=0.04):
-    """Returns the shortest form, or a longer one: rarely, but oftener if forms change."""
+    """Returns the shortest length octets. Rarely, but more often if forms change, it returns a longer form."""
     fewest = shortest(length)
     if rng.random() >= (0.3 if odd and length in (127, 128, 255, 256) else odd):
         return fewest
@@ -48,7 +48,7 @@ def constructed(rng, number, octets, tag_class=0, indefinite=None):
 
 
 def tag(rng):
-    """Returns a class and a number, of any kind."""
+    """Returns a random class and number."""
     tag_class = rng.choice([0, 1, 2, 2, 3])
     large = rng.getrandbits(rng.choice([20, 40, 62, 63]))
     small = rng.choice([rng.randrange(6), rng.randrange(31), rng.randrange(31, 40)])
@@ -57,7 +57,7 @@ def tag(rng):
 
 
 def leaf(rng):
-    """Returns a primitive: mostly of a universal type with contents that suit it."""
+    """Returns a primitive, mostly of a universal type with contents for that type."""
     choice = rng.random()
     if choice < 0.8:
         number = rng.choice(LEAVES)
@@ -68,13 +68,13 @@ def leaf(rng):
     return primitive(rng, rng.randrange(1, 39), contents.any_octets(rng, 20))
 
 
-# Sizes of segments that have about 1000 octets in all, as octets or as bits.
+# Sizes of segments that have about 1000 octets together, counted as octets or as bits.
 NEAR_1000 = ((1000,), (1001,), (1000, 0), (1000, 1), (1000, 2), (1000, 3), (999, 1), (999, 2), (1000, 1, 2))
 NEAR_1000 += ((500, 500), (500, 501), (500, 502), (400, 301, 301))
 
 
 def segments(rng):
-    """Returns a string in segments: for CER of 1000 octets, and for others of few."""
+    """Returns a string in segments: for CER segments of 1000 octets, and for the other rules short ones."""
     number = rng.choice(STRING_TYPES + (BITS, BITS, BITS, OCTETS))
     kind = BITS if number == BITS else OCTETS
     sizes = [rng.choice([0, 1, 2, 5, 17, 70]) for _ in range(rng.randrange(5))]
@@ -92,7 +92,7 @@ def segments(rng):
 
 
 def segment(rng, kind, size):
-    """Returns a segment of this size; one of bits begins with the number of unused bits."""
+    """Returns a segment of this size. A segment of bits begins with the number of unused bits."""
     octets = rng.randbytes(size)
     if kind == BITS and octets:
         unused = rng.choice([0, 0, 0, 0, 1, 4, 7, 8])
@@ -114,7 +114,7 @@ def odd_segment(rng, kind):
 
 
 def wrapping(rng, level):
-    """Returns an OCTET STRING or BIT STRING that holds encodings; rarely what is damaged a little."""
+    """Returns an OCTET STRING or BIT STRING that holds encodings, which rarely have a small fault."""
     inner = several(rng, level + 1, rng.choice([0, 1, 1, 2]))
     if rng.random() < 0.15:
         inner = damaged(rng, inner)
@@ -124,7 +124,7 @@ def wrapping(rng, level):
 
 
 def element(rng, level=0):
-    """Returns an element of any kind."""
+    """Returns a random element."""
     choice = rng.random()
     if level >= MOST_LEVELS or choice < 0.5:
         return leaf(rng)
@@ -140,12 +140,12 @@ def element(rng, level=0):
 
 
 def several(rng, level, count):
-    """Returns elements one after another."""
+    """Returns elements that follow each other."""
     return b"".join(element(rng, level) for _ in range(count))
 
 
 def deep(rng):
-    """Returns elements within each other, about as many as may be open."""
+    """Returns nested elements, about as many as may be open."""
     octets = leaf(rng) if rng.random() < 0.5 else b""
     kind = rng.choice(["indefinite", "definite", "mixed", "wraps"])
     for _ in range(rng.choice([20, 60, 126, 127, 128, 128, 129, 129, 130, 140])):
@@ -159,7 +159,7 @@ def deep(rng):
 
 
 def damaged(rng, octets):
-    """Returns the octets with some of them changed, left out, put in, or cut off."""
+    """Returns the octets with some changed, removed, inserted, or cut off."""
     octets = bytearray(octets)
     for _ in range(rng.choice([1, 1, 1, 2, 3])):
         place, ends = rng.randrange(len(octets) + 1), octets.find(b"\0\0")
@@ -192,7 +192,7 @@ def padded(rng, level=0):
 
 
 def header(rng):
-    """Returns octets that begin as a header with odd lengths or long tags, and something after it."""
+    """Returns a header with an unusual length or a long tag, and some octets after it."""
     first = rng.choice([b"\x04", b"\x30", b"\x1f", b"\xbf", b"\x03", b"\x24"])
     if first[0] & 0x1F == 0x1F:
         first += bytes(rng.randrange(128, 256) for _ in range(rng.choice([0, 1, 2, 7, 8, 9]))) + b"\x07"
@@ -202,7 +202,7 @@ def header(rng):
 
 
 def cramped(rng):
-    """Returns a definite element or a string, mostly too short for the indefinite elements in it."""
+    """Returns a definite element or a string that is mostly too short for the indefinite elements in it."""
     octets = several(rng, 3, 1)
     for _ in range(rng.choice([1, 1, 2, 3])):
         octets = b"\x30\x80" + octets + b"\0\0"
@@ -211,7 +211,7 @@ def cramped(rng):
 
 
 def input_octets(rng):
-    """Returns an input, and whether it is one for `--padding`."""
+    """Returns an input, and whether it is to be read with `--padding`."""
     choice = rng.random()
     if choice < 0.34:
         octets = several(rng, 0, rng.choice([1, 1, 2, 3]))

@@ -1,4 +1,4 @@
-"""Finds what violates the rules, as docs/FINDINGS.md says."""
+"""Finds violations of the rules, as docs/FINDINGS.md describes them."""
 import re
 
 from second_opinion import values
@@ -37,7 +37,7 @@ TEXTS = {
     "C05": "constructed string fits in 1000 octets",
     "C06": "last segment is empty",
 }
-# B codes are of all encodings, S codes of DER and of CER, D codes of DER alone, C codes of CER alone.
+# B codes apply to all encodings, S codes to DER and CER, D codes to DER only, C codes to CER only.
 LETTERS = {"ber": "B", "der": "BSD", "cer": "BSC"}
 MUST_BE_PRIMITIVE = (1, 2, 5, 6, 9, 10, 13)
 MUST_BE_CONSTRUCTED = (8, 11, 16, 17, 29)
@@ -47,20 +47,20 @@ FULL = 1000
 
 
 def codes_by(conditions, rules):
-    """Returns the codes whose condition holds, of these rules, in the order B, S, D, C, each by number."""
+    """Returns the codes of these rules whose condition holds, in the order B, S, D, C, each by number."""
     order = sorted(conditions, key=lambda code: ("BSDC".index(code[0]), code))
     return [code for code in order if conditions[code] and code[0] in LETTERS[rules]]
 
 
 def is_string(element):
-    """Returns whether this is a string, primitive or constructed."""
+    """Returns whether the element is a string, primitive or constructed."""
     return element is not None and element.is_universal(*STRINGS)
 
 
 def of_header(element, parent, previous, rules):
-    """Returns the codes that are known with the whole header.
+    """Returns the codes that are known after the header.
 
-    `parent` is the element that holds this one directly, `previous` the one before it there.
+    `parent` is the element that directly holds this one, `previous` the one before it there.
     """
     is_primitive, indefinite = not element.constructed, element.length is None
     high = element.identifier[1:]
@@ -86,7 +86,7 @@ def of_header(element, parent, previous, rules):
 
 
 def shortest(length):
-    """Returns the fewest length octets (8.1.3.4, 8.1.3.5)."""
+    """Returns the smallest number of length octets (8.1.3.4, 8.1.3.5)."""
     if length < 128:
         return bytes([length])
     octets = length.to_bytes((length.bit_length() + 7) // 8, "big")
@@ -94,12 +94,12 @@ def shortest(length):
 
 
 def has_unused_bits(element):
-    """Returns whether this is a primitive BIT STRING whose first contents octet is not 0 (8.6.4)."""
+    """Returns whether the element is a primitive BIT STRING whose initial octet is not 0 (8.6.4)."""
     return element.is_universal(BIT_STRING) and element.contents[:1] not in (b"", b"\0")
 
 
 def of_end(element, rules):
-    """Returns the codes that are known with the last octet: of a primitive, or of a constructed string."""
+    """Returns the codes that are known after the last octet of a primitive or of a constructed string."""
     if element.wraps or element.end is None:
         return []
     if element.constructed:
@@ -108,7 +108,7 @@ def of_end(element, rules):
 
 
 def of_segments(element):
-    """C05 and C06: conditions on the segments of a whole constructed string."""
+    """C05 and C06: conditions on the segments of a constructed string."""
     segments = element.children
     all_primitive = not any(segment.constructed for segment in segments)
     ends_with_none = bool(segments) and not segments[-1].constructed and segments[-1].length == 0
@@ -124,7 +124,7 @@ def octets_as_a_primitive(element):
 
 
 def of_contents(element):
-    """B06 to B19 and S02 to S04: conditions on the contents of a whole primitive."""
+    """B06 to B19 and S02 to S04: conditions on the contents of a primitive."""
     contents = element.contents
     conditions = {}
     if element.is_universal(values.BOOLEAN):
@@ -147,12 +147,12 @@ def of_contents(element):
 
 
 def is_padded(contents):
-    """B08: the first nine bits are equal."""
+    """B08: the first nine bits are all equal."""
     return len(contents) > 1 and (contents[0], contents[1] >> 7) in ((0, 0), (0xFF, 1))
 
 
 def of_bits(contents):
-    """B13, B14, B15 and S03: the first octet of a BIT STRING, and its unused bits."""
+    """B13, B14, B15 and S03: the initial octet of a BIT STRING, and its unused bits."""
     unused = contents[0] if contents else 0
     return {
         "B13": not contents,
@@ -163,12 +163,12 @@ def of_bits(contents):
 
 
 def of_subidentifiers(contents):
-    """B11 and B12: the first octet of a subidentifier is 80, or bit 8 of the last octet is set."""
+    """B11 and B12: a subidentifier begins with an octet 80, or the last octet has bit 8 set."""
     first_octets = [octet for octet, before in zip(contents, b"\0" + contents) if before & 0x80 == 0]
     return {"B11": 0x80 in first_octets, "B12": len(contents) > 0 and contents[-1] & 0x80 != 0}
 
 
-# X.680 41: the octets of the types that do not have every octet.
+# X.680, 41: the octets that may occur in a type that does not allow all.
 ALPHABETS = {
     18: rb"[0-9 ]*",
     19: rb"[A-Za-z0-9 '()+,./:=?-]*",
@@ -178,7 +178,7 @@ ALPHABETS = {
 
 
 def has_its_characters(number, contents):
-    """B18: whether all octets are of characters that the type has."""
+    """B18: returns whether all octets are characters of the type."""
     if number in (values.UTF8, values.BMP_STRING, values.UNIVERSAL_STRING):
         return all(code is not None for _, code in values.characters(number, contents))
     return number not in ALPHABETS or re.fullmatch(ALPHABETS[number], contents) is not None
@@ -197,7 +197,7 @@ CANONICAL = {  # 11.7 and 11.8: seconds, Z, no zero at the end of a fraction, ho
 
 
 def of_time(element):
-    """B19 and S04: a time of at most 64 octets."""
+    """B19 and S04: conditions on a time of at most 64 octets."""
     if element.length > 64:
         return {}
     text = element.contents.decode("latin-1")

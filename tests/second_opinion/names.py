@@ -1,4 +1,4 @@
-"""Reads a names file, as the section "Names file" of docs/FORMAT.md says."""
+"""Reads a names file, as "Names file" in docs/FORMAT.md describes it."""
 import re
 
 from second_opinion.commands import Refused
@@ -9,7 +9,7 @@ MOST_OCTETS, MOST_ENTRIES, MOST_IN_A_LINE = 1_048_576, 65_536, 400
 
 
 def read_names(octets):
-    """Returns the names by arcs; N1, N2 and N3 refuse a line, N4 what is too large."""
+    """Returns the names by arcs. A line may be refused with N1, N2 or N3, and a file that is too large with N4."""
     names = {}
     if len(octets) > MOST_OCTETS:
         raise Refused("N4 names file too large")

@@ -1,11 +1,11 @@
-"""Which strings tlvdump-show opens, and which it calls broken, as docs/FORMAT.md says."""
+"""Finds the strings that tlvdump-show opens, and those that it calls broken, as docs/FORMAT.md describes them."""
 from dataclasses import dataclass
 
 from second_opinion import findings
 from second_opinion.reading import BIT_STRING, MOST_OPEN, OCTET_STRING, UNIVERSAL, Element, Reading
 
 OBJECT_IDENTIFIER, SEQUENCE = 6, 16
-# The first octets of the object identifiers below 2.5.29 and 1.3.6.1.5.5.7.1, which are those of extensions.
+# The first octets of the object identifiers of extensions: those below 2.5.29 and 1.3.6.1.5.5.7.1.
 EXTENSIONS = (bytes.fromhex("551d"), bytes.fromhex("2b060105050701"))
 HOLDERS = {0x30: "SEQUENCE", 0x31: "SET"}
 MOST_SMALL, MOST_OFF = 24, 8
@@ -14,23 +14,27 @@ NULL = b"\x05\x00"
 
 @dataclass
 class Broken:
-    """A broken string, with the words that say what it looks like."""
+    """A broken string, with the words for what it looks like."""
 
     offset: int
     looks: str
 
 
 class Strings:
-    """The strings of an input: `opened` has the rising offsets of those that are opened, `broken` the broken ones."""
+    """The strings of an input: `opened` has the offsets of those
+    that are opened, in rising order, and `broken` the broken ones.
+    """
 
     def __init__(self, octets, padding=False):
-        """Looks through the reading of the octets in which no string is named."""
+        """Reads the octets with no string named, and examines the elements."""
         self.octets, self.padding = octets, padding
         self.opened, self.broken = [], []
         self.look(Reading(octets, padding=padding).items, None, 0, 0)
 
     def look(self, items, parent, base, level):
-        """Looks at elements which `parent` holds; offsets in them count from `base`, and `level` elements are open."""
+        """Examines the elements that `parent` holds.
+        Their offsets count from `base`, and `level` elements are open around them.
+        """
         for element in items:
             if not isinstance(element, Element):
                 continue
@@ -40,7 +44,7 @@ class Strings:
                 self.string(element, parent, base, level)
 
     def string(self, string, parent, base, level):
-        """Opens a whole string and looks at what it holds, or keeps it if it is broken."""
+        """Opens a whole string and examines the elements in it, or keeps the string if it is broken."""
         inner = inner_octets(string)
         if inner is None or is_segment(parent) and not is_only_segment(parent):
             return
@@ -54,41 +58,45 @@ class Strings:
                 self.broken.append(Broken(base + string.offset, looks))
 
     def faults(self):
-        """Gives each broken string with the fault that the input has if that one is named too, and octets follow it."""
+        """Yields each broken string with the fault of the input in
+        which this string is named too and octets follow the input.
+        """
         for broken in self.broken:
             yield broken, Reading(self.octets + NULL, [*self.opened, broken.offset], self.padding).fault
 
 
 def inner_octets(string):
-    """Returns the octets that may be encodings: the contents, of a BIT STRING those after a first octet 00; else None."""
+    """Returns the octets that may be encodings, or None: the
+    contents, or of a BIT STRING those after an initial octet 00.
+    """
     if string.is_universal(OCTET_STRING):
         return string.contents
     return string.contents[1:] if string.contents[:1] == b"\0" else None
 
 
 def is_openable(reading):
-    """Returns whether these are sound encodings, and each outermost one is constructed or has no finding by BER."""
+    """Returns whether these are sound encodings, and each outermost one is constructed or has no finding of BER."""
     return reading.fault is None and all(element.constructed or is_clean(element) for element in reading.items)
 
 
 def is_clean(element):
-    """Returns whether this is a primitive of the universal class in which BER finds nothing."""
+    """Returns whether the element is a primitive of the universal class without a finding of BER."""
     found = findings.of_header(element, None, None, "ber") + findings.of_end(element, "ber")
     return element.tag_class == UNIVERSAL and not found
 
 
 def is_segment(parent):
-    """Returns whether what this element holds directly are segments: it is a constructed string."""
+    """Returns whether the element is a constructed string, so that the elements directly in it are segments."""
     return parent is not None and parent.constructed and findings.is_string(parent)
 
 
 def is_only_segment(parent):
-    """Returns whether this constructed string is whole, and has one segment."""
+    """Returns whether this constructed string is whole and has one segment."""
     return parent.end is not None and len(parent.children) == 1
 
 
 def look_of(inner):
-    """Returns the words for more than 24 octets that begin as a SEQUENCE or a SET of about their size, or None."""
+    """Returns the words for more than 24 octets that begin with a SEQUENCE or a SET of about their size, or None."""
     if len(inner) <= MOST_SMALL or inner[0] not in HOLDERS:
         return None
     count = inner[1] & 0x7F if inner[1] & 0x80 else 0

@@ -1,17 +1,19 @@
-"""Draws names of files, and words that name them: short and long ones, and those of no file."""
+"""Draws names of files, and the words for them: short and long names, and names that no file has."""
 LONGEST_PATH, LONGEST_WORD = 4095, 131_000
-# Names that a file can have, without the ending that makes it another one than that of the other file.
+# Unusual names that a file can have. An ending is added so that two files have different names.
 ODD = ("a:b", "\U0001f600", "\U0001f600:", "a b", "%s", "\u00e9" * 120, "x" * 240, "\\n", "'", "*", "~", "a=b", "\n")
 ODD += ("\u202e", "\ufeff", "\x7f", "\x01")
 
 
 def file_name(rng, usual):
-    """Returns the name of a file: mostly the usual one."""
+    """Returns the name of a file, mostly the usual one."""
     return usual if rng.random() < 0.7 else f"{rng.choice(ODD)}.{usual}"
 
 
 def path_to(rng, name):
-    """Returns a path, and whether it opens: mostly the name itself, or a path to it, rarely one that no file has."""
+    """Returns a path, and whether it can be opened: mostly the name
+    itself, or a longer path to it, rarely one that no file has.
+    """
     choice, octets = rng.random(), len(name.encode())
     if choice < 0.75:
         return name, True
@@ -25,5 +27,5 @@ def path_to(rng, name):
 
 
 def longer(name, octets):
-    """Returns a path to the file of this name that has so many octets more, or one fewer."""
+    """Returns a path to the file of this name that is longer by `octets` octets, or by one less."""
     return "./" * (octets // 2) + name

@@ -1,4 +1,5 @@
-"""Reads an input as "What is read" of docs/FORMAT.md says: a tree, and the fault if there is one."""
+"""Reads an input as "What is read" in docs/FORMAT.md describes it: a tree of elements, and the fault if there is one.
+"""
 from dataclasses import dataclass, field
 
 UNIVERSAL, APPLICATION, CONTEXT, PRIVATE = range(4)
@@ -17,7 +18,7 @@ class Fault(Exception):
 
 @dataclass
 class Padding:
-    """A run of octets 00 at the top."""
+    """A run of octets 00 at the top level."""
 
     offset: int
     end: int
@@ -25,7 +26,7 @@ class Padding:
 
 @dataclass
 class Element:
-    """An element whose header is whole. `end` is None until its last octet has come."""
+    """An element whose header is whole. `end` is None until its last octet is read."""
 
     offset: int
     tag_class: int
@@ -36,28 +37,30 @@ class Element:
     length: int | None  # None: the indefinite form
     length_octets: bytes
     wraps: bool = False
-    contents: bytes = b""  # of a primitive that is no wrapper: as many as came
+    contents: bytes = b""  # of a primitive that is no wrapper: as many as were read
     children: list = field(default_factory=list)
     end: int | None = None
 
     def is_universal(self, *numbers):
-        """Returns whether the tag is universal, with one of these numbers."""
+        """Returns whether the tag is universal with one of these numbers."""
         return self.tag_class == UNIVERSAL and self.number in numbers
 
     def opens(self):
-        """Returns whether this is one of the "open constructed elements and wrappers"."""
+        """Returns whether the element is one of the "open constructed elements and wrappers"."""
         return self.constructed or self.wraps
 
 
 class Reading:
-    """The one reading of an input.
+    """The reading of an input.
 
-    items: elements and padding at the top. fault: None if the ending is Done. kept: how many octets
-    are in whole headers, in contents, and in whole pairs 00 00; not in an unfinished header or a lone 00.
+    items: elements and padding at the top level. fault: None if the ending is Done. kept: how many octets are in whole
+    headers, in contents, and in whole pairs 00 00, but not in an unfinished header or a single 00.
     """
 
     def __init__(self, octets, inside=(), padding=False, around=0):
-        """Reads the octets, with the strings at the offsets `inside` as wrappers, and so many elements open around."""
+        """Reads the octets. The strings at the offsets `inside` are
+        wrappers, and `around` elements are open around the input.
+        """
         self.octets, self.inside, self.padding, self.around = octets, set(inside), padding, around
         self.at = self.kept = 0
         self.items, self.fault = [], None
@@ -67,7 +70,7 @@ class Reading:
             self.fault = fault
 
     def read_top(self):
-        """Case 5 at the top: 00 is padding, with that option, else F03. F01 if there is no element."""
+        """Case 5 at the top level: 00 is padding if that is allowed, and otherwise F03. F01 if there is no element."""
         while self.at < len(self.octets):
             if self.octets[self.at] != 0:
                 self.read_element(self.items, None, self.around)
@@ -87,7 +90,7 @@ class Reading:
         self.items.append(Padding(offset, self.at))
 
     def next_octet(self, bound, code):
-        """Returns the next octet, not yet taken. F02 at the end of the input; this code at the bound."""
+        """Returns the next octet without taking it. F02 at the end of the input, and `code` at the bound."""
         if self.at == len(self.octets):
             raise Fault(self.at, "F02")
         if self.at == bound:
@@ -101,7 +104,7 @@ class Reading:
         return octet
 
     def read_element(self, siblings, bound, opened):
-        """Contents: a primitive is as long as its length; a definite element is whole when it is filled."""
+        """Contents: a primitive is as long as its length says. A definite element is whole when it is filled."""
         element = self.read_header(bound, opened)
         siblings.append(element)
         self.kept = self.at
@@ -133,7 +136,7 @@ class Reading:
         return element
 
     def read_high_form(self, bound):
-        """Identifier: base 128, bit 8 set in all octets but the last; F06 at a ninth one with bit 8."""
+        """Identifier: base 128, with bit 8 set in all octets but the last. F06 at a ninth octet with bit 8 set."""
         number = 0
         for count in range(1, 10):
             octet = self.header_octet(bound)
@@ -145,7 +148,7 @@ class Reading:
         return number
 
     def read_length(self, bound, constructed):
-        """Length: short, indefinite (None) or long; F07, F08 and F09."""
+        """Length: short, indefinite (None) or long. F07, F08 and F09."""
         first = self.header_octet(bound)
         if first < 0x80:
             return first
@@ -164,14 +167,16 @@ class Reading:
         return length
 
     def is_wrapper(self, element):
-        """Strings that hold encodings: a primitive OCTET STRING, or BIT STRING with contents, is named."""
+        """Strings that hold encodings: a primitive OCTET STRING,
+        or a primitive BIT STRING with contents, that is named.
+        """
         if element.constructed or element.offset not in self.inside:
             return False
         is_bits = element.is_universal(BIT_STRING) and element.length > 0
         return is_bits or element.is_universal(OCTET_STRING)
 
     def read_primitive(self, element):
-        """Case 1: a contents octet of a primitive is taken, whatever it is."""
+        """Case 1: any contents octet of a primitive is taken."""
         end = element.start + element.length
         element.contents = self.octets[self.at : end]
         self.at += len(element.contents)
@@ -180,7 +185,7 @@ class Reading:
             raise Fault(self.at, "F02")
 
     def read_filling(self, element, end, opened):
-        """Reads elements until a definite element or a wrapper is filled; case 2: F12; case 5: 00 is F03."""
+        """Reads elements until a definite element or a wrapper is filled. Case 2: F12. Case 5: 00 is F03."""
         if element.wraps and element.is_universal(BIT_STRING):
             if self.next_octet(None, "") != 0:
                 raise Fault(self.at, "F12")
@@ -192,7 +197,7 @@ class Reading:
             self.read_element(element.children, end, opened)
 
     def read_to_the_end_octets(self, element, bound, opened):
-        """Reads elements until 00 00; cases 3 and 5: F05 at the bound, F04 if no second 00 comes."""
+        """Reads elements up to 00 00. Cases 3 and 5: F05 at the bound, F04 if no second 00 follows."""
         while self.next_octet(bound, "F05") != 0:
             self.read_element(element.children, bound, opened)
         self.at += 1
@@ -202,12 +207,12 @@ class Reading:
         self.kept = self.at
 
     def elements(self):
-        """Returns all elements, each before what it holds."""
+        """Returns all elements, each before the elements in it."""
         return list(in_order(self.items))
 
 
 def in_order(items):
-    """Gives the elements among these and in them, each before what it holds."""
+    """Yields these elements and those in them, each before the elements in it."""
     for item in items:
         if isinstance(item, Element):
             yield item

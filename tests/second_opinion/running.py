@@ -1,4 +1,4 @@
-"""Runs the program on the cases of seeds, and compares what it did with what the pages say."""
+"""Runs the program on the cases of seeds, and compares the results with what the pages describe."""
 import os
 import shlex
 import shutil
@@ -11,7 +11,7 @@ SECONDS = 120
 
 
 class Runner:
-    """Runs the program in a folder, in which the input and the names file of a case are."""
+    """Runs the program in a folder that has the input and the names file of a case."""
 
     name = "tlvdump"
 
@@ -38,7 +38,7 @@ class Runner:
             self.write(name, octets)
 
     def run(self, words, octets):
-        """Returns the program's status, output and message; `octets` is None if FILE is named."""
+        """Returns the program's status, output and message. `octets` is None if FILE is named."""
         how = {"cwd": self.folder, "stdin": subprocess.DEVNULL if octets is None else subprocess.PIPE}
         with open(self.path("out"), "w+b") as out, open(self.path("err"), "w+b") as err:
             child = subprocess.Popen([self.program, *words], stdout=out, stderr=err, close_fds=False, **how)
@@ -54,12 +54,12 @@ class Runner:
         return cases.case_of(seed)
 
     def wanted(self, it, case):
-        """Returns the status, output and message that a run is to have."""
+        """Returns the expected status, output and message of a run."""
         wanted = commands.run(it.options, case.octets, lambda: read_names(case.names))
         return wanted.status, wanted.out, wanted.message.encode() + b"\n" * bool(wanted.message)
 
     def differences(self, seed):
-        """Runs the case of a seed, and returns a text of each difference."""
+        """Runs the case of a seed. Returns a text for each difference."""
         case = self.case_of(seed)
         self.write_files(case)
         texts = []
@@ -72,12 +72,12 @@ class Runner:
 
 
 class ShowRunner(Runner):
-    """Runs tlvdump-show in a folder, as one that was installed below "prefix" with the file of names `names`."""
+    """Runs tlvdump-show in a folder, installed below "prefix" with the names file `names`."""
 
     name = "tlvdump-show"
 
     def __init__(self, program, folder, names):
-        """Puts the program and the names file below the prefix."""
+        """Installs the program and the names file below the prefix."""
         super().__init__(program, folder)
         self.program = put(program, self.path("prefix/bin/tlvdump-show"))
         with open(put(names, self.path("prefix/share/tlvdump/names.txt")), "rb") as file:
@@ -88,13 +88,13 @@ class ShowRunner(Runner):
         return show_cases.case_of(seed)
 
     def wanted(self, it, case):
-        """Returns the status, output and messages that a run is to have."""
+        """Returns the expected status, output and messages of a run."""
         wanted = showing.run(it.options, lambda: read_names(case.names) if it.options.names else self.names)
         return wanted.status, wanted.out, wanted.err
 
 
 class WhyRunner(ShowRunner):
-    """Runs tlvdump-show --why in the same way."""
+    """Runs tlvdump-show --why, installed in the same way."""
 
     def case_of(self, seed):
         """Returns the case of a seed."""
@@ -102,13 +102,13 @@ class WhyRunner(ShowRunner):
 
 
 def put(source, target):
-    """Copies a file into a folder, which is made if it is missing, and returns the path of the copy."""
+    """Copies a file into a folder, which is made if it is missing. Returns the path of the copy."""
     os.makedirs(os.path.dirname(target), exist_ok=True)
     return shutil.copy(source, target)
 
 
 def read_whole(file):
-    """Returns the contents of a file that is open."""
+    """Returns the contents of an open file."""
     file.seek(0)
     return file.read()
 
@@ -130,7 +130,7 @@ def difference(name, case, it, wanted, got):
 
 
 def first_unlike(what, wanted, got):
-    """Returns lines that name the first place at which two outputs differ."""
+    """Returns lines that show where two outputs first differ."""
     wanted, got = wanted.splitlines(True), got.splitlines(True)
     place = 0
     while wanted[place : place + 1] == got[place : place + 1]:

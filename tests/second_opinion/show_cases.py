@@ -1,4 +1,4 @@
-"""Draws a case for tlvdump-show from a seed: an input, a names file, and the runs on them."""
+"""Draws a random case for tlvdump-show from a seed: an input, a names file, and the runs on them."""
 import random
 
 from second_opinion import paths, show_drawing, text_drawing, texts
@@ -8,7 +8,7 @@ from second_opinion.reading import Reading
 from second_opinion.showing import File, Show
 
 LARGEST = 1 << 40
-# The texts of options that choose what is done. That of a dump is none, and --offset has a value.
+# The options that select a job. A dump has none. --offset has a value as well.
 JOBS = {"check": [["--check"]], "offsets": [["--offsets"]], "raw": [["--raw"]], "why": [["--why"]]}
 # The jobs that may have several FILEs.
 OF_SEVERAL = ("dump", "check", "raw", "why")
@@ -17,7 +17,7 @@ TEXTS, FORMS = 1 / 3, 0.1
 
 
 def case_of(seed):
-    """Returns the case of a seed; it is the same at each call. About a third of the inputs are texts."""
+    """Returns the case of a seed. The same seed always gives the same case. About a third of the inputs are texts."""
     rng = random.Random(f"tlvdump-show {seed}")
     is_text = rng.random() < TEXTS
     octets, padding = (text(rng), rng.random() < 0.1) if is_text else show_drawing.input_octets(rng)
@@ -31,17 +31,17 @@ def case_of(seed):
 
 
 def encodings(rng):
-    """Returns encodings, not too many for a text."""
+    """Returns encodings, small enough for a text."""
     return show_drawing.input_octets(rng)[0][:MOST_OCTETS]
 
 
 def text(rng):
-    """Returns a text of a drawn form."""
+    """Returns a text of a random form."""
     return text_drawing.text(rng, lambda: encodings(rng))
 
 
 def run_of(rng, job, case, padding):
-    """Returns a run of this job with drawn options."""
+    """Returns a run of this job with random options."""
     show = Show(job, padding=padding if rng.random() < 0.95 else not padding)
     if rng.random() < (TEXTS if case.more else FORMS):
         show.as_form = text_drawing.form(rng)
@@ -63,7 +63,7 @@ def run_of(rng, job, case, padding):
 
 
 def offset(rng, octets, padding):
-    """Returns the offset of an element, mostly, also inside opened strings; or another."""
+    """Returns the offset of an element, possibly inside an opened string, or sometimes another offset."""
     elements = Reading(octets, Strings(octets, padding).opened, padding).elements()
     if elements and rng.random() < 0.9:
         return str(rng.choice(elements).offset)
@@ -79,7 +79,7 @@ def out_of_range(rng, show):
 
 
 def words(rng, show, by_pipe, case):
-    """Returns the words: the job and the options in any order, and the FILEs. It notes in `show` what they are."""
+    """Returns the words: the job and the options in any order, and the FILEs. Notes the values in `show`."""
     given = list(JOBS.get(show.job, []))
     for name in ("rules", "limit", "offset", "as"):
         value = getattr(show, "as_form" if name == "as" else name)
@@ -100,7 +100,7 @@ def words(rng, show, by_pipe, case):
 
 
 def files(rng, show, by_pipe, case):
-    """Draws the FILEs, and returns their words, each in a group of its own."""
+    """Draws the FILEs. Returns their words, each in a group of its own."""
     if by_pipe and rng.random() < 0.7:
         show.files = [File("-", case.octets, True)]
         return [["-"]] if rng.random() < 0.3 else []

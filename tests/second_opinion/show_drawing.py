@@ -1,9 +1,9 @@
-"""Draws inputs for tlvdump-show: strings in strings, in segments, broken ones, extensions, and texts."""
+"""Draws inputs for tlvdump-show at random: nested strings, segments, broken strings, extensions, and texts."""
 from second_opinion import contents, drawing
 from second_opinion.drawing import BITS, OCTETS, SEQUENCE, SET, STRING_TYPES
 from second_opinion.findings import shortest
 
-# Object identifiers below 2.5.29 and 1.3.6.1.5.5.7.1, those two, and others.
+# Object identifiers below 2.5.29 and 1.3.6.1.5.5.7.1, those two themselves, and others.
 EXTENSIONS = tuple(map(bytes.fromhex, ("551d0f", "551d13", "551d1f", "551d8100", "2b0601050507 0101", "2b060105050701818001")))
 OTHERS = tuple(map(bytes.fromhex, ("551d", "2b060105050701", "551e0f", "2b060105050702", "550403", "1d0f", "")))
 TEXTS = (b"www.example.com", b"abc", b"ab", b"a b|c", b"~ ~", b"cn=admin,dc=example,dc=org", b"(&(objectClass=*))")
@@ -12,7 +12,7 @@ MOST_LEVELS = 7
 
 
 def whole(tag, octets):
-    """Returns an element with this identifier octet, and the shortest length."""
+    """Returns an element with this identifier octet and the shortest length octets."""
     return bytes([tag]) + shortest(len(octets)) + octets
 
 
@@ -24,7 +24,7 @@ def string(rng, octets):
 
 
 def text(rng):
-    """Returns a primitive that is shown as pairs, mostly of printable octets."""
+    """Returns a primitive that is shown as pairs of digits, mostly of printable octets."""
     octets = rng.choice(TEXTS)
     if rng.random() < 0.3:
         octets = bytes(rng.randrange(0x20, 0x7F) for _ in range(contents.some_length(rng, 300)))
@@ -37,14 +37,14 @@ def text(rng):
 
 
 def small(rng):
-    """Returns a primitive of few octets, mostly one in which BER finds nothing."""
+    """Returns a short primitive, mostly one without a finding of BER."""
     octets = ("0500", "020105", "0101ff", "0400", "03020001", "06022a03", "0c0161", "1301 41", "040161", "0d0105")
     odd = ("800105", "02020005", "0600", "0301 01", "050100", "1f0500", "1f0105", "13012a", "300 0", "a000", "810100", "0f00")
     return bytes.fromhex(rng.choice(octets if rng.random() < 0.75 else odd).replace(" ", ""))
 
 
 def nest(rng, level=0):
-    """Returns elements, mostly strings that hold more of them."""
+    """Returns elements, mostly strings that hold further elements."""
     choice = rng.random()
     if level >= MOST_LEVELS or choice < 0.25:
         return small(rng)
@@ -63,7 +63,7 @@ def nest(rng, level=0):
 
 
 def alone(rng, level):
-    """Returns a constructed string with one segment, mostly, or with two or none; the segments hold elements."""
+    """Returns a constructed string, mostly with one segment, else with two or none. The segments hold elements."""
     count = rng.choice([1, 1, 1, 1, 1, 0, 2, 3])
     tag = 0x20 | rng.choice([OCTETS, OCTETS, OCTETS, BITS, *STRING_TYPES])
     octets = b"".join(string(rng, nest(rng, level + 1)) for _ in range(count))
@@ -75,7 +75,7 @@ def alone(rng, level):
 
 
 def sized(rng, count):
-    """Returns elements of so many octets in all."""
+    """Returns elements of `count` octets in all."""
     octets = b""
     while len(octets) < count:
         rest = count - len(octets)
@@ -87,7 +87,7 @@ def sized(rng, count):
 
 
 def off(rng, tag=None, count=None):
-    """Returns a SEQUENCE or a SET whose length is not quite that of what it holds, in a string's size."""
+    """Returns a SEQUENCE or a SET of a string's size, whose length nearly matches its contents."""
     count = rng.choice([8, 18, 21, 22, 23, 24, 30, 125, 126, 127, 128, 200, 300]) if count is None else count
     octets = sized(rng, count)
     size = max(0, count + rng.choice([-10, -9, -8, -7, -2, -1, 0, 0, 1, 2, 7, 8, 9, 10]))
@@ -98,7 +98,7 @@ def off(rng, tag=None, count=None):
 
 
 def changed_length(rng, octets):
-    """Returns the octets with one changed a little."""
+    """Returns the octets with one of them changed a little."""
     if not octets:
         return octets
     place = rng.randrange(len(octets))
@@ -107,7 +107,7 @@ def changed_length(rng, octets):
 
 
 def extension(rng):
-    """Returns what looks like a certificate's extension, mostly with something wrong in its value."""
+    """Returns an element like a certificate's extension, mostly with something wrong in its value."""
     octets = rng.choice([nest(rng, 5), off(rng), off(rng, 0x30, rng.randrange(30)), b"\x30" + shortest(3) + small(rng), text(rng)])
     if rng.random() < 0.5:
         octets = changed_length(rng, octets)
@@ -127,7 +127,7 @@ def certificate(rng):
 
 
 def deep(rng):
-    """Returns strings at about the depth that may be open."""
+    """Returns nested strings, about as many as may be open."""
     inner = rng.choice([small(rng), string(rng, small(rng)), string(rng, whole(0x30, small(rng))), string(rng, off(rng))])
     octets = string(rng, inner)
     for _ in range(rng.choice([20, 123, 124, 125, 126, 127, 128, 129])):
@@ -142,7 +142,7 @@ def deep(rng):
 
 
 def chance(rng):
-    """Returns strings that hold encodings by chance, or nearly."""
+    """Returns a string of octets that may be encodings by chance, or nearly are."""
     octets = rng.choice([
         bytes([0x80, 18]) + rng.randbytes(18), bytes([0x80, 3]) + rng.randbytes(rng.choice([2, 3, 4])),
         small(rng) + small(rng), small(rng) + rng.randbytes(1), b"\x30\x80" + small(rng), b"\x30\x80" + small(rng) + b"\0\0",
@@ -152,7 +152,7 @@ def chance(rng):
 
 
 def input_octets(rng):
-    """Returns an input, and whether it is one for `--padding`."""
+    """Returns an input, and whether it is to be read with `--padding`."""
     choice = rng.random()
     if choice < 0.15:
         return drawing.input_octets(rng)

@@ -1,4 +1,4 @@
-"""What tlvdump-show does: docs/FORMAT.md from "Which strings are opened" on, docs/TEXTS.md and docs/WHY.md."""
+"""Runs tlvdump-show: docs/FORMAT.md from "Which strings are opened" on, docs/TEXTS.md and docs/WHY.md."""
 from dataclasses import dataclass, field
 
 from second_opinion import texts, why
@@ -11,14 +11,14 @@ from second_opinion.reading import Reading
 
 @dataclass
 class File:
-    """A FILE: its word, its octets (None if it does not open), and whether it is standard input."""
+    """A FILE: its word, its octets (None if it cannot be opened), and whether it is standard input."""
 
     word: str
     octets: bytes | None
     is_standard_input: bool = False
 
     def shown(self):
-        """Returns the word, with ? for each octet that is not printable ASCII."""
+        """Returns the word, with ? in place of each octet that is not printable ASCII."""
         if self.is_standard_input:
             return "standard input"
         return "".join(chr(it) if 0x20 <= it <= 0x7E else "?" for it in self.word.encode("utf-8", "surrogateescape"))
@@ -28,7 +28,7 @@ class File:
 class Show:
     """The options of a run: `job` is dump, check, offset, offsets, raw or why. A value is the text in the words.
 
-    Without `has_reasons` no reasons are looked for after the messages, which takes long in a large input.
+    Without `has_reasons` the reasons after the messages are left out, because they take long in a large input.
     """
 
     job: str
@@ -49,7 +49,7 @@ class Show:
 
 @dataclass
 class Result:
-    """The status, and what is written to standard output and to standard error; `said` is the latter without reasons."""
+    """The status, standard output, and standard error. `said` is standard error without the reasons."""
 
     status: int
     out: bytes
@@ -59,7 +59,7 @@ class Result:
 
 @dataclass
 class Shown:
-    """What is shown of a block: the status, the output, the lines that are reported, and the reasons after them."""
+    """The result for a block: the status, the output, the lines that are reported, and the reasons after them."""
 
     status: int
     out: bytes = b""
@@ -88,7 +88,7 @@ def run(show, names):
     except Refused as refused:
         return Result(4, b"", f"{refused}\n".encode())
     whole, number = Result(0, b"", b""), 0
-    # The blocks of each FILE; one that does not open has one, of which nothing is known.
+    # The blocks of each FILE. A FILE that cannot be opened has one block, which is None.
     blocks = [[None] if it.octets is None else texts.blocks_of(it.octets, show.as_form) for it in show.files]
     count = sum(map(len, blocks))
     for file, of_file in zip(show.files, blocks):
@@ -106,7 +106,7 @@ def run(show, names):
 
 
 def title(show, file, block):
-    """Returns what a block is called in the line before it."""
+    """Returns the title of a block, which is written before it."""
     name = block.name() if block else None
     if not name:
         return file.shown()
@@ -114,7 +114,7 @@ def title(show, file, block):
 
 
 def of_block(show, block, known):
-    """Returns what is shown of a block; the first line that is reported is the note."""
+    """Returns the result for a block. The first line that is reported is the note."""
     if block is None:
         return Shown(3, lines=["E5 cannot open the file"])
     note, is_raw = block.note(), show.job == "raw"
@@ -124,7 +124,7 @@ def of_block(show, block, known):
 
 
 def of_octets(show, octets, known):
-    """Returns what is shown of the octets of a block."""
+    """Returns the result for the octets of a block."""
     if show.job == "raw":
         return Shown(0, octets)
     strings = Strings(octets, show.padding)
@@ -143,14 +143,14 @@ def of_octets(show, octets, known):
 
 
 def with_broken(shown, strings):
-    """Returns what is shown, with a line for each broken string."""
+    """Returns the result with a line for each broken string."""
     broken = [line_of(*it) for it in strings.faults()]
     shown.status, shown.lines = max(shown.status, 1 if broken else 0), shown.lines + broken
     return shown
 
 
 def of_first(strings):
-    """Returns the reasons why the first of the broken strings breaks, if there is one."""
+    """Returns the reasons why the first broken string breaks, if there is one."""
     for broken in strings.broken[:1]:
         before = [it for it in strings.opened if it < broken.offset]
         return why.lines_of_string(strings.octets, strings.padding, (*before, broken.offset))
@@ -158,7 +158,7 @@ def of_first(strings):
 
 
 def why_shown(show, octets, strings):
-    """Returns what --why shows of the octets of a block."""
+    """Returns the output of --why for the octets of a block."""
     lines = why.lines_of(octets, show.padding)
     if lines:
         return Shown(2, written(lines))
@@ -175,7 +175,7 @@ def written(lines):
 
 
 def found_by(rules, octets, padding, inside):
-    """Returns how many findings a check reports by these rules, with these strings opened."""
+    """Returns how many findings a check by these rules reports, with these strings opened."""
     return len(answer(Options("check", padding=padding), Values(rules, 0, 0, inside), {}, octets).out.splitlines())
 
 
@@ -185,14 +185,14 @@ def line_of(broken, fault):
 
 
 def offsets(octets, padding, opened):
-    """Returns what --offsets shows of the octets of a block."""
+    """Returns the output of --offsets for the octets of a block."""
     out = (",".join(map(str, opened)) + "\n").encode() if opened else b""
     fault = Reading(octets, padding=padding).fault
     return Shown(2, out, [fault_text(fault)]) if fault else Shown(0, out)
 
 
 def options_of(show):
-    """Returns the options of the command of tlvdump that writes the same."""
+    """Returns the options with which tlvdump writes the same."""
     command = {"dump": "dump", "check": "check", "offset": "extract"}[show.job]
     text = command == "dump" and not show.no_text
     return Options(command, pure=show.pure, contents=show.contents, padding=show.padding, text=text)

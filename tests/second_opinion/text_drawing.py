@@ -1,4 +1,4 @@
-"""Draws texts of the forms of docs/TEXTS.md from octets, sound ones and those with a little that is wrong."""
+"""Draws texts of the forms of docs/TEXTS.md at random: sound ones, and some with small faults."""
 import base64
 import re
 
@@ -24,19 +24,19 @@ INSERTED += (b"\x00", b"\x1a", b"\x7f", b"=====", b"--", b"\n*\n", b"0x", b"\\x4
 
 
 def pick(rng, usual, *others, often=0.6):
-    """Returns the usual one, or one of the others."""
+    """Returns the usual value, or sometimes one of the others."""
     return usual if rng.random() < often else rng.choice(others)
 
 
 def in_lines(rng, text):
-    """Returns a text in lines of a drawn length, or in one."""
+    """Returns a text in lines of a random length, or in one line."""
     size = rng.choice([64, 64, 76, 48, 40, 39, 10, 1, 4000])
     end = pick(rng, b"\n", b"\r\n", b"\n ", b"\n\n", b"\\n", b"\\r\\n", b" ", b"\n> ", b"\n\t", often=0.7)
     return end.join(text[at : at + size] for at in range(0, len(text), size)) + rng.choice([end, end, b""])
 
 
 def base64_text(rng, octets):
-    """Returns base64 in lines, with and without padding, rarely of section 5 or with wrong bits."""
+    """Returns base64 in lines, with or without padding. Rarely it is that of section 5, or its last bits are wrong."""
     text = base64.b64encode(octets)
     if rng.random() < 0.15:
         text = text.translate(bytes.maketrans(b"+/", b"-_"))
@@ -48,7 +48,7 @@ def base64_text(rng, octets):
 
 
 def pem_block(rng, octets):
-    """Returns a block of PEM; rarely with odd markers."""
+    """Returns a block of PEM, rarely with unusual markers."""
     label = pick(rng, rng.choice(LABELS), *ODD_LABELS, often=0.92)
     body = in_lines(rng, base64.b64encode(octets))
     if rng.random() < 0.2:
@@ -61,7 +61,7 @@ def pem_block(rng, octets):
 
 
 def pem(rng, octets, others=()):
-    """Returns blocks of PEM, with text around them; in JSON, in mail, or with the marks of a quotation."""
+    """Returns blocks of PEM: with text around them, in JSON, in mail, or quoted."""
     text = b"".join(pem_block(rng, it) for it in (octets, *others))
     how = rng.random()
     if how < 0.08:
@@ -76,7 +76,7 @@ def pem(rng, octets, others=()):
 
 
 def hexadecimal(rng, octets):
-    """Returns pairs of digits, or tokens, of either case."""
+    """Returns pairs of digits, or tokens, in upper or lower case."""
     pairs = [b"%02x" % it for it in octets]
     how = rng.random()
     if how < 0.5:
@@ -99,7 +99,7 @@ def hexadecimal(rng, octets):
 
 
 def numbers(rng, octets):
-    """Returns a list of decimal numbers, of octets or of signed ones."""
+    """Returns a list of decimal numbers, signed or unsigned."""
     is_signed = rng.random() < 0.3
     texts = [b"%d" % (it - 256 if is_signed and it > 127 else it) for it in octets]
     if rng.random() < 0.05 and texts:
@@ -133,7 +133,7 @@ def runs(rng, octets, others=()):
 
 
 def several(rng, octets, others):
-    """Returns a text of a drawn form; `others` are more octets, for forms that have several blocks."""
+    """Returns a text of a random form. `others` are further octets, for forms with several blocks."""
     choice = rng.random()
     if choice < 0.24:
         return pem(rng, octets, others)
@@ -151,7 +151,7 @@ def several(rng, octets, others):
 
 
 def damaged(rng, text):
-    """Returns a text with a little that is changed."""
+    """Returns a text with a small change."""
     for _ in range(rng.choice([1, 1, 1, 2])):
         place, how = rng.randrange(len(text) + 1), rng.randrange(9)
         lines = text.splitlines(True)
@@ -178,7 +178,8 @@ def damaged(rng, text):
 
 
 def text(rng, draw):
-    """Returns a text; `draw` gives octets of encodings for it. Rarely it is in base64 by itself, or has a mark."""
+    """Returns a text of encodings, which `draw` makes. Rarely it is in base64 again, or begins with a byte order mark.
+    """
     others = [draw() for _ in range(rng.choice([0, 0, 0, 1, 1, 2]))]
     drawn = several(rng, draw(), others)
     if rng.random() < 0.3:
@@ -196,5 +197,5 @@ def text(rng, draw):
 
 
 def form(rng):
-    """Returns a value of --as: mostly one that is known."""
+    """Returns a value of --as, mostly one that is known."""
     return rng.choice(FORMS) if rng.random() < 0.95 else rng.choice(["", "PEM", "text", "base-64", "hex ", "xxd"])

@@ -1,13 +1,13 @@
-"""Draws hex dumps as usual programs write them, with variants, and with wrong offsets and rows."""
+"""Draws hex dumps at random, as common programs write them, with variants, and with wrong offsets and rows."""
 
 
 def shown(octets):
-    """Returns the characters of octets, as dumps show them."""
+    """Returns the characters that dumps show for octets."""
     return "".join(chr(it) if 0x20 <= it < 0x7F else "." for it in octets)
 
 
 def joined(octets, group):
-    """Returns pairs in groups, with a space between groups."""
+    """Returns pairs of digits in groups, with a space between groups."""
     return " ".join(octets[at : at + group].hex() for at in range(0, len(octets), group))
 
 
@@ -33,7 +33,7 @@ def od_z(offset, octets, width):
 
 
 def wireshark(offset, octets, width):
-    """Returns a row of Wireshark's."""
+    """Returns a row of Wireshark."""
     return f"{offset:04x}   {octets.hex(' '):{width * 3}}  {shown(octets)}"
 
 
@@ -43,7 +43,7 @@ def tcpdump(offset, octets, width):
 
 
 def bio_dump(offset, octets, width):
-    """Returns a row of openssl's."""
+    """Returns a row of openssl."""
     half = width // 2
     middle = "-" if len(octets) > half else " "
     return f"{offset:04x} - {octets[:half].hex(' ') + middle + octets[half:].hex(' '):{width * 3}}  {shown(octets)}"
@@ -55,12 +55,12 @@ def powershell(offset, octets, width):
 
 
 def one_blank(offset, octets, width):
-    """Returns a row whose characters come after one blank."""
+    """Returns a row whose characters follow after one blank."""
     return f"{offset:04x}: {octets.hex(' ')} {shown(octets)}"
 
 
 def words(offset, octets, width):
-    """Returns a row of hexdump without an option."""
+    """Returns a row of hexdump without options."""
     return f"{offset:07x} {joined(octets, 2)}"
 
 
@@ -97,7 +97,7 @@ def dump(rng, octets):
 
 
 def altered(rng, lines):
-    """Returns the lines of a dump with a wrong offset, a row that is too long or too short, or a line put in."""
+    """Returns the lines of a dump with a wrong offset, a row that is too long or too short, or an inserted line."""
     if not lines:
         return lines
     at, how = rng.randrange(len(lines)), rng.randrange(6)

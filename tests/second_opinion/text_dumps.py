@@ -1,4 +1,4 @@
-"""Hex dumps: "Hex dump" of docs/TEXTS.md."""
+"""Decodes hex dumps: "Hex dump" in docs/TEXTS.md."""
 import re
 from dataclasses import dataclass
 
@@ -7,11 +7,11 @@ USUAL_WIDTH, MOST_WIDTH = 16, 256
 PAIR = rb"[0-9a-fA-F]{2}"
 OFFSET = rb"[ \t]*(?:0[xX])?(%s{4,16})"
 DIGITS = {16: rb"[0-9a-fA-F]", 8: rb"[0-7]"}
-# Between the offset and the first pair.
+# What separates the offset from the first pair of digits.
 FRONT = rb"(:|[ \t]+:?)-?[ \t]*(?=%s)" % PAIR
 REPEAT, EMPTY = re.compile(rb"[ \t]*\*[ \t]*"), re.compile(rb"[ \t]*")
-# What may not come at once after the pairs of a row, and what not after those of a full row: after a blank a pair that a
-# blank or the end of the line follows.
+# DIGIT may not follow the pairs of a row directly. MORE may not follow the pairs of a full row: it is a blank and a
+# pair with a blank or the end of the line after it.
 DIGIT = re.compile(DIGITS[16])
 MORE = re.compile(rb"[ \t]%s(?=[ \t]|\Z)" % PAIR)
 # An offset as od writes it.
@@ -24,7 +24,7 @@ class TooLong(Exception):
 
 @dataclass
 class Decoded:
-    """The octets that a text gives, and the place at which it is refused, or None."""
+    """The octets that a text gives, and the place where it is refused, or None."""
 
     octets: bytes
     place: int | None = None
@@ -43,7 +43,7 @@ class Line:
 
 
 def decoded(text):
-    """Returns what a hex dump gives: with octal offsets, if they are as od writes them and fit, else with hexadecimal ones."""
+    """Returns what a hex dump gives. Offsets are octal if they are as od writes them and fit, and else hexadecimal."""
     dump = Dump(text, 16)
     if OF_OD.match(dump.first):
         octal = Dump(text, 8)
@@ -52,7 +52,7 @@ def decoded(text):
 
 
 def lines_of(text):
-    """Returns each line with the place at which it begins; a carriage return before a line feed is dropped."""
+    """Returns each line with the place where it begins. A carriage return before a line feed is dropped."""
     found, place = [], 0
     lines = text.split(b"\n")
     for number, line in enumerate(lines, 1):
@@ -63,12 +63,11 @@ def lines_of(text):
 
 
 class Dump:
-    """A dump whose offsets have this base. `place` is where it is refused; `pieces` are octets, each with a size.
+    """A dump whose offsets have this base.
 
-    `first` is the first row.
-
-    A piece is as often repeated as its size says, since a repeat may stand for many octets. `width` is the number
-    of octets in a row, None for a single row, which has any number.
+    `place` is where it is refused, or None. `first` is the first row. `pieces` are octets, each with a size: the octets
+    are repeated up to this size, because a repeat may stand for many. `width` is the number of octets in a row. It is
+    None for a single row, which may have any number.
     """
 
     def __init__(self, text, base):
@@ -85,13 +84,13 @@ class Dump:
             self.place = len(text) if misfit is None else misfit
 
     def octets(self):
-        """Returns the octets of all pieces; more than 2^30 are too many."""
+        """Returns the octets of all pieces. Raises TooLong if they are more than 2^30."""
         if sum(size for _, size in self.pieces) > MOST_OCTETS:
             raise TooLong
         return b"".join((octets * (size // len(octets) + 1))[:size] for octets, size in self.pieces)
 
     def line_of(self, place, text):
-        """Returns what a line is; None if it is none of the kinds."""
+        """Returns a line by its kind, or None if it is of no known kind."""
         row = self.row.match(text)
         if row:
             return Line("row", place, text, int(row[1], self.base), row.end(), row[2].startswith(b":"))
@@ -101,7 +100,9 @@ class Dump:
         return Line("repeat", place, text) if REPEAT.fullmatch(text) else None
 
     def items_of(self, lines):
-        """Returns the lines from the first row on, without empty ones, and the place of one that cannot stand there."""
+        """Returns the lines from the first row on, without empty
+        lines, and the place of a line that cannot stand there.
+        """
         items = []
         for place, text in lines:
             line = self.line_of(place, text)
@@ -116,7 +117,7 @@ class Dump:
         return items, None
 
     def read(self, items, misfit):
-        """Reads the lines, up to the first that does not fit."""
+        """Reads the lines up to the first that does not fit."""
         self.is_single = len(items) == 1
         self.width = None if self.is_single else width_of(items)
         self.next_offset, self.before, self.is_repeated = items[0].offset, None, False
@@ -128,11 +129,13 @@ class Dump:
         self.place = items[-1].place if self.is_repeated and misfit is None else misfit
 
     def is_short(self):
-        """Returns whether the row before has too few octets: no row fits after it, and no repeat."""
+        """Returns whether the row before has too few octets. Neither a row nor a repeat fits after such a row."""
         return self.before is not None and len(self.before) != self.width
 
     def fits_offset(self, offset):
-        """Returns whether an offset fits; after a repeat it fills up to it, with one row or more."""
+        """Returns whether an offset fits.
+        After a repeat it does if one or more rows fill the octets up to it, which are added.
+        """
         more = offset - self.next_offset
         if not self.is_repeated:
             return more == 0
@@ -143,13 +146,13 @@ class Dump:
         return True
 
     def fits_repeat(self, _):
-        """Notes a repeat; returns whether it fits, which is after a row that is full."""
+        """Notes a repeat. Returns whether it fits: it does after a full row."""
         fits = not self.is_short() and not self.is_repeated
         self.is_repeated = self.is_repeated or fits
         return fits
 
     def fits_row(self, row):
-        """Takes the octets of a row; returns whether it fits."""
+        """Adds the octets of a row. Returns whether it fits."""
         if self.is_short() or self.is_single and row.offset != 0 and not row.has_colon:
             return False
         octets, at = self.pairs(row)
@@ -162,7 +165,7 @@ class Dump:
         return True
 
     def pairs(self, row):
-        """Returns the octets of a row, as many as it may have, and the place after them."""
+        """Returns the octets of a row, up to the width, and the place after them."""
         blanks = 0 if row.has_colon else 1, 1 if self.is_single else 2
         gap = re.compile(rb"(?:-|[ \t]{%d,%d})(%s)" % (*blanks, PAIR))
         octets, at = bytes.fromhex(row.text[row.start : row.start + 2].decode()), row.start + 2
@@ -171,7 +174,7 @@ class Dump:
         return octets, at
 
     def fits_end(self, end):
-        """Returns whether the last offset fits: that of the last row and its octets, or what a repeat goes up to."""
+        """Returns whether the last offset fits: the offset after the last row, or the one up to which a repeat goes."""
         return self.fits_offset(end.offset)
 
 

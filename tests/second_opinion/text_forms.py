@@ -1,4 +1,4 @@
-"""The forms of docs/TEXTS.md but for hex dumps: what octets a text of each gives, and where it is refused."""
+"""Decodes the forms of docs/TEXTS.md other than hex dumps: the octets of a text, and where it is refused."""
 import base64
 import re
 from dataclasses import dataclass
@@ -12,13 +12,13 @@ BEGIN = re.compile(rb"-----BEGIN ([\x20-\x2c\x2e-\x7e]{1,64})-----")
 DASHES = b"-----"
 LINE_END = re.compile(rb"\n|\\n")
 BLANK_LINE = re.compile(rb"(?:[ \t\r\"'>]|\\r)*")
-# Symbols with at most a line end between two of them, after which they reach to the end of their line; and padding.
+# Symbols and padding. The symbols may go on in further lines, each of which they fill up to its end.
 RUN = re.compile(rb"[A-Za-z0-9+/]+(?:\r?\n[ \t]*[A-Za-z0-9+/]+(?=[\n\r=<\"']|\Z))*={0,2}")
 FEWEST_SYMBOLS = 40
 ZERO_X = rb"(?<![A-Za-z0-9_])0[xX]([0-9a-fA-F]{1,2})(?![A-Za-z0-9_])"
 TOKEN = re.compile(ZERO_X + rb"|\\x([0-9a-fA-F]{2})(?=[\\\"' \t\n\r]|\Z)")
 BEFORE_BACKSLASH = b" \t\n\r\"'"
-# What looks like a token at its start.
+# The beginning of what looks like a token.
 LIKE_TOKEN = re.compile(rb"(?<![A-Za-z0-9_])0[xX][0-9a-fA-F]|\\x[0-9a-fA-F]")
 PAIRS = re.compile(rb"(?:[ \t\n\r:,\-\"']|[0-9a-fA-F]{2})*")
 NUMBER = rb"-?[0-9]{1,3}"
@@ -28,7 +28,9 @@ LIST = re.compile(rb"\[(%s)\]|\{(%s)\}" % (NUMBERS, NUMBERS))
 
 
 def of_base64(text, section=None):
-    """Returns what a text in base64 gives; without a section of RFC 4648, it is 5 if the text has - or _."""
+    """Returns what a text in base64 gives.
+    If no section of RFC 4648 is given, it is 5 if the text has - or _, and else 4.
+    """
     section = section or (5 if re.search(rb"[-_]", text) else 4)
     symbol = rb"[%s%s]" % (LETTERS_AND_DIGITS, SIGNS[section])
     head = re.match(rb"(?:%s*%s)*" % (LEFT_OUT, symbol), text)[0]
@@ -66,7 +68,7 @@ def of_pem(text):
 
 
 def of_body(text, start, end):
-    """Returns what the body between two places gives; None if its headers say that it is encrypted."""
+    """Returns what the body between two places gives, or None if its headers say that it is encrypted."""
     body = text[start:end]
     if b":" in body:
         first = LINE_END.search(body)
@@ -82,7 +84,7 @@ def of_body(text, start, end):
 
 
 def end_of_headers(body, at):
-    """Returns the place after the first blank line from this one on; the end of the body if there is none."""
+    """Returns the place after the first blank line from this place on, or the end of the body if there is none."""
     while line_end := LINE_END.search(body, at):
         is_blank = BLANK_LINE.fullmatch(body, at, line_end.start())
         at = line_end.end()
@@ -92,7 +94,7 @@ def end_of_headers(body, at):
 
 
 def tokens_of(text):
-    """Returns the tokens of hexadecimal, as matches."""
+    """Returns the hexadecimal tokens, as matches."""
     tokens, at = [], 0
     while token := TOKEN.search(text, at):
         at, start = token.end(), token.start()
@@ -104,12 +106,12 @@ def tokens_of(text):
 
 
 def may_begin(text, place, tokens):
-    """Returns whether a token with a backslash may begin here, after these tokens."""
+    """Returns whether a token with a backslash may begin at this place, after these tokens."""
     return place == 0 or text[place - 1] in BEFORE_BACKSLASH or any(it.end() == place for it in tokens[-1:])
 
 
 def of_hexadecimal(text):
-    """Returns what a text in hexadecimal gives: that of its tokens if there are two or more, else that of pairs."""
+    """Returns what a text in hexadecimal gives: its tokens if there are at least two, else its pairs of digits."""
     tokens = tokens_of(text)
     if len(tokens) > 1:
         return of_tokens(text, tokens)
@@ -119,7 +121,7 @@ def of_hexadecimal(text):
 
 
 def of_tokens(text, tokens):
-    """Returns the octets of the tokens, up to the first place at which the text is refused."""
+    """Returns the octets of the tokens up to the first place where the text is refused."""
     places = [place for place in (between(text, tokens), like_token(text, tokens)) if place is not None]
     place = min(places) if places else None
     kept = [token for token in tokens if place is None or token.start() < place]
@@ -136,7 +138,7 @@ def between(text, tokens):
 
 
 def like_token(text, tokens):
-    """Returns the place of the first that begins as a token and is none, or None."""
+    """Returns the first place that looks like the start of a token but is none, or None."""
     starts = {token.start() for token in tokens}
     ends = {token.end() for token in tokens}
     for like in LIKE_TOKEN.finditer(text):
@@ -148,7 +150,7 @@ def like_token(text, tokens):
 
 
 def of_numbers(text):
-    """Returns the octets of the one list of decimal numbers, or None."""
+    """Returns the octets of the list of decimal numbers, or None unless the text has exactly one such list."""
     found, at = [], 0
     while (it := LIST.search(text, at)) and len(found) < 2:
         numbers = [int(number) for number in re.findall(NUMBER, it[0])]

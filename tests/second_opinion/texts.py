@@ -1,4 +1,4 @@
-"""A second implementation of docs/TEXTS.md: the blocks of an input, and what each is taken for."""
+"""Takes an input apart into blocks, as docs/TEXTS.md describes it."""
 import re
 from dataclasses import dataclass, field
 
@@ -22,16 +22,16 @@ WHITE_SPACE = b" \t\n\r"
 CONTROLS = re.compile(rb"[\x00-\x08\x0e-\x19\x1c-\x1f\x7f]")
 MOST_LAYERS, MOST_SHOWN, MOST_LOOKED_AT = 3, 32, 4096
 BEGINNINGS = (b"\x30", b"\x31")
-# The first octets of a dump that is refused, if its offsets are read as pairs.
+# The first octets of a dump that is refused, if its offsets are read as pairs of digits.
 OFFSET = b"\0\0"
 
 
 @dataclass
 class Block:
-    """Octets of an input, and what is said of them.
+    """Octets of an input, and what is reported about them.
 
-    form: what the text was taken for, None if for nothing. label: that of PEM. line: that of a run. layers: the
-    base64 that the text is in, from the inside: the line of a run, or None. wrong: X1 to X4, if something is refused.
+    form: what the text was taken for, or None. label: that of a PEM block. line: that of a run. layers: the layers of
+    base64 around the text, innermost first, each the line of a run or None. wrong: X1 to X4, if something is refused.
     """
 
     form: str | None
@@ -43,11 +43,11 @@ class Block:
     is_ended: bool = True
 
     def name(self):
-        """Returns the name in the line before the block; None if it is that of the FILE."""
+        """Returns the name of the block in its title, or None if it has only that of the FILE."""
         return self.label or (f"base64 of line {self.line}" if self.line else None)
 
     def note(self):
-        """Returns the line that says what the text was taken for; None of octets."""
+        """Returns the line that says what the text was taken for, or None for octets."""
         if self.form in (None, "octets"):
             return self.wrong
         words = f"PEM, {self.label}" if self.form == "pem" else WORDS.get(self.form) or self.name()
@@ -56,18 +56,19 @@ class Block:
         return f"taken for {words}{layers}{wrong}"
 
     def status(self, status, is_raw):
-        """Returns the status of the block, where that of the octets that are shown is `status`."""
+        """Returns the status of the block. `status` is that of the octets that are shown."""
         if self.wrong == TOO_LONG:
             return 4
         return status or (2 if is_raw else 4) if self.wrong else status
 
     def is_shown(self):
-        """Returns whether there is something to show: nothing is if the text is refused before its first octet."""
+        """Returns whether there is something to show. There is nothing if the text is refused before its first octet.
+        """
         return bool(self.octets) or not self.wrong
 
 
 def blocks_of(octets, as_form=None):
-    """Returns the blocks of an input, which is taken for a form, or for what its octets are."""
+    """Returns the blocks of an input. It is taken for the form, if one is given, or for what its octets look like."""
     if as_form in OCTETS:
         return [Block("octets", octets)]
     try:
@@ -77,7 +78,9 @@ def blocks_of(octets, as_form=None):
 
 
 def text_of(octets):
-    """Returns the text of an input: without a mark of UTF-8, and ASCII in UTF-16 with a mark as ASCII."""
+    """Returns the text of an input. A byte order mark of UTF-8
+    is dropped, and ASCII in UTF-16 with a mark becomes ASCII.
+    """
     if octets.startswith(MARK):
         return octets[len(MARK) :]
     for mark, low in ((b"\xff\xfe", 0), (b"\xfe\xff", 1)):
@@ -89,12 +92,13 @@ def text_of(octets):
 
 
 def of_any(octets):
-    """Returns the blocks of an input without --as: the first that it is of the five."""
+    """Returns the blocks of an input without --as."""
     text = text_of(octets)
     blocks = None if has_control(text) else of_known_form(text, 0)
     if blocks:
         return blocks
-    # What has a mark is no encoding, though it may parse: in UTF-16 each character is an element without contents.
+    # An input with a byte order mark is no encoding, though it may
+    # parse: in UTF-16 each character is an element without contents.
     if has_control(text) or octets is text and is_whole(octets) or not is_utf8(text) or not text.strip(WHITE_SPACE):
         return [Block("octets", octets)]
     first = "".join(chr(it) if 0x20 <= it <= 0x7E else "?" for it in text[:MOST_SHOWN])
@@ -102,12 +106,12 @@ def of_any(octets):
 
 
 def has_control(text):
-    """Returns whether one of the first characters is none of a text."""
+    """Returns whether one of the first characters cannot occur in a text."""
     return bool(CONTROLS.search(text[:MOST_LOOKED_AT]))
 
 
 def is_whole(octets):
-    """Returns whether these are one or more whole encodings and nothing else; padding is allowed."""
+    """Returns whether these are one or more whole encodings and nothing else. Padding is allowed."""
     return Reading(octets, padding=True).fault is None
 
 
@@ -121,7 +125,7 @@ def is_utf8(text):
 
 
 def of_known_form(text, layers):
-    """Returns the blocks of the first form that holds; None if none does. The text is in so much base64."""
+    """Returns the blocks of the first form that applies, or None. The text is inside `layers` layers of base64."""
     if text_forms.of_pem(text):
         return of_form("pem", text)
     blocks = sound("dump", text_dumps.decoded(text)) or sound("hex", text_forms.of_hexadecimal(text), OFFSET)
@@ -131,14 +135,16 @@ def of_known_form(text, layers):
 
 
 def sound(form, decoded, not_in_front=None):
-    """Returns the block of a text that is not refused and gives octets, which may not begin with some; or None."""
+    """Returns the block of a text that is not refused, and that
+    gives octets that do not begin with `not_in_front`; or None.
+    """
     if decoded.place is not None or not decoded.octets or not_in_front and decoded.octets.startswith(not_in_front):
         return None
     return [Block(form, decoded.octets)]
 
 
 def of_form(form, text):
-    """Returns the blocks of a text of this form, whatever else holds."""
+    """Returns the blocks of a text, taken for this form."""
     if form == "pem":
         return [of_pem(text, it) for it in text_forms.of_pem(text)] or [Block(None, wrong=NO_PEM)]
     if form == "numbers":
@@ -151,7 +157,7 @@ def of_form(form, text):
 
 
 def of_decoded(form, text, decoded, **more):
-    """Returns the block of what a text gives, and says where it is refused."""
+    """Returns the block of what a text gives, with the place where it is refused."""
     wrong = None
     if decoded.place is not None:
         line = line_of(text, decoded.place)
@@ -160,29 +166,31 @@ def of_decoded(form, text, decoded, **more):
 
 
 def line_of(text, place):
-    """Returns the number of the line of a place."""
+    """Returns the number of the line at a place."""
     return text.count(b"\n", 0, place) + 1
 
 
 def of_pem(text, pem):
-    """Returns the block of a block of PEM."""
+    """Returns the block for a PEM block."""
     if pem.decoded is None:
         return Block("pem", label=pem.label, wrong=ENCRYPTED)
     return of_decoded("pem", text, pem.decoded, label=pem.label, is_ended=pem.is_ended)
 
 
 def of_run(text, run):
-    """Returns the block of a run."""
+    """Returns the block for a run."""
     return of_decoded("runs", text, run.decoded, line=line_of(text, run.start))
 
 
 def counts(octets):
-    """Returns whether octets count by themselves: encodings, or the beginning of a SEQUENCE or a SET."""
+    """Returns whether octets count by themselves: they are encodings, or begin like a SEQUENCE or a SET."""
     return octets.startswith(BEGINNINGS) or is_whole(octets)
 
 
 def in_turn(decoded, layers):
-    """Returns the blocks of the text that base64 gives, if it is one of a form; the base64 is in so much itself."""
+    """Returns the blocks of the text inside base64, or None if it has no form.
+    The base64 is itself inside `layers` layers.
+    """
     if decoded.place is not None or layers == MOST_LAYERS:
         return None
     text = text_of(decoded.octets)
@@ -190,14 +198,14 @@ def in_turn(decoded, layers):
 
 
 def in_layer(blocks, line):
-    """Notes that the text of these blocks is in base64, that of a run in this line, or of a whole text."""
+    """Adds a layer of base64 to these blocks: the run in this line, or a whole text if the line is None."""
     for block in blocks:
         block.layers.append(line)
     return blocks
 
 
 def of_counting_base64(text, layers):
-    """Returns the blocks of a text in base64 that is not refused, and whose octets count; or None."""
+    """Returns the blocks of a base64 text that is not refused and whose octets count, or None."""
     decoded = text_forms.of_base64(text)
     if decoded.place is not None:
         return None

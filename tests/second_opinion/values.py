@@ -1,4 +1,4 @@
-"""Shows tags and contents, as "What a dump writes" and "Values" of docs/FORMAT.md say."""
+"""Shows tags and contents, as "What a dump writes" and "Values" in docs/FORMAT.md describe them."""
 from second_opinion.reading import APPLICATION, CONTEXT, UNIVERSAL
 
 # The table of tags.
@@ -19,7 +19,7 @@ LEAST_TEXT = len("61 62 63")  # three pairs
 
 
 def tag_text(element):
-    """Returns the tag's name, or its class and number (Tag)."""
+    """Returns the name of the tag, or its class and number (Tag)."""
     number = element.number
     if element.tag_class == UNIVERSAL:
         return TYPES.get(number, f"[UNIVERSAL {number}]")
@@ -29,7 +29,7 @@ def tag_text(element):
 
 
 def most_octets(element):
-    """Returns how many contents octets a value has at most that is not long (the table in Values)."""
+    """Returns the largest number of contents octets of a value that is not long (the table in Values)."""
     if element.is_universal(BIT_STRING):
         return 9
     if element.is_universal(OBJECT_IDENTIFIER, RELATIVE_OID, *CHARACTERS):
@@ -38,7 +38,7 @@ def most_octets(element):
 
 
 def shown(element, names):
-    """Returns what is after the tag, or None while the line has not come, and the rows that have come.
+    """Returns the text after the tag, or None if the line is not yet complete, and the rows that are complete.
 
     `names` has names by arcs: {"2.5.4.3": "commonName"}.
     """
@@ -50,7 +50,7 @@ def shown(element, names):
 
 
 def short_value(element, names):
-    """Returns the text and the rows of a value that is not long, with its last octet."""
+    """Returns the text and the rows of a whole value that is not long."""
     contents = element.contents
     if element.is_universal(BOOLEAN) and len(contents) == 1:
         return ("FALSE" if contents == b"\0" else "TRUE"), []
@@ -66,7 +66,9 @@ def short_value(element, names):
 
 
 def long_value(element):
-    """Returns the text and rows of a long value, whose line comes with the header, or with a first octet."""
+    """Returns the text and the complete rows of a long value.
+    Its line is complete after the header, or after the first contents octet.
+    """
     contents, whole = element.contents, element.end is not None
     if element.is_universal(BIT_STRING):
         if not contents:
@@ -80,44 +82,44 @@ def long_value(element):
 
 
 class Pairs(str):
-    """A value, or a row of one, that is shown as pairs: each octet as two digits, with a space between two."""
+    """A value, or a row of one, that is shown as pairs: each octet as two digits, separated by spaces."""
 
     def __new__(cls, octets):
-        """Returns the pairs of these octets, and keeps the octets with them."""
+        """Returns the pairs for these octets, and keeps the octets."""
         made = super().__new__(cls, octets.hex(" "))
         made.octets = octets
         return made
 
 
 def pairs(octets):
-    """Returns each octet as two digits, with a space between two (Pairs)."""
+    """Returns each octet as two digits, separated by spaces (Pairs)."""
     return Pairs(octets)
 
 
 def with_text(value):
-    """Returns a value or a row, with the text beside it if it is pairs of 3 or more printable octets."""
+    """Returns a value or a row. If it is pairs of 3 or more printable octets, their text is added."""
     is_text = isinstance(value, Pairs) and len(value) >= LEAST_TEXT and all(0x20 <= it <= 0x7E for it in value.octets)
     return f"{value}  |{value.octets.decode('ascii')}|" if is_text else value
 
 
 def cut(octets, size, whole):
-    """Returns the rows of this size that have come: full ones, and the rest with the last octet."""
+    """Returns the complete rows of this size: full rows, and the rest if the value is whole."""
     rows = [octets[place : place + size] for place in range(0, len(octets), size)]
     return rows if whole else [row for row in rows if len(row) == size]
 
 
 def pair_rows(octets, whole):
-    """Returns rows of 16 octets."""
+    """Returns the complete rows of 16 octets."""
     return [pairs(row) for row in cut(octets, PAIRS_IN_A_ROW, whole)]
 
 
 def has_bits(contents):
-    """Returns whether the first octet is 0 to 7, and 0 if no octet follows it (BIT STRING)."""
+    """Returns whether the initial octet is 0 to 7, and 0 if no octet follows it (BIT STRING)."""
     return len(contents) > 0 and contents[0] <= (7 if len(contents) > 1 else 0)
 
 
 def bits(contents):
-    """Returns the number of bits, and the bits, first bit first (BIT STRING)."""
+    """Returns the number of bits, and the bits, in order (BIT STRING)."""
     count = 8 * (len(contents) - 1) - contents[0]
     digits = "".join(f"{octet:08b}" for octet in contents[1:])[:count]
     return f"{count} bits {digits}".rstrip()
@@ -137,7 +139,9 @@ def subidentifiers(contents):
 
 
 def object_identifier(element, names):
-    """Returns arcs, and a name after them; else pairs, in rows if there are more than 16."""
+    """Returns the arcs, with the name if there is one.
+    If they cannot be shown, returns pairs, in rows if there are more than 16.
+    """
     numbers = subidentifiers(element.contents)
     if numbers is None or any(number >= 1 << 128 for number in numbers):
         if element.length > PAIRS_IN_A_ROW:
@@ -153,7 +157,7 @@ def object_identifier(element, names):
 
 
 def announced(octet):
-    """Returns how many octets the character has that this octet begins (RFC 3629); 1 for none."""
+    """Returns the length in octets of the character that begins with this octet (RFC 3629), or 1 if none does."""
     if 0xC2 <= octet <= 0xDF:
         return 2
     if 0xE0 <= octet <= 0xEF:
@@ -162,7 +166,7 @@ def announced(octet):
 
 
 def character_rows(number, octets, whole):
-    """Returns rows of 64 octets; in UTF8String a row ends before a character that has no room in it."""
+    """Returns the complete rows of 64 octets. In a UTF8String, a row ends before a character that does not fit."""
     if number != UTF8:
         return cut(octets, OCTETS_IN_A_ROW, whole)
     rows, start = [], 0
@@ -175,7 +179,7 @@ def character_rows(number, octets, whole):
 
 
 def well_formed(octets):
-    """Returns the character that these octets are by RFC 3629, or None."""
+    """Returns the character that these octets are (RFC 3629), or None."""
     try:
         text = octets.decode("utf-8")
     except UnicodeDecodeError:
@@ -184,7 +188,7 @@ def well_formed(octets):
 
 
 def characters(number, octets):
-    """Returns pairs: a character's octets, and its number; or an octet that is in none, and None."""
+    """Returns pairs of the octets and the number of a character, or of an octet that is in no character and None."""
     size = {BMP_STRING: 2, UNIVERSAL_STRING: 4}.get(number)
     place = 0
     while place < len(octets):
@@ -201,7 +205,7 @@ def characters(number, octets):
 
 
 def quoted(number, octets):
-    """Returns characters in quotation marks (Characters)."""
+    """Returns the characters in quotation marks (Characters)."""
     text = ""
     for taken, code in characters(number, octets):
         if code is not None and 0x20 <= code <= 0x7E:

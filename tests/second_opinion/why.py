@@ -1,4 +1,4 @@
-"""What tlvdump-show says of why octets, or a string in them, do not parse: docs/WHY.md up to "The fault"."""
+"""Explains why octets, or a string in them, do not parse: docs/WHY.md up to "The fault"."""
 import functools
 
 from second_opinion import why_lines, why_search
@@ -10,7 +10,7 @@ BLANK = b" \t\n\r\x1a"
 
 
 class Stand:
-    """Where the reading of an input ends, and what stands there.
+    """The place where the reading of an input ends, and the elements there.
 
     place: the offset. open: the open elements, outermost first. inner: the innermost of them, or None. before: the
     element before, or None. top: the top end. primitive: the one that lacks contents, or None. there: the element whose
@@ -18,7 +18,7 @@ class Stand:
     """
 
     def __init__(self, octets, padding, inside=()):
-        """Reads the octets, with the strings at the offsets `inside` as elements that hold others."""
+        """Reads the octets. The strings at the offsets `inside` are wrappers."""
         self.octets, self.reading = octets, Reading(octets, inside, padding)
         self.fault = self.reading.fault
         self.open, elements = [], elements_of(self.reading.items)
@@ -33,16 +33,16 @@ class Stand:
         self.there = why_search.header_at(octets, self.place)
 
     def is_half_of_a_pair(self):
-        """Returns whether one of two octets 00 has come at the place, and the other has not."""
+        """Returns whether only the first of two end-of-contents octets is at the place."""
         is_indefinite = self.inner is not None and self.inner.length is None
         return is_indefinite and not self.primitive and self.fault.offset > self.place and self.octets[self.place] == 0
 
     def bounds(self):
-        """Returns the open elements with a definite length."""
+        """Returns the open elements of definite length."""
         return [it for it in self.open if it.length is not None]
 
     def candidates(self):
-        """Returns the headers that may say a wrong length, in the order in which they are tried."""
+        """Returns the elements whose length may be wrong, in the order in which they are tried."""
         read = [it for it in self.reading.elements() if it is not self.primitive]
         recent = read[: -MOST_BEFORE - 1 : -1]
         return [it for it in [self.there, *recent, *self.open] if it is not None]
@@ -54,14 +54,14 @@ def elements_of(items):
 
 
 def last_whole(elements):
-    """Returns the last of these elements that is whole; or None."""
+    """Returns the last of these elements that is whole, or None."""
     return next((it for it in reversed(elements) if it.end is not None), None)
 
 
 # A case has several runs on the same octets.
 @functools.lru_cache(maxsize=16)
 def lines_of(octets, padding):
-    """Returns the lines about octets that do not parse; none if they parse."""
+    """Returns the lines about octets that do not parse, or none if they parse."""
     stand = Stand(octets, padding)
     if stand.fault is None:
         return ()
@@ -71,19 +71,21 @@ def lines_of(octets, padding):
 
 @functools.lru_cache(maxsize=16)
 def lines_of_string(octets, padding, inside):
-    """Returns the lines about the string at the last of these offsets, which breaks; those at the others are opened."""
+    """Returns the lines about the string at the last of these offsets, which breaks.
+    The strings at the others are opened.
+    """
     stand = Stand(octets, padding, inside)
     return (*reasons(stand), *why_search.other_length(octets, padding, stand.candidates(), inside))
 
 
 def sound_lines(octets, ber, der):
-    """Returns the lines about octets that parse, with so many findings by BER and by DER."""
+    """Returns the lines about octets that parse, with `ber` findings of BER and `der` of DER."""
     return [f"It parses: {why_lines.so_many(len(octets))}, which are whole encodings.",
             f"By the rules of BER: findings: {ber}. By those of DER: findings: {der}."]
 
 
 def reasons(stand):
-    """Returns the lines of the fault, and of what is left over."""
+    """Returns the lines about the fault, and about octets that remain."""
     rest, top = stand.octets[stand.top :], stand.top
     whole = f"Whole encodings end at offset {top}. "
     try_line = f"Try: head -c {top} FILE, for the whole encodings."

@@ -1,4 +1,4 @@
-"""Draws a case for tlvdump-show --why from a seed: an input, and the runs on it."""
+"""Draws a random case for tlvdump-show --why from a seed: an input, and the runs on it."""
 import random
 
 from second_opinion import why_drawing
@@ -7,7 +7,9 @@ from second_opinion.showing import File, Show
 
 
 def case_of(seed):
-    """Returns the case of a seed; it is the same at each call. The input is octets, whatever it looks like."""
+    """Returns the case of a seed. The same seed always gives the same case.
+    The input is taken as octets, whatever it looks like.
+    """
     rng = random.Random(f"tlvdump-show --why {seed}")
     octets, padding = why_drawing.input_octets(rng)
     show = Show("why", padding=padding, closed=rng.random() < 0.1, as_form="octets")

@@ -1,4 +1,4 @@
-"""Draws inputs for --why: sound encodings to which something was done, and few octets of any kind."""
+"""Draws inputs for --why at random: sound encodings that were changed, and short random octets."""
 import glob
 import os
 
@@ -8,7 +8,7 @@ from second_opinion.reading import Reading
 TESTS = os.path.dirname(os.path.dirname(os.path.realpath(__file__)))
 FILES = sorted(glob.glob(os.path.join(TESTS, "data", "*")))
 FILES.append(os.path.join(os.path.dirname(TESTS), "data", "certificate.der"))
-# How many octets an encoding may have to which something is done: each of many tries reads all of it.
+# The largest size of an encoding that is changed. The second opinion reads all of it for each of many candidates.
 MOST_OCTETS = 1200
 FRONTS = (b"PK\x03\x04", b"PK\x03", b"\x1f\x8b", b"\x1f\x8b\x08\0", b"BZh", b"BZh91AY", b"%PDF-1.7", b"<", b"<?xml ")
 FRONTS += (b"openssh-key", b"openssh-key-v1\0", b"\0", b"\0\0\0", b"\xef\xbb\xbf", b"\x02\x93", b"\x7a", b"\x3a\x05")
@@ -24,7 +24,7 @@ def read(path):
 
 
 def sound(rng):
-    """Returns sound encodings: a file's, or drawn ones; some with indefinite lengths."""
+    """Returns sound encodings: those of a file, or random ones, some with indefinite lengths."""
     while True:
         choice = rng.random()
         if choice < 0.25:
@@ -43,7 +43,7 @@ def sound(rng):
 
 
 def nested(rng, level=0):
-    """Returns constructed elements with few octets, mixed with primitives."""
+    """Returns short constructed elements, mixed with primitives."""
     octets = b""
     for _ in range(rng.choice([0, 1, 1, 2, 3])):
         octets += show_drawing.small(rng) if level > 4 or rng.random() < 0.4 else nested(rng, level + 1)
@@ -54,7 +54,7 @@ def nested(rng, level=0):
 
 
 def real(rng):
-    """Returns a file's encoding, or one of its elements."""
+    """Returns the encoding in a file, or one of its elements."""
     octets = read(rng.choice(FILES))
     elements = [it for it in Reading(octets).elements() if it.constructed and it.end - it.offset <= MOST_OCTETS]
     it = elements[0] if rng.random() < 0.6 else rng.choice(elements)
@@ -75,19 +75,19 @@ def other_length(rng, octets):
 
 
 def cut(rng, octets):
-    """Leaves out octets at the end."""
+    """Cuts octets off the end."""
     return octets[: rng.randrange(len(octets) + 1)] if rng.random() < 0.7 else octets[: -rng.randrange(1, 4)]
 
 
 def put_in(rng, octets):
-    """Puts octets in."""
+    """Inserts octets."""
     place = rng.randrange(len(octets) + 1)
     new = rng.choice([rng.randbytes(rng.choice([1, 1, 2, 5])), b"\0" * rng.randrange(1, 4), b"\r", b"\xff" * 3, b"\x80"])
     return octets[:place] + new + octets[place:]
 
 
 def left_out(rng, octets):
-    """Leaves octets out."""
+    """Removes octets."""
     place = rng.randrange(len(octets))
     return octets[:place] + octets[place + rng.choice([1, 1, 2, 3, 5, 20]) :]
 
@@ -103,7 +103,7 @@ def changed(rng, octets):
 
 
 def as_text(rng, octets):
-    """Does what a copy as a text does."""
+    """Changes the octets as a copy in text mode does."""
     if rng.random() < 0.5:
         place = rng.randrange(len(octets))
         octets += b"" if b"\n" in octets or rng.random() < 0.3 else inside_string(rng, b"\x0a")
@@ -126,7 +126,7 @@ def front(rng, octets):
 
 
 def after(rng, octets):
-    """Puts something after it."""
+    """Adds octets at the end."""
     choice = rng.random()
     if choice < 0.3:
         return octets + rng.choice(BLANKS)
@@ -145,7 +145,7 @@ def padded(rng, octets):
 
 
 def odd_header(rng, octets):
-    """Puts a header that is refused in the place of one, or after all."""
+    """Puts a header that is refused in place of one, or at the end."""
     header = rng.choice([
         b"\x3f" + b"\xff" * rng.choice([8, 9, 20]) + b"\x01", b"\x04\xff", b"\x04\x80", b"\x30\xff\x01", b"\x9f\x21\x80",
         b"\x04\x86\x01" + b"\0" * 6, b"\x30\xa0" + b"\0" * 20 + b"\x01" + b"\0" * 12, b"\x04\x85\xff" + b"\0" * 4,
@@ -165,14 +165,18 @@ def other_octet(rng, octets):
 
 
 def far(rng, _):
-    """Returns an element too many of whose octets are in a string: its end is refused, about 25 headers after that one."""
+    """Returns an element in which a string holds too much: the header of a constructed element. So an end is refused,
+    about 25 headers after the string.
+    """
     holder = b"\x30\x80" + b"\x30\x80\0\0" * rng.choice([21, 22, 23, 24, 24, 25, 25, 26, 27])
     string = show_drawing.whole(4, b"a" * rng.randrange(3) + holder[:2])
     return b"\x30\x80" + string + holder[2:] + b"\0\0" * 2
 
 
 def unended(rng, octets):
-    """Returns an element of indefinite length in definite ones, without one or both of the octets that end it, and cut there."""
+    """Returns an element of indefinite length inside definite ones, without its end-of-contents octets or the second of
+    them. The octets are cut after the inner elements.
+    """
     octets = b"\x30\x80" + (octets if len(octets) < 300 else show_drawing.small(rng)) + rng.choice([b"", b"", b"\0"])
     more = b""
     for _ in range(rng.choice([1, 2, 2, 3])):
@@ -187,7 +191,7 @@ CHANGES += (other_octet, unended, far)
 
 
 def few(rng):
-    """Returns few octets that may be headers."""
+    """Returns a few octets that may be headers."""
     size = rng.choice([0, 1, 2, 3, 4, 5, 6, 7, 8, 10, 14])
     if rng.random() < 0.1:
         return b"\0" * size
@@ -197,7 +201,7 @@ def few(rng):
 
 
 def input_octets(rng):
-    """Returns an input, and whether it is one for `--padding`."""
+    """Returns an input, and whether it is to be read with `--padding`."""
     choice = rng.random()
     if choice < 0.2:
         return few(rng), rng.random() < 0.3

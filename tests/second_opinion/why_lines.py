@@ -1,4 +1,4 @@
-"""The lines of a fault: "Words" and "The fault" of docs/WHY.md."""
+"""Returns the lines about a fault: "Words" and "The fault" in docs/WHY.md."""
 from second_opinion import values
 
 MOST_PAIRS = 16
@@ -19,34 +19,34 @@ HEADERS = {
 
 
 def so_many(count):
-    """Returns a number of octets, in words."""
+    """Returns a number of octets, with the word."""
     return f"{count} octet" if count == 1 else f"{count} octets"
 
 
 def pairs(octets):
-    """Returns the first octets as pairs of digits, and dots if there are more."""
+    """Returns the first octets as pairs of digits, with dots if there are more."""
     return octets[:MOST_PAIRS].hex(" ") + " ..." * (len(octets) > MOST_PAIRS)
 
 
 def named(element):
-    """Returns what an element is called, and where it is."""
+    """Returns the name of an element, and its offset."""
     return f"{values.tag_text(element)} at offset {element.offset}"
 
 
 def says(stand, element):
-    """Returns the sentence about what a header says."""
+    """Returns the sentence about the length in a header."""
     size = "an indefinite number of octets" if element.length is None else so_many(element.length)
     header = pairs(stand.octets[element.offset : element.start])
     return f"The header at offset {element.offset}, {header}, says that its contents are {size}."
 
 
 def end_of(element):
-    """Returns where the contents end that a definite length announces."""
+    """Returns the end of the contents according to a definite length."""
     return element.start + element.length
 
 
 def of_fault(stand):
-    """Returns the lines of the fault."""
+    """Returns the lines about the fault."""
     code = stand.fault.code
     if code in HEADERS:
         return of_header(stand)
@@ -57,7 +57,7 @@ def of_fault(stand):
 
 
 def suspect(stand):
-    """Returns the line of the element before, if that has a definite length."""
+    """Returns the line about the element before, if its length is definite."""
     if stand.before is None or stand.before.length is None:
         return []
     return [f"Or a length in front is wrong: that of the {named(stand.before)}. {says(stand, stand.before)}"]
@@ -88,7 +88,7 @@ def of_cut(stand):
 
 
 def cut_at(stand):
-    """Returns the first lines of F02."""
+    """Returns the first lines about F02."""
     octets, primitive = stand.octets, stand.primitive
     if primitive:
         lacks = end_of(primitive) - len(octets)
@@ -101,7 +101,7 @@ def cut_at(stand):
 
 
 def of_zeros(stand):
-    """F03 where no element is open."""
+    """F03 if no element is open."""
     place, rest = stand.place, stand.octets[stand.place :]
     zeros = len(rest) - len(rest.lstrip(b"\0"))
     if not place:
@@ -111,7 +111,7 @@ def of_zeros(stand):
 
 
 def of_stray(stand):
-    """F03 in an open element."""
+    """F03 inside an open element."""
     inner, place = stand.inner, stand.fault.offset
     end = end_of(inner)
     return [f"Inside the {named(inner)}, which ends at offset {end}, an element should begin at offset {place}."

@@ -1,4 +1,4 @@
-"""What might mend an input: docs/WHY.md from "Another length" on."""
+"""Looks for changes that would make an input parse: docs/WHY.md from "Another length" on."""
 from second_opinion.reading import Element, Reading
 
 MOST_SEARCHED, MOST_OFF, LAST_START = 1 << 20, 5, 64
@@ -18,18 +18,20 @@ START = ("From offset {} on it parses: what stands in front may be a header of t
 
 
 def remedies(octets, padding, candidates):
-    """Returns the lines of what might mend an input that does not parse, with headers as candidates for another length."""
+    """Returns the lines about changes that would make an input parse.
+    The candidates are elements whose length may be wrong.
+    """
     return [*other_length(octets, padding, candidates), *text_change(octets, padding), *other_kind(octets),
             *other_start(octets, padding)]
 
 
 def parses(octets, padding, inside=()):
-    """Returns whether these octets parse, with the strings at the offsets `inside` as elements that hold others."""
+    """Returns whether these octets parse. The strings at the offsets `inside` are wrappers."""
     return Reading(octets, inside, padding).fault is None
 
 
 def header_at(octets, offset):
-    """Returns the element whose whole header begins at an offset, with its offsets in the input; or None."""
+    """Returns the element whose whole header begins at an offset, with its offsets in the input, or None."""
     items = Reading(octets[offset:]).items
     if not items or not isinstance(items[0], Element):
         return None
@@ -39,7 +41,9 @@ def header_at(octets, offset):
 
 
 def other_length(octets, padding, candidates, inside=()):
-    """Returns the line of the first candidate that would, with another length, make all parse, with these strings named."""
+    """Returns the line about the first candidate whose length can be
+    changed so that everything parses, with these strings as wrappers.
+    """
     if len(octets) > MOST_SEARCHED:
         return []
     for it in candidates:
@@ -54,7 +58,7 @@ def other_length(octets, padding, candidates, inside=()):
 
 
 def lengths_near(length):
-    """Gives the lengths that are 1 to 5 more or less, in the order in which they are tried; none of the indefinite form."""
+    """Yields the lengths that differ by 1 to 5, in the order in which they are tried. The indefinite form has none."""
     if length is not None:
         for off in range(1, MOST_OFF + 1):
             yield length + off
@@ -63,7 +67,8 @@ def lengths_near(length):
 
 
 def spelled(length_octets, length):
-    """Returns as many length octets in the same form, with another length; None if they have no room for it."""
+    """Returns the length octets for another length, in the same form and number, or None if they have no room for it.
+    """
     if length_octets[0] < 0x80:
         return bytes([length]) if length < 0x80 else None
     count = len(length_octets) - 1
@@ -71,7 +76,7 @@ def spelled(length_octets, length):
 
 
 def text_change(octets, padding):
-    """Returns the line of what was done to the input as to a text."""
+    """Returns the line about a change that was made to the input as if it were text."""
     try:
         characters = octets.decode("utf-8").encode("latin-1")
     except UnicodeError:
@@ -84,12 +89,12 @@ def text_change(octets, padding):
 
 
 def other_kind(octets):
-    """Returns the line of another kind of file."""
+    """Returns the line about another kind of file."""
     return [line for front, line in KINDS if octets.startswith(front)][:1]
 
 
 def other_start(octets, padding):
-    """Returns the line of the first later offset from which on the input parses."""
+    """Returns the line about the first later offset from which on the input parses."""
     if seems_right(octets):
         return []
     for offset in range(1, min(LAST_START + 1, len(octets))):

@@ -1,4 +1,4 @@
-//! A command, as words and as a run.
+//! Examples of commands.
 use crate::expect::expect_eq;
 use std::test::Fail;
 use tlv_run::{Command, run_octets};
@@ -7,7 +7,7 @@ use tlv_value::Names;
 use tlv_walk::Framing;
 use tlv_words::{Words, command_of};
 
-/// tlv_run: `check --rules der` of octets in memory: what is written, and the status that the program ends with.
+/// tlv_run: runs `check --rules der` over octets in memory. The result has what is written and the exit status.
 #[test]
 fn run_a_command(rt: HostRuntime) {
     let command = Command::Check {
@@ -20,7 +20,7 @@ fn run_a_command(rt: HostRuntime) {
     expect_eq(&rt, run.report.status, 1);
 }
 
-/// tlv_words: the command that the words of a command line ask for.
+/// tlv_words: makes a command from the words of a command line.
 #[test]
 fn read_the_words_of_a_command(rt: HostRuntime) -> Result<(), Fail> {
     let mut words = Words::new(rt.alloc());

@@ -1,4 +1,4 @@
-//! How a caller uses the libraries: short examples, as tests.
+//! Short examples of how to call the libraries, written as tests.
 #![tactic(auto)]
 
 #[cfg(test)]

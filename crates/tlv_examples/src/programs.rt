@@ -1,4 +1,4 @@
-//! The programs, over a system of the caller's own.
+//! Examples of the programs, run over a system that the caller supplies.
 ghost use Rattle.tlv_program.specs.System.{unknown_system};
 
 use crate::expect::expect_eq;
@@ -9,7 +9,7 @@ use tlv_view_words::{FileNames, Wanted, request_of};
 use tlv_walk::{MemDrain, MemSource};
 use tlv_words::Words;
 
-/// A system with no files, which prints nothing.
+/// A system that has no files and prints nothing.
 #[derive(Drop)]
 struct NoFiles;
 
@@ -29,7 +29,7 @@ impl System for NoFiles {
     }
 }
 
-/// tlv_program: `tlvdump dump` of what standard input gives, here the octets of a NULL in memory.
+/// tlv_program: runs `tlvdump dump` over standard input, which here is a NULL in memory.
 #[test]
 fn run_tlvdump(rt: HostRuntime) -> Result<(), Fail> {
     let mut words = Words::new(rt.alloc());
@@ -50,7 +50,7 @@ fn run_tlvdump(rt: HostRuntime) -> Result<(), Fail> {
     Ok(())
 }
 
-/// tlv_view_words: what the words of `tlvdump-show` ask for.
+/// tlv_view_words: makes a request from the words of a command line of `tlvdump-show`.
 #[test]
 fn read_the_words_of_tlvdump_show(rt: HostRuntime) -> Result<(), Fail> {
     let mut words = Words::new(rt.alloc());
@@ -62,7 +62,7 @@ fn read_the_words_of_tlvdump_show(rt: HostRuntime) -> Result<(), Fail> {
     Ok(())
 }
 
-/// tlv_view_program: `tlvdump-show` of an OCTET STRING that holds a NULL, with no names file.
+/// tlv_view_program: runs `tlvdump-show` over an OCTET STRING that holds a NULL, without a names file.
 #[test]
 fn run_tlvdump_show(rt: HostRuntime) -> Result<(), Fail> {
     let mut words = Words::new(rt.alloc());

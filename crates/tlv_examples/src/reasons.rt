@@ -1,11 +1,11 @@
-//! Why octets do not parse, and which length would make them parse.
+//! Examples of how to explain octets that do not parse.
 use crate::expect::expect_eq;
 use std::test::Fail;
 use tlv_mend::{WrongLength, wrong_length};
 use tlv_walk::{Framing, MemDrain};
 use tlv_why::{facts_of, write_why};
 
-/// tlv_why: sentences about octets that do not parse.
+/// tlv_why: writes whether octets parse, and otherwise why they do not.
 #[test]
 fn say_why_octets_do_not_parse(rt: HostRuntime) {
     let octets = b"\x05\x00";
@@ -20,7 +20,7 @@ fn say_why_octets_do_not_parse(rt: HostRuntime) {
     );
 }
 
-/// tlv_mend: the INTEGER at offset 2 says two octets in place of one.
+/// tlv_mend: finds the length to correct. The INTEGER at offset 2 has a length of 2 but only one contents octet.
 #[test]
 fn find_the_wrong_length(rt: HostRuntime) -> Result<(), Fail> {
     let octets = b"\x30\x03\x02\x02\x01";

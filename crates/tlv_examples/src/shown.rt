@@ -1,4 +1,4 @@
-//! Values, dumps, findings, and elements that are cut out.
+//! Examples of values, dumps, findings and extracted elements.
 use crate::expect::expect_eq;
 use arrayvec::ArrayVec;
 use tlv_cut::{extract, indef};
@@ -9,7 +9,7 @@ use tlv_walk::{Framing, MemDrain, MemSource};
 /// A SEQUENCE that holds an INTEGER.
 const INPUT: &[u8] = b"\x30\x03\x02\x01\x05";
 
-/// tlv_value: the number of an INTEGER, and the text of an OBJECT IDENTIFIER.
+/// tlv_value: returns the number of an INTEGER and the dotted text of an OBJECT IDENTIFIER.
 #[test]
 fn show_values(rt: HostRuntime) {
     expect_eq(&rt, decimal_of(b"\xff\x7f"), Some(-129));
@@ -18,7 +18,7 @@ fn show_values(rt: HostRuntime) {
     expect_eq(&rt, text.as_slice(), b"2.5.4.3");
 }
 
-/// tlv_show: the lines of a dump, from octets in memory to octets in memory.
+/// tlv_show: writes the dump of octets in memory to memory.
 #[test]
 fn dump_a_slice(rt: HostRuntime) {
     let mut room = [0; 128];
@@ -37,7 +37,7 @@ fn dump_a_slice(rt: HostRuntime) {
     expect_eq(&rt, drain.written(), lines);
 }
 
-/// tlv_show: which rules of CER an input breaks, and how many.
+/// tlv_show: writes the findings of CER and returns how many there are.
 #[test]
 fn check_a_slice(rt: HostRuntime) {
     let mut room = [0; 64];
@@ -52,7 +52,7 @@ fn check_a_slice(rt: HostRuntime) {
     );
 }
 
-/// tlv_cut: the element at offset 2, and the input with indefinite lengths.
+/// tlv_cut: writes the element at offset 2.
 #[test]
 fn cut_an_element_out(rt: HostRuntime) {
     let mut room = [0; 8];
@@ -63,7 +63,7 @@ fn cut_an_element_out(rt: HostRuntime) {
     expect_eq(&rt, drain.written(), b"\x02\x01\x05");
 }
 
-/// tlv_cut: the same elements with indefinite lengths.
+/// tlv_cut: writes the input with lengths in the indefinite form.
 #[test]
 fn write_indefinite_lengths(rt: HostRuntime) {
     let mut room = [0; 8];

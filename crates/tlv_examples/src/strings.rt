@@ -1,4 +1,4 @@
-//! Strings that hold encodings.
+//! Examples of strings that hold encodings.
 use crate::expect::expect_eq;
 use std::test::Fail;
 use tlv_open::opened;
@@ -10,7 +10,7 @@ use tlv_walk::MemDrain;
 /// An OCTET STRING that holds a NULL.
 const INPUT: &[u8] = b"\x04\x02\x05\x00";
 
-/// tlv_open: the offsets of the strings that are opened.
+/// tlv_open: returns the offsets of the strings that hold encodings.
 #[test]
 fn find_strings_that_hold_encodings(rt: HostRuntime) -> Result<(), Fail> {
     let offsets = opened(rt.alloc(), INPUT, false)?;
@@ -18,7 +18,7 @@ fn find_strings_that_hold_encodings(rt: HostRuntime) -> Result<(), Fail> {
     Ok(())
 }
 
-/// tlv_view: a dump in which these strings are opened.
+/// tlv_view: writes a dump in which the strings that hold encodings are opened.
 #[test]
 fn dump_with_strings_opened(rt: HostRuntime) -> Result<(), Fail> {
     let mut room = [0; 128];

@@ -1,10 +1,10 @@
-//! Octets that are written as text.
+//! Examples of octets that are given as text.
 use crate::expect::expect_eq;
 use std::test::Fail;
 use tlv_forms::take_input;
 use tlv_text::decode_pairs;
 
-/// tlv_text: pairs of hexadecimal digits, and where a text is refused.
+/// tlv_text: decodes pairs of hexadecimal digits. If the text is refused, the result says where.
 #[test]
 fn decode_hexadecimal(rt: HostRuntime) -> Result<(), Fail> {
     let decoded = decode_pairs(rt.alloc(), b"30 03:02 01 05\n")?;
@@ -13,7 +13,7 @@ fn decode_hexadecimal(rt: HostRuntime) -> Result<(), Fail> {
     Ok(())
 }
 
-/// tlv_forms: an input is recognized for what it is, here PEM, and its block decoded.
+/// tlv_forms: recognizes the form of an input, here PEM, and decodes its block.
 #[test]
 fn take_a_text_for_what_it_is(rt: HostRuntime) -> Result<(), Fail> {
     let text = b"-----BEGIN X-----\nMAMCAQU=\n-----END X-----\n";

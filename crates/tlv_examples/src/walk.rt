@@ -1,10 +1,10 @@
-//! Headers and events, and octets on their way to a drain.
+//! Examples of headers, events and output.
 use crate::expect::expect_eq;
 use tlv_head::{Size, read_header};
 use tlv_io::{MemDrain, Out};
 use tlv_walk::{Event, Framing, Step, Walker};
 
-/// tlv_head: the header with which octets begin. A SEQUENCE of three contents octets.
+/// tlv_head: reads the header at the start of octets, here that of a SEQUENCE with three contents octets.
 #[test]
 fn read_the_header_of_a_slice(rt: HostRuntime) {
     let octets = b"\x30\x03\x02\x01\x05";
@@ -16,7 +16,7 @@ fn read_the_header_of_a_slice(rt: HostRuntime) {
     }
 }
 
-/// tlv_walk: the first event of a piece. What is left of the piece is for the next step.
+/// tlv_walk: yields the first event of a piece. The rest of the piece is left for the next step.
 #[test]
 fn take_the_first_event(rt: HostRuntime) {
     let framing = Framing::plain();
@@ -29,7 +29,7 @@ fn take_the_first_event(rt: HostRuntime) {
     expect_eq(&rt, piece, b"\x02\x01\x05");
 }
 
-/// tlv_io: octets are held, and handed to a drain that takes four at a time.
+/// tlv_io: holds octets, and hands them to a drain that takes four at a time.
 #[test]
 fn put_octets_to_a_drain(rt: HostRuntime) {
     let mut room = [0; 8];

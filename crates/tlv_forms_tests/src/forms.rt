@@ -1,107 +1,11 @@
-//! Texts of the forms that are known.
+//! Tests of texts in the known forms other than PEM, and of forms that the caller names.
 use crate::rows::{Row, expect_blocks, expect_rows};
 use std::test::Fail;
 use tlv_forms::{TakenFor, take_as};
 use tlv_text::{BlockState, Form};
 
-/// PEM, with marks of UTF-8 and of UTF-16, unended, encrypted and refused.
-static PEM_TEXTS: [Row<'static>; 7] = [
-    (
-        b"-----BEGIN X-----\nMAMCAQU=\n-----END X-----\n",
-        &[(
-            TakenFor::Text(Form::Pem),
-            &[],
-            1,
-            b"X",
-            b"0\x03\x02\x01\x05",
-            BlockState::Whole,
-        )],
-    ),
-    (
-        b"\xef\xbb\xbf-----BEGIN X-----\nMAMCAQU=\n-----END X-----\n",
-        &[(
-            TakenFor::Text(Form::Pem),
-            &[],
-            1,
-            b"X",
-            b"0\x03\x02\x01\x05",
-            BlockState::Whole,
-        )],
-    ),
-    (
-        b"\xfe\xff\x00-\x00-\x00-\x00-\x00-\x00B\x00E\x00G\x00I\x00N\x00 \x00X\x00-\x00\
-        -\x00-\x00-\x00-\x00\n\x00M\x00A\x00M\x00C\x00A\x00Q\x00U\x00=\x00\n\x00-\x00\
-        -\x00-\x00-\x00-\x00E\x00N\x00D\x00 \x00X\x00-\x00-\x00-\x00-\x00-\x00\n",
-        &[(
-            TakenFor::Text(Form::Pem),
-            &[],
-            1,
-            b"X",
-            b"0\x03\x02\x01\x05",
-            BlockState::Whole,
-        )],
-    ),
-    (
-        b"\xff\xfe-\x00-\x00-\x00-\x00-\x00B\x00E\x00G\x00I\x00N\x00 \x00X\x00-\x00-\x00-\x00-\
-        \x00-\x00\n\x00M\x00A\x00M\x00C\x00A\x00Q\x00U\x00=\x00\n\x00-\x00-\x00-\x00-\x00-\
-        \x00E\x00N\x00D\x00 \x00X\x00-\x00-\x00-\x00-\x00-\x00\n\x00",
-        &[(
-            TakenFor::Text(Form::Pem),
-            &[],
-            1,
-            b"X",
-            b"0\x03\x02\x01\x05",
-            BlockState::Whole,
-        )],
-    ),
-    (
-        b"subject=CN\n-----BEGIN X-----\nMAMCAQU=\n-----END X-----\n-----BEGIN Y-----\n\
-        MAMCAQc=\n",
-        &[
-            (
-                TakenFor::Text(Form::Pem),
-                &[],
-                2,
-                b"X",
-                b"0\x03\x02\x01\x05",
-                BlockState::Whole,
-            ),
-            (
-                TakenFor::Text(Form::Pem),
-                &[],
-                5,
-                b"Y",
-                b"0\x03\x02\x01\x07",
-                BlockState::Unended,
-            ),
-        ],
-    ),
-    (
-        b"-----BEGIN Z-----\nProc-Type: 4,ENCRYPTED\n\nMAMC\n-----END Z-----\n",
-        &[(
-            TakenFor::Text(Form::Pem),
-            &[],
-            1,
-            b"Z",
-            b"",
-            BlockState::Encrypted,
-        )],
-    ),
-    (
-        b"-----BEGIN Z-----\nMAMC\nA*\n-----END Z-----\n",
-        &[(
-            TakenFor::Text(Form::Pem),
-            &[],
-            1,
-            b"Z",
-            b"0\x03\x02",
-            BlockState::Refused(3),
-        )],
-    ),
-];
-
-/// Dumps, hexadecimal, numbers, base64, JSON with `x5c`, and a mail, of which the first word is base64 of octets that
-/// begin as a SEQUENCE.
+/// Hex dumps, hexadecimal, numbers, base64, and runs of base64 in JSON and in a mail. The first word of the mail is
+/// itself base64, of octets that begin as a SEQUENCE, but it must not count as a block.
 static TEXTS: [Row<'static>; 12] = [
     (
         b"00000000: 3003 0201 05                             0....\n",
@@ -147,7 +51,7 @@ static TEXTS: [Row<'static>; 12] = [
             BlockState::Whole,
         )],
     ),
-    // One line is a row of a dump, which is tried before hexadecimal.
+    // The second line is a row of a dump. A dump takes precedence over hexadecimal.
     (
         b"30 03\n0000 02 01 05\n",
         &[(
@@ -159,7 +63,7 @@ static TEXTS: [Row<'static>; 12] = [
             BlockState::Whole,
         )],
     ),
-    // The only row has neither the offset 0 nor a colon, so it is no dump.
+    // The second line has neither the offset 0 nor a colon, so the text is no dump.
     (
         b"30 03 02 01 05\n1000 02 01 05\n",
         &[(
@@ -256,16 +160,11 @@ static TEXTS: [Row<'static>; 12] = [
 ];
 
 #[test]
-fn pem_is_found(rt: HostRuntime) -> Result<(), Fail> {
-    expect_rows(&rt, rt.alloc(), PEM_TEXTS.as_slice())
-}
-
-#[test]
 fn forms_are_found(rt: HostRuntime) -> Result<(), Fail> {
     expect_rows(&rt, rt.alloc(), TEXTS.as_slice())
 }
 
-/// All blocks of a form that is named count.
+/// If the caller names a form, the blocks of that form are returned, even if they are refused, absent or no encoding.
 #[test]
 fn forms_may_be_named(rt: HostRuntime) -> Result<(), Fail> {
     let rows: [(Form, Row<'_>); 4] = [

@@ -1,10 +1,11 @@
-//! Inputs that are octets as they stand, and texts of no form.
+//! Tests of inputs that are taken as octets, and of texts whose form is unknown.
 use crate::rows::{Row, Want, expect_blocks, expect_rows};
 use std::test::Fail;
 use tlv_forms::{TakenFor, take_octets};
 use tlv_text::BlockState;
 
-/// Octets: encodings, a PEM block inside one, sound encodings without a control character, and what is no text.
+/// Inputs that are taken as octets: encodings, one of which contains a block of PEM, an encoding without control
+/// characters in its contents, and octets that are no text.
 static OCTETS: [Row<'static>; 8] = [
     (
         b"",
@@ -82,7 +83,7 @@ static OCTETS: [Row<'static>; 8] = [
     ),
 ];
 
-/// Texts of no form, among them the output of `sha256sum`.
+/// Texts whose form is unknown, among them the output of `sha256sum`.
 static OTHER_TEXTS: [Row<'static>; 6] = [
     (
         b"Hello, world",
@@ -106,7 +107,7 @@ static OTHER_TEXTS: [Row<'static>; 6] = [
             BlockState::Absent,
         )],
     ),
-    // Pairs, but the first two octets are 00.
+    // These are pairs of digits, but octets that begin with 00 00 are no encoding.
     (
         b"00 00 30 03",
         &[(
@@ -160,7 +161,7 @@ fn other_texts_have_no_octets(rt: HostRuntime) -> Result<(), Fail> {
     expect_rows(&rt, rt.alloc(), OTHER_TEXTS.as_slice())
 }
 
-/// What is named as octets is so, whatever it looks like.
+/// If the caller asks for octets, the input is taken as octets even if it looks like base64.
 #[test]
 fn octets_may_be_named(rt: HostRuntime) -> Result<(), Fail> {
     let text = b"MAMCAQU=";

@@ -1,10 +1,10 @@
-//! Texts in layers of base64.
+//! Tests of texts inside base64.
 use crate::rows::{Row, expect_rows};
 use std::test::Fail;
 use tlv_forms::TakenFor;
 use tlv_text::{BlockState, Form};
 
-/// Base64 of a text, and of base64 of it, up to four times, which is once too often.
+/// Texts in one to four layers of base64. At most three layers are decoded.
 static BASE64_TEXTS: [Row<'static>; 6] = [
     (
         b"LS0tLS1CRUdJTiBYLS0tLS0KTUFNQ0FRVT0KLS0tLS1FTkQgWC0tLS0tCg==",
@@ -77,7 +77,8 @@ static BASE64_TEXTS: [Row<'static>; 6] = [
     ),
 ];
 
-/// YAML with base64 of PEM in its lines, with base64 of an encoding and of another text, and in base64 of base64.
+/// YAML with runs of base64. The runs hold PEM, PEM with an empty line at its end, an encoding beside a text that is
+/// none, and YAML in base64 of base64.
 static YAML_TEXTS: [Row<'static>; 4] = [
     (
         b"kind: Secret\ndata:\n  tls.crt: LS0tLS1CRUdJTiBYLS0tLS0KTUFNQ0FRVT0KLS0tLS1FT\

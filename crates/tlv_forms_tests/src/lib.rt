@@ -1,4 +1,4 @@
-//! The tests of `tlv_forms`, by what it makes public.
+//! Tests of the public interface of `tlv_forms`.
 #![tactic(auto)]
 
 #[cfg(test)]
@@ -7,5 +7,7 @@ mod forms;
 mod inputs;
 #[cfg(test)]
 mod layers;
+#[cfg(test)]
+mod pem;
 #[cfg(test)]
 mod rows;

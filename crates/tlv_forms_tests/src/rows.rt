@@ -1,4 +1,4 @@
-//! Inputs, and the blocks that are expected of them.
+//! Inputs with the blocks that must be taken from them, and the checks of both.
 use std::alloc::Global;
 use std::fmt::Debug;
 use std::process::Abort;
@@ -6,8 +6,8 @@ use std::test::Fail;
 use tlv_forms::{Taken, TakenFor, take_input};
 use tlv_text::BlockState;
 
-/// A block that is expected: what it was taken for, the layers that it is in, its line, its label, its octets and its
-/// state.
+/// A block: what it is taken for, the layers around it (the line of each, if it is a run), its line, its label, its
+/// octets, and its state.
 pub(crate) type Want<'a> = (
     TakenFor,
     &'a [Option<usize>],
@@ -17,7 +17,7 @@ pub(crate) type Want<'a> = (
     BlockState,
 );
 
-/// An input, and its blocks.
+/// An input, with its blocks.
 pub(crate) type Row<'a> = (&'a [u8], &'a [Want<'a>]);
 
 pub(crate) fn expect_of<W: Copy + Debug, T: Copy + PartialEq + Debug>(
@@ -46,7 +46,7 @@ pub(crate) fn expect_blocks(rt: &impl Abort, input: &[u8], taken: &[Taken], want
     }
 }
 
-/// Takes the input of each row.
+/// Checks the blocks that are taken from the input of each row.
 pub(crate) fn expect_rows(rt: &impl Abort, alloc: Global, rows: &[Row<'_>]) -> Result<(), Fail> {
     for row in rows {
         let (input, wanted) = *row;

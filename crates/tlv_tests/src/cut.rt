@@ -1,4 +1,4 @@
-//! The calls of `tlv_cut` by themselves: what they write and return.
+//! Tests of `tlv_cut`: what its calls write and return.
 use crate::expect::{expect, expect_eq};
 use std::process::Abort;
 use tlv_cut::{Cut, Extract, Indef, extract, indef};
@@ -7,10 +7,11 @@ use tlv_walk::{DeviceFault, Ending, Follow, Framing, MemDrain, MemSource, drive}
 /// A SEQUENCE that holds an INTEGER.
 const INPUT: &[u8] = b"\x30\x03\x02\x01\x05";
 
-/// What `indef` writes of it.
+/// `INPUT` in the indefinite form.
 const INDEFINITE: &[u8] = b"\x30\x80\x02\x01\x05\x00\x00";
 
-/// Whether the follower by itself writes these octets of the input.
+/// Walks over `INPUT` with the follower.
+/// Returns whether the walk succeeds and the follower writes exactly these octets.
 fn writes<F: Follow>(follower: &mut F, written: &[u8]) -> bool {
     let mut room = [0; 8];
     let mut source = MemSource::new(INPUT, &[], None);
@@ -19,8 +20,8 @@ fn writes<F: Follow>(follower: &mut F, written: &[u8]) -> bool {
     run.is_ok() && drain.written() == written
 }
 
-/// Followers by themselves: one finds its element, and writes the contents alone, and one writes the
-/// indefinite form.
+/// The followers work without the calls that wrap them. `Extract` writes the contents octets of its element and reports
+/// that it found the element. `Indef` writes the indefinite form.
 #[test]
 fn followers_write_by_themselves(rt: HostRuntime) {
     let mut follower = Extract::new(2, true);
@@ -35,7 +36,7 @@ fn followers_write_by_themselves(rt: HostRuntime) {
     expect(&rt, is_written, "the indefinite form is written");
 }
 
-/// Expects the extract of the element at the offset to write these octets and return this.
+/// Extracts the element at the offset. Checks the octets that are written and the result.
 fn expect_extract(
     rt: &impl Abort,
     offset: u64,
@@ -51,7 +52,7 @@ fn expect_extract(
     expect_eq(rt, cut, wanted);
 }
 
-/// Expects the extract of the element at the offset to write these octets, and to find the element or not.
+/// Extracts the element at the offset. Checks the octets that are written, and whether the element is found.
 fn expect_element(rt: &impl Abort, offset: u64, found: bool, written: &[u8]) {
     let wanted = Cut {
         ending: Ending::Done,

@@ -1,13 +1,13 @@
-//! What a test expects. Each is a function of its own, since an assertion is proved at each place where it is written.
+//! Assertions of the tests. Each is a function, because an assertion is proved at each place where it is written.
 use std::fmt::Debug;
 use std::process::Abort;
 
-/// Expects both to be the same.
+/// Checks that `got` is `want`.
 pub(crate) fn expect_eq<T: Copy + PartialEq + Debug>(rt: &impl Abort, got: T, want: T) {
     assert!(rt; got == want, "{:?} in place of {:?}", got, want);
 }
 
-/// The same; if they differ, the message says `what` they are of.
+/// Checks that `got` is `want`. The message of a failure shows `what` they belong to.
 pub(crate) fn expect_eq_of<W: Copy + Debug, T: Copy + PartialEq + Debug>(
     rt: &impl Abort,
     what: W,
@@ -17,12 +17,12 @@ pub(crate) fn expect_eq_of<W: Copy + Debug, T: Copy + PartialEq + Debug>(
     assert!(rt; got == want, "{:?}: {:?} in place of {:?}", what, got, want);
 }
 
-/// Expects it to be so; if it is not, the message says what was expected.
+/// Checks a condition. The message of a failure says what was expected.
 pub(crate) fn expect(rt: &impl Abort, is_so: bool, what: &str) {
     assert!(rt; is_so, "expected that {what}");
 }
 
-/// The same of something that the message shows.
+/// Checks a condition on `of`. The message of a failure shows `of` and says what was expected.
 pub(crate) fn expect_of<W: Copy + Debug>(rt: &impl Abort, of: W, is_so: bool, what: &str) {
     assert!(rt; is_so, "expected of {:?} that {}", of, what);
 }

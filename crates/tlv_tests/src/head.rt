@@ -1,4 +1,4 @@
-//! Headers, tags and faults of real octets.
+//! Tests of headers, tags and faults.
 mod fields;
 mod octets;
 mod refusals;
@@ -14,17 +14,17 @@ use crate::inputs::header_at;
 use std::process::Abort;
 use tlv_head::{Class, Head, HeadReader, Header, Size};
 
-/// The header with which the octets begin, and its octets.
+/// Returns the header at the start of the octets, if there is one. `named` says whether its offset is named.
 fn header_of(named: bool, octets: &[u8]) -> Option<Header> {
     header_at(OFFSET, named, octets)
 }
 
-/// The same of an offset that is not named.
+/// Returns the header at the start of the octets, if there is one. Its offset is not named.
 fn unnamed_header(octets: &[u8]) -> Option<Header> {
     header_of(false, octets)
 }
 
-/// What the octets of a header, or a prefix of one, come to: the first result that is not More.
+/// Pushes the octets one by one. Returns the first result that is not `More`, or `More` if there is none.
 fn read(octets: &[u8], place: Place) -> Head
     requires { place.depth ≤ depth_limit }
 {
@@ -45,7 +45,7 @@ fn read(octets: &[u8], place: Place) -> Head
     Head::More
 }
 
-/// The header that the octets make one by one.
+/// Returns the header that is complete after the octets, pushed one by one.
 fn whole(octets: &[u8], place: Place) -> Option<Header>
     requires { place.depth ≤ depth_limit }
 {
@@ -55,7 +55,7 @@ fn whole(octets: &[u8], place: Place) -> Option<Header>
     }
 }
 
-/// Whether the header says what the shape says, and has its octets.
+/// Returns whether the header has the fields and the octets of the shape.
 fn is_of_shape(header: &Header, shape: &Shape<'_>) -> bool {
     header.offset == OFFSET
         && header.class == shape.class
@@ -66,7 +66,7 @@ fn is_of_shape(header: &Header, shape: &Shape<'_>) -> bool {
         && header.id_len == shape.id_len
 }
 
-/// Expects a header, and that it is of the shape.
+/// Checks that a header was found and that it has the shape.
 fn expect_shape(rt: &impl Abort, found: &Option<Header>, shape: &Shape<'_>) {
     let is_read = match found {
         Some(header) => is_of_shape(header, shape),
@@ -80,7 +80,8 @@ fn expect_shape(rt: &impl Abort, found: &Option<Header>, shape: &Shape<'_>) {
     );
 }
 
-/// Octet by octet, and all at once; with room for the contents, and without a bound.
+/// A header is read the same whether its octets come one by one or
+/// at once, and whether its contents just fit or there is no bound.
 #[test]
 fn headers_are_read(rt: HostRuntime) {
     for shape in &SHAPES {
@@ -103,7 +104,7 @@ fn headers_are_read(rt: HostRuntime) {
     }
 }
 
-/// Expects each octet before the last to be taken, and to make no header.
+/// Checks that each proper prefix of a header is unfinished: its octets are taken, and they make no header.
 fn expect_unfinished_prefixes(rt: &impl Abort, octets: &[u8]) {
     for count in 0..octets.len() {
         let prefix = &octets[..count];
@@ -125,7 +126,7 @@ fn prefixes_are_unfinished(rt: HostRuntime) {
     }
 }
 
-/// Whether the octets begin with a header that has these octets.
+/// Returns whether the octets begin with a header that consists of the octets `raw`.
 fn has_octets(octets: &[u8], raw: &[u8]) -> bool {
     match unnamed_header(octets) {
         Some(header) => header.raw() == raw,
@@ -133,7 +134,7 @@ fn has_octets(octets: &[u8], raw: &[u8]) -> bool {
     }
 }
 
-/// The header with which the octets begin is there even if it has no place.
+/// A header can be read even if it would be refused at its place. End-of-contents octets are no header.
 #[test]
 fn headers_begin_octets(rt: HostRuntime) {
     for refusal in &REFUSALS {
@@ -150,7 +151,7 @@ fn headers_begin_octets(rt: HostRuntime) {
     );
 }
 
-/// The longest header has ten identifier octets and 127 length octets.
+/// The longest header has ten identifier octets and 127 length octets. It must fit into a `Header`.
 #[test]
 fn the_longest_header_is_read(rt: HostRuntime) {
     let mut octets = [0; 137];

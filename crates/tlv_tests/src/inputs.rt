@@ -1,4 +1,4 @@
-//! Headers, elements and framings, of the octets and the offsets that a test gives.
+//! Headers, elements and framings that the tests use.
 ghost use Rattle.std.specs.Prelude.{IfSome};
 ghost use Rattle.tlv_head.specs.Header.{HasAllContents};
 
@@ -6,13 +6,13 @@ use std::process::Abort;
 use tlv_head::{Header, Size, read_header};
 use tlv_walk::{Framing, Inside};
 
-/// The header with which the octets begin, at this offset.
+/// Returns the header at the start of the octets, if there is one. The header has this offset.
 pub(crate) fn header_at(offset: u64, named: bool, octets: &[u8]) -> Option<Header> {
     let (fields, count) = read_header(offset, named, octets)?;
     Some(Header::new(&fields, &octets[..count]))
 }
 
-/// The same of octets that begin with one.
+/// Returns the header at the start of the octets. The header has this offset. Panics if there is none.
 pub(crate) fn header(rt: &impl Abort, offset: u64, named: bool, octets: &[u8]) -> Header {
     let Some(header) = header_at(offset, named, octets) else {
         panic!(rt; "no header");
@@ -20,7 +20,8 @@ pub(crate) fn header(rt: &impl Abort, offset: u64, named: bool, octets: &[u8]) -
     header
 }
 
-/// The header and the contents of the element of definite length that the octets are, at this offset.
+/// Splits an element of definite length into its header and its contents octets. The header has this offset. Returns
+/// `None` if the octets are not exactly one such element.
 pub(crate) fn element_at<'a>(offset: u64, octets: &'a [u8]) -> Option<(Header, &'a [u8])>
     ensures { IfSome result (λ (header, contents). HasAllContents header contents.now) }
 {
@@ -33,7 +34,7 @@ pub(crate) fn element_at<'a>(offset: u64, octets: &'a [u8]) -> Option<(Header, &
     Some((header, contents))
 }
 
-/// The framing that names these offsets, which rise.
+/// Returns the framing that names these offsets. Panics if they do not rise.
 pub(crate) fn framing_of(rt: &impl Abort, offsets: &[u64], padding: bool) -> Framing<'static> {
     let Some(inside) = Inside::new(offsets) else {
         panic!(rt; "the offsets rise");

@@ -1,5 +1,5 @@
-//! The tests of `tlv_head`, `tlv_io`, `tlv_walk`, `tlv_value`, `tlv_show`, `tlv_open`, `tlv_cut`, `tlv_run` and
-//! `tlv_view`, by what these crates make public.
+//! Tests of the public interfaces of `tlv_head`, `tlv_io`, `tlv_walk`, `tlv_value`, `tlv_show`, `tlv_open`, `tlv_cut`,
+//! `tlv_run` and `tlv_view`.
 #![tactic(auto)]
 
 #[cfg(test)]

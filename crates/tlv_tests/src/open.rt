@@ -1,4 +1,4 @@
-//! Which strings of an input are opened, and which are broken.
+//! Tests of `tlv_open`: the strings of an input that are opened, and those that are broken.
 mod broken;
 mod broken_rows;
 
@@ -13,7 +13,7 @@ use tlv_walk::INPUT_LIMIT;
 /// An input, and the offsets of the strings that are opened.
 type Row<'a> = (&'a [u8], &'a [u64]);
 
-/// Strings at the top: what they hold.
+/// Strings at the top level.
 static STRINGS: [Row<'static>; 13] = [
     (b"\x04\x05\x30\x03\x02\x01\x07", &[0]),
     (b"\x04\x02\x05\x00", &[0]),
@@ -30,7 +30,8 @@ static STRINGS: [Row<'static>; 13] = [
     (b"\x04\x03\x05\x00\x00", &[]),
 ];
 
-/// Strings in other elements: findings inside, segments, and inputs that are cut off or padded.
+/// Strings inside other elements: with findings in their contents,
+/// in segments, in inputs that are cut off, and with padding.
 static ELEMENTS: [Row<'static>; 9] = [
     (b"\x30\x0b\x04\x09\x30\x07\x13\x05foo@b", &[2]),
     (b"\x30\x08\x04\x02\x05\x00\x04\x02\x06\x00", &[2]),
@@ -43,7 +44,7 @@ static ELEMENTS: [Row<'static>; 9] = [
     (b"\x04\x02\x05\x00\x00\x04\x02\x05\x00", &[0]),
 ];
 
-/// The strings that are opened of an input that is not too long.
+/// Returns the offsets of the strings that are opened. Checks first that the input is not too long.
 fn opened_in(
     rt: &impl Abort,
     alloc: Global,
@@ -77,7 +78,8 @@ fn strings_are_opened(rt: HostRuntime) -> Result<(), Fail> {
     expect_opened(&rt, rt.alloc(), &[padded], true)
 }
 
-/// So many indefinite SEQUENCEs, one in the other, that hold a string in the end.
+/// Checks the strings that are opened of an input in which
+/// `depth` nested elements of indefinite length hold one string.
 fn expect_deep(rt: &impl Abort, alloc: Global, depth: usize, offsets: &[u64]) -> Result<(), Fail> {
     let mut input = Vec::new(alloc);
     for _ in 0..depth {
@@ -92,17 +94,17 @@ fn expect_deep(rt: &impl Abort, alloc: Global, depth: usize, offsets: &[u64]) ->
     Ok(())
 }
 
-/// A string that is opened counts among the 128 elements that may hold others.
+/// A string that is opened counts among the 128 elements that may be open. So one inside 128 elements stays closed.
 #[test]
 fn deep_strings_are_opened(rt: HostRuntime) -> Result<(), Fail> {
     expect_deep(&rt, rt.alloc(), 127, &[254])?;
     expect_deep(&rt, rt.alloc(), 128, &[])
 }
 
-/// An element, how many elements hold it, and whether it is a string that holds encodings.
+/// An element, the number of open elements around it, and whether it is a string that holds encodings.
 type HoldsRow<'a> = (&'a [u8], u8, bool);
 
-/// Elements at the top, and inside as many as may hold others.
+/// Elements at the top level, and at the greatest depths.
 static HOLDS: [HoldsRow<'static>; 9] = [
     (b"\x04\x02\x05\x00", 0, true),
     (b"\x04\x02\x05\x00", 127, true),

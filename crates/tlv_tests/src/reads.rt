@@ -1,4 +1,4 @@
-//! Reads that are followed one by one.
+//! Reads that a test follows one by one.
 ghost use Rattle.std.specs.Prelude.{◌≤◌};
 ghost use Rattle.tlv_walk.specs.WalkerReads.{IsReady};
 ghost use Rattle.tlv_walk.specs.OneTurn.{CanTurn};
@@ -7,10 +7,10 @@ use crate::expect::expect_eq;
 use std::process::Abort;
 use tlv_walk::{DeviceFault, Follow, MemDrain, MemSource, Turn, Walker, turn};
 
-/// As many octets as the inputs of these tests have.
+/// The number of octets of the inputs of these tests.
 pub(crate) const LENGTH: u64 = 11;
 
-/// Follows one read, after which more is to be read, and these octets are written.
+/// Makes one read and follows its octets. Checks that more is to be read, and what is written so far.
 pub(crate) fn expect_again<F: Follow>(
     rt: &impl Abort,
     walker: &mut Walker<'_>,
@@ -31,7 +31,7 @@ pub(crate) fn expect_again<F: Follow>(
     expect_written(rt, drain, written);
 }
 
-/// Makes a read that fails, after which these octets are still what is written.
+/// Makes one read that fails. Checks that nothing more is written.
 pub(crate) fn expect_failure<F: Follow>(
     rt: &impl Abort,
     walker: &mut Walker<'_>,
@@ -52,7 +52,7 @@ pub(crate) fn expect_failure<F: Follow>(
     expect_written(rt, drain, written);
 }
 
-/// Expects the drain to have taken these octets.
+/// Checks what is written.
 pub(crate) fn expect_written(rt: &impl Abort, drain: &MemDrain<'_>, octets: &[u8]) {
     expect_eq(rt, drain.written(), octets);
 }

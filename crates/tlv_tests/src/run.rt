@@ -1,4 +1,4 @@
-//! Runs that are handed no memory.
+//! Tests of `tlv_run`, whose calls are given no memory.
 use crate::expect::expect_eq_of;
 use std::process::Abort;
 use tlv_run::{Command, run, run_dump_with};
@@ -9,7 +9,7 @@ use tlv_walk::{Framing, MemDrain, MemSource};
 /// A SEQUENCE that holds an INTEGER.
 const INPUT: &[u8] = b"\x30\x03\x02\x01\x05";
 
-/// Runs the command over the input, and expects these octets to be written and this status.
+/// Runs the command over `INPUT`. Checks what is written and the status.
 fn expect_run(rt: &impl Abort, command: &Command<'_>, written: &[u8], status: u8) {
     let mut room = [0; 128];
     let mut source = MemSource::new(INPUT, &[], None);
@@ -19,7 +19,8 @@ fn expect_run(rt: &impl Abort, command: &Command<'_>, written: &[u8], status: u8
     expect_eq_of(rt, "status", report.status, status);
 }
 
-/// No request for memory is made here but what a run would make: `rt try --test --fail-alloc 1` refuses the first.
+/// A run must not allocate. The test itself requests no memory, so `rt try --test --fail-alloc 1` refuses the first
+/// request that a run makes, if it makes one.
 #[test]
 fn runs_take_no_memory(rt: HostRuntime) {
     let dump = Command::Dump {
@@ -60,7 +61,7 @@ fn runs_take_no_memory(rt: HostRuntime) {
     }
 }
 
-/// The run of a dump alone, with text beside pairs of digits.
+/// `run_dump_with` shows the text beside pairs of digits.
 #[test]
 fn a_dump_with_text_is_run(rt: HostRuntime) {
     let options = Options {

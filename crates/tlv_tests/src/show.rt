@@ -1,4 +1,4 @@
-//! Dumps of events, followed one by one.
+//! Tests of `tlv_show`: dumps and checks.
 mod calls;
 mod primitives;
 mod turns;
@@ -11,7 +11,7 @@ use tlv_show::{Dump, Options, Rules};
 use tlv_value::Names;
 use tlv_walk::{Drain, Event, Follow, Framing, MemDrain, MemSource, Out, Walker, WriteFault};
 
-/// Options of a dump of everything.
+/// The options of a dump of everything.
 fn plain() -> Options<'static> {
     Options {
         rules: Rules::Ber,
@@ -21,7 +21,7 @@ fn plain() -> Options<'static> {
     }
 }
 
-/// Hands the events to a new dump.
+/// Hands the events to a new dump, which writes to the drain.
 fn follow_all<D: Drain>(events: &[Event<'_>], drain: &mut D) -> Result<(), WriteFault> {
     let mut out = Out::new(drain);
     let names = Names::empty();
@@ -32,7 +32,7 @@ fn follow_all<D: Drain>(events: &[Event<'_>], drain: &mut D) -> Result<(), Write
     out.flush()
 }
 
-/// Expects the events to make a dump of this text.
+/// Checks that the dump of the events is this text.
 fn expect_text(rt: &impl Abort, events: &[Event<'_>], text: &[u8]) {
     let mut room = [0; 400];
     let mut drain = MemDrain::new(&mut room, 7);
@@ -41,7 +41,7 @@ fn expect_text(rt: &impl Abort, events: &[Event<'_>], text: &[u8]) {
 }
 
 #[test]
-fn a_constructed_string(rt: HostRuntime) {
+fn a_constructed_string_is_dumped(rt: HostRuntime) {
     let events = [
         Event::Open(header(&rt, 0, false, &[0x3a, 9])),
         Event::Begin(header(&rt, 2, false, &[4, 3])),
@@ -62,7 +62,7 @@ fn a_constructed_string(rt: HostRuntime) {
 }
 
 #[test]
-fn the_indefinite_form(rt: HostRuntime) {
+fn the_indefinite_form_is_dumped(rt: HostRuntime) {
     let events = [
         Event::Open(header(&rt, 0, false, &[0x3a, 0x80])),
         Event::Begin(header(&rt, 2, false, &[4, 3])),
@@ -85,7 +85,7 @@ const ROWS: &[u8] = b"       0     17: INTEGER
 ";
 
 #[test]
-fn rows_from_one_piece(rt: HostRuntime) {
+fn rows_are_written_from_one_piece(rt: HostRuntime) {
     let events = [
         Event::Begin(header(&rt, 0, false, &[2, 17])),
         Event::Bytes(&CONTENTS),
@@ -95,7 +95,7 @@ fn rows_from_one_piece(rt: HostRuntime) {
 }
 
 #[test]
-fn rows_from_pieces(rt: HostRuntime) {
+fn rows_are_written_from_pieces(rt: HostRuntime) {
     for cut in 0..=17 {
         let (front, after) = CONTENTS.split_at(cut);
         let events = [
@@ -109,7 +109,7 @@ fn rows_from_pieces(rt: HostRuntime) {
 }
 
 #[test]
-fn a_wrapper_and_padding(rt: HostRuntime) {
+fn a_wrapper_and_padding_are_dumped(rt: HostRuntime) {
     let events = [
         Event::Pad(&[0]),
         Event::Pad(&[0, 0]),
@@ -130,7 +130,7 @@ fn a_wrapper_and_padding(rt: HostRuntime) {
 }
 
 #[test]
-fn a_drain_without_room(rt: HostRuntime) {
+fn a_drain_without_room_fails(rt: HostRuntime) {
     let events = [Event::Begin(header(&rt, 0, false, &[5, 0])), Event::End];
     let mut room = [0; 10];
     let mut drain = MemDrain::new(&mut room, 400);
@@ -138,7 +138,7 @@ fn a_drain_without_room(rt: HostRuntime) {
     expect_eq(&rt, drain.written(), b"       0  ".as_slice());
 }
 
-/// The lines that so many octets of the constructed string allow.
+/// The lines of the constructed string that can be written after this number of its octets.
 fn lines_with(octets: u64) -> &'static [u8] {
     match octets {
         0 | 1 => b"",
@@ -154,7 +154,8 @@ fn lines_with(octets: u64) -> &'static [u8] {
     }
 }
 
-/// Expects the lines of the string turn by turn, if its first read gives so many octets.
+/// Reads the constructed string in two pieces, of which the first has this number of octets.
+/// Checks what is written after each.
 fn expect_turns(rt: &impl Abort, first: u64) {
     let mut room = [0; 200];
     let mut piece = [0; 11];
@@ -187,7 +188,7 @@ fn expect_turns(rt: &impl Abort, first: u64) {
     );
 }
 
-/// The same in each cut into two pieces.
+/// Each line is written as soon as its octets are read, in every cut of the constructed string into two pieces.
 #[test]
 fn lines_come_with_their_octets_in_each_cut(rt: HostRuntime) {
     for first in 1..11 {

@@ -1,4 +1,5 @@
-//! Values and their lines, whatever pieces the contents come in, what is found on them, and names.
+//! Tests of `tlv_value`: the lines of values, the findings on their contents, and names. Neither lines nor findings may
+//! depend on the pieces in which the contents come.
 mod beside;
 mod checks;
 mod drains;
@@ -32,7 +33,7 @@ struct Row<'a> {
     lines: &'a [&'a str],
 }
 
-/// A table of one name.
+/// A table with one name.
 struct OneName;
 
 impl NameTable for OneName {
@@ -48,25 +49,25 @@ impl NameTable for OneName {
     }
 }
 
-/// The outermost level, without a limit.
+/// The layout of the top level, without a limit.
 const PLAIN: Layout = Layout {
     level: 0,
     limit: None,
     pure: false,
 };
 
-/// How contents come, and a drain takes its octets.
+/// The pieces in which contents come, and the size of the writes.
 #[derive(Clone, Copy)]
 struct Pieces {
-    /// The most octets of the first piece.
+    /// The size of the first piece.
     first: usize,
-    /// The most octets of each piece after it.
+    /// The size of each piece after the first.
     size: usize,
-    /// The most octets of a write.
+    /// The most octets that the drain takes with a write.
     most: usize,
 }
 
-/// Two pieces, cut here, or after the last octet.
+/// Two pieces. The first has `cut` octets.
 fn cut_at(cut: usize) -> Pieces
     ensures { 1 ≤ result.size }
 {
@@ -77,7 +78,8 @@ fn cut_at(cut: usize) -> Pieces
     }
 }
 
-/// Writes the lines of the element at this offset into the room. Returns how many octets were written.
+/// Writes the lines of the element, at this offset, into the room. Returns the number of octets written, or `None` if
+/// the octets are no element or a write fails.
 fn show<N: NameTable>(
     element: &[u8],
     offset: u64,
@@ -100,8 +102,8 @@ fn show<N: NameTable>(
     Some(drain.written().len())
 }
 
-/// Puts the lines of a primitive whose contents come in pieces of `size` octets after the first. The
-/// last may be empty.
+/// Puts the lines of a primitive. Its contents come in the piece `front` and then in pieces of `size` octets, of which
+/// the last may be shorter or empty.
 fn put_pieces<N: NameTable, D: Drain>(
     text: &mut ValueText,
     front: &[u8],
@@ -127,7 +129,7 @@ fn put_pieces<N: NameTable, D: Drain>(
     text.end(names, out).ok()
 }
 
-/// Whether the octets are these lines.
+/// Returns whether the octets are exactly these lines, each with a line feed.
 fn are_lines(octets: &[u8], lines: &[&str]) -> bool {
     let mut rest = octets;
     for line in lines {
@@ -142,7 +144,7 @@ fn are_lines(octets: &[u8], lines: &[&str]) -> bool {
     rest.is_empty()
 }
 
-/// Whether so many octets of the room are these lines.
+/// Returns whether the first `count` octets of the room are these lines.
 fn are_shown(room: &[u8], count: Option<usize>, lines: &[&str]) -> bool {
     match count {
         Some(count) if count <= room.len() => are_lines(&room[..count], lines),
@@ -150,12 +152,13 @@ fn are_shown(room: &[u8], count: Option<usize>, lines: &[&str]) -> bool {
     }
 }
 
-/// Expects the lines of an element, with its contents whole, in every cut into two pieces, and octet by octet.
+/// Checks the lines of an element in every cut of its contents into two pieces, and octet by octet.
 fn expect_lines(rt: &impl Abort, element: &[u8], layout: Layout, lines: &[&str]) {
     expect_lines_named(rt, element, layout, &OneName, lines);
 }
 
-/// The same with these names.
+/// Checks the lines of an element in every cut of its contents
+/// into two pieces, and octet by octet, with the names of a table.
 fn expect_lines_named<N: NameTable>(
     rt: &impl Abort,
     element: &[u8],

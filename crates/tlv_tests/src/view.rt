@@ -1,4 +1,4 @@
-//! Views of octets with the strings opened that hold encodings, and inputs that are read into memory.
+//! Tests of `tlv_view`: views in which strings that hold encodings are opened, and inputs that are read into memory.
 mod whole;
 
 use crate::expect::expect_eq_of;
@@ -17,7 +17,7 @@ const DUMP: View = View::Dump {
     text: true,
 };
 
-/// Expects the view of these octets to write this, to report this status, and to find so many broken strings.
+/// Checks the view of the octets: what is written, the status, and the number of broken strings.
 fn expect_view(
     rt: &impl Abort,
     alloc: Global,
@@ -75,7 +75,7 @@ fn strings_are_shown_opened(rt: HostRuntime) -> Result<(), Fail> {
     Ok(())
 }
 
-/// Text is beside pairs of digits, and strings that break are found, unless all are to stay closed.
+/// Text is shown beside pairs of digits. Broken strings are found, unless strings are to stay closed.
 #[test]
 fn text_and_broken_strings_are_found(rt: HostRuntime) -> Result<(), Fail> {
     let text: &[u8] = b"       0      3: [0] 61 62 63  |abc|\n";
@@ -87,7 +87,7 @@ fn text_and_broken_strings_are_found(rt: HostRuntime) -> Result<(), Fail> {
     Ok(())
 }
 
-/// Offsets are written as `--inside` takes them.
+/// Offsets are written in the form that `--inside` takes.
 #[test]
 fn offsets_are_written(rt: HostRuntime) {
     for (offsets, want) in [

@@ -1,4 +1,4 @@
-//! Walks over memory: their events, what a follower writes of them, and what they come to.
+//! Tests of `tlv_walk`: the events of a walk over memory, what a follower writes of them, and the result.
 mod deep_inputs;
 mod devices;
 mod enough;
@@ -32,18 +32,18 @@ use tlv_walk::{
     drive_up_to,
 };
 
-/// Cuts into single octets: as many as the rows' inputs have, and more.
+/// The sizes of reads of single octets: more reads than an input of the rows needs.
 const ONES: [u64; 600] = [1; 600];
 
-/// More octets than a row's lines have.
+/// Room for more octets than the lines of a row have.
 const ROOM: usize = 4096;
 
 /// How a source gives its octets, and how many are followed.
 #[derive(Clone, Copy)]
 struct ReadPlan<'a> {
-    /// The most octets of each read.
+    /// The sizes of the reads.
     cuts: &'a [u64],
-    /// The read that fails.
+    /// The number of the read that fails.
     fail_at: Option<u64>,
     limit: u64,
 }
@@ -54,7 +54,7 @@ const WHOLE: ReadPlan<'static> = ReadPlan {
     limit: INPUT_LIMIT,
 };
 
-/// What a walk comes to.
+/// What a walk writes, and its result.
 #[derive(Clone, Copy)]
 struct WalkResult<'a> {
     written: &'a [u8],
@@ -65,7 +65,7 @@ fn tables() -> [&'static [Row<'static>]; 4] {
     [&ENCODINGS, &WRAPPED, &ENDED, &REFUSED]
 }
 
-/// Puts the lines of the row's events that come with so many octets.
+/// Puts the lines of the row's events that occur within the first `octets` octets.
 fn put_lines<D: Drain>(
     rt: &impl Abort,
     row: &Row<'_>,
@@ -81,7 +81,7 @@ fn put_lines<D: Drain>(
     out.flush()
 }
 
-/// The lines of the row's events that come with so many octets.
+/// Returns the lines of the row's events that occur within the first `octets` octets.
 fn text_of(rt: &impl Abort, alloc: Global, row: &Row<'_>, octets: usize) -> Result<Vec<u8>, Fail> {
     let mut room = [0; ROOM];
     let mut drain = MemDrain::new(&mut room, 4096);
@@ -92,7 +92,7 @@ fn text_of(rt: &impl Abort, alloc: Global, row: &Row<'_>, octets: usize) -> Resu
     Ok(text)
 }
 
-/// How many octets of the row are walked over. The octet there is refused, if there is one.
+/// Returns how many octets of the row are walked over: all, or those before the octet that is refused.
 fn walked(row: &Row<'_>) -> u64 {
     match row.ending {
         Ending::Done => row.input.len() as u64,
@@ -100,7 +100,7 @@ fn walked(row: &Row<'_>) -> u64 {
     }
 }
 
-/// What the row's input comes to.
+/// Returns the result of a walk over the row's input.
 fn run_of(row: &Row<'_>) -> Run {
     Run {
         ending: row.ending,
@@ -110,7 +110,7 @@ fn run_of(row: &Row<'_>) -> Run {
     }
 }
 
-/// Walks over the row's input, and expects this result.
+/// Walks over the row's input. Checks what is written and the result.
 fn expect_walk(
     rt: &impl Abort,
     row: &Row<'_>,
@@ -130,7 +130,7 @@ fn expect_walk(
     expect_eq_of(rt, row.name, drain.written(), wanted.written);
 }
 
-/// Expects the row's own result.
+/// Walks over the row's input. Checks that the text is written, and that the result is the row's.
 fn expect_row(rt: &impl Abort, row: &Row<'_>, text: &[u8], reads: ReadPlan<'_>, room: &mut [u8]) {
     let wanted = WalkResult {
         written: text,

@@ -1,4 +1,4 @@
-//! Blocks of a text in each form.
+//! Tests of the blocks of a text in each form.
 use crate::rows::expect_of;
 use std::alloc::Global;
 use std::process::Abort;
@@ -8,7 +8,7 @@ use tlv_text::{Block, BlockState, Form, TextFault, blocks_of, separated_block};
 /// A block: its line, its label, its octets, and its state.
 type BlockRow<'a> = (usize, &'a [u8], &'a [u8], BlockState);
 
-/// A text with one block in a form, or none.
+/// A form, and a text with at most one block of it.
 type OneRow<'a> = (Form, &'a [u8], BlockRow<'a>);
 
 static PEM: [OneRow<'static>; 7] = [
@@ -33,13 +33,13 @@ static PEM: [OneRow<'static>; 7] = [
             BlockState::Refused(5),
         ),
     ),
-    // The text ends before the end marker, but that is not what is wrong first.
+    // The text also lacks its end marker, but the refused character comes first.
     (
         Form::Pem,
         b"\n-----BEGIN A-----\nMAMC\nMA*",
         (2, b"A", b"\x30\x03\x02", BlockState::Refused(4)),
     ),
-    // Headers come before the base64.
+    // Headers precede the base64. Lines are counted from the start of the text.
     (
         Form::Pem,
         b"-----BEGIN PGP MESSAGE-----\nVersion: x\n\nMAMC\n*\n-----END PGP MESSAGE-----\n",
@@ -89,7 +89,7 @@ static OTHERS: [OneRow<'static>; 16] = [
         b"0x30,\nand 0x03",
         (1, b"", b"\x30", BlockState::Refused(2)),
     ),
-    // One token is no list of them.
+    // A list of tokens has at least two, so one token is refused.
     (Form::Hex, b"\n0x30", (1, b"", b"", BlockState::Refused(2))),
     (
         Form::Numbers,
@@ -116,7 +116,7 @@ static OTHERS: [OneRow<'static>; 16] = [
         b"-_-_",
         (1, b"", b"\xfb\xff\xbf", BlockState::Whole),
     ),
-    // A symbol of the other alphabet anywhere in the text.
+    // A symbol of the other alphabet, in a later line.
     (
         Form::Base64,
         b"MAMC\n+/+_",
@@ -175,7 +175,7 @@ fn a_text_is_one_block_or_none(rt: HostRuntime) -> Result<(), Fail> {
     Ok(())
 }
 
-/// What follows a refused block is found, and its line is counted from there on.
+/// Blocks after a refused block are found. Their lines are counted from the start of the text.
 #[test]
 fn blocks_of_pem_come_in_order(rt: HostRuntime) -> Result<(), Fail> {
     let text = b"-----BEGIN A-----\nMAMCAQU=\n-----END A-----\n\n-----BEGIN B KEY-----\r\nMAA*\r\n\
@@ -190,7 +190,7 @@ fn blocks_of_pem_come_in_order(rt: HostRuntime) -> Result<(), Fail> {
     Ok(())
 }
 
-/// Lines of LDIF are continued by a space. Of the last run a symbol is over.
+/// In LDIF a line that begins with a space continues the line before it. The last run has one symbol too many.
 #[test]
 fn runs_come_in_order(rt: HostRuntime) -> Result<(), Fail> {
     let text = b"dn: cn=x\njpegPhoto:: AAAAAAAAAAAAAAAAAAAA\n AAAAAAAAAAAAAAAAAAAAAA==\nsn: x\n\
@@ -206,8 +206,8 @@ fn runs_come_in_order(rt: HostRuntime) -> Result<(), Fail> {
     Ok(())
 }
 
-/// Pairs, none of which a digit follows at once, in groups of four and one by one, with one character or more between
-/// them.
+/// Separated pairs of digits are one block.
+/// They may have any separators that the form allows, in groups of four pairs or one by one.
 #[test]
 fn separated_pairs_are_one_block(rt: HostRuntime) -> Result<(), Fail> {
     let rows: [(&[u8], &[u8]); 4] = [
@@ -228,7 +228,8 @@ fn separated_pairs_are_one_block(rt: HostRuntime) -> Result<(), Fail> {
     Ok(())
 }
 
-/// Pairs that are joined, a row of a dump, a digit alone, a character that is not between pairs, and tokens.
+/// Texts that only resemble separated pairs are left to the general decoder: joined pairs, a row of a dump, a single
+/// digit, a character that is no separator, tokens, and the `*` of a dump.
 #[test]
 fn other_texts_are_not_separated_pairs(rt: HostRuntime) -> Result<(), Fail> {
     let texts: [&[u8]; 6] = [
@@ -248,7 +249,7 @@ fn other_texts_are_not_separated_pairs(rt: HostRuntime) -> Result<(), Fail> {
     Ok(())
 }
 
-/// A dump that would be more than 2^30 octets.
+/// A dump of more than 2^30 octets is refused, so that a short text cannot ask for so much memory.
 #[test]
 fn long_blocks_are_refused(rt: HostRuntime) {
     let text = b"0000000000  41 41 41 41 41 41 41 41 41 41 41 41 41 41 41 41\n*\n00ffffffff0\n";

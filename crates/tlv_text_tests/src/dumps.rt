@@ -1,20 +1,20 @@
-//! Hex dumps, as several tools write them.
+//! Tests of hex dumps, in the forms that common tools write.
 use crate::rows::{Row, expect_of};
 use std::alloc::Global;
 use std::process::Abort;
 use std::test::Fail;
 use tlv_text::decode_dump;
 
-/// 16 octets, and three more.
+/// 19 octets: a row of 16, and three more.
 static OCTETS: &[u8] =
     b"\x30\x82\x01\x22\x04\x05\x06\x07\x08\x09\x0a\x0b\x0c\x0d\x0e\x0f\x30\x31\x32";
 
-/// Texts that are these octets.
+/// Dumps of `OCTETS`, as these tools write them.
 static TOOLS: [&[u8]; 10] = [
     // xxd
     b"00000000: 3082 0122 0405 0607 0809 0a0b 0c0d 0e0f  0..\"............\n\
       00000010: 3031 32                                  012\n",
-    // xxd before 2014, with seven digits
+    // xxd before 2014, with offsets of seven digits
     b"0000000: 3082 0122 0405 0607 0809 0a0b 0c0d 0e0f  0..\"............\n\
       0000010: 3031 32                                  012\n",
     // hexdump -C
@@ -33,7 +33,7 @@ static TOOLS: [&[u8]; 10] = [
     // BIO_dump
     b"0000 - 30 82 01 22 04 05 06 07-08 09 0a 0b 0c 0d 0e 0f   0..\"............\n\
       0010 - 30 31 32                                          012\n",
-    // Lines with an offset alone, and then rows
+    // lines that begin like an offset, followed by rows
     b"0000 zz\n2024\n0000  30 82 01 22 04 05 06 07 08 09 0a 0b 0c 0d 0e 0f\n0010  30 31 32\n0013\n",
     // Format-Hex
     b"\n           Path: C:\\a.der\n\n           00 01 02 03\n\n\
@@ -41,7 +41,7 @@ static TOOLS: [&[u8]; 10] = [
       00000010   30 31 32                                         012\n",
 ];
 
-/// Other texts.
+/// Short dumps, dumps that are refused, and texts that are no dump.
 static DUMPS: [Row<'static>; 14] = [
     (
         b"0000  30 03 02 01 05   0....",
@@ -53,32 +53,34 @@ static DUMPS: [Row<'static>; 14] = [
         b"\x30\x03\x02\x01\x05",
         None,
     ),
-    // The offset of the second row is not that after the first.
+    // The offset of the third row is not the one after the second row.
     (
         b"00000000: 3003\n00000002: 0201\n00000005: 05\n",
         b"\x30\x03\x02\x01",
         Some(30),
     ),
-    // Words of 16 bits, as hexdump and od -tx2 write them, and of 32 bits.
+    // Words of 16 bits, as hexdump and od -tx2 write them, and of
+    // 32 bits, are refused: the order of their octets is unknown.
     (b"0000000 0330 0102 0005\n0000005\n", b"", Some(0)),
     (b"0000000 0330 0102 0005\n", b"", Some(0)),
     (b"0000000 02010330 00000005\n0000005\n", b"", Some(0)),
-    // With a colon, words are pairs in their order.
+    // After an offset with a colon, a word is pairs of digits in their order.
     (
         b"0000: 3003 0201 05\n0005: 06\n",
         b"\x30\x03\x02\x01\x05\x06",
         None,
     ),
-    // Octal words, as od writes them, and bits, as xxd -b does.
+    // Octal words, as od writes them, and bits, as xxd -b writes them, are refused.
     (b"0000000 001460 000402 000005\n0000005\n", b"", Some(0)),
     (
         b"00000000: 00110000 00000011 00000010  0..\n00000003: 00000001            .\n",
         b"",
         Some(0),
     ),
-    // A digit is lost.
+    // The second row lacks a digit.
     (b"00000000: 3003\n00000002: 020\n", b"\x30\x03", Some(15)),
-    // The second row is broken in its second half. In octal, the first halves would be 24 octets.
+    // The second row has a wrong digit in its second half. It must not be taken for a shorter row, as it could be if
+    // offsets were octal.
     (
         b"00000000  30 31 32 33 34 35 36 37  38 39 3a 3b 3c 3d 3e 3f\n\
           00000010  30 31 32 33 34 35 36 37  38 3z 3a 3b 3c 3d 3e 3f\n\
@@ -118,7 +120,8 @@ fn other_dumps_are_decoded_or_refused(rt: HostRuntime) -> Result<(), Fail> {
     Ok(())
 }
 
-/// A row that `*` repeats up to the next offset, which is hexadecimal as hexdump -C writes it, or octal as od does.
+/// A line `*` repeats the row before it up to the next offset. The offset is hexadecimal, as hexdump -C writes it, or
+/// octal, as od writes it.
 #[test]
 fn rows_are_repeated(rt: HostRuntime) -> Result<(), Fail> {
     let text = b"00000000  41 41 41 41 41 41 41 41  41 41 41 41 41 41 41 41  |AAAAAAAAAAAAAAAA|\n\
@@ -135,7 +138,7 @@ fn rows_are_repeated(rt: HostRuntime) -> Result<(), Fail> {
     Ok(())
 }
 
-/// A repeat that would be more than 2^30 octets.
+/// A repetition that makes more than 2^30 octets is refused, so that a short text cannot ask for so much memory.
 #[test]
 fn long_repeats_are_refused(rt: HostRuntime) {
     let text = b"0000000000  41 41 41 41 41 41 41 41 41 41 41 41 41 41 41 41\n*\n00ffffffff0\n";

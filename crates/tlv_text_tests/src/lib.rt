@@ -1,4 +1,4 @@
-//! The tests of `tlv_text`, by what it makes public.
+//! Tests of the public interface of `tlv_text`.
 #![tactic(auto)]
 
 #[cfg(test)]

@@ -1,10 +1,11 @@
-//! Texts with octets among other characters.
+//! Tests of tokens, numbers, bodies of PEM and runs of base64: octets that stand among other characters.
 use crate::rows::expect_of;
 use std::process::Abort;
 use std::test::Fail;
 use tlv_text::{PemBody, decode_tokens, first_run, has_tokens, numbers_of, pem_body};
 
-/// A text, whether it has two tokens or more, its octets, and how many characters come before what is refused.
+/// A text, whether it has at least two tokens, the octets decoded,
+/// and the number of characters before the one that is refused.
 type TokenRow<'a> = (&'a [u8], bool, &'a [u8], Option<usize>);
 
 static TOKENS: [TokenRow<'static>; 17] = [
@@ -63,7 +64,7 @@ fn tokens_are_decoded(rt: HostRuntime) -> Result<(), Fail> {
     Ok(())
 }
 
-/// A text, and the octets of its numbers.
+/// A text, and the octets of its list of numbers, if it has one.
 type NumberRow<'a> = (&'a [u8], Option<&'a [u8]>);
 
 static NUMBERS: [NumberRow<'static>; 16] = [
@@ -102,7 +103,7 @@ fn numbers_are_decoded(rt: HostRuntime) -> Result<(), Fail> {
     Ok(())
 }
 
-/// The body of a block of PEM, and its base64, unless it is encrypted.
+/// The body of a block of PEM, and the base64 in it. `None` means that the block is encrypted.
 type BodyRow<'a> = (&'a [u8], Option<&'a [u8]>);
 
 static BODIES: [BodyRow<'static>; 7] = [
@@ -130,7 +131,7 @@ fn bodies_are_taken_apart(rt: HostRuntime) {
     }
 }
 
-/// A text, and its first run of base64: where it begins, and what comes after it.
+/// A text, and its first run of base64: where it begins, and the text after it.
 type RunRow<'a> = (&'a [u8], Option<(usize, &'a [u8])>);
 
 static RUNS: [RunRow<'static>; 8] = [
@@ -174,7 +175,7 @@ fn runs_are_found(rt: HostRuntime) {
     }
 }
 
-/// 40 symbols are a run, and 39 are none.
+/// A run of base64 has at least 40 symbols.
 #[test]
 fn runs_have_a_least_size(rt: HostRuntime) -> Result<(), Fail> {
     for (count, is_run) in [(39, false), (40, true), (41, true)] {

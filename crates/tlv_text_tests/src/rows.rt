@@ -1,4 +1,4 @@
-//! Texts, and what is decoded from them.
+//! Tests of pairs of digits, base64, blocks of PEM, and byte order marks.
 use base64::engine::general_purpose::STANDARD;
 use std::alloc::Global;
 use std::fmt::Debug;
@@ -8,7 +8,7 @@ use tlv_text::{
     Alphabet, Decoded, after_mark, ascii_of_utf16, decode_base64, decode_pairs, first_block,
 };
 
-/// A text, its octets, and how many characters come before the place where it is refused.
+/// A text, the octets decoded, and the number of characters before the one that is refused.
 pub(crate) type Row<'a> = (&'a [u8], &'a [u8], Option<usize>);
 
 /// Pairs of hexadecimal digits.
@@ -91,7 +91,7 @@ fn base64_is_decoded(rt: HostRuntime) -> Result<(), Fail> {
     Ok(())
 }
 
-/// Octets of which neighbours differ.
+/// Returns `count` octets, in which neighbours differ so that a lost or swapped octet is noticed.
 fn some_octets(alloc: Global, count: usize) -> Result<Vec<u8>, Fail> {
     let mut octets = Vec::new(alloc);
     for i in 0..count {
@@ -100,7 +100,7 @@ fn some_octets(alloc: Global, count: usize) -> Result<Vec<u8>, Fail> {
     Ok(octets)
 }
 
-/// Texts are decoded in several parts.
+/// Long texts are decoded part by part. No octet is lost where parts meet.
 #[test]
 fn long_texts_are_decoded(rt: HostRuntime) -> Result<(), Fail> {
     for count in [2047, 2048, 2049, 3071, 3072, 3073, 10_000] {
@@ -117,7 +117,7 @@ fn long_texts_are_decoded(rt: HostRuntime) -> Result<(), Fail> {
     Ok(())
 }
 
-/// A text, and its first block: where it begins, its label, its body, and what follows.
+/// A text, and its first block of PEM: where it begins, its label, its body, and the text after it.
 type BlockRow<'a> = (&'a [u8], Option<(usize, &'a [u8], &'a [u8], &'a [u8])>);
 
 static BLOCKS: [BlockRow<'static>; 9] = [
@@ -153,7 +153,7 @@ fn blocks_are_found(rt: HostRuntime) {
     }
 }
 
-/// A label of 64 characters is one, and of 65 is none.
+/// A label has at most 64 characters.
 #[test]
 fn labels_have_a_limit(rt: HostRuntime) -> Result<(), Fail> {
     for (count, is_label) in [(1, true), (64, true), (65, false)] {

@@ -1,4 +1,4 @@
-//! The tests of the program `tlvdump-show` over files in memory.
+//! Tests of the program `tlvdump-show` over files in memory.
 #![tactic(auto)]
 
 #[cfg(test)]

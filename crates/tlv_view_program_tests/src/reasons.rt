@@ -1,8 +1,8 @@
-//! Why a file does not parse, or a string in it.
+//! Tests of the reasons why a file, or a string in it, does not parse.
 use crate::row::{NOTHING, ShowRow, expect_rows};
 use std::test::Fail;
 
-/// Of the string that breaks: the INTEGER of two octets does not fit into it.
+/// The messages about the file `broken`. The BIT STRING of two contents octets does not fit into the string.
 const BROKEN_LINE: &[u8] = b"broken: string at 7 is the value of an extension and breaks at 10: \
     F11 element runs past the enclosing length\n\
     The octet at offset 10 completes the header of the BIT STRING at offset 9. \
@@ -14,7 +14,7 @@ const BROKEN_LINE: &[u8] = b"broken: string at 7 is the value of an extension an
     where M is its offset and 1.\n\
     If the header at offset 9 said 1 octet and not 2, all would parse.\n";
 
-/// The same, as it is shown.
+/// What `--why` writes of the file `broken`.
 const BROKEN_TEXT: &[u8] = b"It parses: 12 octets, which are whole encodings.\n\
     By the rules of BER: findings: 0. By those of DER: findings: 0.\n\
     The string at 7 is the value of an extension and breaks at 10: \
@@ -28,7 +28,7 @@ const BROKEN_TEXT: &[u8] = b"It parses: 12 octets, which are whole encodings.\n\
     where M is its offset and 1.\n\
     If the header at offset 9 said 1 octet and not 2, all would parse.\n";
 
-/// Of the file that does not parse, after the message.
+/// The messages about the file `damaged`.
 const DAMAGED_LINES: &[u8] = b"damaged: fault at 3: F11 element runs past the enclosing length\n\
     The octet at offset 3 completes the header of the INTEGER at offset 2. \
     The header at offset 2, 02 02, says that its contents are 2 octets.\n\
@@ -39,7 +39,7 @@ const DAMAGED_LINES: &[u8] = b"damaged: fault at 3: F11 element runs past the en
     where M is its offset and 1.\n\
     If the header at offset 2 said 1 octet and not 2, all would parse.\n";
 
-/// The same, as it is shown.
+/// What `--why` writes of the file `damaged`.
 const DAMAGED_TEXT: &[u8] =
     b"It does not parse: fault at 3: F11 element runs past the enclosing length.\n\
     The octet at offset 3 completes the header of the INTEGER at offset 2. \
@@ -51,7 +51,8 @@ const DAMAGED_TEXT: &[u8] =
     where M is its offset and 1.\n\
     If the header at offset 2 said 1 octet and not 2, all would parse.\n";
 
-/// A broken string has a line and its reasons, and the status is then 1 at least.
+/// A broken string is reported with its reasons, and the status is at least 1.
+/// With `--closed` or `--offset` strings are not examined.
 #[test]
 fn broken_strings_are_explained(rt: HostRuntime) -> Result<(), Fail> {
     let rows = [
@@ -86,7 +87,8 @@ fn broken_strings_are_explained(rt: HostRuntime) -> Result<(), Fail> {
     expect_rows(&rt, rt.alloc(), &rows)
 }
 
-/// The reasons of a fault come after its message, or are what is shown; with the octets alone there are none.
+/// With `--check` the reasons of a fault follow its message. With `--why` they are the output. With `--raw` the input
+/// is not parsed, so there are none.
 #[test]
 fn faults_are_explained(rt: HostRuntime) -> Result<(), Fail> {
     let rows = [

@@ -1,4 +1,4 @@
-//! A run of the program over files in memory, and what is to come of it.
+//! Rows of words, and the check of a run of the program over files in memory.
 use crate::expect::expect_eq_of;
 use crate::system::MemSystem;
 use arrayvec::ArrayVec;
@@ -14,8 +14,8 @@ use tlv_words::{UsageFault, Words};
 /// Standard input: an INTEGER.
 const INPUT: &[u8] = b"\x02\x01\x05";
 
-/// Words after the program's name, the places of names, and what is to come of them. `room` is how many octets standard
-/// output takes.
+/// The words after the program's name, the places of names files, and the expected results. Standard output takes
+/// `room` octets. If `typed` is set, standard input is a terminal.
 #[derive(Clone, Copy)]
 pub(crate) struct ShowRow<'a> {
     pub words: &'a [&'a str],

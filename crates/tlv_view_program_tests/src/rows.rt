@@ -1,9 +1,10 @@
-//! What the program asks for, in which order, and what it writes and says.
+//! Tests of what the program requests of the system, in which order, and what it writes and reports.
 use crate::row::{NOTHING, ShowRow, expect_rows, expect_run, places_of};
 use std::test::Fail;
 use tlv_program::NoWords;
 
-/// Each file is read whole and given back; without one, and for `-`, standard input is read. Names come first.
+/// Each file is read in full and then closed. Without a file, and for `-`, standard input is read.
+/// A names file is read first.
 #[test]
 fn files_are_shown(rt: HostRuntime) -> Result<(), Fail> {
     let rows = [
@@ -66,7 +67,8 @@ fn files_are_shown(rt: HostRuntime) -> Result<(), Fail> {
     expect_rows(&rt, rt.alloc(), &rows)
 }
 
-/// Several files have titles, and the status is the highest. What is said of a file has its name before it.
+/// Each of several files has a title. A message about a file begins with the name of the file.
+/// The status is the highest of all.
 #[test]
 fn several_files_are_shown(rt: HostRuntime) -> Result<(), Fail> {
     let rows = [
@@ -95,7 +97,7 @@ fn several_files_are_shown(rt: HostRuntime) -> Result<(), Fail> {
     expect_rows(&rt, rt.alloc(), &rows)
 }
 
-/// The first of words and names that is refused is said, and nothing is asked for after it.
+/// The first fault of the words and the names files is reported. After it nothing is requested.
 #[test]
 fn first_refusal_is_said(rt: HostRuntime) -> Result<(), Fail> {
     let rows = [
@@ -151,7 +153,7 @@ fn first_refusal_is_said(rt: HostRuntime) -> Result<(), Fail> {
     expect_rows(&rt, rt.alloc(), &rows)
 }
 
-/// All files are read before anything is written. After a failed write no other block is shown.
+/// All files are read before anything is written. After a failed write no further block is shown.
 #[test]
 fn failed_writes_end_the_run(rt: HostRuntime) -> Result<(), Fail> {
     let rows = [
@@ -177,7 +179,7 @@ fn failed_writes_end_the_run(rt: HostRuntime) -> Result<(), Fail> {
     expect_rows(&rt, rt.alloc(), &rows)
 }
 
-/// Without words nothing is asked for.
+/// If there are no words, the reason is reported and nothing is requested.
 #[test]
 fn missing_words_are_said(rt: HostRuntime) -> Result<(), Fail> {
     let not_utf8 = ShowRow {

@@ -5,9 +5,9 @@ use arrayvec::ArrayVec;
 use tlv_program::System;
 use tlv_walk::MemSource;
 
-/// The files: a NULL, a string that holds one, a string that is broken, an INTEGER with a wrong length, text, names,
-/// and names that are refused. Then texts: a NULL and an INTEGER in PEM, an INTEGER that is encrypted, one that is
-/// refused in line 2, one in hexadecimal, and a letter.
+/// The files. First encodings and names files: a NULL, a string that holds a NULL, a string that is broken, an INTEGER
+/// with a wrong length, octets that are text, names, and names that are refused. Then texts: a NULL and an INTEGER in
+/// PEM, an encrypted INTEGER, an INTEGER refused in line 2, an INTEGER in hexadecimal, and a text of unknown form.
 static FILES: [(&str, &[u8]); 12] = [
     ("null", b"\x05\x00"),
     ("string", b"\x04\x02\x05\x00"),
@@ -32,8 +32,8 @@ static FILES: [(&str, &[u8]); 12] = [
     ("letter", b"Dear Sir,"),
 ];
 
-/// A system whose files are in memory, and what it was asked for: the first octet of the name of each file, `;` for a
-/// file that it is given back, and `!` for what `clap` has to say.
+/// A system whose files are in memory. It records what it is asked for: the first octet of the name of each file that
+/// is opened, `;` for a file that is closed, and `!` for a text of `clap` that is printed.
 #[derive(Drop)]
 pub(crate) struct MemSystem {
     pub can_print: bool,

@@ -1,11 +1,11 @@
-//! What the program writes and says of texts.
+//! Tests of inputs that are texts.
 use crate::row::{NOTHING, ShowRow, expect_rows};
 use std::test::Fail;
 
-/// What is said of the file in PEM before its blocks.
+/// The messages about the file `pem`.
 const PEM_NOTES: &[u8] = b"pem: block 1: taken for PEM, A\npem: block 2: taken for PEM, B C\n";
 
-/// The blocks of all files are numbered in one row, and what each was taken for is said.
+/// The blocks of all files are numbered together. For each text the program reports what it was taken for.
 #[test]
 fn blocks_are_shown(rt: HostRuntime) -> Result<(), Fail> {
     let rows = [
@@ -50,7 +50,8 @@ fn blocks_are_shown(rt: HostRuntime) -> Result<(), Fail> {
     expect_rows(&rt, rt.alloc(), &rows)
 }
 
-/// A text that is refused is said. What is decoded of it is shown, and the status says that it is not all.
+/// A text that is refused is reported.
+/// The octets decoded before the refusal are shown, and the status says that they are not all.
 #[test]
 fn refused_texts_are_said(rt: HostRuntime) -> Result<(), Fail> {
     let refused = b"wrong: taken for PEM, A; X2 refused in line 2, where base64 is expected\n";

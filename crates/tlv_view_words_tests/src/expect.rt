@@ -1,9 +1,9 @@
-//! What a test expects of two values.
+//! The assertion of the tests.
 use std::fmt::Debug;
 use std::process::Abort;
 
-/// Expects both to be the same; if they differ, the message says `what` they are of. It is a function of its
-/// own because each `assert_eq!` is proved anew.
+/// Checks that `got` is `want`. The message of a failure shows `what` they belong to. This is a function because each
+/// `assert_eq!` is proved anew.
 pub(crate) fn expect_eq_of<W: Copy + Debug, T: Copy + PartialEq + Debug>(
     rt: &impl Abort,
     what: W,

@@ -1,4 +1,4 @@
-//! The tests of the words of `tlvdump-show`: what words ask for, and what is reported if they ask for nothing.
+//! Tests of the words of `tlvdump-show`: the request that they make, or the report if they make none.
 #![tactic(auto)]
 
 #[cfg(test)]

@@ -1,8 +1,8 @@
-//! Words after the program's name that are refused (U2, U4), and why.
+//! Words after the program's name that are refused with U2 or U4.
 use super::rows::{Meaning, WordsRow};
 use tlv_view_words::{Refusal, ShowOption};
 
-/// Texts that are no values, of which the first is reported.
+/// Values that are refused. If there are several, the first in a fixed order is reported.
 pub(crate) static VALUES: [WordsRow<'static>; 19] = [
     (&["--rules", "xer"], Meaning::Refused(Refusal::RulesValue)),
     (&["--rules", "DER"], Meaning::Refused(Refusal::RulesValue)),
@@ -55,7 +55,7 @@ pub(crate) static VALUES: [WordsRow<'static>; 19] = [
     ),
 ];
 
-/// Options that `--check` is not with, and others that ask for something else.
+/// Options that exclude `--check`, and pairs of other options that exclude each other.
 pub(crate) static APART: [WordsRow<'static>; 13] = [
     (
         &["--check", "--offset", "0"],
@@ -111,7 +111,7 @@ pub(crate) static APART: [WordsRow<'static>; 13] = [
     ),
 ];
 
-/// Options that `--offset` is not with, and `--offsets`.
+/// Options that exclude `--offset` or `--offsets`.
 pub(crate) static APART_FROM_OFFSETS: [WordsRow<'static>; 17] = [
     (
         &["--raw", "--offset", "0"],
@@ -183,7 +183,7 @@ pub(crate) static APART_FROM_OFFSETS: [WordsRow<'static>; 17] = [
     ),
 ];
 
-/// Options that `--raw` is not with.
+/// Options that exclude `--raw`.
 pub(crate) static APART_FROM_RAW: [WordsRow<'static>; 8] = [
     (
         &["--why", "--raw"],
@@ -219,7 +219,7 @@ pub(crate) static APART_FROM_RAW: [WordsRow<'static>; 8] = [
     ),
 ];
 
-/// Options that `--why` is not with.
+/// Options that exclude `--why`.
 pub(crate) static APART_FROM_WHY: [WordsRow<'static>; 6] = [
     (
         &["--rules", "der", "--why"],
@@ -255,7 +255,7 @@ pub(crate) static APART_FROM_WHY: [WordsRow<'static>; 6] = [
     ),
 ];
 
-/// `--contents` without `--offset`, and several files with an option that takes one.
+/// `--contents` without `--offset`, and several files with an option that allows only one.
 pub(crate) static ALONE: [WordsRow<'static>; 9] = [
     (&["--contents"], Meaning::Refused(Refusal::ContentsAlone)),
     (

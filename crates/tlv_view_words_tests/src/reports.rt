@@ -1,9 +1,9 @@
-//! What is reported if words ask for nothing.
+//! Tests of the reports if the words make no request.
 use crate::expect::expect_eq_of;
 use std::process::Abort;
 use tlv_view_words::{Refusal, RequestFault, ShowOption, request_report};
 
-/// Expects this status, and this message.
+/// Checks the status and the message of the report.
 fn expect_report(rt: &impl Abort, fault: &RequestFault, status: u8, message: &str) {
     let report = request_report(fault);
     expect_eq_of(rt, message, report.status, status);

@@ -1,9 +1,9 @@
-//! Words after the program's name, and what they mean, but for words that are refused (U2, U4).
+//! Words after the program's name, with the request that they make, and words that `clap` handles.
 use tlv_show::Rules;
 use tlv_text::Form;
 use tlv_view_words::{InputForm, Refusal};
 
-/// What words mean, but for the form of an input, padding and the names of files.
+/// The request that words make, without the form of the input, padding and the names of files.
 #[derive(Clone, Copy, Debug, PartialEq, Eq)]
 pub(crate) enum Meaning {
     Dump {
@@ -26,19 +26,19 @@ pub(crate) enum Meaning {
     Why {
         closed: bool,
     },
-    /// U2, U4.
+    /// The program refuses the words with U2 or U4.
     Refused(Refusal),
-    /// `clap` does not take them.
+    /// `clap` refuses the words.
     NotTaken,
-    /// They ask for help or for the version.
+    /// The words ask for help or for the version.
     HelpOrVersion,
     Memory,
 }
 
-/// Words, and what they mean.
+/// The words, and their meaning.
 pub(crate) type WordsRow<'a> = (&'a [&'a str], Meaning);
 
-/// A dump with nothing else asked for.
+/// The dump that is made without options.
 const PLAIN: Meaning = Meaning::Dump {
     rules: Rules::Ber,
     limit: None,
@@ -47,7 +47,7 @@ const PLAIN: Meaning = Meaning::Dump {
     closed: false,
 };
 
-/// A dump: each option alone, and all together.
+/// Words for a dump: each option alone, and all together.
 pub(crate) static DUMPS: [WordsRow<'static>; 12] = [
     (&[], PLAIN),
     (&["a.der"], PLAIN),
@@ -140,7 +140,7 @@ pub(crate) static DUMPS: [WordsRow<'static>; 12] = [
     ),
 ];
 
-/// Findings alone, one element, offsets, decoded octets, and why an input does not parse.
+/// Words for findings, one element, offsets, decoded octets, and the reasons why an input does not parse.
 pub(crate) static OTHERS: [WordsRow<'static>; 18] = [
     (
         &["--check"],
@@ -207,10 +207,10 @@ pub(crate) static OTHERS: [WordsRow<'static>; 18] = [
     (&["--", "--check"], PLAIN),
 ];
 
-/// Words, and in which form an input is.
+/// The words, and the form of the input that they give.
 pub(crate) type FormRow<'a> = (&'a [&'a str], InputForm);
 
-/// Each value of `--as`, and it with each other option that says what is wanted.
+/// Each value of `--as`, alone and with each option that selects another output.
 pub(crate) static FORMS: [FormRow<'static>; 19] = [
     (&[], InputForm::Any),
     (&["--raw", "a"], InputForm::Any),
@@ -242,7 +242,7 @@ pub(crate) static FORMS: [FormRow<'static>; 19] = [
     ),
 ];
 
-/// Words that `clap` does not take, and words for help and the version.
+/// Words that `clap` refuses, and words that ask for help or the version.
 pub(crate) static NOT_TAKEN: [WordsRow<'static>; 20] = [
     (&["--limit", "-5"], Meaning::NotTaken),
     (&["--limit", "5", "--limit", "5"], Meaning::NotTaken),

@@ -1,4 +1,4 @@
-//! What words mean: what they ask for, or why they ask for nothing.
+//! Tests of the meaning of words: the request that they make, or why they make none.
 use super::refused_rows::{
     ALONE, APART, APART_FROM_OFFSETS, APART_FROM_RAW, APART_FROM_WHY, VALUES,
 };
@@ -74,7 +74,7 @@ fn expect_meanings(rt: &impl Abort, alloc: Global, rows: &[WordsRow<'_>]) {
     }
 }
 
-/// Each option alone, and with others.
+/// Options give a request, alone and together. Values that are not allowed are refused.
 #[test]
 fn options_have_meanings(rt: HostRuntime) {
     for rows in [DUMPS.as_slice(), &OTHERS, &VALUES] {
@@ -82,7 +82,8 @@ fn options_have_meanings(rt: HostRuntime) {
     }
 }
 
-/// Options that do not go together, words that are none, help and the version.
+/// Options that exclude each other are refused.
+/// `clap` refuses unknown words, and answers those for help and the version.
 #[test]
 fn refused_words_have_meanings(rt: HostRuntime) {
     for rows in [
@@ -97,7 +98,7 @@ fn refused_words_have_meanings(rt: HostRuntime) {
     }
 }
 
-/// In which form an input is.
+/// `--as` gives the form of the input, whatever the other options are.
 #[test]
 fn words_name_forms(rt: HostRuntime) -> Result<(), Fail> {
     for (list, form) in &FORMS {
@@ -128,7 +129,7 @@ fn expect_files(rt: &impl Abort, list: &[&str], files: &[Text], want: &[&str]) {
     }
 }
 
-/// The names file, whether padding is allowed, and the files, in order.
+/// Checks the names file, whether padding is allowed, and the files in their order.
 fn expect_request(
     rt: &impl Abort,
     alloc: Global,

@@ -1,8 +1,8 @@
-//! What tests expect.
+//! The assertion of the tests.
 use std::fmt::Debug;
 use std::process::Abort;
 
-/// Expects that both are the same; if not, the message says `what` they are of.
+/// Checks that `got` is `want`. The message of a failure shows `what` they belong to.
 pub(crate) fn expect_of<W: Copy + Debug, T: Copy + PartialEq + Debug>(
     rt: &impl Abort,
     what: W,

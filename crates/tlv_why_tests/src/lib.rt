@@ -1,4 +1,4 @@
-//! The tests of `tlv_why` and `tlv_mend`, by what they make public.
+//! Tests of the public interfaces of `tlv_why` and `tlv_mend`.
 #![tactic(auto)]
 
 #[cfg(test)]

@@ -1,4 +1,4 @@
-//! Which one change would make an input sound.
+//! Tests of the single changes that would make an input parse.
 use crate::expect::expect_of;
 use std::test::Fail;
 use tlv_mend::{
@@ -7,13 +7,13 @@ use tlv_mend::{
 };
 use tlv_walk::{Framing, Inside, MemDrain};
 
-/// The INTEGER at 2 says two octets in place of one.
+/// A SEQUENCE that holds an INTEGER. The INTEGER has a length of 2 but only one contents octet.
 const TOO_LONG: &[u8] = b"\x30\x03\x02\x02\x01";
 
-/// An OCTET STRING with an INTEGER that says two octets in place of one.
+/// An OCTET STRING that holds an INTEGER. The INTEGER has a length of 2 but only one contents octet.
 const BROKEN_STRING: &[u8] = b"\x04\x03\x02\x02\x01";
 
-/// No string is named.
+/// Returns the framing in which no string is read as encodings.
 fn closed() -> Framing<'static> {
     Framing {
         inside: Inside::none(),
@@ -45,7 +45,7 @@ fn a_wrong_length_is_found(rt: HostRuntime) -> Result<(), Fail> {
     Ok(())
 }
 
-/// The string is read as what it holds.
+/// A wrong length is also found inside a string that is read as encodings.
 #[test]
 fn a_wrong_length_in_a_string_is_found(rt: HostRuntime) -> Result<(), Fail> {
     let want = WrongLength {
@@ -67,7 +67,8 @@ fn a_wrong_length_in_a_string_is_found(rt: HostRuntime) -> Result<(), Fail> {
     Ok(())
 }
 
-/// The octet e9 written in UTF-8, a line feed with 0d in front, and what parses.
+/// Two changes are recognized: an octet that was written in UTF-8, and a carriage return that was added before a line
+/// feed. An input that parses shows neither.
 #[test]
 fn what_was_done_to_a_text_is_found(rt: HostRuntime) -> Result<(), Fail> {
     let utf8 = b"\x04\x01\xc3\xa9";

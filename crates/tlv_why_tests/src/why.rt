@@ -1,10 +1,10 @@
-//! Why octets do not parse.
+//! Tests of the reasons why octets do not parse.
 use crate::expect::expect_of;
 use tlv_head::{Class, Fault, FaultCode, Size};
 use tlv_walk::{Framing, Inside, MemDrain, WriteFault};
 use tlv_why::{Element, Unfinished, facts_of, laws, write_reasons, write_why};
 
-/// Octets, whether they parse, and what is written of them.
+/// An input, whether it parses, and what is written about it.
 type Row<'a> = (&'a [u8], bool, &'a [u8]);
 
 static ROWS: [Row<'static>; 3] = [
@@ -64,7 +64,7 @@ fn a_failed_write_is_returned(rt: HostRuntime) {
     expect_of(&rt, "5 octets", drain.written(), b"It pa");
 }
 
-/// An element with a definite length, and with two octets of header.
+/// Returns an element with a header of two octets and a definite length.
 fn element(offset: u64, number: u64, size: u64) -> Element {
     Element {
         offset,
@@ -76,7 +76,8 @@ fn element(offset: u64, number: u64, size: u64) -> Element {
     }
 }
 
-/// A NULL, and a SEQUENCE with an INTEGER and the header of an OCTET STRING that is too long.
+/// The facts of an input that ends with the header of an OCTET STRING whose length is too great.
+/// A NULL and a SEQUENCE precede it.
 #[test]
 fn facts_are_those_of_the_reading(rt: HostRuntime) {
     let octets = b"\x05\x00\x30\x06\x02\x01\x07\x04\x05\xaa";
@@ -95,7 +96,7 @@ fn facts_are_those_of_the_reading(rt: HostRuntime) {
     expect_of(&rt, "there", facts.there, Some(element(7, 4, 5)));
 }
 
-/// The SEQUENCE in the OCTET STRING at 2 says three octets in place of two.
+/// A SEQUENCE in the OCTET STRING at offset 2. It has a length of 3 but only two contents octets.
 const BROKEN_STRING: &[u8] = b"\x30\x06\x04\x04\x30\x03\x05\x00";
 
 static BROKEN_STRING_TEXT: &[u8] = b"\
@@ -143,7 +144,7 @@ fn a_named_string_is_read(rt: HostRuntime) {
     expect_of(&rt, "reasons", drain.written(), BROKEN_STRING_TEXT);
 }
 
-/// As long as no string is named, these octets parse.
+/// The octets of `BROKEN_STRING` parse if no string is read as encodings.
 #[test]
 fn octets_that_parse_have_no_reasons(rt: HostRuntime) {
     let facts = facts_of(BROKEN_STRING, &Framing::plain());

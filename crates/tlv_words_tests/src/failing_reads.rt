@@ -1,5 +1,5 @@
-//! Reads that fail after the first piece: the output of its octets is written, and no read is made after
-//! an octet that is refused or a whole element.
+//! Tests of a second read that fails: the output of the first piece is written, and no read is made after an octet that
+//! is refused or after the element of `extract`.
 use crate::READ_FAILED;
 use crate::row::{Case, command_for};
 use crate::runs::{Devices, RunResult, expect_run};
@@ -8,7 +8,7 @@ use std::process::Abort;
 use std::test::Fail;
 use tlv_value::Names;
 
-/// Words, an input, how many octets of it come before the second read fails, and what is written and reported.
+/// The words, the input, the number of octets before the second read, and what is written and reported.
 struct FailingRead<'a> {
     words: &'a str,
     input: &'a [u8],

@@ -1,4 +1,4 @@
-//! How words have an input read: the strings that they name, and whether it may have padding.
+//! Tests of the framing that words give: the strings to be read as encodings, and whether padding is allowed.
 use crate::expect::expect_eq_of;
 use crate::row::command_for;
 use std::alloc::Global;
@@ -7,7 +7,7 @@ use std::test::Fail;
 use tlv_run::Command;
 use tlv_walk::{Framing, Inside};
 
-/// Words, the offsets that they name, and whether they allow padding.
+/// The words, the offsets that they name, and whether they allow padding.
 type FramingRow<'a> = (&'a str, &'a [u64], bool);
 
 static FRAMINGS: [FramingRow<'static>; 9] = [
@@ -30,7 +30,7 @@ static FRAMINGS: [FramingRow<'static>; 9] = [
     ("extract --padding --offset 0", &[], true),
 ];
 
-/// The framing that the command has, if it may name strings.
+/// Returns the framing of a command that can name strings.
 fn framing_of<'c>(command: &'c Command<'static>) -> Option<&'c Framing<'static>> {
     match command {
         Command::Dump { options, .. } => Some(&options.framing),
@@ -40,7 +40,7 @@ fn framing_of<'c>(command: &'c Command<'static>) -> Option<&'c Framing<'static>>
     }
 }
 
-/// Expects the words to have an input read so.
+/// Checks the framing of the command.
 fn expect_framing(rt: &impl Abort, alloc: Global, row: &FramingRow<'_>) -> Result<(), Fail> {
     let (list, offsets, padding) = *row;
     let command = command_for(alloc, list)?;
@@ -59,7 +59,7 @@ fn strings_and_padding_are_named(rt: HostRuntime) -> Result<(), Fail> {
     Ok(())
 }
 
-/// Whether the words are those of `indef`, and allow padding.
+/// Returns whether the words allow padding, if they are those of `indef`.
 fn is_padded(alloc: Global, list: &str) -> Result<Option<bool>, Fail> {
     match command_for(alloc, list)? {
         Command::Indef { padding, .. } => Ok(Some(padding)),

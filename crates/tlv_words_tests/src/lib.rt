@@ -1,5 +1,5 @@
-//! The tests from words to octets, by what `tlv_words` and `tlv_run` make public: what words ask for,
-//! and what is written and reported then. Each row of tests/rows is run here in every way.
+//! Tests of the public interfaces of `tlv_words` and `tlv_run`, from words to output: the command that words give, and
+//! what a run of it writes and reports. Each row of tests/rows is run here in every way.
 #![tactic(auto)]
 
 #[cfg(test)]
@@ -29,7 +29,7 @@ mod words;
 #[cfg(test)]
 mod words_rows;
 
-/// Cuts into single octets: as many as the inputs of these tests have, and more.
+/// The sizes of reads of single octets: more reads than an input of these tests needs.
 #[cfg(test)]
 const ONES: [u64; 9000] = [1; 9000];
 

@@ -1,4 +1,4 @@
-//! Long and deep inputs as rows, and the lines of nested elements.
+//! Rows of long and deep inputs, and the lines of nested elements.
 use crate::row::{number, push_times};
 use std::alloc::Global;
 use std::test::Fail;
@@ -36,12 +36,13 @@ the contents of a string of 4200 octets|extract --offset 2 --contents||30800c821
 indef of a string of 4200 octets|indef||3082106c0c821068 61*4200|30800c821068 61*4200 0000||0|0|
 ";
 
-/// Adds spaces, two for each level.
+/// Adds two spaces for each level.
 fn push_indentation(text: &mut Vec<u8>, level: u64) -> Result<(), Fail> {
     push_times(text, b"  ", level)
 }
 
-/// Adds the opening lines of SEQUENCEs of indefinite length, one in another: the first has this offset and this level.
+/// Adds the opening lines of `count` nested SEQUENCEs of indefinite length.
+/// The outermost has this offset and this level.
 fn push_openings(
     alloc: Global,
     text: &mut Vec<u8>,
@@ -59,8 +60,8 @@ fn push_openings(
     Ok(())
 }
 
-/// Adds the closing lines of so many elements, of which the outermost is at level 0: the first
-/// end-of-contents octets have this offset.
+/// Adds the closing lines of `count` nested elements, of which the outermost has level 0. The end-of-contents octets of
+/// the innermost have this offset.
 fn push_closings(alloc: Global, text: &mut Vec<u8>, offset: u64, count: u64) -> Result<(), Fail> {
     for i in 0..count {
         let at = offset.saturating_add(i.saturating_mul(2));
@@ -72,9 +73,9 @@ fn push_closings(alloc: Global, text: &mut Vec<u8>, offset: u64, count: u64) -> 
     Ok(())
 }
 
-/// Adds the lines that a group asks for: `openings,0,1,128` the opening lines of 128 elements, the
-/// first at offset 0 and level 1; `closings,256,128` their closing lines. Returns whether it is such
-/// a group.
+/// Adds the lines that a group stands for. `openings,0,1,128` stands for the opening lines of 128 elements, of which
+/// the outermost has offset 0 and level 1. `closings,256,128` stands for the closing lines of 128 elements. Returns
+/// whether the group is one of these.
 pub(crate) fn push_lines(alloc: Global, text: &mut Vec<u8>, group: &str) -> Result<bool, Fail> {
     let (word, numbers) = group.split_once(',').unwrap_or((group, ""));
     let (first, rest) = numbers.split_once(',').unwrap_or((numbers, ""));

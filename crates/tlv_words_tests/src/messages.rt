@@ -1,4 +1,4 @@
-//! What is reported apart from what encodings come to, and how it is written.
+//! Tests of the reports that do not depend on the encodings, and of how they are written.
 use crate::expect::expect_eq_of;
 use std::process::Abort;
 use tlv_run::{Report, device_report, names_report, unopened_report, write_message};
@@ -6,7 +6,7 @@ use tlv_value::NamesFault;
 use tlv_walk::{DeviceFault, MemDrain};
 use tlv_words::{UsageFault, not_utf8_report, unprinted_report, usage_report};
 
-/// Expects this status, and this line with a line feed after it.
+/// Checks the status of the report, and that its line is written with a line feed.
 fn expect_written(rt: &impl Abort, report: &Report, status: u8, line: &[u8]) {
     let mut room = [0; 129];
     let mut drain = MemDrain::new(&mut room, 5);
@@ -56,7 +56,7 @@ fn lines_of_words_are_written(rt: HostRuntime) {
     );
 }
 
-/// Expects the line of a names file that is refused.
+/// Checks the line for a names file that is refused.
 fn expect_refused(rt: &impl Abort, fault: NamesFault, status: u8, line: &[u8]) {
     expect_written(rt, &names_report(fault), status, line);
 }
@@ -92,7 +92,7 @@ fn reports_are_written(rt: HostRuntime) {
     );
 }
 
-/// A line that is not taken whole changes no status.
+/// If the message itself cannot be written in full, the status stays the same.
 #[test]
 fn failed_writes_keep_the_status(rt: HostRuntime) {
     let mut room = [0; 7];

@@ -1,4 +1,4 @@
-//! Runs over octets in memory, which `run_octets` makes with devices of its own.
+//! Tests of `run_octets`, which runs a command over octets in memory and supplies the devices.
 use super::{ONES, READ_FAILED, WRITE_FAILED};
 use crate::expect::expect_eq_of;
 use crate::row::{Case, case_of, command_for};
@@ -8,7 +8,7 @@ use std::test::Fail;
 use tlv_run::{OctetsRun, run_octets};
 use tlv_value::Names;
 
-/// Expects these octets, this status and this message.
+/// Checks what a run wrote, its status and its message.
 fn expect<const N: usize>(
     rt: &impl Abort,
     run: &OctetsRun<N>,
@@ -26,7 +26,8 @@ fn expect<const N: usize>(
     expect_eq_of(rt, "status", run.report.status, status);
 }
 
-/// Expects what the case says of its input in these pieces, or a failed write if its output is longer than the room.
+/// Runs the case over its input in these pieces.
+/// Checks the result, or that a write fails if the output is longer than the room.
 fn expect_case(rt: &impl Abort, case: &Case<'_>, cuts: &[u64]) {
     let run = run_octets::<256>(
         &case.command,
@@ -61,7 +62,7 @@ fn cuts_do_not_show(rt: HostRuntime) -> Result<(), Fail> {
     Ok(())
 }
 
-/// Words, an input, and what is written and reported of it if a read fails after it.
+/// The words, the input, and what is written and reported if the read after the input fails.
 struct FailureRow<'a> {
     words: &'a str,
     input: &'a [u8],
@@ -70,7 +71,7 @@ struct FailureRow<'a> {
     message: &'a str,
 }
 
-/// After these inputs a read fails.
+/// Inputs after which a read fails.
 static FAILURES: [FailureRow<'static>; 6] = [
     FailureRow {
         words: "indef",
@@ -100,7 +101,7 @@ static FAILURES: [FailureRow<'static>; 6] = [
         status: 3,
         message: READ_FAILED,
     },
-    // No read is made after a refused octet, or after the element.
+    // After an octet that is refused, and after the element of `extract`, no read is made, so none fails.
     FailureRow {
         words: "dump",
         input: b"\x05\x00\x00",
@@ -130,7 +131,7 @@ fn octets_before_a_failed_read_are_written(rt: HostRuntime) -> Result<(), Fail> 
     Ok(())
 }
 
-/// There is room for the first of nine octets, for all of them, and for one more.
+/// Runs with room for none, for eight, for nine and for ten octets of an output of nine.
 #[test]
 fn octets_past_the_room_are_not_written(rt: HostRuntime) -> Result<(), Fail> {
     let input = b"\x30\x05\x02\x03\x01\x02\x03";
@@ -150,7 +151,7 @@ fn octets_past_the_room_are_not_written(rt: HostRuntime) -> Result<(), Fail> {
     Ok(())
 }
 
-/// There is room for a line without its line feed: a write fails; and for all of it: none does.
+/// Room without the last line feed is too little. Room for the whole output is enough, also if a read fails afterwards.
 #[test]
 fn room_for_the_output_is_enough(rt: HostRuntime) -> Result<(), Fail> {
     let input = b"\x05\x00";

@@ -1,4 +1,5 @@
-//! The program over files in memory: what it asks for, in which order, and what it writes and reports.
+//! Tests of the program over files in memory: what it requests of
+//! the system, in which order, and what it writes and reports.
 ghost use Rattle.tlv_program.specs.System.{unknown_system};
 
 use crate::expect::expect_eq_of;
@@ -21,8 +22,8 @@ static FILES: [(&str, &[u8]); 4] = [
 /// Standard input: a NULL.
 const INPUT: &[u8] = b"\x05\x00";
 
-/// A system whose files are in memory, and what it was asked for: the first octet of the name of each file, `;` for a file
-/// that it is given back, and `!` for what `clap` has to say.
+/// A system whose files are in memory. It records what it is asked for: the first octet of the name of each file that
+/// is opened, `;` for a file that is closed, and `!` for a text of `clap` that is printed.
 #[derive(Drop)]
 struct MemSystem {
     can_print: bool,
@@ -55,7 +56,7 @@ impl System for MemSystem {
     }
 }
 
-/// Words after the program's name, and what is to come of them.
+/// The words after the program's name, and the expected results.
 #[derive(Clone, Copy)]
 struct ProgramRow<'a> {
     words: &'a [&'a str],
@@ -112,7 +113,7 @@ fn expect_rows(rt: &impl Abort, alloc: Global, rows: &[ProgramRow<'_>]) -> Resul
     Ok(())
 }
 
-/// The input is the file that is named, or standard input, and names are read before it is opened.
+/// The input is the named file or standard input. A names file is read and closed before the input is opened.
 #[test]
 fn files_are_read(rt: HostRuntime) -> Result<(), Fail> {
     let rows = [
@@ -143,7 +144,7 @@ fn files_are_read(rt: HostRuntime) -> Result<(), Fail> {
     expect_rows(&rt, rt.alloc(), &rows)
 }
 
-/// The first that is refused is reported, and nothing is asked for after it.
+/// The first fault of the words, the names file and the input is reported. After it nothing is requested.
 #[test]
 fn first_refusal_is_reported(rt: HostRuntime) -> Result<(), Fail> {
     let rows = [
@@ -185,7 +186,8 @@ fn first_refusal_is_reported(rt: HostRuntime) -> Result<(), Fail> {
     expect_rows(&rt, rt.alloc(), &rows)
 }
 
-/// What `clap` has to say is printed. If that was asked for and fails, it is a failed write.
+/// A text of `clap` is printed. If printing fails, help and the
+/// version report a failed write, and a usage error keeps its status.
 #[test]
 fn texts_of_clap_are_printed(rt: HostRuntime) -> Result<(), Fail> {
     let rows = [
@@ -219,7 +221,7 @@ fn texts_of_clap_are_printed(rt: HostRuntime) -> Result<(), Fail> {
     expect_rows(&rt, rt.alloc(), &rows)
 }
 
-/// Without words nothing is asked for.
+/// If there are no words, the reason is reported and nothing is requested.
 #[test]
 fn missing_words_are_reported(rt: HostRuntime) {
     let not_utf8 = ProgramRow {

@@ -1,17 +1,20 @@
-//! A row as the tests have it, a line of text, and the case that it makes.
+//! The rows of the tests. A row is a line of text, from which a case is made.
 //!
-//! A line has nine fields, with `|` between two of them:
+//! A line has nine fields, separated by `|`:
 //!
-//! 1. the file and the line of the row;
+//! 1. the place of the row: its file and line;
 //! 2. the words after the program's name;
-//! 3. the octets of the names file, 4. of the input, and 5. of what is written;
-//! 6. pairs as `7:33`, with a comma between two of them: with 7 octets of the input 33 of the output
-//!    have come; nothing if that is not said;
-//! 7. the status, 8. the number of findings, and 9. the message.
+//! 3. the octets of the names file;
+//! 4. the octets of the input;
+//! 5. the octets of the output;
+//! 6. how much output is written after how much input, as pairs separated by commas: `7:33` says that 33 octets of the
+//!    output are written after 7 octets of the input. If the field is empty, the row does not say this;
+//! 7. the status;
+//! 8. the number of findings;
+//! 9. the message.
 //!
-//! Octets are groups with a space between two of them. A group is pairs of hexadecimal digits, and if
-//! they are there more than once `*` and how often. Groups of the output may also be lines of nested
-//! elements, as `long_inputs.rt` makes them.
+//! Octets are groups separated by spaces. A group is pairs of hexadecimal digits, followed by `*` and a count if it is
+//! repeated. A group of the output may also stand for lines of nested elements: see `push_lines` in `long_inputs.rt`.
 use crate::long_inputs::push_lines;
 use std::alloc::Global;
 use std::test::Fail;
@@ -23,20 +26,20 @@ use tlv_words::{Words, command_of};
 /// A command, an input, and what a run of it writes and reports.
 #[derive(Drop)]
 pub(crate) struct Case<'a> {
-    /// What is reported if a run does something else.
+    /// The place of the row, shown in the message of a failure.
     pub place: &'a str,
     pub command: Command<'static>,
     pub names: Names,
     pub input: Vec<u8>,
     pub output: Vec<u8>,
-    /// With so many octets of the input so many octets of the output have come, as a row has it.
+    /// How many octets of the output are written after how many octets of the input, in the notation of the row.
     pub come: &'a str,
     pub status: u8,
     pub findings: u64,
     pub message: &'a str,
 }
 
-/// The command that these words ask for, after the program's name.
+/// Returns the command that these words, without the program's name, ask for.
 pub(crate) fn command_for(alloc: Global, text: &str) -> Result<Command<'static>, Fail> {
     let mut words = Words::new(alloc);
     words.push("tlvdump")?;
@@ -46,7 +49,7 @@ pub(crate) fn command_for(alloc: Global, text: &str) -> Result<Command<'static>,
     Ok(command_of(alloc, &words)?)
 }
 
-/// The number that the text has in decimal.
+/// Returns the decimal number that the text is.
 pub(crate) fn number(text: &str) -> Result<u64, Fail> {
     match text.parse::<u64>() {
         Ok(number) => Ok(number),
@@ -61,7 +64,7 @@ fn status_of(text: &str) -> Result<u8, Fail> {
     }
 }
 
-/// Adds octets so many times.
+/// Adds the octets of `group`, repeated.
 pub(crate) fn push_times(octets: &mut Vec<u8>, group: &[u8], times: u64) -> Result<(), Fail> {
     for _ in 0..times {
         octets.extend_from_slice(group)?;
@@ -69,7 +72,7 @@ pub(crate) fn push_times(octets: &mut Vec<u8>, group: &[u8], times: u64) -> Resu
     Ok(())
 }
 
-/// Adds the octets of a group.
+/// Adds the octets that a group stands for.
 fn push_group(alloc: Global, octets: &mut Vec<u8>, group: &str) -> Result<(), Fail> {
     if push_lines(alloc, octets, group)? {
         return Ok(());
@@ -81,7 +84,7 @@ fn push_group(alloc: Global, octets: &mut Vec<u8>, group: &str) -> Result<(), Fa
     }
 }
 
-/// The octets of these groups.
+/// Returns the octets that these groups stand for.
 fn octets_of(alloc: Global, groups: &str) -> Result<Vec<u8>, Fail> {
     let mut octets = Vec::new(alloc);
     for group in groups.split(' ') {
@@ -90,7 +93,7 @@ fn octets_of(alloc: Global, groups: &str) -> Result<Vec<u8>, Fail> {
     Ok(octets)
 }
 
-/// The table of a names file. One without a line has no entries, and takes no memory.
+/// Returns the table of a names file. An empty file gives an empty table, which takes no memory.
 fn names_in(alloc: Global, groups: &str) -> Result<Names, Fail> {
     let file = octets_of(alloc, groups)?;
     if file.is_empty() {
@@ -100,12 +103,12 @@ fn names_in(alloc: Global, groups: &str) -> Result<Names, Fail> {
     Ok(Names::read(alloc, &mut source)?)
 }
 
-/// The first field of the text, and the others.
+/// Splits the text into its first field and the rest.
 fn cut(text: &str) -> (&str, &str) {
     text.split_once('|').unwrap_or((text, ""))
 }
 
-/// The case of a row.
+/// Returns the case of a row.
 pub(crate) fn case_of<'a>(alloc: Global, line: &'a str) -> Result<Case<'a>, Fail> {
     let (place, rest) = cut(line);
     let (words, rest) = cut(rest);

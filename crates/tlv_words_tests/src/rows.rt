@@ -1,4 +1,4 @@
-//! Each row of tests/rows, and of long inputs, run in each way.
+//! Tests that run each row of tests/rows, and each row of long inputs, in each way.
 use crate::long_inputs::LONG;
 use crate::row::{Case, case_of};
 use crate::runs::{
@@ -10,34 +10,34 @@ use std::alloc::Global;
 use std::process::Abort;
 use std::test::Fail;
 
-/// More octets than an input has, or makes a run write.
+/// Room for more octets than any input or output of the rows has.
 const ROOM: usize = 50_000;
 
 /// A way to run a case.
 #[derive(Clone, Copy)]
 pub(crate) enum Way {
-    /// Its whole input, in whatever pieces.
+    /// The whole input, whatever the pieces.
     Whole,
-    /// Each prefix of its input.
+    /// Each proper prefix of the input.
     Prefixes,
     /// Each read fails in turn.
     FailedReads,
-    /// Too little room.
+    /// Each room that is too small.
     FailedWrites,
-    /// Another octet after one that is refused.
+    /// Each octet after one that is refused.
     FinalFault,
-    /// `indef`, and `indef` again.
+    /// `indef` of the input, and `indef` of that output.
     SameAgain,
 }
 
-/// Where runs write.
+/// The rooms to which the runs write.
 #[derive(Drop)]
 struct Rooms {
     room: Vec<u8>,
     other: Vec<u8>,
 }
 
-/// Runs the case in this way.
+/// Runs the case in this way. Checks the results.
 fn expect_case(rt: &impl Abort, way: Way, case: &Case<'_>, rooms: &mut Rooms) -> Result<(), Fail> {
     let (room, other) = (rooms.room.as_mut_slice(), rooms.other.as_mut_slice());
     match way {
@@ -82,7 +82,7 @@ fn expect_all(rt: &impl Abort, alloc: Global, way: Way) -> Result<(), Fail> {
     Ok(())
 }
 
-/// Runs each long input in this way.
+/// Runs each row of long inputs in this way.
 fn expect_long(rt: &impl Abort, alloc: Global, way: Way) -> Result<(), Fail> {
     let mut rooms = new_rooms(alloc)?;
     expect_rows(rt, alloc, way, LONG, &mut rooms)

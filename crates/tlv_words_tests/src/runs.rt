@@ -1,4 +1,5 @@
-//! Runs of a case over memory: in whatever pieces its octets come, over each prefix of them, and if a device fails.
+//! Checks of runs of a case over memory: whatever the pieces are,
+//! over each prefix of the input, and with devices that fail.
 use crate::expect::expect_eq_of;
 use crate::row::{Case, number};
 use crate::{ONES, READ_FAILED, WRITE_FAILED};
@@ -8,17 +9,17 @@ use tlv_run::{Command, Report, run};
 use tlv_value::Names;
 use tlv_walk::{MemDrain, MemSource};
 
-/// The most octets of a short input, of which each prefix is run in whatever pieces.
+/// The most octets of a short input. For short inputs more runs are made.
 const SHORT: usize = 64;
 
-/// How a source gives its octets, and a drain takes its own.
+/// How a source gives its octets, and how a drain takes them.
 #[derive(Clone, Copy)]
 pub(crate) struct Devices<'a> {
-    /// The most octets of each read.
+    /// The sizes of the reads.
     pub cuts: &'a [u64],
-    /// The read that fails.
+    /// The number of the read that fails.
     pub fail_at: Option<u64>,
-    /// The most octets of a write.
+    /// The most octets that the drain takes with a write.
     pub most: usize,
 }
 
@@ -31,7 +32,7 @@ pub(crate) struct RunResult<'a> {
     pub message: &'a [u8],
 }
 
-/// Devices that do not fail, of which the source gives the octets in these pieces.
+/// Devices that do not fail. The source gives pieces of these sizes.
 pub(crate) fn unfailing(cuts: &[u64]) -> Devices<'_> {
     Devices {
         cuts,
@@ -40,7 +41,7 @@ pub(crate) fn unfailing(cuts: &[u64]) -> Devices<'_> {
     }
 }
 
-/// What the case says that a run of its whole input writes and reports.
+/// Returns what a run of the whole input of the case must write and report.
 fn result_of<'a>(case: &'a Case<'_>) -> RunResult<'a> {
     RunResult {
         written: case.output.as_slice(),
@@ -50,7 +51,7 @@ fn result_of<'a>(case: &'a Case<'_>) -> RunResult<'a> {
     }
 }
 
-/// What a run reports whose device failed after these octets of output.
+/// Returns what a run must report if a device fails after this output.
 fn failure<'a>(written: &'a [u8], message: &'a str) -> RunResult<'a> {
     RunResult {
         written,
@@ -60,7 +61,7 @@ fn failure<'a>(written: &'a [u8], message: &'a str) -> RunResult<'a> {
     }
 }
 
-/// What a run reported, with what it wrote.
+/// Returns what a run wrote and reported.
 fn result_in<'a>(report: &'a Report, written: &'a [u8]) -> RunResult<'a> {
     RunResult {
         written,
@@ -70,8 +71,8 @@ fn result_in<'a>(report: &'a Report, written: &'a [u8]) -> RunResult<'a> {
     }
 }
 
-/// Whether nothing that follows the octets of a run with this result could change it: an octet was
-/// refused, or the element of `extract` was whole.
+/// Returns whether further octets cannot change this result, because
+/// an octet was refused or the element of `extract` was written.
 fn is_final(command: &Command<'_>, run_result: RunResult<'_>) -> bool {
     if run_result.status == 2 {
         let text = run_result.message;
@@ -81,7 +82,7 @@ fn is_final(command: &Command<'_>, run_result: RunResult<'_>) -> bool {
     run_result.status == 0 && matches!(command, Command::Extract { .. })
 }
 
-/// Runs the case's command over these octets into the room, and expects this result.
+/// Runs the command of the case over these octets. Checks what is written and reported.
 pub(crate) fn expect_run(
     rt: &impl Abort,
     case: &Case<'_>,
@@ -99,7 +100,7 @@ pub(crate) fn expect_run(
     expect_eq_of(rt, case.place, report.findings, wanted.findings);
 }
 
-/// Expects the same result in single octets and in every cut into two pieces.
+/// Checks that the result is the same from single octets and from every cut into two pieces.
 fn expect_in_pieces(
     rt: &impl Abort,
     case: &Case<'_>,
@@ -113,7 +114,7 @@ fn expect_in_pieces(
     }
 }
 
-/// Expects the case's result of its input whole, in single octets and in every cut into two pieces.
+/// Checks the result of the case from the whole input, from single octets and from every cut into two pieces.
 pub(crate) fn expect_whole(rt: &impl Abort, case: &Case<'_>, room: &mut [u8]) {
     let input = case.input.as_slice();
     let wanted = result_of(case);
@@ -121,7 +122,7 @@ pub(crate) fn expect_whole(rt: &impl Abort, case: &Case<'_>, room: &mut [u8]) {
     expect_in_pieces(rt, case, input, room, wanted);
 }
 
-/// How many octets of the output have come with so many octets of the input, if the case says so.
+/// Returns how many octets of the output must be written after this number of octets of the input, if the case says so.
 fn count_with(case: &Case<'_>, octets: u64) -> Result<Option<u64>, Fail> {
     let mut count = 0;
     for pair in case.come.split(',') {
@@ -135,7 +136,8 @@ fn count_with(case: &Case<'_>, octets: u64) -> Result<Option<u64>, Fail> {
     Ok(Some(count))
 }
 
-/// Expects what was written of so many octets to be what the case says has come with them, and a prefix of its output.
+/// Checks that what was written after this number of octets is a
+/// prefix of the output, and has the length that the case says.
 fn expect_prefix(
     rt: &impl Abort,
     case: &Case<'_>,
@@ -150,7 +152,8 @@ fn expect_prefix(
     Ok(())
 }
 
-/// Expects of each prefix of the input a prefix of the output; of a short input the same result in whatever pieces.
+/// Checks the output of each proper prefix of the input.
+/// For short inputs, checks that it does not depend on the pieces.
 pub(crate) fn expect_prefixes(
     rt: &impl Abort,
     case: &Case<'_>,
@@ -171,7 +174,7 @@ pub(crate) fn expect_prefixes(
     Ok(())
 }
 
-/// Expects a failed read after these octets of output.
+/// Checks that the run reports a failed read after this output.
 fn expect_failed_read(
     rt: &impl Abort,
     case: &Case<'_>,
@@ -183,8 +186,8 @@ fn expect_failed_read(
     expect_run(rt, case, case.input.as_slice(), devices, room, wanted);
 }
 
-/// Each read of one octet fails in turn: what was written is the output of the octets before it. No
-/// read is made after an octet that is refused, nor after a whole element.
+/// Reads single octets, and lets each read fail in turn. Checks that the output of the octets before the failure is
+/// written. After an octet that is refused, or after the element of `extract`, no read is made, so none fails.
 pub(crate) fn expect_failed_reads(
     rt: &impl Abort,
     case: &Case<'_>,
@@ -211,7 +214,7 @@ pub(crate) fn expect_failed_reads(
     }
 }
 
-/// Expects a failed write if the room is too small by one octet or more, and in it what fits of the output.
+/// Runs the case with each room that is too small. Checks that a write fails and the room is full.
 fn expect_too_little_room(rt: &impl Abort, case: &Case<'_>, devices: Devices<'_>, room: &mut [u8]) {
     for size in 0..case.output.len() {
         let (Some(place), Some(written)) = (room.get_mut(..size), case.output.get(..size)) else {
@@ -222,8 +225,8 @@ fn expect_too_little_room(rt: &impl Abort, case: &Case<'_>, devices: Devices<'_>
     }
 }
 
-/// The drain has room for each number of octets that is too small, and takes at most 1, 7 or 4096
-/// with a write. A short input comes in single octets too.
+/// Checks that writes fail in each room that is too small, with a drain that takes 1, 7 or 4096 octets with a write.
+/// Short inputs are also read in single octets.
 pub(crate) fn expect_failed_writes(rt: &impl Abort, case: &Case<'_>, room: &mut [u8]) {
     for most in [1, 7, 4096] {
         let devices = Devices {
@@ -242,7 +245,7 @@ pub(crate) fn expect_failed_writes(rt: &impl Abort, case: &Case<'_>, room: &mut 
     }
 }
 
-/// Expects that after an octet that is refused each of the 256 octets changes nothing.
+/// Checks that after an octet that is refused any further octet leaves the result the same.
 pub(crate) fn expect_final_fault(
     rt: &impl Abort,
     case: &Case<'_>,
@@ -264,7 +267,7 @@ pub(crate) fn expect_final_fault(
     }
 }
 
-/// Whether the command takes octets `00` between the encodings.
+/// Returns whether the command allows octets `00` between the encodings.
 fn takes_padding(command: &Command<'_>) -> bool {
     match command {
         Command::Dump { options, .. } => options.framing.padding,
@@ -274,7 +277,7 @@ fn takes_padding(command: &Command<'_>) -> bool {
     }
 }
 
-/// Expects `indef` of what `indef` wrote of the input to be the same, if the input has no fault.
+/// Checks that `indef` leaves its own output unchanged, if the input has no fault.
 pub(crate) fn expect_same_again(
     rt: &impl Abort,
     case: &Case<'_>,

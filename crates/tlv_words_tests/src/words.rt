@@ -1,4 +1,4 @@
-//! What words mean: the command that they ask for, or why there is none.
+//! Tests of the meaning of words: the command that they ask for, or why there is none.
 use super::words_rows::{
     CUTS, CommandRow, HELP_AND_VERSION, INSIDE, LIMITS, Meaning, REFUSED_VALUES, RULES,
     WRONG_OPTIONS, WRONG_WORDS,
@@ -52,7 +52,7 @@ fn expect_meanings(rt: &impl Abort, alloc: Global, rows: &[CommandRow<'_>]) {
     }
 }
 
-/// Options and their values.
+/// Options and their values give a command, or are refused.
 #[test]
 fn options_have_meanings(rt: HostRuntime) {
     for rows in [
@@ -66,7 +66,7 @@ fn options_have_meanings(rt: HostRuntime) {
     }
 }
 
-/// Commands, offsets and files, help and the version, and words that are none of these.
+/// Commands, offsets, files, help and the version are understood. Other words are refused.
 #[test]
 fn other_words_have_meanings(rt: HostRuntime) {
     for rows in [WRONG_WORDS.as_slice(), &HELP_AND_VERSION, &CUTS] {
@@ -74,7 +74,7 @@ fn other_words_have_meanings(rt: HostRuntime) {
     }
 }
 
-/// The files that words name: the names file, and the file to read.
+/// Checks the names file and the input file that the words name.
 fn expect_files(
     rt: &impl Abort,
     alloc: Global,

@@ -1,26 +1,26 @@
-//! Words after the program's name, and what they mean.
+//! Words after the program's name, with their meaning.
 use tlv_show::Rules;
 
-/// What words mean.
+/// The meaning of words.
 #[derive(Clone, Copy, Debug, PartialEq, Eq)]
 pub(crate) enum Meaning<'a> {
     Dump(Rules, Option<u32>, bool),
     Check(Rules),
     Extract(u64, bool),
     Indef,
-    /// `clap` refuses them.
+    /// `clap` refuses the words.
     Refused,
-    /// They ask for help or for the version.
+    /// The words ask for help or for the version.
     HelpOrVersion,
-    /// The text of this option, the first such, is no value of it.
+    /// The value of this option is not allowed. If several are not, this is the first that is checked.
     Value(&'a str),
     Memory,
 }
 
-/// Words, and what they mean.
+/// The words, and their meaning.
 pub(crate) type CommandRow<'a> = (&'a [&'a str], Meaning<'a>);
 
-/// How many rows of a value are asked for.
+/// Words with limits of the rows of a value.
 pub(crate) static LIMITS: [CommandRow<'static>; 8] = [
     (
         &["dump", "--limit", "4294967295"],
@@ -47,7 +47,7 @@ pub(crate) static LIMITS: [CommandRow<'static>; 8] = [
     ),
 ];
 
-/// Options twice, cut short, and with or without a value against their kind.
+/// Options that are repeated, abbreviated, without their value, or with a value that they do not take.
 pub(crate) static WRONG_OPTIONS: [CommandRow<'static>; 6] = [
     (&["dump", "--limit", "-5"], Meaning::Refused),
     (&["dump", "--limit", "5", "--limit", "5"], Meaning::Refused),
@@ -57,7 +57,7 @@ pub(crate) static WRONG_OPTIONS: [CommandRow<'static>; 6] = [
     (&["dump", "--pure", "--pure"], Meaning::Refused),
 ];
 
-/// Words that the command does not take, and one that it lacks.
+/// Words that the command does not take, and a command that lacks a word.
 pub(crate) static WRONG_WORDS: [CommandRow<'static>; 6] = [
     (&["dump", "a", "b"], Meaning::Refused),
     (&["extract"], Meaning::Refused),
@@ -70,7 +70,7 @@ pub(crate) static WRONG_WORDS: [CommandRow<'static>; 6] = [
     ),
 ];
 
-/// Lists of the offsets of strings.
+/// Words with lists of the offsets of strings.
 pub(crate) static INSIDE: [CommandRow<'static>; 9] = [
     (&["dump", "--inside", "5,3"], Meaning::Value("--inside")),
     (&["dump", "--inside", "3,3"], Meaning::Value("--inside")),
@@ -99,7 +99,7 @@ pub(crate) static INSIDE: [CommandRow<'static>; 9] = [
     ),
 ];
 
-/// Words for help and the version, and others in their place.
+/// Words for help and the version, and similar words.
 pub(crate) static HELP_AND_VERSION: [CommandRow<'static>; 9] = [
     (&["dump", "-h"], Meaning::Refused),
     (&["dump", "--help"], Meaning::HelpOrVersion),
@@ -130,7 +130,7 @@ pub(crate) static CUTS: [CommandRow<'static>; 5] = [
     (&["indef", "--padding", "-"], Meaning::Indef),
 ];
 
-/// Whose rules `dump` and `check` go by.
+/// Words with the rules of `dump` and `check`.
 pub(crate) static RULES: [CommandRow<'static>; 7] = [
     (&["dump"], Meaning::Dump(Rules::Ber, None, false)),
     (
@@ -150,7 +150,7 @@ pub(crate) static RULES: [CommandRow<'static>; 7] = [
     (&["check", "--rules", "xer"], Meaning::Value("--rules")),
 ];
 
-/// Texts that are no values, of which the first is reported.
+/// Words with values that are refused. If there are several, the order of the words does not decide which is reported.
 pub(crate) static REFUSED_VALUES: [CommandRow<'static>; 7] = [
     (
         &["dump", "--limit", "x", "--inside", "4,"],

@@ -1,10 +1,11 @@
-//! What a whole header says, and what is made of it.
+//! The fields of a header, and headers that are made of fields.
 use super::octets::{OFFSET, SHAPES, Shape};
 use super::{header_of, is_of_shape, unnamed_header};
 use crate::expect::{expect_eq, expect_eq_of, expect_of};
 use tlv_head::{Header, HeaderFields, Size, spell_indefinite};
 
-/// The octets after the first of the identifier and of the length, if the octets begin with a header.
+/// Returns the second octet of the identifier and of the length of the header at the start of the octets.
+/// Each is 0 if it is absent.
 fn second_octets(octets: &[u8]) -> Option<(u8, u8)> {
     let header = unnamed_header(octets)?;
     Some((
@@ -24,7 +25,7 @@ fn headers_give_their_second_octets(rt: HostRuntime) {
     }
 }
 
-/// Whether the fields say what the shape says, and that the offset is named.
+/// Returns whether the fields are those of the shape, with an offset that is named.
 fn are_of_shape(fields: &HeaderFields, shape: &Shape<'_>) -> bool {
     fields.offset == OFFSET
         && fields.named
@@ -35,14 +36,14 @@ fn are_of_shape(fields: &HeaderFields, shape: &Shape<'_>) -> bool {
         && fields.id_len == shape.id_len
 }
 
-/// Whether the header says what the shape says, and gives its identifier and its fields.
+/// Returns whether the header has the shape, and returns the identifier octets and the fields of the shape.
 fn gives_shape(header: &Header, shape: &Shape<'_>) -> bool {
     is_of_shape(header, shape)
         && shape.octets.get(..usize::from(shape.id_len)) == Some(header.identifier())
         && are_of_shape(&header.fields(), shape)
 }
 
-/// Whether the octets of the shape begin with a header, if the offset is named, that gives what the shape says.
+/// Returns whether the octets of the shape, at an offset that is named, give a header of that shape.
 fn makes_header(shape: &Shape<'_>) -> bool {
     match header_of(true, shape.octets) {
         Some(header) => gives_shape(&header, shape),
@@ -50,7 +51,7 @@ fn makes_header(shape: &Shape<'_>) -> bool {
     }
 }
 
-/// A header is made of fields and octets, and gives the fields again.
+/// A header that is made of fields and octets returns the same fields.
 #[test]
 fn fields_make_headers(rt: HostRuntime) {
     for shape in &SHAPES {
@@ -59,7 +60,8 @@ fn fields_make_headers(rt: HostRuntime) {
     }
 }
 
-/// Whether the octets begin with a header of a constructed element, which becomes this one of indefinite length.
+/// Returns whether the octets begin with the header of a constructed
+/// element, and the indefinite form of this header is `want`.
 fn becomes(octets: &[u8], want: &[u8]) -> bool {
     match unnamed_header(octets) {
         Some(header) if header.constructed => spell_indefinite(&header).as_slice() == want,
@@ -83,12 +85,13 @@ fn lengths_become_indefinite(rt: HostRuntime) {
     }
 }
 
-/// Whether the header with which the octets begin wraps, if there is one and its offset is named, or is not.
+/// Returns whether the header at the start of the octets is that of a string to be read as encodings. `named` says
+/// whether its offset is named. `None` means that there is no header.
 fn wraps(named: bool, octets: &[u8]) -> Option<bool> {
     Some(header_of(named, octets)?.wraps())
 }
 
-/// Named primitives of universal 4, and of universal 3 with contents.
+/// A string wraps if its offset is named and it is a primitive OCTET STRING, or a primitive BIT STRING with contents.
 #[test]
 fn strings_wrap(rt: HostRuntime) {
     for (octets, want) in [
@@ -110,7 +113,7 @@ fn strings_wrap(rt: HostRuntime) {
     }
 }
 
-/// The length that is announced, as a number.
+/// The announced length is that of a definite length, and 0 for the indefinite form.
 #[test]
 fn sizes_announce_their_length(rt: HostRuntime) {
     expect_eq(&rt, Size::Definite(1000).announced_length(), 1000);

@@ -1,10 +1,10 @@
 //! Headers, and octets that are refused.
 use tlv_head::{Class, FaultCode, Size};
 
-/// Where the headers begin.
+/// The offset of the headers.
 pub(crate) const OFFSET: u64 = 100;
 
-/// What a header says.
+/// The fields of a header, and its octets.
 #[derive(Drop)]
 pub(crate) struct Shape<'a> {
     pub octets: &'a [u8],
@@ -15,7 +15,7 @@ pub(crate) struct Shape<'a> {
     pub id_len: u8,
 }
 
-/// Headers in the forms that there are.
+/// Headers of each form.
 pub(crate) static SHAPES: [Shape<'static>; 14] = [
     Shape {
         octets: b"\x02\x7f",
@@ -25,7 +25,7 @@ pub(crate) static SHAPES: [Shape<'static>; 14] = [
         size: Size::Definite(127),
         id_len: 1,
     },
-    // A number below 31 in the high form.
+    // A number below 31 in the high-tag-number form.
     Shape {
         octets: b"\x1f\x02\x01",
         class: Class::Universal,
@@ -34,7 +34,7 @@ pub(crate) static SHAPES: [Shape<'static>; 14] = [
         size: Size::Definite(1),
         id_len: 2,
     },
-    // The number 0 is that of an element if the first octet is not 00.
+    // The number 0 is allowed if the first octet is not 00.
     Shape {
         octets: b"\x1f\x00\x00",
         class: Class::Universal,
@@ -67,7 +67,7 @@ pub(crate) static SHAPES: [Shape<'static>; 14] = [
         size: Size::Indefinite,
         id_len: 3,
     },
-    // Nine subsequent identifier octets, the most there may be.
+    // Nine subsequent identifier octets: the most that are allowed.
     Shape {
         octets: b"\x9f\x81\x80\x80\x80\x80\x80\x80\x80\x00\x00",
         class: Class::Context,
@@ -92,7 +92,7 @@ pub(crate) static SHAPES: [Shape<'static>; 14] = [
         size: Size::Indefinite,
         id_len: 1,
     },
-    // Lengths in the long form that are not the shortest.
+    // Lengths in the long form with more octets than necessary.
     Shape {
         octets: b"\x04\x81\x03",
         class: Class::Universal,
@@ -136,7 +136,7 @@ pub(crate) static SHAPES: [Shape<'static>; 14] = [
     },
 ];
 
-/// The place of a header: how many octets there are to the bound from its first one on, how many elements are open, and
+/// The place of a header: how many octets there are from its start to the bound, how many elements are open, and
 /// whether its offset is named.
 #[derive(Clone, Copy)]
 pub(crate) struct Place {
@@ -152,16 +152,16 @@ pub(crate) const TOP: Place = Place {
     named: false,
 };
 
-/// Octets of which the last is refused.
+/// Octets of which the last is refused at this place.
 pub(crate) struct Refusal {
     pub octets: &'static [u8],
     pub place: Place,
     pub code: FaultCode,
-    /// Whether they are a header, which has no place there.
+    /// Whether the octets are a header, which is refused only because of its place.
     pub is_header: bool,
 }
 
-/// Prefixes of headers, with an octet that is refused.
+/// Octets that are refused, each with its code.
 pub(crate) static REFUSALS: [Refusal; 13] = [
     Refusal {
         octets: b"\x9f\x81\x80\x80\x80\x80\x80\x80\x80\x80",
@@ -193,7 +193,7 @@ pub(crate) static REFUSALS: [Refusal; 13] = [
         code: FaultCode::LengthTooLarge,
         is_header: false,
     },
-    // A constructed element inside 128 open ones, and a string that holds encodings.
+    // A constructed element, and a string that holds encodings, each inside 128 open elements.
     Refusal {
         octets: b"\x30\x00",
         place: Place { depth: 128, ..TOP },
@@ -210,7 +210,7 @@ pub(crate) static REFUSALS: [Refusal; 13] = [
         code: FaultCode::TooDeep,
         is_header: true,
     },
-    // The depth is judged before the bound after the contents.
+    // The depth is checked before the end of the contents.
     Refusal {
         octets: b"\x30\x02",
         place: Place {
@@ -221,7 +221,7 @@ pub(crate) static REFUSALS: [Refusal; 13] = [
         code: FaultCode::TooDeep,
         is_header: true,
     },
-    // Contents that end one octet beyond the bound.
+    // Contents that end one octet after the bound.
     Refusal {
         octets: b"\x04\x02",
         place: Place {
@@ -240,7 +240,7 @@ pub(crate) static REFUSALS: [Refusal; 13] = [
         code: FaultCode::Overrun,
         is_header: true,
     },
-    // The bound is reached within the header, which is judged before what the octet says.
+    // The bound is inside the header. It takes precedence over what the octet after it says.
     Refusal {
         octets: b"\x04\x80",
         place: Place {

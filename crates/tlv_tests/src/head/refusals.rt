@@ -1,4 +1,4 @@
-//! Octets that are refused, and others in their place.
+//! Octets that are refused, and what may follow a refusal.
 ghost use Rattle.tlv_head.specs.Limits.{depth_limit};
 ghost use Rattle.std.specs.Prelude.{◌≤◌};
 
@@ -7,7 +7,7 @@ use super::{expect_shape, read, whole};
 use crate::expect::{expect_eq, expect_of};
 use tlv_head::{Class, Fault, FaultCode, Head, HeadReader, Header, Size};
 
-/// The fault for which the last of the octets is refused.
+/// Returns the fault for which the last of the octets is refused, if it is refused.
 fn refused(octets: &[u8], place: Place) -> Option<Fault>
     requires { place.depth ≤ depth_limit }
 {
@@ -17,7 +17,7 @@ fn refused(octets: &[u8], place: Place) -> Option<Fault>
     }
 }
 
-/// Whether the last of the octets is refused for the code.
+/// Returns whether the last of the octets is refused with the code and the offset of the row.
 fn is_refused(refusal: &Refusal) -> bool {
     let last = OFFSET
         .saturating_add(refusal.octets.len() as u64)
@@ -42,7 +42,7 @@ fn octets_are_refused(rt: HostRuntime) {
     }
 }
 
-/// A primitive's header with 126 length octets, of which the one with this index is 01 and the others are 00.
+/// Returns a header with 126 length octets. The octet at this index is 01, the others are 00.
 fn long_length(index: u8) -> [u8; 128] {
     let mut octets = [0; 128];
     octets[..2].copy_from_slice(b"\x04\xfe");
@@ -52,7 +52,8 @@ fn long_length(index: u8) -> [u8; 128] {
     octets
 }
 
-/// Of 126 length octets the sixth from the last may not be other than 00.
+/// The largest length has five significant octets. So the sixth octet from the last must be 00, and is refused
+/// otherwise before the header is complete.
 #[test]
 fn a_long_length_is_refused_early(rt: HostRuntime) {
     let fault = Fault {
@@ -72,8 +73,8 @@ fn a_long_length_is_refused_early(rt: HostRuntime) {
     expect_shape(&rt, &whole(&octets, TOP), &shape);
 }
 
-/// A refused octet is not taken, and another may come in its place. `None` if one of these is not refused, or another
-/// is.
+/// Pushes octets of which two are refused. Returns both faults, and the header that the other octets make. Returns
+/// `None` if an octet is taken or refused against expectation.
 fn refusals_and_header() -> Option<(Fault, Fault, Header)> {
     let mut reader = HeadReader::new(OFFSET, false);
     if reader.done() || !matches!(reader.push(0x04, None, 0), Head::More) {

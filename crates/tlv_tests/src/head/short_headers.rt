@@ -5,7 +5,8 @@ use crate::expect::{expect, expect_of};
 use std::process::Abort;
 use tlv_head::{Header, read_short};
 
-/// Whether the octets of the shape are read at once, if they are at most three and three, and otherwise are not.
+/// Returns whether the header of the shape is read at once exactly if it is short: at most three identifier octets and
+/// three length octets.
 fn is_read_if_short(shape: &Shape<'_>) -> bool {
     let lengths = shape.octets.len().saturating_sub(usize::from(shape.id_len));
     let is_short = shape.id_len <= 3 && lengths <= 3;
@@ -18,21 +19,21 @@ fn is_read_if_short(shape: &Shape<'_>) -> bool {
     }
 }
 
-/// Expects no header to be read at once.
+/// Checks that no header is read at once from these octets.
 fn expect_no_short(rt: &impl Abort, octets: &[u8]) {
     let is_none = read_short(OFFSET, false, octets).is_none();
     expect_of(rt, octets, is_none, "no header is read at once");
 }
 
-/// The same of each prefix of these octets.
+/// Checks that no header is read at once from a proper prefix of these octets.
 fn expect_no_short_prefixes(rt: &impl Abort, octets: &[u8]) {
     for i in 0..octets.len() {
         expect_no_short(rt, &octets[..i]);
     }
 }
 
-/// A header of at most three identifier and three length octets is read at once. No longer one is, no prefix of one,
-/// and nothing that is refused.
+/// A header of at most three identifier octets and three length octets is read at once. Longer headers, prefixes of
+/// headers and octets that are refused are left to the octet-by-octet reader.
 #[test]
 fn short_headers_are_read_at_once(rt: HostRuntime) {
     for shape in &SHAPES {
@@ -45,7 +46,7 @@ fn short_headers_are_read_at_once(rt: HostRuntime) {
         );
         expect_no_short_prefixes(&rt, shape.octets);
     }
-    // Four identifier octets, and four length octets.
+    // A header with four identifier octets, and one with four length octets.
     for octets in [b"\x1f\x81\x80\x01\x00".as_slice(), b"\x04\x83\x00\x00\x01"] {
         expect(&rt, unnamed_header(octets).is_some(), "a header is read");
         expect_no_short(&rt, octets);

@@ -1,4 +1,4 @@
-//! Texts of tags and of faults.
+//! The texts of tags and faults, and how universal types are encoded and shown.
 use super::octets::OFFSET;
 use crate::expect::expect_eq;
 use std::process::Abort;
@@ -6,7 +6,7 @@ use tlv_head::{
     Class, Encodings, Fault, FaultCode, Kind, encodings_of, kind_of, tag_text, type_at, type_name,
 };
 
-/// The texts of the universal tags, by their numbers.
+/// The texts of the universal tags, by tag number.
 static UNIVERSAL: [&str; 38] = [
     "[UNIVERSAL 0]",
     "BOOLEAN",
@@ -48,16 +48,16 @@ static UNIVERSAL: [&str; 38] = [
     "[UNIVERSAL 37]",
 ];
 
-/// Which encodings the universal types have, by their numbers: `p` primitive ones, `c` constructed ones, `s` those of a
-/// string, `u` any. `-` is no type.
+/// The encodings that the universal types may have, by tag number: `p` primitive, `c` constructed, `s` string
+/// (primitive or constructed), `u` unrestricted, `-` no type.
 static ENCODINGS: [u8; 38] = *b"-ppssppscppcspu-ccssssssssssscsuuuuuu-";
 
-/// How the contents of the universal types are shown, by their numbers: `b` as a boolean, `i` an integer, `n` bits,
-/// `o` an object identifier, `r` a relative one, `t` text, `8` text in UTF-8, `2` and `4` text of characters of that
-/// many octets, and `h` in hexadecimal.
+/// How the contents of the universal types are shown, by tag number: `b` boolean, `i` integer, `n` bits, `o` object
+/// identifier, `r` relative object identifier, `t` text, `8` UTF-8, `2` and `4` text of characters of two and four
+/// octets, `h` hexadecimal.
 static KINDS: [u8; 38] = *b"hbinhhothhih8rhhhhtttttttttt4h2hhhhhhh";
 
-/// Tags by class and number, and their texts.
+/// Tags by class and number, with their texts.
 static TAGS: [(Class, u64, &str); 6] = [
     (
         Class::Universal,
@@ -79,7 +79,7 @@ static TAGS: [(Class, u64, &str); 6] = [
     (Class::Private, 2, "[PRIVATE 2]"),
 ];
 
-/// Faults, their codes and texts.
+/// Faults, with their codes and texts.
 static FAULTS: [(FaultCode, &str, &str); 12] = [
     (FaultCode::Empty, "F01", "empty input"),
     (FaultCode::Short, "F02", "input ends inside an encoding"),
@@ -123,7 +123,7 @@ static FAULTS: [(FaultCode, &str, &str); 12] = [
     ),
 ];
 
-/// Expects the text of a universal tag, which is its name if the number has one.
+/// Checks the text of a universal tag: its name if it has one, or its class and number.
 fn expect_universal(rt: &impl Abort, number: u64, text: &str) {
     expect_eq(
         rt,
@@ -149,7 +149,7 @@ fn tags_have_texts(rt: HostRuntime) {
     }
 }
 
-/// Expects the code and the text of a fault.
+/// Checks the code and the text of a fault.
 fn expect_fault(rt: &impl Abort, code: FaultCode, name: &str, text: &str) {
     let fault = Fault {
         code,
@@ -166,7 +166,7 @@ fn faults_have_texts(rt: HostRuntime) {
     }
 }
 
-/// The letter of encodings.
+/// Returns the letter that stands for these encodings in `ENCODINGS`.
 fn letter_of(encodings: Option<Encodings>) -> u8 {
     match encodings {
         Some(Encodings::Primitive) => b'p',
@@ -188,7 +188,7 @@ fn types_have_encodings(rt: HostRuntime) {
     }
 }
 
-/// The letter of a kind.
+/// Returns the letter that stands for this kind in `KINDS`.
 fn letter_of_kind(kind: Kind) -> u8 {
     match kind {
         Kind::Octets => b'h',

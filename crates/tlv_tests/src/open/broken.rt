@@ -1,4 +1,4 @@
-//! Which strings of an input are broken.
+//! Tests of the strings that are broken: they are likely to hold encodings, but do not parse.
 use super::broken_rows::{EXTENSIONS, Row, SIZES};
 use crate::expect::expect_eq_of;
 use std::alloc::{AllocError, Global};
@@ -7,13 +7,14 @@ use std::test::Fail;
 use tlv_open::{BrokenString, Strings, broken_line, strings_of};
 use tlv_walk::INPUT_LIMIT;
 
-/// The strings of an input that is not too long.
+/// Returns the strings of the input that are opened and those that are broken.
+/// Checks first that the input is not too long.
 fn strings_in(rt: &impl Abort, alloc: Global, octets: &[u8]) -> Result<Strings, AllocError> {
     assert!(rt; octets.len() as u64 <= INPUT_LIMIT, "too long");
     strings_of(alloc, octets, false)
 }
 
-/// Expects the line of a string to be one of these, by its place.
+/// Checks the line that is written of a broken string.
 fn expect_line(rt: &impl Abort, octets: &[u8], broken: &BrokenString, want: Option<&[u8]>) {
     let line = broken_line(broken);
     expect_eq_of(rt, octets, Some(line.as_slice()), want);
@@ -41,11 +42,11 @@ fn strings_are_broken(rt: HostRuntime) -> Result<(), Fail> {
     Ok(())
 }
 
-/// A SEQUENCE of the size of its string, which breaks 8 octets after the start of the string.
+/// A string that holds a SEQUENCE of its size. The SEQUENCE breaks 8 octets after the start of the string.
 static STRING: &[u8] = b"\x04\x19\x30\x17\x02\x01\x05\x04\x13\
     \x00\x00\x00\x00\x00\x00\x00\x00\x00\x00\x00\x00\x00\x00\x00\x00\x00\x00";
 
-/// So many indefinite SEQUENCEs, one in the other, that hold a string in the end.
+/// Checks the line of the broken string in an input in which `depth` nested elements of indefinite length hold it.
 fn expect_deep(rt: &impl Abort, alloc: Global, depth: usize, line: &[u8]) -> Result<(), Fail> {
     let mut input = Vec::new(alloc);
     for _ in 0..depth {
@@ -59,7 +60,8 @@ fn expect_deep(rt: &impl Abort, alloc: Global, depth: usize, line: &[u8]) -> Res
     expect_strings(rt, alloc, (input.as_slice(), &[], &lines))
 }
 
-/// A string that is named counts among the 128 elements that may hold others.
+/// A string that is opened counts among the 128 elements that may be open. So the depth takes precedence over the fault
+/// inside the string.
 #[test]
 fn deep_strings_are_broken(rt: HostRuntime) -> Result<(), Fail> {
     let overrun: &[u8] =

@@ -1,4 +1,4 @@
-//! The calls of `tlv_show` by themselves: what they write and return.
+//! Tests of the calls of `tlv_show`: what they write and return.
 use super::plain;
 use crate::expect::expect_eq;
 use std::process::Abort;
@@ -6,10 +6,10 @@ use tlv_show::{Check, Outcome, Rules, check, dump, dump_with};
 use tlv_value::Names;
 use tlv_walk::{Ending, Framing, MemDrain, MemSource, drive};
 
-/// An INTEGER that is padded.
+/// An INTEGER with a redundant first octet.
 const INPUT: &[u8] = b"\x02\x02\x00\x7f";
 
-/// What both calls return for it.
+/// The result of a dump and of a check of `INPUT`.
 const OUTCOME: Outcome = Outcome {
     ending: Ending::Done,
     findings: 1,
@@ -30,10 +30,10 @@ fn a_dump_is_written(rt: HostRuntime) {
     expect_eq(&rt, outcome, Ok(OUTCOME));
 }
 
-/// A SEQUENCE of an OCTET STRING and a BOOLEAN that cannot be read: something is found in it.
+/// A SEQUENCE of an OCTET STRING and of a BOOLEAN whose length is wrong, which is a finding.
 const TEXTS: &[u8] = b"\x30\x0a\x04\x03abc\x01\x03def";
 
-/// Expects a dump of these with text, or without it, to be written so.
+/// Checks the dump of `TEXTS`, with or without text beside pairs of digits.
 fn expect_dump(rt: &impl Abort, with_text: bool, want: &[u8]) {
     let mut room = [0; 200];
     let mut source = MemSource::new(TEXTS, &[], None);
@@ -81,7 +81,7 @@ fn a_check_is_written(rt: HostRuntime) {
     expect_eq(&rt, outcome, Ok(OUTCOME));
 }
 
-/// The follower by itself counts what it wrote.
+/// `Check` counts the findings that it wrote.
 #[test]
 fn findings_are_counted(rt: HostRuntime) {
     let mut room = [0; 100];

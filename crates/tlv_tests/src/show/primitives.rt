@@ -1,9 +1,9 @@
-//! What BER finds in primitives by themselves.
+//! Tests of `has_basic_findings`: whether a primitive breaks a rule of BER.
 use crate::expect::expect_eq_of;
 use crate::inputs::element_at;
 use tlv_show::has_basic_findings;
 
-/// Whether something is found in the primitive that the octets are, if they are one.
+/// Returns whether the primitive element has a finding of BER. Returns `None` if the octets are not one element.
 fn found_in(octets: &[u8]) -> Option<bool> {
     let (header, contents) = element_at(0, octets)?;
     Some(has_basic_findings(&header, contents))

@@ -1,4 +1,4 @@
-//! Dumps walked turn by turn, and up to a limit of octets.
+//! Tests of dumps that are read piece by piece, and up to a limit.
 ghost use Rattle.std.specs.Prelude.{◌≤◌};
 ghost use Rattle.tlv_head.specs.Limits.{input_limit};
 
@@ -12,10 +12,10 @@ use tlv_walk::{
     DeviceFault, Ending, Framing, MemDrain, MemSource, Run, Turn, Walker, drive_up_to, turn,
 };
 
-/// More octets than the input has.
+/// A limit above the length of the input.
 const LIMIT: u64 = 4096;
 
-/// The run over so many octets of whole elements.
+/// A run that ended with whole elements after this number of octets.
 fn whole(octets: u64) -> Run {
     Run {
         ending: Ending::Done,
@@ -25,8 +25,8 @@ fn whole(octets: u64) -> Run {
     }
 }
 
-/// Expects the lines of the string read by read of four octets, each with its octets: 1 after the
-/// first, then 2, 4 and 4.
+/// Reads the constructed string in pieces of four octets. Checks what is written after each: the lines whose octets are
+/// read, which are 1, 2 and 4 lines.
 fn expect_reads(rt: &impl Abort, limit: u64)
     requires { limit ≤ input_limit }
 {
@@ -85,7 +85,7 @@ fn expect_reads(rt: &impl Abort, limit: u64)
     expect_written(rt, &drain, text);
 }
 
-/// The same up to a limit that the input reaches, and up to one that it does not.
+/// Each line is written as soon as its octets are read. A limit that the input just reaches makes no difference.
 #[test]
 fn lines_come_with_their_octets(rt: HostRuntime) {
     expect_reads(&rt, LENGTH);

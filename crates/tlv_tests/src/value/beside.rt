@@ -1,4 +1,4 @@
-//! Text beside pairs of digits: of an element in pieces, and at once.
+//! Tests of the text beside pairs of digits, written from pieces and at once.
 ghost use Rattle.std.specs.Prelude.{◌≤◌};
 
 use super::{OneName, PLAIN, Pieces, Row, are_shown, cut_at, put_pieces};
@@ -8,7 +8,7 @@ use std::process::Abort;
 use tlv_value::{Layout, ValueText, put_whole_with};
 use tlv_walk::{MemDrain, Out};
 
-/// Values on their lines.
+/// Values with one line.
 static ON_THE_LINE: [Row<'static>; 12] = [
     Row {
         element: b"\x80\x09a.example",
@@ -48,7 +48,7 @@ static ON_THE_LINE: [Row<'static>; 12] = [
             "       0     16: OCTET STRING 30 31 32 33 34 35 36 37 38 39 61 62 63 64 65 66  |0123456789abcdef|",
         ],
     },
-    // A BOOLEAN and a BIT STRING that cannot be read, and a NULL that should have no contents.
+    // A BOOLEAN and a BIT STRING whose contents are wrong, and a NULL with contents.
     Row {
         element: b"\x01\x03abc",
         lines: &["       0      3: BOOLEAN 61 62 63  |abc|"],
@@ -63,8 +63,8 @@ static ON_THE_LINE: [Row<'static>; 12] = [
     },
 ];
 
-/// What is no pair of digits has no text beside it; nor has an object identifier that cannot be read, since its last
-/// octet is 80 or more.
+/// Values without text: those that are not shown as pairs of digits, and an object identifier that cannot be read. (Its
+/// last octet is 80 or more, so it is not text.)
 static NONE: [Row<'static>; 7] = [
     Row {
         element: b"\x02\x03abc",
@@ -99,7 +99,7 @@ static NONE: [Row<'static>; 7] = [
 const DIGITS: &str =
     "                   30 31 32 33 34 35 36 37 38 39 61 62 63 64 65 66  |0123456789abcdef|";
 
-/// Values in rows: each row has the text of its octets.
+/// Values in rows. Each row has the text of its own octets.
 static IN_ROWS: [Row<'static>; 8] = [
     Row {
         element: b"\x04\x110123456789abcdefg",
@@ -117,7 +117,7 @@ static IN_ROWS: [Row<'static>; 8] = [
             "                   67 68 69  |ghi|",
         ],
     },
-    // The octet 00 is in the first row.
+    // The octet 00 is in the first row, which therefore has no text.
     Row {
         element: b"\x04\x13\x00123456789abcdefghi",
         lines: &[
@@ -166,7 +166,7 @@ static IN_ROWS: [Row<'static>; 8] = [
     },
 ];
 
-/// Writes the lines of the element with text, with its contents in these pieces. Returns how many octets were written.
+/// Writes the lines of the element, with text, from these pieces. Returns the number of octets written.
 fn show_with_text(element: &[u8], layout: Layout, pieces: Pieces, room: &mut [u8]) -> Option<usize>
     requires { 1 ≤ pieces.size }
 {
@@ -182,7 +182,8 @@ fn show_with_text(element: &[u8], layout: Layout, pieces: Pieces, room: &mut [u8
     Some(drain.written().len())
 }
 
-/// The same at once, with text or without it.
+/// Writes the lines of the element, with or without text, from its whole contents.
+/// Returns the number of octets written.
 fn show_at_once(element: &[u8], layout: Layout, with_text: bool, room: &mut [u8]) -> Option<usize> {
     let (header, contents) = element_at(0, element)?;
     let mut drain = MemDrain::new(room, 7);
@@ -194,7 +195,7 @@ fn show_at_once(element: &[u8], layout: Layout, with_text: bool, room: &mut [u8]
     Some(drain.written().len())
 }
 
-/// Expects the lines of an element with text: in every cut into two pieces, octet by octet, and at once.
+/// Checks the lines of an element with text: from every cut into two pieces, octet by octet, and at once.
 fn expect_text(rt: &impl Abort, element: &[u8], layout: Layout, lines: &[&str]) {
     let mut room = [0; 1024];
     for cut in 0..element.len() {
@@ -229,7 +230,7 @@ fn text_is_beside_pairs(rt: HostRuntime) {
     }
 }
 
-/// Above the limit rows are left out, with their text.
+/// Rows above the limit are left out, and so is their text.
 #[test]
 fn rows_with_text_are_left_out(rt: HostRuntime) {
     let layout = Layout {
@@ -244,7 +245,7 @@ fn rows_with_text_are_left_out(rt: HostRuntime) {
     expect_text(&rt, IN_ROWS[0].element, layout, &lines);
 }
 
-/// Without the first columns the text stays.
+/// The text is shown also without the first columns.
 #[test]
 fn text_stays_without_columns(rt: HostRuntime) {
     let layout = Layout {

@@ -1,4 +1,4 @@
-//! What is found on contents, whatever pieces they come in.
+//! Tests of the findings on contents, whatever the pieces.
 use super::found_rows::{BITS, Found, NUMBERS, OBJECTS, STRINGS, TIMES};
 use crate::expect::{expect_eq, expect_of};
 use crate::inputs::element_at;
@@ -6,8 +6,8 @@ use arrayvec::ArrayVec;
 use std::process::Abort;
 use tlv_value::{Finding, ValueCheck, is_clear};
 
-/// What is found on the contents of an element, which come in two pieces, cut at `cut`, or after the last octet, if
-/// `is_clear` says whether that is nothing.
+/// Returns the findings on the contents of an element, which come in two pieces. Returns `None` if `is_clear` disagrees
+/// about whether there are any.
 fn check(element: &[u8], cut: usize) -> Option<ArrayVec<Finding, 16>> {
     let (header, contents) = element_at(0, element)?;
     let (front, back) = contents.split_at(cut.min(contents.len()));
@@ -21,7 +21,8 @@ fn check(element: &[u8], cut: usize) -> Option<ArrayVec<Finding, 16>> {
     Some(found)
 }
 
-/// The same with contents that come octet by octet.
+/// Returns the findings on the contents of an element, which come octet by octet. Returns `None` if `is_clear`
+/// disagrees about whether there are any.
 fn check_octets(element: &[u8]) -> Option<ArrayVec<Finding, 16>> {
     let (header, contents) = element_at(0, element)?;
     let mut check = ValueCheck::new(&header);
@@ -35,7 +36,7 @@ fn check_octets(element: &[u8]) -> Option<ArrayVec<Finding, 16>> {
     Some(found)
 }
 
-/// Whether the contents were checked, and these are the findings on them.
+/// Returns whether these are the findings.
 fn are_found(found: Option<ArrayVec<Finding, 16>>, findings: &[Finding]) -> bool {
     match found {
         Some(found) => found.as_slice() == findings,
@@ -43,7 +44,7 @@ fn are_found(found: Option<ArrayVec<Finding, 16>>, findings: &[Finding]) -> bool
     }
 }
 
-/// Expects these findings in every cut into two pieces, and octet by octet.
+/// Checks the findings of each row in every cut into two pieces, and octet by octet.
 fn expect_findings(rt: &impl Abort, rows: &[Found<'_>]) {
     for row in rows {
         for cut in 0..row.element.len() {
@@ -67,16 +68,15 @@ fn contents_are_checked(rt: HostRuntime) {
     }
 }
 
-/// The texts of a finding.
 #[test]
-fn wordings(rt: HostRuntime) {
+fn findings_have_texts(rt: HostRuntime) {
     expect_eq(&rt, Finding::B08.code(), b"B08".as_slice());
     expect_eq(&rt, Finding::B08.text(), b"integer is padded".as_slice());
 }
 
-/// The code and the text of a finding are the first octets of its block.
+/// The block of a finding begins with its code and its text, and the count is their length.
 #[test]
-fn wordings_begin_their_blocks(rt: HostRuntime) {
+fn a_block_begins_with_the_text_of_its_finding(rt: HostRuntime) {
     let (wording, count) = Finding::D01.wording_block();
     expect_eq(&rt, &wording[..count], b"D01 indefinite length".as_slice());
     expect_eq(&rt, count, 21);

@@ -1,11 +1,11 @@
-//! Drains without room.
+//! Tests of drains that have too little room.
 use super::{OneName, PLAIN};
 use crate::expect::{expect, expect_eq, expect_of};
 use crate::inputs::element_at;
 use tlv_value::ValueText;
 use tlv_walk::{Drain, MemDrain, Out, WriteFault};
 
-/// The call at which a write failed.
+/// The call in which a write fails.
 #[derive(Clone, Copy)]
 enum Call {
     Before,
@@ -15,7 +15,7 @@ enum Call {
     Flush,
 }
 
-/// Puts so many letters.
+/// Puts `letters` letters.
 fn put_letters<D: Drain>(letters: usize, out: &mut Out<'_, D>) -> Result<(), WriteFault> {
     for _ in 0..letters {
         out.put(b"x")?;
@@ -23,7 +23,7 @@ fn put_letters<D: Drain>(letters: usize, out: &mut Out<'_, D>) -> Result<(), Wri
     Ok(())
 }
 
-/// The call at which a write fails, if one does, of so many letters and the lines of an element after them.
+/// Puts `letters` letters and the lines of an element. Returns the call in which a write fails, if one fails.
 fn failing_call(element: &[u8], letters: usize, drain: &mut MemDrain<'_>) -> Option<Call> {
     let (header, contents) = element_at(0, element)?;
     let mut out = Out::new(drain);
@@ -46,7 +46,7 @@ fn failing_call(element: &[u8], letters: usize, drain: &mut MemDrain<'_>) -> Opt
     None
 }
 
-/// Whether the octets are so many letters and the text, or a prefix of that.
+/// Returns whether the octets are a prefix of `letters` letters and the text.
 fn is_prefix(octets: &[u8], letters: usize, text: &[u8]) -> bool {
     let (before, after) = octets.split_at(letters.min(octets.len()));
     for octet in before {
@@ -64,8 +64,8 @@ const LINES: &[u8] = b"       0     17: INTEGER
                    00
 ";
 
-/// The call at which a write failed, if one did, of so many letters and the lines, and whether the drain has then as
-/// much of them as there is room for.
+/// Puts `letters` letters and the lines of `INTEGER` into the room. Returns the call in which a write fails, if one
+/// fails, and whether the room then has all that fits.
 fn failing_call_in(room: &mut [u8], letters: usize) -> (Option<Call>, bool) {
     let size = room.len();
     let mut drain = MemDrain::new(room, 100);
@@ -79,12 +79,11 @@ fn failing_call_in(room: &mut [u8], letters: usize) -> (Option<Call>, bool) {
     (at, is_right && is_prefix(written, letters, LINES))
 }
 
-/// An `Out` holds 4096 octets, and hands them to the drain before a line if room for fewer than 1024
-/// is left. So it depends on how many were put before, which call fails. Whichever it is, the drain
-/// has then as much of what was put as it has room for. A full row needs less room than the line before
-/// it, so none of these fails with the contents.
+/// A failed write must lose nothing that fits. An `Out` holds 4096 octets and hands them to the drain before a line if
+/// fewer than 1024 are free. So the number of letters decides which call fails. Whichever it is, the drain has all that
+/// fits. A full row needs less room than the line before it, so the call with the contents does not fail here.
 #[test]
-fn drains_without_room(rt: HostRuntime) {
+fn drains_without_room_take_what_fits(rt: HostRuntime) {
     let mut room = [0; 4300];
     let mut seen = [false; 5];
     for i in 0..140 {
@@ -105,8 +104,8 @@ fn drains_without_room(rt: HostRuntime) {
     expect_eq(&rt, seen, [true, true, false, true, true]);
 }
 
-/// Whether the octets of the element fail to be written into so little room if they should, and what there is room for
-/// is written.
+/// Writes the element into a room that is too small.
+/// Returns whether the right call fails and the room has all that fits.
 fn fails_in(room: &mut [u8], element: &[u8], whole: &[u8]) -> bool {
     let size = room.len();
     let mut drain = MemDrain::new(room, 4096);
@@ -119,24 +118,24 @@ fn fails_in(room: &mut [u8], element: &[u8], whole: &[u8]) -> bool {
     is_right && written.len() == size && whole.starts_with(written)
 }
 
-/// Whether the element is written into the room, and fills it.
+/// Returns whether the lines of the element are written and fill the room.
 fn fills(room: &mut [u8], element: &[u8]) -> bool {
     let size = room.len();
     let mut drain = MemDrain::new(room, 4096);
     failing_call(element, 0, &mut drain).is_none() && drain.written().len() == size
 }
 
-/// The rows of one piece may be more than an `Out` holds. It hands them to the drain with the contents when it has
-/// no room for a further one: 60 rows and the line before them, and then 60 more. The last five rows come with the
-/// flush.
+/// The rows of one piece may be longer than an `Out` holds. The call with the contents then writes to the drain
+/// whenever there is no room for a further row: the line and 60 rows, then 60 rows.
+/// The last five rows are written by the flush.
 #[test]
-fn rows_without_room(rt: HostRuntime) {
+fn rows_without_room_are_written_as_far_as_they_fit(rt: HostRuntime) {
     let mut element = [0; 2004];
     element[0] = 0x04;
     element[1] = 0x82;
     element[2] = 0x07;
     element[3] = 0xd0;
-    // The line has 30 octets, and 125 rows have 67 each.
+    // The line has 30 octets. Each of the 125 rows has 67.
     let mut room = [0; 8405];
     expect(&rt, fills(&mut room, &element), "the lines fill the room");
     let mut short = [0; 8405];

@@ -1,7 +1,7 @@
-//! Elements and what is found on their contents.
+//! Elements, with the findings on their contents.
 use tlv_value::Finding;
 
-/// An element and the findings on its contents, of all rules.
+/// An element, with the findings of all rules on its contents.
 pub(super) struct Found<'a> {
     pub element: &'a [u8],
     pub findings: &'a [Finding],
@@ -43,7 +43,6 @@ pub(super) static NUMBERS: [Found<'static>; 8] = [
     },
 ];
 
-/// BIT STRINGs.
 pub(super) static BITS: [Found<'static>; 4] = [
     Found {
         element: b"\x03\x02\x05\xbf",
@@ -63,7 +62,6 @@ pub(super) static BITS: [Found<'static>; 4] = [
     },
 ];
 
-/// Object identifiers.
 pub(super) static OBJECTS: [Found<'static>; 5] = [
     Found {
         element: b"\x06\x02\x80\x01",
@@ -87,7 +85,6 @@ pub(super) static OBJECTS: [Found<'static>; 5] = [
     },
 ];
 
-/// Times.
 pub(super) static TIMES: [Found<'static>; 4] = [
     Found {
         element: b"\x17\x0b9105062345Z",
@@ -107,7 +104,6 @@ pub(super) static TIMES: [Found<'static>; 4] = [
     },
 ];
 
-/// Strings.
 pub(super) static STRINGS: [Found<'static>; 4] = [
     Found {
         element: b"\x0c\x06\x22\x5c\x0a\xc3\xa9\xff",

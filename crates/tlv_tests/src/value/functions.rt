@@ -1,10 +1,10 @@
-//! Decimal numbers, dotted texts and times.
+//! Tests of decimal numbers, dotted texts and times.
 use crate::expect::{expect_eq_of, expect_of};
 use arrayvec::ArrayVec;
 use tlv_value::{decimal_of, dotted_of, general_canonical, general_ok, utc_canonical, utc_ok};
 
 #[test]
-fn decimals(rt: HostRuntime) {
+fn decimals_are_computed(rt: HostRuntime) {
     let mut largest = [0xff; 16];
     largest[0] = 0x7f;
     let mut least = [0; 16];
@@ -22,15 +22,15 @@ fn decimals(rt: HostRuntime) {
     }
 }
 
-/// Whether the dotted text of these contents is the one that is wanted, or there is none if that is empty.
+/// Returns whether the dotted text of the contents is `want`. If `want` is empty, there must be no text.
 fn is_dotted(contents: &[u8], relative: bool, text: &mut ArrayVec<u8, 320>, want: &str) -> bool {
     let is_there = dotted_of(contents, relative, text);
     text.as_slice() == want.as_bytes() && is_there != want.is_empty()
 }
 
-/// If there is no text, none is left of what was there before.
+/// If there is no dotted text, the buffer is empty: what was in it is removed.
 #[test]
-fn dotted_texts(rt: HostRuntime) {
+fn dotted_texts_are_made(rt: HostRuntime) {
     // 2^128 - 1, and 2^128.
     let mut largest = [0xff; 19];
     largest[0] = 0x83;
@@ -64,25 +64,30 @@ fn dotted_texts(rt: HostRuntime) {
     }
 }
 
-/// Whether a UTCTime is one of the grammar, and whether it is canonical.
-fn utc(octets: &[u8]) -> (bool, bool) {
+/// Returns whether the octets obey the grammar of UTCTime, and whether they are canonical.
+fn checks_of_utc_time(octets: &[u8]) -> (bool, bool) {
     (utc_ok(octets), utc_canonical(octets))
 }
 
-/// The same of a GeneralizedTime.
-fn general(octets: &[u8]) -> (bool, bool) {
+/// Returns whether the octets obey the grammar of GeneralizedTime, and whether they are canonical.
+fn checks_of_generalized_time(octets: &[u8]) -> (bool, bool) {
     (general_ok(octets), general_canonical(octets))
 }
 
 #[test]
-fn times(rt: HostRuntime) {
+fn times_are_checked(rt: HostRuntime) {
     for (time, of_grammar, is_canonical) in [
         ("910506234540Z", true, true),
         ("910506234540+0000", true, false),
         ("910506244540Z", true, false),
         ("9113062345Z", false, false),
     ] {
-        expect_eq_of(&rt, time, utc(time.as_bytes()), (of_grammar, is_canonical));
+        expect_eq_of(
+            &rt,
+            time,
+            checks_of_utc_time(time.as_bytes()),
+            (of_grammar, is_canonical),
+        );
     }
     for (time, of_grammar, is_canonical) in [
         ("1992072213", true, false),
@@ -96,7 +101,7 @@ fn times(rt: HostRuntime) {
         expect_eq_of(
             &rt,
             time,
-            general(time.as_bytes()),
+            checks_of_generalized_time(time.as_bytes()),
             (of_grammar, is_canonical),
         );
     }

@@ -1,4 +1,4 @@
-//! The places of lines, how many are written, and names after object identifiers.
+//! Tests of layouts: indentation, the limit of rows, and names after object identifiers.
 use super::number_rows::LARGE_NUMBERS;
 use super::object_rows::LARGE_ARCS;
 use super::{OneName, PLAIN, are_shown, cut_at, expect_lines, expect_lines_named, show};
@@ -7,16 +7,17 @@ use std::alloc::Global;
 use tlv_value::{Layout, Names};
 use tlv_walk::MemSource;
 
-/// The line in place of the rows that are left out.
+/// The line that stands for the rows that are left out.
 const DOTS: &str = "                   ...";
 
-/// The table of a file with one name.
+/// Returns a table that is read from a names file with one name.
 fn one_name(alloc: Global) -> Option<Names> {
     let mut source = MemSource::new(b"1.2.840 us\n", &[], None);
     Names::read(alloc, &mut source).ok()
 }
 
-/// An object identifier has its name after it. A relative one has none, though its dotted text may be a name's.
+/// An object identifier is followed by its name.
+/// A relative object identifier is not, even if its dotted text is in the table.
 #[test]
 fn names_of_a_file_are_shown(rt: HostRuntime) {
     let Some(names) = one_name(rt.alloc()) else {
@@ -40,10 +41,9 @@ fn names_of_a_file_are_shown(rt: HostRuntime) {
     }
 }
 
-/// Elements inside others: the first column is the offset, and the tag text is two columns further to the right for
-/// each level.
+/// The first column is the offset. The tag is indented by two columns for each level.
 #[test]
-fn places(rt: HostRuntime) {
+fn lines_have_offsets_and_levels(rt: HostRuntime) {
     let mut room = [0; 64];
     for (element, offset, level, line) in [
         (
@@ -67,8 +67,8 @@ fn places(rt: HostRuntime) {
     }
 }
 
-/// Above the limit the first row is three dots, and those after it are left out. As many rows as the limit are all
-/// written.
+/// If there are more rows than the limit, a row of three dots stands for the rest.
+/// If there are exactly as many, all are written.
 #[test]
 fn rows_are_left_out(rt: HostRuntime) {
     let integer = LARGE_NUMBERS[2].element;

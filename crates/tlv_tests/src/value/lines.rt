@@ -1,4 +1,4 @@
-//! A primitive in pieces and at once, and the parts of a line.
+//! Tests of a line that is written from pieces and at once, and of the parts of a line.
 use super::{OneName, PLAIN};
 use crate::expect::{expect, expect_eq};
 use crate::inputs::header;
@@ -6,7 +6,7 @@ use tlv_head::{Class, Header, Size};
 use tlv_value::{Layout, ValueText, begin_blank, begin_word, put_whole, write_tag};
 use tlv_walk::{HeldOctets, MemDrain, Out};
 
-/// Puts the line of an INTEGER whose contents are the octet `05`.
+/// Puts the line of an INTEGER with the contents octet `05`, in three calls.
 fn put_five(text: &mut ValueText, drain: &mut MemDrain<'_>) -> Option<()> {
     let mut out = Out::new(drain);
     text.begin(&mut out).ok()?;
@@ -21,7 +21,7 @@ fn put_five(text: &mut ValueText, drain: &mut MemDrain<'_>) -> Option<()> {
     out.flush().ok()
 }
 
-/// The same, written at once.
+/// Puts the line of an INTEGER with the contents octet `05`, in one call.
 fn put_five_whole(header: &Header, drain: &mut MemDrain<'_>) -> Option<()> {
     let octets = b"\x05";
     if !matches!(header.size, Size::Definite(1)) {
@@ -32,7 +32,7 @@ fn put_five_whole(header: &Header, drain: &mut MemDrain<'_>) -> Option<()> {
     out.flush().ok()
 }
 
-/// Whether the line that is written in pieces is the one that is wanted.
+/// Returns whether the line of the INTEGER is written from pieces.
 fn is_five(header: &Header) -> bool {
     let mut room = [0; 64];
     let mut drain = MemDrain::new(&mut room, 64);
@@ -41,7 +41,7 @@ fn is_five(header: &Header) -> bool {
     is_put && drain.written() == b"       5      1: INTEGER 5\n".as_slice()
 }
 
-/// The same of the line that is written at once.
+/// Returns whether the line of the INTEGER is written at once.
 fn is_five_whole(header: &Header) -> bool {
     let mut room = [0; 64];
     let mut drain = MemDrain::new(&mut room, 64);

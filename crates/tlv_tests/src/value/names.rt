@@ -1,4 +1,4 @@
-//! Names files and what they come to, reads that fail, and memory that is refused.
+//! Tests of names files: their lines, reads that fail, and memory that is refused.
 use crate::expect::{expect, expect_eq_of, expect_of};
 use linked_list_allocator::LocalHeap;
 use std::alloc::Global;
@@ -6,10 +6,11 @@ use std::test::Fail;
 use tlv_value::{Names, NamesFault};
 use tlv_walk::MemSource;
 
-/// Two lines, 23 octets in all, of which the second has a name.
+/// A comment and an entry, 23 octets in all.
 const FILE: &[u8] = b"# x\n2.5.4.3 commonName\n";
 
-/// Why a names file of these octets is refused, if it is. They come with these cuts, and this read fails.
+/// Reads a names file of these octets. The reads give pieces of the sizes in `cuts`, and the read `failing` fails.
+/// Returns the fault, if there is one.
 fn refusal_of(
     alloc: Global,
     octets: &[u8],
@@ -20,12 +21,12 @@ fn refusal_of(
     Names::read(alloc, &mut source).err()
 }
 
-/// The same if no read fails.
+/// Reads a names file of these octets. No read fails. Returns the fault, if there is one.
 fn refusal(alloc: Global, octets: &[u8]) -> Option<NamesFault> {
     refusal_of(alloc, octets, &[1, 5], None)
 }
 
-/// The first refusal counts. Lines have 400 octets, of which a CR is one.
+/// The first fault of a names file is returned. A line may have 400 octets, including a carriage return at its end.
 #[test]
 fn lines_are_refused(rt: HostRuntime) {
     let mut line = [b'x'; 401];
@@ -57,7 +58,7 @@ fn lines_are_refused(rt: HostRuntime) {
     }
 }
 
-/// Whether a names file of these octets has this name for a dotted text, or none.
+/// Returns whether a names file of these octets gives this name to the dotted text. `None` means that there is no name.
 fn is_named(
     alloc: Global,
     octets: &[u8],
@@ -72,7 +73,7 @@ fn is_named(
     }
 }
 
-/// A name has all that its line leaves.
+/// A name is the rest of its line.
 #[test]
 fn names_are_found(rt: HostRuntime) {
     let file = b"# x\n2.5.4.3 commonName\r\n\r\n\t1.2.840  us \n".as_slice();
@@ -99,13 +100,13 @@ fn names_are_found(rt: HostRuntime) {
     expect(&rt, is_none, "an empty table has no name");
 }
 
-/// Why a names file of so many empty lines is refused, if it is.
+/// Reads a names file of `count` empty lines. Returns the fault, if there is one.
 fn refusal_of_lines(alloc: Global, count: usize) -> Result<Option<NamesFault>, Fail> {
     let octets = Vec::from_elem(alloc, b'\n', count)?;
     Ok(refusal(alloc, octets.as_slice()))
 }
 
-/// Why a names file of 65,536 entries and these lines is refused, if it is.
+/// Reads a names file of 65,536 entries and these lines. Returns the fault, if there is one.
 fn refusal_of_entries(alloc: Global, lines: &str) -> Result<Option<NamesFault>, Fail> {
     let mut text = String::new(alloc);
     for number in 0..65_536u32 {
@@ -115,7 +116,7 @@ fn refusal_of_entries(alloc: Global, lines: &str) -> Result<Option<NamesFault>, 
     Ok(refusal(alloc, text.as_bytes()))
 }
 
-/// Files have 1,048,576 octets, and tables 65,536 entries.
+/// A names file may have 1,048,576 octets and 65,536 entries.
 #[test]
 fn files_and_tables_have_limits(rt: HostRuntime) -> Result<(), Fail> {
     let alloc = rt.alloc();
@@ -140,7 +141,8 @@ fn files_and_tables_have_limits(rt: HostRuntime) -> Result<(), Fail> {
     Ok(())
 }
 
-/// The last read is that of the end. Lines are judged once the source has ended.
+/// A failed read is returned, also if it is the read that finds the end. It takes precedence over the fault of a line.
+/// No read is made after the end.
 #[test]
 fn reads_fail(rt: HostRuntime) {
     for failing in 0..24 {
@@ -158,7 +160,8 @@ fn reads_fail(rt: HostRuntime) {
     );
 }
 
-/// Whether the file's name is found with a heap of this size, or its memory is refused, which is `Some(false)`.
+/// Returns whether the names file is read with a heap of this size: `Some(true)` if its name is found, `Some(false)` if
+/// memory is refused, and `None` otherwise.
 fn fits(alloc: Global, size: usize) -> Option<bool> {
     let heap = LocalHeap::new(alloc, size).ok()?;
     let mut source = MemSource::new(FILE, &[5], None);

@@ -1,7 +1,7 @@
-//! Elements of numbers, octets and bits, and their lines.
+//! Elements of numbers, octets and bits, with their lines.
 use super::Row;
 
-/// Numbers of no octet, one and two.
+/// INTEGERs and ENUMERATEDs of at most two octets.
 pub(super) static SMALL_NUMBERS: [Row<'static>; 7] = [
     Row {
         element: b"\x02\x01\x05",
@@ -33,7 +33,7 @@ pub(super) static SMALL_NUMBERS: [Row<'static>; 7] = [
     },
 ];
 
-/// The largest and the least number that is shown in decimal, one with more octets, and large numbers of tags.
+/// The largest and the least number that are shown in decimal, a longer number, and tags with large numbers.
 pub(super) static LARGE_NUMBERS: [Row<'static>; 5] = [
     Row {
         element: b"\x02\x10\x7f\xff\xff\xff\xff\xff\xff\xff\xff\xff\xff\xff\xff\xff\xff\xff",
@@ -61,7 +61,7 @@ pub(super) static LARGE_NUMBERS: [Row<'static>; 5] = [
     },
 ];
 
-/// BOOLEANs and NULLs, also of wrong lengths.
+/// BOOLEANs and NULLs, some with a wrong length.
 pub(super) static BOOLEANS_AND_NULLS: [Row<'static>; 7] = [
     Row {
         element: b"\x01\x01\x01",
@@ -97,7 +97,7 @@ pub(super) static BOOLEANS_AND_NULLS: [Row<'static>; 7] = [
     },
 ];
 
-/// OCTET STRINGs, up to a row and beyond.
+/// OCTET STRINGs of up to one row, and longer.
 pub(super) static OCTETS: [Row<'static>; 4] = [
     Row {
         element: b"\x04\x81\x03\xaa\xbb\xcc",
@@ -115,7 +115,7 @@ pub(super) static OCTETS: [Row<'static>; 4] = [
             "                   10",
         ],
     },
-    // 128 octets, with a length in the long form.
+    // 128 octets, with the length in the long form.
     Row {
         element: b"\x04\x82\x00\x80\
             \0\0\0\0\0\0\0\0\0\0\0\0\0\0\0\0\
@@ -140,7 +140,7 @@ pub(super) static OCTETS: [Row<'static>; 4] = [
     },
 ];
 
-/// BIT STRINGs, which are shown as bits or, of more than 64, as octets.
+/// BIT STRINGs. Up to 64 bits are shown as bits, more as octets.
 pub(super) static BITS: [Row<'static>; 8] = [
     Row {
         element: b"\x03\x02\x05\xbf",
@@ -188,7 +188,7 @@ pub(super) static BITS: [Row<'static>; 8] = [
     },
 ];
 
-/// BIT STRINGs whose first octet is missing or says no number of unused bits that they have.
+/// BIT STRINGs whose initial octet is absent or counts more unused bits than there are.
 pub(super) static WRONG_BITS: [Row<'static>; 5] = [
     Row {
         element: b"\x03\x01\x03",

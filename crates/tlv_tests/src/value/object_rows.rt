@@ -1,7 +1,7 @@
-//! Elements of object identifiers, and their lines.
+//! Elements of object identifiers, with their lines.
 use super::Row;
 
-/// How the first subidentifier says two arcs.
+/// First subidentifiers, which encode two arcs.
 pub(super) static FIRST_ARCS: [Row<'static>; 7] = [
     Row {
         element: b"\x06\x03\x2a\x86\x48",
@@ -33,7 +33,7 @@ pub(super) static FIRST_ARCS: [Row<'static>; 7] = [
     },
 ];
 
-/// Arcs of 128 bits, and of more.
+/// Arcs of up to 128 bits, which are shown, and larger ones, which are not.
 pub(super) static LARGE_ARCS: [Row<'static>; 6] = [
     Row {
         element: b"\x06\x13\xff\xff\xff\xff\xff\xff\xff\xff\xff\xff\xff\xff\xff\xff\xff\xff\xff\xff\x7f",
@@ -48,7 +48,7 @@ pub(super) static LARGE_ARCS: [Row<'static>; 6] = [
         element: b"\x0d\x13\x83\xff\xff\xff\xff\xff\xff\xff\xff\xff\xff\xff\xff\xff\xff\xff\xff\xff\x7f",
         lines: &["       0     19: RELATIVE-OID 340282366920938463463374607431768211455"],
     },
-    // The same, as the first subidentifier of two arcs.
+    // 2^128 - 1 as the first subidentifier, which encodes two arcs.
     Row {
         element: b"\x06\x13\x83\xff\xff\xff\xff\xff\xff\xff\xff\xff\xff\xff\xff\xff\xff\xff\xff\xff\x7f",
         lines: &["       0     19: OBJECT IDENTIFIER 2.340282366920938463463374607431768211375"],
@@ -80,13 +80,13 @@ pub(super) static LARGE_ARCS: [Row<'static>; 6] = [
     },
 ];
 
-/// Relative ones, which have no name.
+/// Relative object identifiers, which have no name.
 pub(super) static RELATIVE: [Row<'static>; 4] = [
     Row {
         element: b"\x0d\x02\x03\x04",
         lines: &["       0      2: RELATIVE-OID 3.4"],
     },
-    // The dotted text that has a name if it is no relative one.
+    // A dotted text that would have a name as an object identifier.
     Row {
         element: b"\x0d\x04\x01\x02\x86\x48",
         lines: &["       0      4: RELATIVE-OID 1.2.840"],
@@ -105,7 +105,8 @@ pub(super) static RELATIVE: [Row<'static>; 4] = [
     },
 ];
 
-/// Of no octet, of the most octets that are shown as arcs, and of one more; and one that ends within an arc.
+/// Object identifiers of no octets, of the most octets that are shown as arcs, and of one more, and one that ends
+/// inside a subidentifier.
 pub(super) static LENGTHS: [Row<'static>; 4] = [
     Row {
         element: b"\x06\x00",

@@ -1,4 +1,4 @@
-//! Elements of each kind, and their lines.
+//! Tests of the lines of values of each kind.
 use super::number_rows::{
     BITS, BOOLEANS_AND_NULLS, LARGE_NUMBERS, OCTETS, SMALL_NUMBERS, WRONG_BITS,
 };
@@ -9,7 +9,7 @@ use super::text_rows::{
 use super::{PLAIN, Row, expect_lines};
 use std::process::Abort;
 
-/// Expects the lines of each element of these tables.
+/// Checks the lines of each element of these tables.
 fn expect_rows(rt: &impl Abort, tables: &[&[Row<'_>]]) {
     for rows in tables {
         for row in *rows {

@@ -1,4 +1,4 @@
-//! Strings and times, and their lines.
+//! Elements of strings and times, with their lines.
 use super::Row;
 
 /// Times, and strings whose characters have one octet.
@@ -35,7 +35,7 @@ pub(super) static TIMES_AND_OCTETS: [Row<'static>; 7] = [
     },
 ];
 
-/// Characters of UTF-8, and an octet that is none.
+/// UTF8Strings, and an octet that is not UTF-8.
 pub(super) static UTF8: [Row<'static>; 5] = [
     Row {
         element: b"\x0c\x06\x22\x5c\x0a\xc3\xa9\xff",
@@ -59,9 +59,9 @@ pub(super) static UTF8: [Row<'static>; 5] = [
     },
 ];
 
-/// Octets that are no characters of UTF-8.
+/// UTF8Strings with octets that are not UTF-8.
 pub(super) static NO_UTF8: [Row<'static>; 5] = [
-    // Surrogates and overlong forms are no characters.
+    // Surrogates and overlong forms are not UTF-8.
     Row {
         element: b"\x0c\x03\xed\xa0\x80",
         lines: &["       0      3: UTF8String \"\\xed\\xa0\\x80\""],
@@ -70,7 +70,7 @@ pub(super) static NO_UTF8: [Row<'static>; 5] = [
         element: b"\x0c\x02\xc0\x80",
         lines: &["       0      2: UTF8String \"\\xc0\\x80\""],
     },
-    // The last character has no second octet.
+    // The last character lacks its second octet.
     Row {
         element: b"\x0c\x04\xc2\x80\xc3\x28",
         lines: &["       0      4: UTF8String \"\\u{80}\\xc3(\""],
@@ -79,7 +79,7 @@ pub(super) static NO_UTF8: [Row<'static>; 5] = [
         element: b"\x0c\x02\x41\xe2",
         lines: &["       0      2: UTF8String \"A\\xe2\""],
     },
-    // The last number of Unicode, and the one after it.
+    // The largest code point of Unicode, and the number after it.
     Row {
         element: b"\x0c\x08\xf4\x8f\xbf\xbf\xf4\x90\x80\x80",
         lines: &["       0      8: UTF8String \"\\u{10ffff}\\xf4\\x90\\x80\\x80\""],
@@ -116,7 +116,7 @@ pub(super) static FOUR_OCTETS: [Row<'static>; 6] = [
         element: b"\x1c\x04\x00\x01\xf6\x00",
         lines: &["       0      4: UniversalString \"\\u{1f600}\""],
     },
-    // One octet, three octets, and three alone are left over.
+    // One octet, three octets and three octets alone remain after the last whole character.
     Row {
         element: b"\x1c\x05\x00\x00\x00\x22\x42",
         lines: &["       0      5: UniversalString \"\\\"\\x42\""],
@@ -135,7 +135,7 @@ pub(super) static FOUR_OCTETS: [Row<'static>; 6] = [
     },
 ];
 
-/// Rows of UTF-8 have 64 octets, and split no character.
+/// Rows of a UTF8String have up to 64 octets. No row ends inside a character.
 pub(super) static UTF8_ROWS: [Row<'static>; 5] = [
     Row {
         element: b"\x0c\x41aaaaaaaaaaaaaaaaaaaaaaaaaaaaaaaaaaaaaaaaaaaaaaaaaaaaaaaaaaaaaaa\xc3\xa9",
@@ -145,7 +145,7 @@ pub(super) static UTF8_ROWS: [Row<'static>; 5] = [
             "                   \"\\u{e9}\"",
         ],
     },
-    // The character ends with the row.
+    // The character ends exactly at the end of the row.
     Row {
         element: b"\x0c\x41aaaaaaaaaaaaaaaaaaaaaaaaaaaaaaaaaaaaaaaaaaaaaaaaaaaaaaaaaaaaaa\xc3\xa9a",
         lines: &[
@@ -180,9 +180,9 @@ pub(super) static UTF8_ROWS: [Row<'static>; 5] = [
     },
 ];
 
-/// Octets that are no characters of UTF-8, at the end of a row.
+/// Octets that are not UTF-8 at the end of a row.
 pub(super) static NO_UTF8_ROWS: [Row<'static>; 3] = [
-    // Three octets would have to follow, of which the row has room for two.
+    // The octet f4 requires three octets after it, but the row has room for only two.
     Row {
         element: b"\x0c\x41aaaaaaaaaaaaaaaaaaaaaaaaaaaaaaaaaaaaaaaaaaaaaaaaaaaaaaaaaaaaa\xf4aaa",
         lines: &[
@@ -209,9 +209,9 @@ pub(super) static NO_UTF8_ROWS: [Row<'static>; 3] = [
     },
 ];
 
-/// Rows of other strings have 64 octets, and split no character.
+/// Rows of other strings have up to 64 octets. No row ends inside a character.
 pub(super) static OTHER_ROWS: [Row<'static>; 4] = [
-    // A string of octets has no characters of two.
+    // The characters of a TeletexString have one octet, so the row may end between c3 and a9.
     Row {
         element: b"\x14\x41aaaaaaaaaaaaaaaaaaaaaaaaaaaaaaaaaaaaaaaaaaaaaaaaaaaaaaaaaaaaaaa\xc3\xa9",
         lines: &[

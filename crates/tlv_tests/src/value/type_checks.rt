@@ -1,17 +1,17 @@
-//! A check of which the type and the size are given.
+//! Tests of a check that is made from a type and a length, without a header.
 use crate::expect::expect_eq_of;
 use arrayvec::ArrayVec;
 use std::process::Abort;
 use tlv_value::{Finding, ValueCheck};
 
-/// What is found on the whole contents of a primitive of the type with this universal number.
+/// Returns the findings on the contents of a primitive of this universal type.
 fn found_on(number: u64, contents: &[u8]) -> ArrayVec<Finding, 16> {
     let mut check = ValueCheck::of_type(number, contents.len() as u64);
     check.bytes(contents);
     check.end()
 }
 
-/// Expects these findings.
+/// Checks the findings on the contents of a primitive of this universal type.
 fn expect_found(rt: &impl Abort, number: u64, contents: &[u8], findings: &[Finding]) {
     let found = found_on(number, contents);
     expect_eq_of(rt, (number, contents), found.as_slice(), findings);

@@ -1,6 +1,6 @@
-//! What is shown of each type of X.680.
+//! The universal types of X.680, and tags without a name.
 
-/// A type, and what is shown of its contents if they are the octet `41`, and if they are empty.
+/// A type: its identifier octets, its name, and what is shown of the contents octet `41` and of empty contents.
 pub(super) struct Type<'a> {
     pub identifier: &'a [u8],
     pub name: &'a str,
@@ -8,7 +8,7 @@ pub(super) struct Type<'a> {
     pub none: &'a str,
 }
 
-/// Types with a form of their own, and octets.
+/// Types with a notation of their own, and OCTET STRING.
 pub(super) static SIMPLE: [Type<'static>; 8] = [
     Type {
         identifier: b"\x01",
@@ -118,7 +118,7 @@ pub(super) static STRINGS: [Type<'static>; 9] = [
     },
 ];
 
-/// Strings whose characters may have more octets, and times of digits.
+/// Strings whose characters may have more than one octet, and times.
 pub(super) static WIDE_STRINGS_AND_TIMES: [Type<'static>; 5] = [
     Type {
         identifier: b"\x0c",
@@ -152,7 +152,7 @@ pub(super) static WIDE_STRINGS_AND_TIMES: [Type<'static>; 5] = [
     },
 ];
 
-/// Types that hold others, and REAL, which is shown as octets like them.
+/// Types that hold other values, and REAL. All are shown as octets.
 pub(super) static COMPOUND: [Type<'static>; 6] = [
     Type {
         identifier: b"\x08",
@@ -192,7 +192,7 @@ pub(super) static COMPOUND: [Type<'static>; 6] = [
     },
 ];
 
-/// Types that are shown as octets.
+/// Types without a notation of their own, shown as octets.
 pub(super) static DATES_AND_IRIS: [Type<'static>; 7] = [
     Type {
         identifier: b"\x0e",
@@ -238,7 +238,7 @@ pub(super) static DATES_AND_IRIS: [Type<'static>; 7] = [
     },
 ];
 
-/// Tags that are shown by their class and number.
+/// Tags without a name, shown by class and number.
 pub(super) static NAMELESS: [Type<'static>; 5] = [
     Type {
         identifier: b"\x0f",

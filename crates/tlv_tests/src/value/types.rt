@@ -1,4 +1,4 @@
-//! Every type, with one octet and with none.
+//! Tests of each universal type, with one contents octet and with none.
 use super::type_rows::{
     COMPOUND, DATES_AND_IRIS, NAMELESS, SIMPLE, STRINGS, Type, WIDE_STRINGS_AND_TIMES,
 };
@@ -6,7 +6,7 @@ use super::{PLAIN, expect_lines};
 use arrayvec::ArrayVec;
 use std::process::Abort;
 
-/// Expects a line of these parts for the type with this identifier and these contents.
+/// Checks the line of the element with this identifier and this length and contents. The line is the parts, joined.
 fn expect_type(rt: &impl Abort, identifier: &[u8], rest: &[u8], parts: &[&str]) {
     let mut element = ArrayVec::<u8, 8>::new();
     let _ = element.try_extend_from_slice(identifier);
@@ -21,7 +21,7 @@ fn expect_type(rt: &impl Abort, identifier: &[u8], rest: &[u8], parts: &[&str]) 
     }
 }
 
-/// Expects the lines of each type, with one octet and with none.
+/// Checks the lines of each type, with one contents octet and with none.
 fn expect_types(rt: &impl Abort, types: &[Type<'_>]) {
     for each in types {
         expect_type(

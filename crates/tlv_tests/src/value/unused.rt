@@ -1,9 +1,9 @@
-//! Unused bits of a BIT STRING.
+//! Tests of `has_unused_bits`.
 use crate::expect::expect_eq_of;
 use crate::inputs::element_at;
 use tlv_value::ValueCheck;
 
-/// An element, and whether bits of its last contents octet are unused.
+/// An element, and whether its last contents octet has unused bits.
 struct Row {
     element: &'static [u8],
     unused: bool,
@@ -32,7 +32,7 @@ static ROWS: [Row; 5] = [
     },
 ];
 
-/// Whether bits are unused, by an element's whole contents.
+/// Returns whether the last contents octet of an element has unused bits. Returns `None` if the octets are no element.
 fn has_unused_bits(element: &[u8]) -> Option<bool> {
     let (header, contents) = element_at(0, element)?;
     let mut check = ValueCheck::new(&header);
@@ -44,7 +44,7 @@ fn has_unused_bits(element: &[u8]) -> Option<bool> {
 }
 
 #[test]
-fn unused_bits(rt: HostRuntime) {
+fn unused_bits_are_detected(rt: HostRuntime) {
     for row in &ROWS {
         expect_eq_of(
             &rt,

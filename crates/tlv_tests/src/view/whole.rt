@@ -1,4 +1,4 @@
-//! Inputs that are read into memory.
+//! Tests of inputs that are read into memory.
 use crate::expect::{expect, expect_eq_of};
 use linked_list_allocator::LocalHeap;
 use std::alloc::Global;
@@ -6,10 +6,11 @@ use std::process::Abort;
 use tlv_view::{InputFault, input_report, read_whole};
 use tlv_walk::MemSource;
 
-/// Nine octets.
+/// A SEQUENCE of nine octets in all.
 const OCTETS: &[u8] = b"\x30\x07\x02\x01\x05\x04\x02\xab\xcd";
 
-/// Expects the octets to be read, or this fault. They come with these cuts, and this read fails.
+/// Reads the octets into memory. The reads give pieces of the sizes in `cuts`, and the read `failing` fails. Checks the
+/// octets, or the fault if one is wanted.
 fn expect_read(
     rt: &impl Abort,
     alloc: Global,
@@ -28,7 +29,8 @@ fn expect_read(
     }
 }
 
-/// All octets are read, in whatever pieces they come: none, fewer than one read gives, as many, and more than two.
+/// All octets are read, whatever the pieces. The inputs have no octets, fewer than one read gives, exactly as many, and
+/// more than two reads give.
 #[test]
 fn all_pieces_are_read(rt: HostRuntime) {
     let mut long = [0; 9000];
@@ -42,7 +44,7 @@ fn all_pieces_are_read(rt: HostRuntime) {
     }
 }
 
-/// The last read is that of the end. None is made after it, and none after one that failed.
+/// A failed read is reported, also if it is the read that finds the end. No read is made after the end.
 #[test]
 fn failed_reads_are_reported(rt: HostRuntime) {
     let failed = Some(InputFault::ReadFailed);
@@ -54,7 +56,8 @@ fn failed_reads_are_reported(rt: HostRuntime) {
     expect_read(&rt, rt.alloc(), b"", &[], Some(1), None);
 }
 
-/// Whether the octets are read with a heap of this size, or memory for them is refused, which is `Some(false)`.
+/// Returns whether the octets are read with a heap of this size: `Some(true)` if they are, `Some(false)` if memory is
+/// refused, and `None` otherwise.
 fn has_memory(alloc: Global, size: usize) -> Option<bool> {
     let heap = LocalHeap::new(alloc, size).ok()?;
     let mut source = MemSource::new(OCTETS, &[5], None);

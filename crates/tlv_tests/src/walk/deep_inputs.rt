@@ -1,4 +1,4 @@
-//! Deep inputs.
+//! Tests of inputs that are 128 elements deep.
 use super::events::expect_events_in_pieces;
 use super::pieces::expect_lines_in_pieces;
 use super::rows::{CLEAN, Row, RowEvent, fault};
@@ -8,7 +8,7 @@ use std::test::Fail;
 use tlv_head::FaultCode;
 use tlv_walk::Ending;
 
-/// The header of a SEQUENCE of indefinite length so many times, and these octets after it.
+/// Returns the headers of `count` nested SEQUENCEs of indefinite length, followed by these octets.
 fn nested(alloc: Global, count: u64, after: &[u8]) -> Result<Vec<u8>, Fail> {
     let mut octets = Vec::new(alloc);
     for _ in 0..count {
@@ -18,7 +18,7 @@ fn nested(alloc: Global, count: u64, after: &[u8]) -> Result<Vec<u8>, Fail> {
     Ok(octets)
 }
 
-/// The headers of 128 nested elements.
+/// Returns the opening events of 128 nested elements.
 fn openings(alloc: Global) -> Result<Vec<(u64, RowEvent)>, Fail> {
     let mut events = Vec::new(alloc);
     for i in 0..128_u64 {
@@ -29,7 +29,8 @@ fn openings(alloc: Global) -> Result<Vec<(u64, RowEvent)>, Fail> {
     Ok(events)
 }
 
-/// Adds the ends of 128 nested elements, of which the innermost ends at the offset 256.
+/// Adds the closing events of 128 nested elements.
+/// The end-of-contents octets of the innermost element have the offset 256.
 fn push_closings(events: &mut Vec<(u64, RowEvent)>) -> Result<(), Fail> {
     for i in 128..256_u64 {
         let offset = i.saturating_mul(2);
@@ -38,7 +39,7 @@ fn push_closings(events: &mut Vec<(u64, RowEvent)>) -> Result<(), Fail> {
     Ok(())
 }
 
-/// Adds the header and the end of an empty OCTET STRING at the offset 256.
+/// Adds the events of an empty OCTET STRING at offset 256.
 fn push_string(events: &mut Vec<(u64, RowEvent)>) -> Result<(), Fail> {
     let header = RowEvent::Begin(256, b"\x04\x00");
     events.push((258, header))?;
@@ -46,7 +47,7 @@ fn push_string(events: &mut Vec<(u64, RowEvent)>) -> Result<(), Fail> {
     Ok(())
 }
 
-/// Expects these events of the input, their lines, and what it comes to.
+/// Checks the events of the input, their lines, and the ending.
 fn expect_deep<'a>(
     rt: &impl Abort,
     alloc: Global,
@@ -95,9 +96,9 @@ fn a_129th_element_is_refused(rt: HostRuntime) -> Result<(), Fail> {
     )
 }
 
-/// A string that holds encodings counts among the open elements, and one that does not is none.
+/// A string that holds encodings counts among the open elements. So one inside 128 open elements is refused.
 #[test]
-fn a_named_string_inside_128_elements(rt: HostRuntime) -> Result<(), Fail> {
+fn a_named_string_inside_128_elements_is_refused(rt: HostRuntime) -> Result<(), Fail> {
     let input = nested(rt.alloc(), 128, b"\x04\x00")?;
     let events = openings(rt.alloc())?;
     let row = Row {
@@ -114,7 +115,7 @@ fn a_named_string_inside_128_elements(rt: HostRuntime) -> Result<(), Fail> {
 }
 
 #[test]
-fn a_string_that_is_not_named_inside_128_elements(rt: HostRuntime) -> Result<(), Fail> {
+fn a_string_that_is_not_named_inside_128_elements_is_read(rt: HostRuntime) -> Result<(), Fail> {
     let input = nested(rt.alloc(), 128, b"\x04\x00")?;
     let mut events = openings(rt.alloc())?;
     push_string(&mut events)?;

@@ -1,4 +1,4 @@
-//! Readers and writers that fail.
+//! Tests of readers and writers that fail.
 use super::event_lines::EventLines;
 use crate::expect::expect_eq;
 use std::io::{self, ErrorKind, Read, Write};
@@ -6,7 +6,7 @@ use tlv_walk::{
     DeviceFault, Framing, MemDrain, MemSource, Out, ReadSource, WriteDrain, WriteFault, drive,
 };
 
-/// Gives three octets, is interrupted once, and then ends.
+/// A reader that gives three octets, is interrupted once, and then ends.
 #[derive(Drop)]
 struct Interrupted {
     reads: u8,
@@ -26,7 +26,7 @@ impl Read for Interrupted {
     }
 }
 
-/// An interrupted read is a failed one: it is neither made again nor taken for the end.
+/// An interrupted read counts as failed. It is not repeated, and it is not taken for the end of the input.
 #[test]
 fn an_interrupted_read_fails(rt: HostRuntime) {
     let mut room = [0; 64];
@@ -42,7 +42,7 @@ fn an_interrupted_read_fails(rt: HostRuntime) {
     expect_eq(&rt, drain.written(), b"begin 0000 05 00\n end\n".as_slice());
 }
 
-/// Takes nothing at its first write, and then all.
+/// A writer that takes nothing at its first write and everything afterwards.
 #[derive(Drop)]
 struct Reluctant {
     writes: u8,
@@ -75,7 +75,7 @@ fn a_write_of_nothing_fails(rt: HostRuntime) {
     expect_eq(&rt, result, Err(DeviceFault::WriteFailed));
 }
 
-/// Octets that are too many to be held go to the drain after those that were.
+/// Octets that are too many to hold go straight to the drain, after the octets that are held.
 #[test]
 fn a_long_put_fails(rt: HostRuntime) {
     let mut room = [0; 5];

@@ -1,11 +1,12 @@
-//! Walks up to the end that is enough.
+//! Tests of followers that have enough before the input ends.
 use super::event_lines::EventLines;
 use super::{ONES, ReadPlan, WHOLE};
 use crate::expect::expect_eq;
 use std::process::Abort;
 use tlv_walk::{Ending, Framing, INPUT_LIMIT, MemDrain, MemSource, Run, drive};
 
-/// Walks up to the end of so many elements.
+/// Walks over an input with a follower that has enough after `ends` elements have ended.
+/// Checks the result and what is written.
 fn expect_enough(rt: &impl Abort, ends: u64, reads: ReadPlan<'_>, run: Run, text: &[u8]) {
     let mut room = [0; 1024];
     let mut source = MemSource::new(
@@ -31,7 +32,8 @@ const FIRST_END: Run = Run {
     unused: None,
 };
 
-/// Nothing is walked over after the octets of the end that is enough, be it refused or not.
+/// Once the follower has enough, no further octet is followed.
+/// It makes no difference whether that octet would be refused.
 #[test]
 fn octets_after_enough_are_not_followed(rt: HostRuntime) {
     let first = b"open 0000 30 80\nbegin 0002 02 01\n 05 end\n";
@@ -50,7 +52,7 @@ fn octets_after_enough_are_not_followed(rt: HostRuntime) {
     }
 }
 
-/// No read is made after the octets of the end that is enough.
+/// Once the follower has enough, no further read is made.
 #[test]
 fn nothing_is_read_after_enough(rt: HostRuntime) {
     let first = b"open 0000 30 80\nbegin 0002 02 01\n 05 end\n";

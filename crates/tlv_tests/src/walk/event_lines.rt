@@ -13,8 +13,8 @@ use tlv_walk::{Drain, Event, Follow, Go, Out, WriteFault};
 
 const DIGITS: [u8; 16] = *b"0123456789abcdef";
 
-/// Writes each event as a line of text, but contents octets on the line of their primitive's end, and
-/// each octet of padding as a line of its own.
+/// Writes each event as a line of text. Contents octets stand on the line of the end of their primitive. Each octet of
+/// padding has a line of its own.
 #[derive(Drop)]
 pub(crate) struct EventLines {
     ends: u64,
@@ -29,14 +29,14 @@ impl Model for EventLines {
 }
 
 impl EventLines {
-    /// A follower that has enough with the end of so many elements, or never if that is 0.
+    /// Returns a follower that has enough after `ends` elements have ended, or never if `ends` is 0.
     pub fn up_to(ends: u64) -> EventLines
         ensures { result ≡ ends }
     {
         EventLines { ends }
     }
 
-    /// Writes the line of the end of an element, and counts the end.
+    /// Writes the line of the end of an element, and counts it.
     fn end_step<D: Drain>(&mut self, line: &[u8], out: &mut Out<'_, D>) -> Result<Go, WriteFault>
         ensures { ReturnsEffect D.state (end_step self.old line.now)
             out.old out.new self.new result }
@@ -48,7 +48,7 @@ impl EventLines {
     }
 }
 
-/// An octet as a space and two digits.
+/// Returns a space and the two hexadecimal digits of the octet.
 fn pair(octet: u8) -> [u8; 3]
     ensures { result ≡ pair octet }
 {
@@ -59,7 +59,7 @@ fn pair(octet: u8) -> [u8; 3]
     ]
 }
 
-/// An offset as a space and its last four decimal digits.
+/// Returns a space and the last four decimal digits of the offset.
 fn offset_text(offset: u64) -> [u8; 5]
     ensures { result ≡ offset_text offset }
 {
@@ -72,7 +72,7 @@ fn offset_text(offset: u64) -> [u8; 5]
     ]
 }
 
-/// Adds each octet as a space and two digits.
+/// Adds each octet as a space and two hexadecimal digits.
 fn push_pairs(line: &mut ArrayVec<u8, 512>, octets: &[u8])
     requires room { array_vec_len line.old + 3 * length octets.now ≤ 512 }
     ensures text { line.new.items ≡ line.old.items ++ pairs octets.now }
@@ -85,7 +85,7 @@ fn push_pairs(line: &mut ArrayVec<u8, 512>, octets: &[u8])
     }
 }
 
-/// The line of a header.
+/// Returns the line of a header.
 fn header_line(word: &[u8], header: &Header) -> ArrayVec<u8, 512>
     requires { length word.now ≤ 5 }
     ensures { result.items ≡ header_line word.now header.now }
@@ -98,7 +98,7 @@ fn header_line(word: &[u8], header: &Header) -> ArrayVec<u8, 512>
     line
 }
 
-/// The line of the end of a constructed element.
+/// Returns the line of the end of a constructed element.
 fn close_event_line(at: Option<u64>) -> ArrayVec<u8, 11>
     ensures { result.items ≡ close_event_line at }
 {
@@ -123,7 +123,7 @@ fn put_header<D: Drain>(
     out.put(header_line(word, header).as_slice())
 }
 
-/// Puts each octet as a space and two digits.
+/// Puts each octet as a space and two hexadecimal digits.
 fn put_pairs<D: Drain>(octets: &[u8], out: &mut Out<'_, D>) -> Result<(), WriteFault>
     ensures { Puts D.state out.old out.new (pairs octets.now) result }
 {

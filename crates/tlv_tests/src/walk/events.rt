@@ -1,4 +1,4 @@
-//! The events that a walker yields of each row, in whatever pieces its input comes.
+//! Tests of the events that a walker yields, whatever the pieces of the input.
 use super::rows::{Row, RowEvent};
 use super::steps::{finish, step};
 use super::{tables, walked};
@@ -7,7 +7,7 @@ use crate::inputs::{framing_of, header};
 use std::process::Abort;
 use tlv_walk::{Ending, Event, Step, Walker};
 
-/// The event that the row has.
+/// Returns the event of a walker that the row's event stands for.
 pub(crate) fn event_of(rt: &impl Abort, row: &Row<'_>, event: RowEvent) -> Event<'static> {
     match event {
         RowEvent::Open(offset, octets) => {
@@ -26,7 +26,7 @@ pub(crate) fn event_of(rt: &impl Abort, row: &Row<'_>, event: RowEvent) -> Event
     }
 }
 
-/// Expects the row's event with this index to be this one. Returns with how many octets it comes.
+/// Checks that the row's event with this index is this one. Returns the number of octets after which it occurs.
 fn expect_event(rt: &impl Abort, row: &Row<'_>, index: usize, event: &Event<'_>) -> u64 {
     let Some((octets, want)) = row.events.get(index) else {
         panic!(rt; "{}: a further event", row.name);
@@ -42,8 +42,8 @@ fn expect_event(rt: &impl Abort, row: &Row<'_>, index: usize, event: &Event<'_>)
     *octets
 }
 
-/// Expects the row's events from this index on to begin with this one, and to come with so many octets. Returns the
-/// index of the next one.
+/// Checks that the row's events from the index `first` on are this event, which may be several octets of contents or
+/// padding, and that the last occurs after this number of octets. Returns the index after it.
 fn expect_next(
     rt: &impl Abort,
     row: &Row<'_>,
@@ -75,7 +75,8 @@ fn expect_next(
     index
 }
 
-/// Takes the piece, and expects the row's events from this index on. Returns the index of the next one.
+/// Hands the piece to the walker. Checks its events against the row's events from the index `first` on. Returns the
+/// index of the next event.
 fn expect_piece(
     rt: &impl Abort,
     row: &Row<'_>,
@@ -98,7 +99,7 @@ fn expect_piece(
     panic!(rt; "{}: further events", row.name)
 }
 
-/// Expects all events of the row to have come, and what it comes to.
+/// Checks that all events of the row have come, and the result of the walk.
 fn expect_end(rt: &impl Abort, row: &Row<'_>, walker: &Walker<'_>, index: usize) {
     expect_eq_of(rt, row.name, index, row.events.len());
     expect_eq_of(rt, row.name, finish(rt, walker), row.ending);
@@ -106,7 +107,7 @@ fn expect_end(rt: &impl Abort, row: &Row<'_>, walker: &Walker<'_>, index: usize)
     expect_eq_of(rt, row.name, walker.offset(), walked(row));
 }
 
-/// Expects the row's events in two pieces, cut here.
+/// Checks the row's events from two pieces. The first has `cut` octets.
 fn expect_cut(rt: &impl Abort, row: &Row<'_>, cut: usize) {
     let framing = framing_of(rt, row.inside, row.padding);
     let mut walker = Walker::new(&framing);
@@ -116,7 +117,7 @@ fn expect_cut(rt: &impl Abort, row: &Row<'_>, cut: usize) {
     expect_end(rt, row, &walker, index);
 }
 
-/// Expects them octet by octet.
+/// Checks the row's events octet by octet.
 fn expect_singly(rt: &impl Abort, row: &Row<'_>) {
     let framing = framing_of(rt, row.inside, row.padding);
     let mut walker = Walker::new(&framing);
@@ -127,7 +128,7 @@ fn expect_singly(rt: &impl Abort, row: &Row<'_>) {
     expect_end(rt, row, &walker, index);
 }
 
-/// Expects them whole, octet by octet, and in every cut into two pieces.
+/// Checks the row's events from the whole input, octet by octet, and in every cut into two pieces.
 pub(crate) fn expect_events_in_pieces(rt: &impl Abort, row: &Row<'_>) {
     expect_singly(rt, row);
     for cut in 0..=row.input.len() {
@@ -135,7 +136,7 @@ pub(crate) fn expect_events_in_pieces(rt: &impl Abort, row: &Row<'_>) {
     }
 }
 
-/// Expects those of each row.
+/// Checks the events of each row, whatever the pieces.
 fn expect_each_in_pieces(rt: &impl Abort, rows: &[Row<'_>]) {
     for row in rows {
         expect_events_in_pieces(rt, row);

@@ -1,4 +1,4 @@
-//! Walks over memory if a device fails, or the input is longer than the limit.
+//! Tests of devices that fail, and of inputs that are longer than the limit.
 use super::fault_rows::REFUSED;
 use super::rows::{ENCODINGS, Row};
 use super::{ONES, ReadPlan, WHOLE, WalkResult, expect_row, expect_walk, tables, text_of, walked};
@@ -7,8 +7,8 @@ use std::process::Abort;
 use std::test::Fail;
 use tlv_walk::{DeviceFault, INPUT_LIMIT, MemDrain};
 
-/// Each read fails in turn, of reads of one octet: what is written is whole for the octets before. No
-/// read is made after an octet that is refused.
+/// Reads single octets, and lets each read fail in turn. Checks that the output of the octets before the failure is
+/// written. After an octet that is refused no read is made, so none fails.
 fn expect_failed_reads(rt: &impl Abort, alloc: Global, rows: &[Row<'_>]) -> Result<(), Fail> {
     let mut room = [0; 1024];
     for row in rows {
@@ -41,7 +41,7 @@ fn reads_fail(rt: HostRuntime) -> Result<(), Fail> {
     Ok(())
 }
 
-/// The octets up to each limit are followed, and of those after it none.
+/// Walks over each row up to each limit. Checks that the octets up to the limit are followed, and none after it.
 fn expect_limits(
     rt: &impl Abort,
     alloc: Global,
@@ -80,7 +80,8 @@ fn octets_past_the_limit_are_not_followed(rt: HostRuntime) -> Result<(), Fail> {
     Ok(())
 }
 
-/// The drain has room for each number of octets that is too small: it takes as many.
+/// Walks over the row with each room that is too small. Checks that a write fails and the room is full. Checks then
+/// that a room of the right size is enough.
 fn expect_too_little_room(
     rt: &impl Abort,
     row: &Row<'_>,
@@ -123,7 +124,7 @@ fn writes_fail(rt: HostRuntime) -> Result<(), Fail> {
     Ok(())
 }
 
-/// No read is made after an octet that is refused, and what was read with it is not followed.
+/// After an octet that is refused no read is made, and the octets read with it are not followed.
 #[test]
 fn nothing_is_read_after_a_fault(rt: HostRuntime) {
     let reads = ReadPlan {
@@ -134,7 +135,7 @@ fn nothing_is_read_after_a_fault(rt: HostRuntime) {
     expect_row(&rt, &REFUSED[0], b"open 0000 30 03\n", reads, &mut [0; 64]);
 }
 
-/// What was read before a read that fails is followed, and written.
+/// The octets before a failed read are followed, and their output is written.
 #[test]
 fn octets_before_a_failed_read_are_followed(rt: HostRuntime) {
     let reads = ReadPlan {

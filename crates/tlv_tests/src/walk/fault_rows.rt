@@ -1,9 +1,9 @@
-//! Inputs that come to a fault, and their events.
+//! Inputs that end with a fault, with their events.
 use super::rows::{CLEAN, Row, RowEvent};
 use tlv_head::{Fault, FaultCode};
 use tlv_walk::Ending;
 
-/// Inputs that end inside an encoding, or before one.
+/// Inputs that end inside an encoding, or that have none.
 pub(crate) static ENDED: [Row<'static>; 9] = [
     Row {
         name: "an empty input",

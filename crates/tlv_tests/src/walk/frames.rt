@@ -1,4 +1,4 @@
-//! Frames of open elements.
+//! Tests of `Frames`, the stack of open elements.
 use crate::expect::expect_eq;
 use tlv_walk::Frames;
 

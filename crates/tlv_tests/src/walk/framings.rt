@@ -1,4 +1,4 @@
-//! Offsets that may be named, and framings.
+//! Tests of framings, and of the offsets that they may name.
 use super::event_lines::EventLines;
 use crate::expect::{expect, expect_eq, expect_eq_of};
 use crate::inputs::framing_of;
@@ -8,7 +8,7 @@ use tlv_walk::{Ending, Framing, Inside, MemDrain, MemSource, Run, Walker, drive}
 /// The largest offset that may be named.
 const LARGEST: u64 = 1_099_511_627_776;
 
-/// Expects these offsets to be named, or not.
+/// Checks whether these offsets may be named.
 fn expect_named(rt: &impl Abort, offsets: &[u64], are_named: bool) {
     expect_eq_of(rt, offsets, Inside::new(offsets).is_some(), are_named);
 }
@@ -53,7 +53,8 @@ fn the_first_named_offset_is_unused_at_first(rt: HostRuntime) {
     expect_eq(&rt, Walker::new(&framing).unused(), Some(3));
 }
 
-/// Walks over two strings that wrap, up to the end of so many elements.
+/// Walks over two strings whose offsets are named, with a follower that has enough after `ends` elements have ended.
+/// Checks the number of octets and the first named offset that is unused.
 fn expect_unused(rt: &impl Abort, ends: u64, octets: u64, unused: Option<u64>) {
     let framing = framing_of(rt, &[0, 4], false);
     let mut room = [0; 128];
@@ -74,7 +75,7 @@ fn expect_unused(rt: &impl Abort, ends: u64, octets: u64, unused: Option<u64>) {
     expect_eq(rt, result, Ok(run));
 }
 
-/// A named string after the end that is enough is not found.
+/// If the follower has enough before a string begins, the named offset of that string is unused.
 #[test]
 fn unused_offsets_are_returned_with_enough(rt: HostRuntime) {
     expect_unused(&rt, 1, 4, Some(4));

@@ -1,4 +1,4 @@
-//! Lists of more offsets than an `Inside` keeps, which their caller lends.
+//! Tests of lists of offsets that the caller lends because an `Inside` cannot keep so many.
 use super::event_lines::EventLines;
 use super::steps::{expect_event, finish};
 use crate::expect::{expect_eq, expect_eq_of};
@@ -13,7 +13,7 @@ const STRINGS: &[u8] = b"\
       \x04\x02\x05\x00\x04\x02\x05\x00\x04\x02\x05\x00\x04\x02\x05\x00\x04\x02\x05\x00\
       \x04\x02\x05\x00\x04\x02\x05\x00\x04\x02\x05\x00\x04\x02\x05\x00\x04\x02\x05\x00";
 
-/// Where they are.
+/// The offsets of the strings.
 const OFFSETS: [u64; 20] = [
     0, 4, 8, 12, 16, 20, 24, 28, 32, 36, 40, 44, 48, 52, 56, 60, 64, 68, 72, 76,
 ];
@@ -21,7 +21,7 @@ const OFFSETS: [u64; 20] = [
 /// The largest offset that may be named.
 const LARGEST: u64 = 1_099_511_627_776;
 
-/// The framing that names these offsets, which rise.
+/// Returns the framing that names these offsets. Panics if they do not rise.
 fn lent_framing<'a>(rt: &impl Abort, offsets: &'a [u64]) -> Framing<'a> {
     let Some(inside) = Inside::lent(offsets) else {
         panic!(rt; "the offsets rise");
@@ -32,7 +32,7 @@ fn lent_framing<'a>(rt: &impl Abort, offsets: &'a [u64]) -> Framing<'a> {
     }
 }
 
-/// Expects these offsets to be lent, or not.
+/// Checks whether a list of these offsets may be lent.
 fn expect_lent(rt: &impl Abort, offsets: &[u64], are_lent: bool) {
     expect_eq_of(rt, offsets, Inside::lent(offsets).is_some(), are_lent);
 }
@@ -50,7 +50,7 @@ fn rising_offsets_are_lent(rt: HostRuntime) {
     expect_lent(&rt, &falling, false);
 }
 
-/// A list that is lent and one that is kept are equal if they name the same.
+/// A lent list and a kept list are equal if they name the same offsets.
 #[test]
 fn lent_and_kept_offsets_are_compared(rt: HostRuntime) {
     expect_eq(&rt, Inside::lent(&[0, 4]) == Inside::new(&[0, 4]), true);
@@ -58,7 +58,7 @@ fn lent_and_kept_offsets_are_compared(rt: HostRuntime) {
     expect_eq(&rt, Inside::lent(&[]) == Some(Inside::none()), true);
 }
 
-/// Expects the events of the string at this offset. `named` says whether the NULL in it is named too.
+/// Checks the events of the next string. `named` says whether the offset of the NULL in it is named too.
 fn expect_string(rt: &impl Abort, walker: &mut Walker<'_>, piece: &mut &[u8], named: bool) {
     let offset = walker.offset();
     let string = header(rt, offset, true, b"\x04\x02");
@@ -69,7 +69,7 @@ fn expect_string(rt: &impl Abort, walker: &mut Walker<'_>, piece: &mut &[u8], na
     expect_event(rt, walker, piece, Event::Leave);
 }
 
-/// Expects all strings to wrap, and this offset to be named in vain.
+/// Checks that all strings are read as encodings, and the first named offset that is unused.
 fn expect_strings(rt: &impl Abort, offsets: &[u64], named: bool, unused: Option<u64>) {
     let framing = lent_framing(rt, offsets);
     let mut walker = Walker::new(&framing);
@@ -86,7 +86,7 @@ fn each_of_twenty_strings_wraps(rt: HostRuntime) {
     expect_strings(&rt, &OFFSETS, false, None);
 }
 
-/// Offsets at which no header begins are passed, and so are those of other headers.
+/// Named offsets that are no string's are skipped. They do not hide the offset of a later string.
 #[test]
 fn strings_wrap_if_each_offset_is_named(rt: HostRuntime) {
     let mut each = [0; 80];
@@ -96,7 +96,8 @@ fn strings_wrap_if_each_offset_is_named(rt: HostRuntime) {
     expect_strings(&rt, &each, true, Some(1));
 }
 
-/// Walks up to the end of so many elements.
+/// Walks over the strings with a follower that has enough after `ends` elements have ended. Checks the number of octets
+/// and the first named offset that is unused.
 fn expect_run(rt: &impl Abort, ends: u64, octets: u64, unused: Option<u64>) {
     let framing = lent_framing(rt, &OFFSETS);
     let mut room = [0; 2048];
@@ -117,7 +118,7 @@ fn expect_run(rt: &impl Abort, ends: u64, octets: u64, unused: Option<u64>) {
     expect_eq(rt, result, Ok(run));
 }
 
-/// A walk over a source finds each string in turn.
+/// Each lent offset counts as used once its string begins.
 #[test]
 fn lent_offsets_are_used_one_by_one(rt: HostRuntime) {
     expect_run(&rt, 1, 4, Some(4));

@@ -1,4 +1,4 @@
-//! A source and a drain over memory.
+//! Tests of a source and a drain over memory.
 use crate::expect::{expect, expect_eq, expect_of};
 use tlv_walk::{Drain, MemDrain, MemSource, ReadFault, Source, WriteFault};
 
@@ -6,7 +6,7 @@ use tlv_walk::{Drain, MemDrain, MemSource, ReadFault, Source, WriteFault};
 fn source_gives_pieces(rt: HostRuntime) {
     let mut to = [0; 4];
 
-    // A cut of 2, one of 0, which counts as 1, and then as many as there is room for.
+    // Pieces of 2 octets, of 1 (a size of 0 counts as 1), and then as many as there is room for.
     let mut source = MemSource::new(b"abcdefghi", &[2, 0], None);
     for want in [b"ab".as_slice(), b"c", b"defg", b"hi", b"", b""] {
         let got = source.read(&mut to);

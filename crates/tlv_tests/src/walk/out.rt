@@ -1,14 +1,14 @@
-//! Octets put to an `Out`, and what its drain took.
+//! Tests of `Out`: the octets that are put, and what its drain takes.
 use crate::expect::expect_eq;
 use std::process::Abort;
 use tlv_walk::{MemDrain, Out, WriteFault};
 
-/// Puts octets, without a fault.
+/// Puts octets. Checks that no write fails.
 fn put(rt: &impl Abort, out: &mut Out<'_, MemDrain<'_>>, octets: &[u8]) {
     expect_eq(rt, out.put(octets), Ok(()));
 }
 
-/// Hands on what is held, if the drain takes it.
+/// Hands the octets that are held to the drain.
 fn flush(out: &mut Out<'_, MemDrain<'_>>) -> Result<(), WriteFault> {
     out.flush()
 }
@@ -28,7 +28,7 @@ fn short_writes_take_all(rt: HostRuntime) {
     expect_eq(&rt, drain.written(), b"tag, length".as_slice());
 }
 
-/// Puts more than is held at once.
+/// Puts more octets than an `Out` holds, in several calls.
 fn put_much(rt: &impl Abort, drain: &mut MemDrain<'_>) {
     let mut out = Out::new(drain);
     put(rt, &mut out, &[1; 96]);

@@ -1,4 +1,4 @@
-//! What a walk over memory writes of each row, in whatever pieces its input comes.
+//! Tests of what a walk over memory writes, whatever the pieces of the input.
 use super::rows::{ENCODINGS, Row, WRAPPED};
 use super::{ONES, ROOM, ReadPlan, WHOLE, expect_row, tables, text_of};
 use crate::expect::expect_eq_of;
@@ -6,7 +6,8 @@ use std::alloc::Global;
 use std::process::Abort;
 use std::test::Fail;
 
-/// Expects the row's own result with its input whole, octet by octet, and in every cut into two pieces.
+/// Checks that the text is written, and the row's result, from the
+/// whole input, octet by octet, and in every cut into two pieces.
 fn expect_row_in_pieces(rt: &impl Abort, row: &Row<'_>, text: &[u8], room: &mut [u8]) {
     expect_row(rt, row, text, WHOLE, room);
     let singly = ReadPlan {
@@ -23,7 +24,7 @@ fn expect_row_in_pieces(rt: &impl Abort, row: &Row<'_>, text: &[u8], room: &mut 
     }
 }
 
-/// Expects the lines of all events of the row to be written.
+/// Checks that the lines of all events of the row are written, whatever the pieces.
 pub(crate) fn expect_lines_in_pieces(
     rt: &impl Abort,
     alloc: Global,
@@ -34,7 +35,7 @@ pub(crate) fn expect_lines_in_pieces(
     Ok(())
 }
 
-/// Expects those of each row.
+/// Checks the lines of each row, whatever the pieces.
 fn expect_each_in_pieces(rt: &impl Abort, alloc: Global, rows: &[Row<'_>]) -> Result<(), Fail> {
     for row in rows {
         expect_lines_in_pieces(rt, alloc, row)?;
@@ -50,14 +51,15 @@ fn rows_have_their_lines_in_whatever_pieces(rt: HostRuntime) -> Result<(), Fail>
     Ok(())
 }
 
-/// Expects the row's lines to be these, which are written by hand.
+/// Checks that the row's lines are these, which are written by hand.
 fn expect_lines(rt: &impl Abort, alloc: Global, row: &Row<'_>, lines: &str) -> Result<(), Fail> {
     let text = text_of(rt, alloc, row, row.input.len())?;
     expect_eq_of(rt, row.name, text.as_slice(), lines.as_bytes());
     Ok(())
 }
 
-/// Three rows have each kind of line.
+/// `EventLines` itself is right: the lines of three rows, which have each kind of line, are compared with lines that
+/// are written by hand.
 #[test]
 fn lines_are_as_written_by_hand(rt: HostRuntime) -> Result<(), Fail> {
     expect_lines(

@@ -1,8 +1,8 @@
-//! Room that an `Out` makes for what comes next.
+//! Tests of the room that an `Out` makes for the octets that follow.
 use crate::expect::expect_eq;
 use tlv_walk::{MemDrain, Out};
 
-/// Puts these octets, makes room for a line, and returns how many octets are held then.
+/// Puts these octets and makes room for a line. Returns the number of octets that are held afterwards.
 fn held_before_a_line(octets: &[u8], drain: &mut MemDrain<'_>) -> Option<usize> {
     let mut out = Out::new(drain);
     out.put(octets).ok()?;
@@ -10,7 +10,7 @@ fn held_before_a_line(octets: &[u8], drain: &mut MemDrain<'_>) -> Option<usize> 
     Some(out.held.len())
 }
 
-/// Puts these octets, makes room for 96 more, and returns how many octets are held then.
+/// Puts these octets and makes room for 96 more. Returns the number of octets that are held afterwards.
 fn held_before_96(octets: &[u8], drain: &mut MemDrain<'_>) -> Option<usize> {
     let mut out = Out::new(drain);
     out.put(octets).ok()?;

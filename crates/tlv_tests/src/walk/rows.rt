@@ -1,20 +1,20 @@
-//! Inputs, their events, and what they come to.
+//! Inputs, with their events and the result of a walk.
 use tlv_head::{Fault, FaultCode};
 use tlv_walk::Ending;
 
 /// An event of a row.
 #[derive(Clone, Copy)]
 pub(crate) enum RowEvent {
-    /// The header with these octets, at this offset, of a constructed element.
+    /// The header of a constructed element: its offset and its octets.
     Open(u64, &'static [u8]),
-    /// The same of a primitive.
+    /// The header of a primitive: its offset and its octets.
     Begin(u64, &'static [u8]),
     /// One contents octet.
     Bytes(&'static [u8]),
     End,
-    /// The end of a constructed element, with the offset of its end-of-contents octets if it has any.
+    /// The end of a constructed element, with the offset of its end-of-contents octets if it has them.
     Close(Option<u64>),
-    /// The header with these octets, at this offset, of a string that holds encodings.
+    /// The header of a string that holds encodings: its offset and its octets.
     Enter(u64, &'static [u8]),
     Unused,
     Leave,
@@ -22,24 +22,24 @@ pub(crate) enum RowEvent {
     Pad(&'static [u8]),
 }
 
-/// An input, how it is read, and what a walk over it comes to.
+/// An input, the options with which it is read, and the result of a walk over it.
 #[derive(Clone, Copy)]
 pub(crate) struct Row<'a> {
-    /// What the input shows.
+    /// A description of the input.
     pub name: &'a str,
-    /// The offsets of the strings to be read as encodings.
+    /// The offsets of the strings that are to be read as encodings.
     pub inside: &'a [u64],
-    /// Whether octets `00` may be between the encodings.
+    /// Whether octets `00` are allowed between the encodings.
     pub padding: bool,
     pub input: &'a [u8],
-    /// Its events, each with the number of octets with which it comes.
+    /// The events, each with the number of octets after which it occurs.
     pub events: &'a [(u64, RowEvent)],
     pub ending: Ending,
-    /// The first named offset that is no wrapper's.
+    /// The first named offset at which no string is read as encodings.
     pub unused: Option<u64>,
 }
 
-/// A row of an input without a fault, read without options.
+/// The row of an input without a fault, read without options.
 pub(crate) const CLEAN: Row<'static> = Row {
     name: "",
     inside: &[],
@@ -50,7 +50,7 @@ pub(crate) const CLEAN: Row<'static> = Row {
     unused: None,
 };
 
-/// The refusal of an octet.
+/// The ending of a walk with this fault.
 pub(crate) fn fault(code: FaultCode, offset: u64) -> Ending {
     Ending::Fault(Fault { code, offset })
 }
@@ -143,7 +143,7 @@ pub(crate) static ENCODINGS: [Row<'static>; 6] = [
     },
 ];
 
-/// Strings read as encodings, and not.
+/// Inputs with strings, some of which are read as encodings.
 pub(crate) static WRAPPED: [Row<'static>; 7] = [
     Row {
         name: "an OCTET STRING that wraps",

@@ -1,4 +1,4 @@
-//! Steps of a walker.
+//! Tests of the steps of a walker.
 use super::rows::fault;
 use crate::expect::{expect, expect_eq};
 use crate::inputs::{framing_of, header};
@@ -6,19 +6,19 @@ use std::process::Abort;
 use tlv_head::{Fault, FaultCode};
 use tlv_walk::{Ending, Event, Framing, Step, Walker};
 
-/// The next step, with a short piece.
+/// Makes one step. Checks first that the offset and the piece are small, as `step` requires.
 pub(crate) fn step<'a>(rt: &impl Abort, walker: &mut Walker<'_>, piece: &mut &'a [u8]) -> Step<'a> {
     assert!(rt; walker.offset() <= 1000 && piece.len() <= 1000);
     walker.step(piece)
 }
 
-/// Expects the next step to come to this.
+/// Makes one step. Checks its result.
 fn expect_step(rt: &impl Abort, walker: &mut Walker<'_>, piece: &mut &[u8], want: &Step<'_>) {
     let got = step(rt, walker, piece);
     assert!(rt; got == *want, "{:?} in place of {:?}", got, want);
 }
 
-/// Expects the next step to yield this event.
+/// Makes one step. Checks that it yields this event.
 pub(crate) fn expect_event(
     rt: &impl Abort,
     walker: &mut Walker<'_>,
@@ -36,13 +36,13 @@ fn begin<'a>(rt: &impl Abort, offset: u64, octets: &[u8]) -> Event<'a> {
     Event::Begin(header(rt, offset, false, octets))
 }
 
-/// What an input comes to whose octets are taken.
+/// Returns the ending of an input that ends here. No event may be pending.
 pub(crate) fn finish(rt: &impl Abort, walker: &Walker<'_>) -> Ending {
     assert!(rt; !walker.waiting());
     walker.finish()
 }
 
-/// How many octets are taken, events yielded and elements open, and whether an event is to come.
+/// Checks the number of octets taken, of events yielded and of open elements, and whether an event is pending.
 fn expect_state(
     rt: &impl Abort,
     walker: &Walker<'_>,
@@ -57,7 +57,7 @@ fn expect_state(
     expect_eq(rt, walker.waiting(), waiting);
 }
 
-/// The octets up to the next event do not lie in the piece.
+/// Makes one step. Checks that it takes all octets and needs more before the next event.
 fn expect_need(rt: &impl Abort, walker: &mut Walker<'_>, octets: &[u8]) {
     let mut piece = octets;
     expect_step(rt, walker, &mut piece, &Step::NeedMore);
@@ -65,7 +65,7 @@ fn expect_need(rt: &impl Abort, walker: &mut Walker<'_>, octets: &[u8]) {
 }
 
 #[test]
-fn a_header_is_cut(rt: HostRuntime) {
+fn a_header_may_be_cut(rt: HostRuntime) {
     let framing = Framing::plain();
     let mut walker = Walker::new(&framing);
     expect_state(&rt, &walker, 0, 0, 0, false);
@@ -89,9 +89,9 @@ fn a_header_is_cut(rt: HostRuntime) {
     expect_need(&rt, &mut walker, b"");
 }
 
-/// Contents are yielded in the parts in which they come, and ends without a further octet.
+/// Contents are yielded in the pieces in which they come. The ends that follow need no further octet.
 #[test]
-fn contents_are_cut(rt: HostRuntime) {
+fn contents_are_yielded_in_pieces(rt: HostRuntime) {
     let framing = Framing::plain();
     let mut walker = Walker::new(&framing);
     let mut piece: &[u8] = b"\x30\x05\x04\x03\xaa";
@@ -117,10 +117,9 @@ fn expect_fault(rt: &impl Abort, walker: &mut Walker<'_>, octets: &[u8], fault: 
     expect_eq(rt, finish(rt, walker), Ending::Fault(fault));
 }
 
-/// After a fault the walker is as it was before the octet that is refused: here that of the third
-/// header's length.
+/// After a fault the walker is as it was before the refused octet, which here is the length octet of the third header.
 #[test]
-fn what_is_open_stays_so_after_a_fault(rt: HostRuntime) {
+fn open_elements_stay_open_after_a_fault(rt: HostRuntime) {
     let framing = Framing::plain();
     let mut walker = Walker::new(&framing);
     let mut piece: &[u8] = b"\x30\x80\x30\x80\x04\x80";
@@ -137,7 +136,7 @@ fn what_is_open_stays_so_after_a_fault(rt: HostRuntime) {
     expect_eq(&rt, walker.unused(), None);
 }
 
-/// After a fault each step returns the same and takes nothing.
+/// After a fault each step returns the same fault and takes nothing.
 #[test]
 fn a_fault_is_returned_again(rt: HostRuntime) {
     let framing = Framing::plain();
@@ -156,7 +155,7 @@ fn a_fault_is_returned_again(rt: HostRuntime) {
     expect_state(&rt, &walker, 2, 2, 0, false);
 }
 
-/// The octets up to the one that is refused are taken.
+/// The octets before the refused octet are taken.
 #[test]
 fn octets_before_a_fault_are_taken(rt: HostRuntime) {
     let framing = Framing::plain();
@@ -209,7 +208,7 @@ fn padding_is_yielded_in_parts(rt: HostRuntime) {
     expect_eq(&rt, finish(&rt, &walker), fault(FaultCode::Short, 4));
 }
 
-/// What an input of these octets comes to that ends before the next event.
+/// Checks the ending of an input that ends before its first event.
 fn expect_end(rt: &impl Abort, octets: &[u8], ending: Ending) {
     let framing = Framing::plain();
     let mut walker = Walker::new(&framing);

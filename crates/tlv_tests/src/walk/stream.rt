@@ -1,9 +1,9 @@
-//! A reader as a source, and a writer as a drain.
+//! Tests of a reader as a source, and of a writer as a drain.
 use crate::expect::{expect, expect_eq};
 use std::io::{self, ErrorKind, Read, Write};
 use tlv_walk::{Drain, ReadFault, ReadSource, Source, WriteDrain, WriteFault};
 
-/// Errors after which a caller might try again, and one after which it would not.
+/// Errors after which a caller may want to repeat the call, and one after which it does not.
 const KINDS: [ErrorKind; 4] = [
     ErrorKind::Interrupted,
     ErrorKind::WouldBlock,
@@ -11,7 +11,7 @@ const KINDS: [ErrorKind; 4] = [
     ErrorKind::Other,
 ];
 
-/// Fails at its first read, and then gives `rest`.
+/// A reader that fails at its first read, and then gives `rest`.
 #[derive(Drop)]
 struct FailingFirst {
     kind: ErrorKind,
@@ -29,7 +29,7 @@ impl Read for FailingFirst {
     }
 }
 
-/// Takes nothing at its first write, fails at its second, and then takes one octet each time.
+/// A writer that takes nothing at its first write, fails at its second, and then takes one octet with each write.
 #[derive(Drop)]
 struct OneOctetWriter {
     kind: ErrorKind,
@@ -51,7 +51,8 @@ impl Write for OneOctetWriter {
     }
 }
 
-/// A read that fails is not made again, whatever the error: the next one gives what it would have given.
+/// A failed read is not repeated, whatever the error. The caller decides. The next read gives the octets that the
+/// failed one did not.
 #[test]
 fn a_read_source_reads_once(rt: HostRuntime) {
     for kind in KINDS {
@@ -68,7 +69,7 @@ fn a_read_source_reads_once(rt: HostRuntime) {
     }
 }
 
-/// A write that fails or takes nothing is not made again.
+/// A write that fails or takes nothing is not repeated. The caller decides.
 #[test]
 fn a_write_drain_writes_once(rt: HostRuntime) {
     for kind in KINDS {

@@ -1,4 +1,4 @@
-//! Reads that are followed one by one.
+//! Tests of `turn`, which makes one read and follows its octets.
 use super::event_lines::EventLines;
 use crate::expect::expect_eq;
 use crate::reads::{LENGTH, expect_again, expect_failure, expect_written};
@@ -10,7 +10,7 @@ const INPUT: &[u8] = b"\x3a\x09\x04\x03\x4a\x6f\x6e\x04\x02\x65\x73";
 const TEXT: &[u8] =
     b"open 0000 3a 09\nbegin 0002 04 03\n 4a 6f 6e end\nbegin 0007 04 02\n 65 73 end\nclose\n";
 
-/// After each turn all is written that the octets read so far come to.
+/// After each turn the output of all octets read so far is written.
 #[test]
 fn turns_follow_one_read_each(rt: HostRuntime) {
     let mut room = [0; 128];
@@ -68,7 +68,7 @@ fn turns_follow_one_read_each(rt: HostRuntime) {
     expect_written(&rt, &drain, TEXT);
 }
 
-/// After a read that failed the next one goes on after the same octets.
+/// A turn after a failed read goes on where the octets before it ended.
 #[test]
 fn a_turn_after_a_failed_read_goes_on(rt: HostRuntime) {
     let mut room = [0; 128];
