@@ -1,47 +1,53 @@
 -- Times as texts: X.680 46 and 47, X.690 11.7 and 11.8.
-use Rattle.std.specs.Prelude.{ℕ, ◌+◌, ◌-◌, ◌*◌, Bool, true, false, ◌&&◌, nat_le, if◌then◌else◌, List, [], ◌∷◌}
-use Rattle.std.specs.Prelude.{◌++◌, flat_map}
+use Rattle.std.specs.Prelude.{ℕ, ◌+◌, ◌-◌, ◌*◌, Bool, true, false, ◌&&◌, ◌||◌, nat_le, List, [], ◌∷◌}
+use Rattle.std.specs.Prelude.{map}
+use Rattle.std.specs.List.{list_all, list_any}
 use Rattle.std.specs.Char.{is_ascii_digit}
 
--- a form of text: from some octets, it gives each rest that is left after a prefix of that form
+-- a form of text: true of each text of the form, false of any other
 abbrev pub Form : Type 0
-Form = List ℕ → List (List ℕ)
+Form = List ℕ → Bool
 
-abbrev pub has_empty_rest : List (List ℕ) → Bool
-has_empty_rest [] = false
-has_empty_rest ([] ∷ rests) = true
-has_empty_rest ((x ∷ xs) ∷ rests) = has_empty_rest rests
-
--- the whole has the form
+-- the text has the form
 abbrev pub has_form : Form → List ℕ → Bool
-has_form form octets = has_empty_rest (form octets)
+has_form form text = form text
 
+-- each way to split a text into a first part and the rest, where either may be empty
+abbrev pub splits : List ℕ → List (List ℕ × List ℕ)
+splits [] = ([], []) ∷ []
+splits (x ∷ xs) = ([], x ∷ xs) ∷ map (λ split. (x ∷ split.0, split.1)) (splits xs)
+
+-- a text of the first form and a text of the second, one after the other: there is a split into such parts
 infixr 20 ◌then◌
 abbrev pub ◌then◌ : Form → Form → Form
-(first then second) octets = flat_map second (first octets)
+(first then second) text = list_any (λ split. first split.0 && second split.1) (splits text)
 
+-- a text of one form or of the other
 infixr 15 ◌or◌
 abbrev pub ◌or◌ : Form → Form → Form
-(first or second) octets = first octets ++ second octets
+(first or second) text = first text || second text
 
+-- the empty text
 abbrev pub no_octets : Form
-no_octets octets = octets ∷ []
+no_octets [] = true
+no_octets (x ∷ xs) = false
 
+-- a text of the form, or the empty text
 abbrev pub maybe : Form → Form
 maybe form = form or no_octets
 
 -- one octet from low to high
 abbrev pub octet_between : ℕ → ℕ → Form
-octet_between low high [] = []
-octet_between low high (x ∷ xs) = if nat_le low x && nat_le x high then xs ∷ [] else []
+octet_between low high (x ∷ []) = nat_le low x && nat_le x high
+octet_between low high text = false
 
+-- this octet
 abbrev pub mark : ℕ → Form
 mark x = octet_between x x
 
--- digits, or none: 48 is 0, 57 is 9
+-- digits, in any number: 48 is 0, 57 is 9
 abbrev pub digits : Form
-digits [] = [] ∷ []
-digits (x ∷ xs) = (x ∷ xs) ∷ (if is_ascii_digit x then digits xs else [])
+digits text = list_all is_ascii_digit text
 
 -- the number that two digits stand for
 abbrev pub two_digit_number : ℕ → ℕ → ℕ
@@ -49,12 +55,9 @@ two_digit_number x y = 10 * (x - 48) + (y - 48)
 
 -- two digits, of a number from low to high
 abbrev pub two_digits : ℕ → ℕ → Form
-two_digits low high [] = []
-two_digits low high (x ∷ []) = []
-two_digits low high (x ∷ y ∷ rest) =
-    if is_ascii_digit x && is_ascii_digit y && nat_le low (two_digit_number x y) && nat_le (two_digit_number x y) high
-    then rest ∷ []
-    else []
+two_digits low high (x ∷ y ∷ []) =
+    is_ascii_digit x && is_ascii_digit y && nat_le low (two_digit_number x y) && nat_le (two_digit_number x y) high
+two_digits low high text = false
 
 -- month and day. Ranges are lenient, here and below: each month has 31 days, hour 24 and second 60 are allowed
 abbrev pub month_and_day : Form
