@@ -96,16 +96,20 @@ digit-is [] h = absurd cc
 digit-is (x ∷ []) h = grind (arith, nat_tests)
 digit-is (x ∷ y ∷ ys) h = absurd cc
 
+-- a digit before digits
+digits-behind : (x : ℕ) (xs : List ℕ) → ((digits then octet_between 49 57) xs ≡ true → digits xs ≡ true)
+    → (octet_between 49 57 (x ∷ xs) ≡ true) ⊎ ((is_ascii_digit x && (digits then octet_between 49 57) xs) ≡ true)
+    → digits (x ∷ xs) ≡ true
+digits-behind x xs more (inl e) = digit-is (x ∷ xs) e
+digits-behind x xs more (inr e) =
+    let both = and_parts (is_ascii_digit x) ((digits then octet_between 49 57) xs) e in rw (both.0, more both.1) refl
+
 digits-more : (text : List ℕ) → (digits then octet_between 49 57) text ≡ true → digits text ≡ true
 digits-more [] h = absurd cc
 digits-more (x ∷ xs) h =
-    go (or_cases (octet_between 49 57 (x ∷ xs)) (is_ascii_digit x && (digits then octet_between 49 57) xs)
+    digits-behind x xs (digits-more xs)
+    (or_cases (octet_between 49 57 (x ∷ xs)) (is_ascii_digit x && (digits then octet_between 49 57) xs)
     (sym (digits-then (octet_between 49 57) x xs) ∙ h))
-  where
-    go : (octet_between 49 57 (x ∷ xs) ≡ true) ⊎ ((is_ascii_digit x && (digits then octet_between 49 57) xs) ≡ true)
-        → digits (x ∷ xs) ≡ true
-    go (inl e) = digit-is (x ∷ xs) e
-    go (inr e) = let both = and_parts _ _ e in rw (both.0, digits-more xs both.1) refl
 
 one-or-more : (text : List ℕ) → (digits then octet_between 49 57) text ≡ true → digits text ≡ true
     → (octet_between 48 57 then digits) text ≡ true
