@@ -6,6 +6,3 @@ pub mod NamesLemmas
 pub mod RowLemmas
 pub mod TextLemmas
 pub mod Wordings
-mod OldTimes
-mod OldForms
-mod OldUnits

@@ -172,7 +172,7 @@ fn is_generalized_difference(octets: &[u8]) -> bool
 
 /// Digits, the last of which is not 0, and `Z`, and no more.
 fn is_canonical_fraction_rest(octets: &[u8]) -> bool
-    ensures { result ≡ has_form ((digits then octet_between 49 57) then mark 90) octets.now }
+    ensures { result ≡ has_form ((digits then octet_between 0x31 0x39) then mark 0x5a) octets.now }
 {
     let mut rest = octets;
     while let [b'0'..=b'9', more @ ..] = rest {
@@ -196,7 +196,7 @@ fn is_minute(octets: &[u8]) -> bool
 
 /// `Z`, and no more.
 fn is_zulu(octets: &[u8]) -> bool
-    ensures { result ≡ has_form (mark 90) octets.now }
+    ensures { result ≡ has_form (mark 0x5a) octets.now }
 {
     matches!(octets, [b'Z'])
 }

@@ -1,12 +1,13 @@
 -- Forms, part by part.
-use Rattle.std.proofs.Common.{◌≡◌, ℕ, Bool, true, false, ◌&&◌, ◌||◌, List, [], ◌∷◌, refl, sym, ap, ◌∙◌, nat_le, ◌≤◌, ◌<◌, length, get_or, drop, take, ◌-◌, arith}
+use Rattle.std.proofs.Common.{◌≡◌, ℕ, Bool, true, false, ◌&&◌, ◌||◌, List, [], ◌∷◌, refl, sym, ap, ◌∙◌, nat_le, ◌≤◌}
+use Rattle.std.proofs.Common.{length, get_or, drop, take, ◌-◌, arith}
 use Rattle.std.proofs.lemmas.Bool.Decides.{nat_tests}
 use Rattle.std.proofs.lemmas.List.{take_all}
 use Rattle.std.specs.Prelude.{Some, None, map, Option, ◌==◌}
 use Rattle.std.specs.Char.{is_ascii_digit}
 use Rattle.std.specs.List.{list_any}
-use Rattle.tlv_value.specs.Times.{Form, digits, has_form, no_octets, octet_between, splits, two_digit_number, two_digits}
-use Rattle.tlv_value.specs.Times.{◌or◌, ◌then◌, mark, maybe}
+use Rattle.tlv_value.specs.Times.{Form, digits, has_form, mark, maybe, no_octets, octet_between, splits}
+use Rattle.tlv_value.specs.Times.{two_digit_number, two_digits, ◌or◌, ◌then◌}
 use Rattle.tlv_value.specs.Private.TimeParts.{LeavesRest}
 
 -- ---- tests of lists
@@ -280,7 +281,8 @@ or-true true = refl
 or-true false = refl
 
 -- nothing is left
-pub empty-there : (f : Form) (rest : List ℕ) (r : Bool) → r ≡ (length rest == 0) → r ≡ true → r ≡ has_form (maybe f) rest
+pub empty-there : (f : Form) (rest : List ℕ) (r : Bool) → r ≡ (length rest == 0) → r ≡ true
+    → r ≡ has_form (maybe f) rest
 empty-there f [] r e h = h ∙ or-true (f [])
 empty-there f (x ∷ xs) r e h =
     let n : false ≡ (length (x ∷ xs) == 0) = grind (arith, nat_tests) in absurd (cc (n, e, h))

@@ -1,6 +1,6 @@
 -- Fractions of times, digit by digit.
-use Rattle.std.proofs.Common.{◌≡◌, ℕ, ◌-◌, ◌≤◌, Bool, true, false, ◌&&◌, ◌||◌, nat_le, eqb, List, [], ◌∷◌, refl, sym, ap}
-use Rattle.std.proofs.Common.{◌∙◌, length, get_or, drop, take, arith}
+use Rattle.std.proofs.Common.{◌≡◌, ℕ, ◌-◌, ◌≤◌, Bool, true, false, ◌&&◌, ◌||◌, nat_le, eqb, List, [], ◌∷◌, refl, sym}
+use Rattle.std.proofs.Common.{ap, ◌∙◌, length, get_or, drop, take, arith}
 use Rattle.std.proofs.lemmas.Bool.Decides.{nat_tests}
 use Rattle.std.specs.Char.{is_ascii_digit}
 use Rattle.tlv_value.specs.Times.{Form, digits, fraction, generalized_zone, hour, mark, maybe, minute, octet_between}
@@ -112,14 +112,6 @@ skips-digit (x ∷ xs) h e n =
     ∙ sym (last-then x xs
     ∙ ap (λ (b : Bool). b || (is_ascii_digit x && ends_canonically xs)) (not-last x xs n)
     ∙ ap (λ (b : Bool). b && ends_canonically xs) e)
-
-pub is-last : (xs : List ℕ) → is_last_pair xs ≡ true → true ≡ ends_canonically xs
-is-last [] e = absurd (cc (e))
-is-last (x ∷ []) e = absurd (cc (e))
-is-last (x ∷ y ∷ []) e =
-    sym (last-then x (y ∷ []) ∙ ap (λ (b : Bool). b || (is_ascii_digit x && ends_canonically (y ∷ []))) e)
-is-last (x ∷ y ∷ z ∷ zs) e =
-    let n : eqb (length (x ∷ y ∷ z ∷ zs)) 2 ≡ false = grind (arith, nat_tests) in absurd (cc (e, n))
 
 not-last-digit : (x : ℕ) → is_ascii_digit x ≡ false → (nat_le 49 x && nat_le x 57) ≡ false
 not-last-digit x h = grind (arith, nat_tests)

@@ -1,7 +1,7 @@
 -- One form of text within another, and a canonical time within its grammar.
-use Rattle.std.proofs.Common.{◌≡◌, ℕ, ◌+◌, ◌-◌, ◌*◌, ◌≤◌, Bool, true, false, ◌&&◌, ◌||◌, nat_le, List, [], ◌∷◌}
+use Rattle.std.proofs.Common.{◌≡◌, ℕ, ◌≤◌, Bool, true, false, ◌&&◌, ◌||◌, nat_le, List, [], ◌∷◌}
 use Rattle.std.proofs.Common.{length, eqb, refl, sym, ◌∙◌, ◌⊎◌, inl, inr, arith}
-use Rattle.std.specs.List.{list_all, list_any}
+use Rattle.std.specs.List.{list_any}
 use Rattle.std.proofs.lemmas.Bool.{and_parts, or_cases, leb-true, le-leb}
 use Rattle.std.proofs.lemmas.Bool.Decides.{nat_tests}
 use Rattle.std.specs.Char.{is_ascii_digit}

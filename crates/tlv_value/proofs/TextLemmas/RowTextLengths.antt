@@ -15,13 +15,11 @@ use Rattle.tlv_value.specs.Number.{twos_complement}
 use Rattle.tlv_value.specs.Rows.{rows_of}
 use Rattle.tlv_value.proofs.TextLemmas.Numbers.{length-bits, twos-fits_all}
 use Rattle.std.specs.Prelude.{eqb, nat_le, ◌&&◌, flat_map, if◌then◌else◌}
-use Rattle.std.specs.Str.{is_utf8}
 use Rattle.hex.specs.Hex.{encode_lower, lower_digits}
 use Rattle.hex.proofs.HexLemmas.{length-encode_with}
 use Rattle.tlv_head.specs.declared.kind.Kind.{Kind}
 use Rattle.tlv_head.specs.declared.kind.Kind.TheVariants.{Octets, Boolean, Integer, Bits, Object, Relative, Text, Utf8}
 use Rattle.tlv_head.specs.declared.kind.Kind.TheVariants.{Ucs2, Ucs4}
-use Rattle.tlv_io.specs.Cuts.{utf8_length}
 use Rattle.tlv_value.specs.Units.{escaped_number, escaped_octet, is_printable, octet_text, printable_text, quoted_text}
 use Rattle.tlv_value.specs.Units.{first_units, three_octets, unit_size, unit_text, units, utf8_number, without_zeros}
 use Rattle.tlv_value.proofs.TextLemmas.UnitSteps.{size-within}

@@ -1,5 +1,4 @@
 use Rattle.std.proofs.Common.{option_copied}
-use Rattle.std.specs.Prelude.{None}
 use Rattle.tlv_value.specs.Times.{two_digits}
 use Rattle.tlv_value.proofs.CheckLemmas.Forms.{no_rest_then, rest_then}
 use Rattle.tlv_value.proofs.time.after_month_and_day.Goals as goal

@@ -1,4 +1,4 @@
-use Rattle.std.proofs.Common.{arith, length, take, drop, ◌-◌}
+use Rattle.std.proofs.Common.{arith}
 use Rattle.std.proofs.lemmas.Grind.{common_steps}
 use Rattle.std.proofs.lemmas.Bool.Decides.{nat_tests}
 use Rattle.tlv_value.proofs.CheckLemmas.Forms.{has-two, no-two}

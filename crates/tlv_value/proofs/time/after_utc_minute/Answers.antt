@@ -14,23 +14,23 @@ returns-in_err-rest-2 c =
     rw c.from_residual-in_err-rest-2.ensures
     (rest_then (two_digits 0 99) (month_and_day then hour then minute) c.args.octets.now c.in_ok-rest.rest.now
     None c.in_ok-rest.ensures
-    (no_rest_then (month_and_day) (hour then minute) c.in_ok-rest.rest.now c.in_err-rest-2.ensures))
+    (no_rest_then month_and_day (hour then minute) c.in_ok-rest.rest.now c.in_err-rest-2.ensures))
 
 pub returns-in_err-rest-3 : goal.returns-in_err-rest-3
 returns-in_err-rest-3 c =
     rw c.from_residual-in_err-rest-3.ensures
     (rest_then (two_digits 0 99) (month_and_day then hour then minute) c.args.octets.now c.in_ok-rest.rest.now
     None c.in_ok-rest.ensures
-    (rest_then (month_and_day) (hour then minute) c.in_ok-rest.rest.now c.in_ok-rest-2.rest.now
+    (rest_then month_and_day (hour then minute) c.in_ok-rest.rest.now c.in_ok-rest-2.rest.now
     None c.in_ok-rest-2.ensures
-    (no_rest_then (hour) (minute) c.in_ok-rest-2.rest.now c.in_err-rest-3.ensures)))
+    (no_rest_then hour minute c.in_ok-rest-2.rest.now c.in_err-rest-3.ensures)))
 
 pub returns : goal.returns
 returns c =
     rest_then (two_digits 0 99) (month_and_day then hour then minute) c.args.octets.now c.in_ok-rest.rest.now
     (option_copied c.after_two_digits-3.result) c.in_ok-rest.ensures
-    (rest_then (month_and_day) (hour then minute) c.in_ok-rest.rest.now c.in_ok-rest-2.rest.now
+    (rest_then month_and_day (hour then minute) c.in_ok-rest.rest.now c.in_ok-rest-2.rest.now
     (option_copied c.after_two_digits-3.result) c.in_ok-rest-2.ensures
-    (rest_then (hour) (minute) c.in_ok-rest-2.rest.now c.in_ok-rest-3.rest.now
+    (rest_then hour minute c.in_ok-rest-2.rest.now c.in_ok-rest-3.rest.now
     (option_copied c.after_two_digits-3.result) c.in_ok-rest-3.ensures
     c.after_two_digits-3.ensures))

@@ -1,8 +1,8 @@
 use Rattle.std.proofs.Common.{◌≡◌, ℕ, Bool, List, false, refl, sym, ◌∙◌}
 use Rattle.std.specs.Prelude.{None, Some}
 use Rattle.tlv_value.specs.Private.TimeParts.{LeavesRest}
-use Rattle.tlv_value.specs.Times.{canonical_fraction, canonical_generalized_time_form, canonical_second, digits, has_form}
-use Rattle.tlv_value.specs.Times.{mark, maybe, octet_between, two_digits, ◌then◌}
+use Rattle.tlv_value.specs.Times.{canonical_fraction, canonical_generalized_time_form, canonical_second, digits}
+use Rattle.tlv_value.specs.Times.{has_form, mark, maybe, octet_between, two_digits, ◌then◌}
 use Rattle.tlv_value.proofs.CheckLemmas.Forms.{maybe-left, maybe-there, no_rest_then, rest_then, then-assoc}
 use Rattle.tlv_value.proofs.time.general_canonical.Goals as goal
 

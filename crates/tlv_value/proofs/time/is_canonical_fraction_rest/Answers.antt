@@ -1,7 +1,7 @@
-use Rattle.std.proofs.Common.{arith, refl, sym, ◌∙◌}
+use Rattle.std.proofs.Common.{arith, ◌∙◌}
 use Rattle.std.proofs.lemmas.Grind.{common_steps}
 use Rattle.std.proofs.lemmas.Bool.Decides.{nat_tests}
-use Rattle.tlv_value.proofs.CheckLemmas.FractionForms.{is-last, none-left, skips-digit}
+use Rattle.tlv_value.proofs.CheckLemmas.FractionForms.{none-left, skips-digit}
 use Rattle.tlv_value.proofs.time.is_canonical_fraction_rest.Goals as goal
 
 pub loop-rest-preserved : goal.loop-rest-preserved

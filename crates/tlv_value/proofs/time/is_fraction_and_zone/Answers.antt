@@ -1,4 +1,4 @@
-use Rattle.std.proofs.Common.{arith, refl, sym, ◌∙◌}
+use Rattle.std.proofs.Common.{arith, ◌∙◌}
 use Rattle.std.proofs.lemmas.Grind.{common_steps}
 use Rattle.std.proofs.lemmas.Bool.Decides.{nat_tests}
 use Rattle.tlv_value.specs.Times.{generalized_zone, maybe}
@@ -23,7 +23,8 @@ returns-in_default-4 c =
 
 pub loop-rest-init : goal.loop-rest-init
 loop-rest-init c =
-    has-fraction (maybe generalized_zone) c.args.octets.now c.in-46.len_at_least (grind (arith, common_steps, nat_tests))
+    has-fraction (maybe generalized_zone) c.args.octets.now c.in-46.len_at_least
+    (grind (arith, common_steps, nat_tests))
 
 pub loop-rest-preserved : goal.loop-rest-preserved
 loop-rest-preserved c =

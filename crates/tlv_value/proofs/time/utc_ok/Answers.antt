@@ -1,5 +1,3 @@
-use Rattle.tlv_value.proofs.OldForms.{utc-same, canonical_generalized-same}
-use Rattle.tlv_value.proofs.OldUnits.{units-same}
 use Rattle.std.proofs.Common.{false, refl, sym, ◌∙◌}
 use Rattle.tlv_value.specs.Times.{maybe, second, utc_zone, ◌then◌}
 use Rattle.tlv_value.proofs.CheckLemmas.Forms.{maybe-left, maybe-there}
