@@ -3,6 +3,7 @@ pub mod CheckPieces
 pub mod EachNoted
 pub mod Utf8ByRow
 pub mod Forms
+pub mod FractionForms
 pub mod Noting
 pub mod LastAndPadded
 pub mod NestedForms

@@ -28,14 +28,14 @@ table_code = finite.code (coded_list coded_ℕ) (coded_list coded_ℕ)
 abbrev pub Entry : Type 0
 Entry = List ℕ × List ℕ
 
--- a line is the octets up to an LF or the end; after a last LF there is none
+-- a line is the octets up to an LF (0a) or the end; after a last LF there is none
 abbrev pub file_lines : List ℕ → List (List ℕ)
 file_lines [] = []
-file_lines (x ∷ xs) = if x == 10 then [] ∷ file_lines xs else onto_first x (file_lines xs)
+file_lines (x ∷ xs) = if x == 0x0a then [] ∷ file_lines xs else onto_first x (file_lines xs)
 
--- a space or a tab
+-- a space (20) or a tab (09)
 abbrev pub is_blank : ℕ → Bool
-is_blank x = (x == 32) || (x == 9)
+is_blank x = (x == 0x20) || (x == 0x09)
 
 abbrev pub without_first_blanks : List ℕ → List ℕ
 without_first_blanks [] = []
@@ -48,12 +48,12 @@ without_last_blanks (x ∷ xs) = if list_all is_blank (x ∷ xs) then [] else x 
 abbrev pub without_outer_blanks : List ℕ → List ℕ
 without_outer_blanks octets = without_last_blanks (without_first_blanks octets)
 
--- digits without a leading zero (48); 0 itself is an arc
+-- digits without a leading zero (30); 0 itself is an arc
 abbrev pub is_arc : List ℕ → Bool
 is_arc part =
     not (length part == 0)
     && list_all is_ascii_digit part
-    && ((length part == 1) || not (slice_index part 0 == 48))
+    && ((length part == 1) || not (slice_index part 0 == 0x30))
 
 -- X.660: the first arc is 0, 1 or 2, and if it is 0 or 1, the second is at most 39
 abbrev pub may_begin : List ℕ → List ℕ → Bool
@@ -65,9 +65,9 @@ are_first_arcs [] = false
 are_first_arcs (first ∷ []) = false
 are_first_arcs (first ∷ second ∷ more) = may_begin first second
 
--- the parts between dots
+-- the parts between dots (2e)
 abbrev pub dotted_parts : List ℕ → List (List ℕ)
-dotted_parts text = slice_split (λ x. x == 46) text
+dotted_parts text = slice_split (λ x. x == 0x2e) text
 
 -- two or more arcs, with dots between them
 abbrev pub is_dotted : List ℕ → Bool
@@ -94,11 +94,11 @@ pair_line dotted name =
     then (if is_name name then entry dotted name else no_name)
     else no_object_identifier
 
--- 35 is the mark of a comment
+-- 23 is #, the mark of a comment
 abbrev pub entry_line : List ℕ → NamesLine
 entry_line [] = no_entry
 entry_line (x ∷ xs) =
-    if x == 35 then no_entry
+    if x == 0x23 then no_entry
     else pair_line (before_first is_blank (x ∷ xs)) (without_first_blanks (after_first is_blank (x ∷ xs)))
 
 -- the largest number of octets in a line, its CR included

@@ -7,3 +7,4 @@ pub mod Room
 pub mod Rows
 pub mod PrimitiveLines
 pub mod TimeFindings
+pub mod TimeParts

@@ -1,62 +1,67 @@
 -- Times as texts: X.680 46 and 47, X.690 11.7 and 11.8.
-use Rattle.std.specs.Prelude.{ℕ, ◌+◌, ◌-◌, ◌*◌, Bool, true, false, ◌&&◌, nat_le, if◌then◌else◌, List, [], ◌∷◌}
-use Rattle.std.specs.Prelude.{◌++◌, flat_map}
+use Rattle.std.specs.Prelude.{ℕ, ◌+◌, ◌-◌, ◌*◌, Bool, true, false, ◌&&◌, ◌||◌, nat_le, List, [], ◌∷◌}
+use Rattle.std.specs.Prelude.{map}
+use Rattle.std.specs.List.{list_all, list_any}
 use Rattle.std.specs.Char.{is_ascii_digit}
 
--- a form of text: from some octets, it gives each rest that is left after a prefix of that form
+-- a form of text: true of each text of the form, false of any other
 abbrev pub Form : Type 0
-Form = List ℕ → List (List ℕ)
+Form = List ℕ → Bool
 
-abbrev pub has_empty_rest : List (List ℕ) → Bool
-has_empty_rest [] = false
-has_empty_rest ([] ∷ rests) = true
-has_empty_rest ((x ∷ xs) ∷ rests) = has_empty_rest rests
-
--- the whole has the form
+-- the text has the form
 abbrev pub has_form : Form → List ℕ → Bool
-has_form form octets = has_empty_rest (form octets)
+has_form form text = form text
 
+-- each way to split a text into a first part and the rest, where either may be empty
+abbrev pub splits : List ℕ → List (List ℕ × List ℕ)
+splits [] = ([], []) ∷ []
+splits (x ∷ xs) = ([], x ∷ xs) ∷ map (λ split. (x ∷ split.0, split.1)) (splits xs)
+
+-- a text of the first form and a text of the second, one after the other: there is a split into such parts
 infixr 20 ◌then◌
 abbrev pub ◌then◌ : Form → Form → Form
-(first then second) octets = flat_map second (first octets)
+(first then second) text = list_any (λ split. first split.0 && second split.1) (splits text)
 
+-- a text of one form or of the other
 infixr 15 ◌or◌
 abbrev pub ◌or◌ : Form → Form → Form
-(first or second) octets = first octets ++ second octets
+(first or second) text = first text || second text
 
+-- the empty text
 abbrev pub no_octets : Form
-no_octets octets = octets ∷ []
+no_octets [] = true
+no_octets (x ∷ xs) = false
 
+-- a text of the form, or the empty text
 abbrev pub maybe : Form → Form
 maybe form = form or no_octets
 
 -- one octet from low to high
 abbrev pub octet_between : ℕ → ℕ → Form
-octet_between low high [] = []
-octet_between low high (x ∷ xs) = if nat_le low x && nat_le x high then xs ∷ [] else []
+octet_between low high (x ∷ []) = nat_le low x && nat_le x high
+octet_between low high text = false
 
+-- this octet
 abbrev pub mark : ℕ → Form
 mark x = octet_between x x
 
--- digits, or none: 48 is 0, 57 is 9
+-- digits, in any number, or none
 abbrev pub digits : Form
-digits [] = [] ∷ []
-digits (x ∷ xs) = (x ∷ xs) ∷ (if is_ascii_digit x then digits xs else [])
+digits text = list_all is_ascii_digit text
 
--- the number that two digits stand for
+-- the number that two digits stand for: 30 is the digit 0
 abbrev pub two_digit_number : ℕ → ℕ → ℕ
-two_digit_number x y = 10 * (x - 48) + (y - 48)
+two_digit_number x y = 10 * (x - 0x30) + (y - 0x30)
 
 -- two digits, of a number from low to high
 abbrev pub two_digits : ℕ → ℕ → Form
-two_digits low high [] = []
-two_digits low high (x ∷ []) = []
-two_digits low high (x ∷ y ∷ rest) =
-    if is_ascii_digit x && is_ascii_digit y && nat_le low (two_digit_number x y) && nat_le (two_digit_number x y) high
-    then rest ∷ []
-    else []
+two_digits low high (x ∷ y ∷ []) =
+    is_ascii_digit x && is_ascii_digit y && nat_le low (two_digit_number x y) && nat_le (two_digit_number x y) high
+two_digits low high text = false
 
--- month and day. Ranges are lenient, here and below: each month has 31 days, hour 24 and second 60 are allowed
+-- ---- The grammars. Each number of two digits is looked at by itself, so ranges are lenient: each month has 31 days,
+-- hour 24 is allowed with any minute, also in a difference, and second 60 in any minute
+
 abbrev pub month_and_day : Form
 month_and_day = two_digits 1 12 then two_digits 1 31
 
@@ -69,16 +74,17 @@ minute = two_digits 0 59
 abbrev pub second : Form
 second = two_digits 0 60
 
--- 43 is +, 45 is -, 90 is Z
+-- 2b is +, 2d is -
 abbrev pub sign : Form
-sign = mark 43 or mark 45
+sign = mark 0x2b or mark 0x2d
 
 -- year to minute
 abbrev pub utc_minute : Form
 utc_minute = two_digits 0 99 then month_and_day then hour then minute
 
+-- 5a is Z
 abbrev pub utc_zone : Form
-utc_zone = mark 90 or (sign then hour then minute)
+utc_zone = mark 0x5a or (sign then hour then minute)
 
 -- X.680 47.3
 abbrev pub utc_time_form : Form
@@ -88,38 +94,41 @@ utc_time_form = utc_minute then maybe second then utc_zone
 abbrev pub generalized_hour : Form
 generalized_hour = two_digits 0 99 then two_digits 0 99 then month_and_day then hour
 
--- 46 is the point, 44 the comma
+-- one digit or more after a point or a comma: 2e is the point, 2c the comma, 30 to 39 are the digits
 abbrev pub fraction : Form
-fraction = (mark 46 or mark 44) then octet_between 48 57 then digits
+fraction = (mark 0x2e or mark 0x2c) then octet_between 0x30 0x39 then digits
 
 abbrev pub generalized_zone : Form
-generalized_zone = mark 90 or (sign then hour then maybe minute)
+generalized_zone = mark 0x5a or (sign then hour then maybe minute)
 
+-- what follows the hour, minute or second
 abbrev pub generalized_tail : Form
 generalized_tail = maybe fraction then maybe generalized_zone
 
--- X.680 46.3. The grammar alone is looked at, and each number of two digits by itself: the days 29 to 31 of each month,
--- hour 24 with any minute, also in a difference, and second 60 of any minute are taken. They are taken in a UTCTime too
+-- X.680 46.3
 abbrev pub generalized_time_form : Form
 generalized_time_form =
     generalized_hour then maybe (minute then maybe second) then generalized_tail
 
--- midnight is hour 0 of the following day
+-- ---- The canonical forms: X.690 11.7, 11.8
+
+-- 11.7.5, 11.8.3: midnight is hour 0 of the following day, so no hour is 24
 abbrev pub canonical_clock : Form
 canonical_clock = two_digits 0 23 then minute then second
 
--- year to second, as the canonical form has it
+-- year of two digits to second. 11.7.2, 11.8.2: the second is always present
 abbrev pub canonical_second : Form
 canonical_second = two_digits 0 99 then month_and_day then canonical_clock
 
--- 11.8
+-- 11.8.1: the time ends with Z
 abbrev pub canonical_utc_time_form : Form
-canonical_utc_time_form = canonical_second then mark 90
+canonical_utc_time_form = canonical_second then mark 0x5a
 
--- 11.7.3: no zero ends the fraction
+-- 11.7.4: the mark of a fraction is the point. 11.7.3: the last digit is not 0, and the point is left out with the
+-- digits: 31 to 39 are the digits 1 to 9
 abbrev pub canonical_fraction : Form
-canonical_fraction = mark 46 then digits then octet_between 49 57
+canonical_fraction = mark 0x2e then digits then octet_between 0x31 0x39
 
--- 11.7
+-- year of four digits to second, and a fraction if there is one. 11.7.1: the time ends with Z
 abbrev pub canonical_generalized_time_form : Form
-canonical_generalized_time_form = (two_digits 0 99 then canonical_second) then maybe canonical_fraction then mark 90
+canonical_generalized_time_form = (two_digits 0 99 then canonical_second) then maybe canonical_fraction then mark 0x5a

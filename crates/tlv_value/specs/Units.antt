@@ -1,6 +1,6 @@
 -- The texts of characters: X.690 8.23, X.680 41.
-use Rattle.std.specs.Prelude.{ℕ, zero, suc, ◌+◌, ◌-◌, ◌*◌, ◌/◌, ◌%◌, ◌&&◌, ◌||◌, Bool, eqb, nat_le}
-use Rattle.std.specs.Prelude.{if◌then◌else◌, List, [], ◌∷◌, ◌++◌, length, flat_map, take, slice_index, codes}
+use Rattle.std.specs.Prelude.{ℕ, zero, suc, ◌+◌, ◌*◌, ◌/◌, ◌%◌, ◌&&◌, ◌||◌, Bool, eqb, nat_le}
+use Rattle.std.specs.Prelude.{if◌then◌else◌, List, [], ◌∷◌, ◌++◌, length, flat_map, take, drop, slice_index, codes}
 use Rattle.std.specs.Str.{is_utf8}
 use Rattle.hex.specs.Hex.{encode_lower}
 use Rattle.tlv_io.specs.Cuts.{utf8_length}
@@ -53,12 +53,16 @@ unit_size Ucs4 octets = if nat_le 4 (length octets) then 4 else 1
 unit_size Utf8 octets = if is_utf8 (character_octets octets) then length (character_octets octets) else 1
 unit_size _ octets = 1
 
--- the units in order, after this number of octets that belong to an earlier unit
-abbrev pub units : Kind → ℕ → List ℕ → List (List ℕ)
-units kind skipped [] = []
-units kind zero (x ∷ xs) =
-    take (unit_size kind (x ∷ xs)) (x ∷ xs) ∷ units kind (unit_size kind (x ∷ xs) - 1) xs
-units kind (suc skipped) (x ∷ xs) = units kind skipped xs
+-- the first units, at most this many: the first one, and the first ones of the octets behind it
+abbrev pub first_units : ℕ → Kind → List ℕ → List (List ℕ)
+first_units zero kind octets = []
+first_units (suc more) kind [] = []
+first_units (suc more) kind (x ∷ xs) =
+    take (unit_size kind (x ∷ xs)) (x ∷ xs) ∷ first_units more kind (drop (unit_size kind (x ∷ xs)) (x ∷ xs))
+
+-- all units, in order. Each has an octet or more, so there are no more units than octets
+abbrev pub units : Kind → List ℕ → List (List ℕ)
+units kind octets = first_units (length octets) kind octets
 
 -- the text of a unit
 abbrev pub unit_text : Kind → List ℕ → List ℕ
@@ -78,4 +82,4 @@ unit_text kind (a ∷ more) = octet_text a
 
 -- a row of characters, in quotation marks
 abbrev pub quoted_text : Kind → List ℕ → List ℕ
-quoted_text kind row = 0x22 ∷ flat_map (unit_text kind) (units kind 0 row) ++ 0x22 ∷ []
+quoted_text kind row = 0x22 ∷ flat_map (unit_text kind) (units kind row) ++ 0x22 ∷ []

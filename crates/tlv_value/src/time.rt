@@ -2,7 +2,8 @@
 //!
 //! `after_..` returns the octets after a part with which the octets begin, or none if they do not begin with it.
 //! `is_..` returns whether the octets are such parts, and no more.
-ghost use Rattle.std.specs.Prelude.{◌≡◌, option_copied, option_to_list};
+ghost use Rattle.std.specs.Prelude.{◌≡◌, option_copied};
+ghost use Rattle.tlv_value.specs.Private.TimeParts.{LeavesRest};
 ghost use Rattle.tlv_value.specs.Times.{canonical_generalized_time_form, canonical_second, canonical_utc_time_form};
 ghost use Rattle.tlv_value.specs.Times.{digits, fraction, generalized_hour, generalized_tail, generalized_time_form};
 ghost use Rattle.tlv_value.specs.Times.{generalized_zone, has_form, hour, mark, maybe, minute, month_and_day};
@@ -67,7 +68,7 @@ pub fn general_canonical(contents: &[u8]) -> bool
 
 /// What is after `YYMMDDhhmm`.
 fn after_utc_minute(octets: &[u8]) -> Option<&[u8]>
-    ensures { option_to_list (option_copied result) ≡ utc_minute octets.now }
+    ensures { LeavesRest utc_minute octets.now (option_copied result) }
 {
     let rest = after_two_digits(octets, 0, 99)?;
     let rest = after_month_and_day(rest)?;
@@ -77,7 +78,7 @@ fn after_utc_minute(octets: &[u8]) -> Option<&[u8]>
 
 /// What is after `YYYYMMDDhh`.
 fn after_generalized_hour(octets: &[u8]) -> Option<&[u8]>
-    ensures { option_to_list (option_copied result) ≡ generalized_hour octets.now }
+    ensures { LeavesRest generalized_hour octets.now (option_copied result) }
 {
     let rest = after_two_digits(octets, 0, 99)?;
     let rest = after_two_digits(rest, 0, 99)?;
@@ -87,7 +88,7 @@ fn after_generalized_hour(octets: &[u8]) -> Option<&[u8]>
 
 /// What is after `YYMMDDhhmmss`, with an hour of at most 23.
 fn after_canonical_second(octets: &[u8]) -> Option<&[u8]>
-    ensures { option_to_list (option_copied result) ≡ canonical_second octets.now }
+    ensures { LeavesRest canonical_second octets.now (option_copied result) }
 {
     let rest = after_two_digits(octets, 0, 99)?;
     let rest = after_month_and_day(rest)?;
@@ -98,7 +99,7 @@ fn after_canonical_second(octets: &[u8]) -> Option<&[u8]>
 
 /// What is after `MMDD`.
 fn after_month_and_day(octets: &[u8]) -> Option<&[u8]>
-    ensures { option_to_list (option_copied result) ≡ month_and_day octets.now }
+    ensures { LeavesRest month_and_day octets.now (option_copied result) }
 {
     let rest = after_two_digits(octets, 1, 12)?;
     after_two_digits(rest, 1, 31)
@@ -171,7 +172,7 @@ fn is_generalized_difference(octets: &[u8]) -> bool
 
 /// Digits, the last of which is not 0, and `Z`, and no more.
 fn is_canonical_fraction_rest(octets: &[u8]) -> bool
-    ensures { result ≡ has_form ((digits then octet_between 49 57) then mark 90) octets.now }
+    ensures { result ≡ has_form ((digits then octet_between 0x31 0x39) then mark 0x5a) octets.now }
 {
     let mut rest = octets;
     while let [b'0'..=b'9', more @ ..] = rest {
@@ -187,19 +188,22 @@ fn is_canonical_fraction_rest(octets: &[u8]) -> bool
 fn is_minute(octets: &[u8]) -> bool
     ensures { result ≡ has_form minute octets.now }
 {
-    matches!(after_two_digits(octets, 0, 59), Some([]))
+    match after_two_digits(octets, 0, 59) {
+        Some(rest) => rest.is_empty(),
+        None => false,
+    }
 }
 
 /// `Z`, and no more.
 fn is_zulu(octets: &[u8]) -> bool
-    ensures { result ≡ has_form (mark 90) octets.now }
+    ensures { result ≡ has_form (mark 0x5a) octets.now }
 {
     matches!(octets, [b'Z'])
 }
 
 /// What is after `+hh` or `-hh`.
 fn after_difference(octets: &[u8]) -> Option<&[u8]>
-    ensures { option_to_list (option_copied result) ≡ (sign then hour) octets.now }
+    ensures { LeavesRest (sign then hour) octets.now (option_copied result) }
 {
     match octets {
         [b'+' | b'-', rest @ ..] => after_two_digits(rest, 0, 24),
@@ -209,7 +213,7 @@ fn after_difference(octets: &[u8]) -> Option<&[u8]>
 
 /// What is after this octet.
 fn after_mark(octets: &[u8], octet: u8) -> Option<&[u8]>
-    ensures { option_to_list (option_copied result) ≡ mark octet octets.now }
+    ensures { LeavesRest (mark octet) octets.now (option_copied result) }
 {
     match octets {
         [first, rest @ ..] if *first == octet => Some(rest),
@@ -220,7 +224,7 @@ fn after_mark(octets: &[u8], octet: u8) -> Option<&[u8]>
 /// What is after two digits of a number from `low` to `high`.
 #[inline(always)]
 fn after_two_digits(octets: &[u8], low: u8, high: u8) -> Option<&[u8]>
-    ensures { option_to_list (option_copied result) ≡ two_digits low high octets.now }
+    ensures { LeavesRest (two_digits low high) octets.now (option_copied result) }
 {
     let [tens @ b'0'..=b'9', ones @ b'0'..=b'9', rest @ ..] = octets else {
         return None;

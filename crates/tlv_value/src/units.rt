@@ -19,7 +19,7 @@ const ROW: usize = 64;
 pub(crate) fn write_characters(held: &mut HeldOctets, kind: Kind, row: &[u8])
     requires short { length row.now ≤ 64 }
     requires room { HasRoomFor held.old 320 }
-    ensures { held.new ≡ held.old ++ flat_map (unit_text kind) (units kind 0 row.now) }
+    ensures { held.new ≡ held.old ++ flat_map (unit_text kind) (units kind row.now) }
 {
     // Most rows are written as they are. They are checked and copied as a block of one size, so that no branch
     // depends on the number of octets.
@@ -46,7 +46,7 @@ fn block_of(row: &[u8]) -> [u8; ROW]
 /// Adds the units of a row of characters.
 #[inline(never)]
 fn write_units(held: &mut HeldOctets, kind: Kind, row: &[u8])
-    ensures { AddsIfRoom held.old held.new (flat_map (unit_text kind) (units kind 0 row.now)) }
+    ensures { AddsIfRoom held.old held.new (flat_map (unit_text kind) (units kind row.now)) }
 {
     let mut rest = row;
     while !rest.is_empty() {

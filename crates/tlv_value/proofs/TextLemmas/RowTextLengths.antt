@@ -1,10 +1,10 @@
 -- No text of a row is longer than its line has room.
 use Rattle.std.proofs.Common.{◌≡◌, ℕ, zero, suc, ◌+◌, ◌-◌, ◌*◌, ◌^◌, ◌<◌, ◌≤◌, Bool, true, false, List, [], ◌∷◌, ◌++◌}
-use Rattle.std.proofs.Common.{length, take, refl, ap, ◌∙◌, arith, length-append}
+use Rattle.std.proofs.Common.{length, take, drop, refl, ap, ◌∙◌, arith, length-append}
 use Rattle.std.proofs.lemmas.Bool.Decides.{nat_tests}
 use Rattle.std.proofs.lemmas.Bool.{leb-true}
 use Rattle.std.proofs.lemmas.Fmt.{length-decimal-le_wide}
-use Rattle.std.proofs.lemmas.List.{length-map, length-take}
+use Rattle.std.proofs.lemmas.List.{length-drop, length-map, length-take}
 use Rattle.std.specs.List.{list_all}
 use Rattle.std.specs.Prelude.{ℤ, pos, negsuc, codes, decimal, FitsSigned}
 use Rattle.std.specs.Fmt.{signed_decimal}
@@ -15,15 +15,14 @@ use Rattle.tlv_value.specs.Number.{twos_complement}
 use Rattle.tlv_value.specs.Rows.{rows_of}
 use Rattle.tlv_value.proofs.TextLemmas.Numbers.{length-bits, twos-fits_all}
 use Rattle.std.specs.Prelude.{eqb, nat_le, ◌&&◌, flat_map, if◌then◌else◌}
-use Rattle.std.specs.Str.{is_utf8}
 use Rattle.hex.specs.Hex.{encode_lower, lower_digits}
 use Rattle.hex.proofs.HexLemmas.{length-encode_with}
 use Rattle.tlv_head.specs.declared.kind.Kind.{Kind}
 use Rattle.tlv_head.specs.declared.kind.Kind.TheVariants.{Octets, Boolean, Integer, Bits, Object, Relative, Text, Utf8}
 use Rattle.tlv_head.specs.declared.kind.Kind.TheVariants.{Ucs2, Ucs4}
-use Rattle.tlv_io.specs.Cuts.{utf8_length}
 use Rattle.tlv_value.specs.Units.{escaped_number, escaped_octet, is_printable, octet_text, printable_text, quoted_text}
-use Rattle.tlv_value.specs.Units.{three_octets, unit_size, unit_text, units, utf8_number, without_zeros}
+use Rattle.tlv_value.specs.Units.{first_units, three_octets, unit_size, unit_text, units, utf8_number, without_zeros}
+use Rattle.tlv_value.proofs.TextLemmas.UnitSteps.{size-within}
 use Rattle.tlv_value.specs.Value.{Value, bit_count_text, bits_value, boolean_value, integer_value, is_readable}
 use Rattle.tlv_value.specs.Private.UndottedText.{line_pairs}
 use Rattle.tlv_value.specs.Value.{joined_pairs, pairs_with_text, text_behind}
@@ -114,59 +113,33 @@ unit-short Utf8 (a ∷ unit) h = utf8-short (a ∷ unit) h
 unit-short Ucs2 (a ∷ unit) h = ucs2-short (a ∷ unit) h
 unit-short Ucs4 (a ∷ unit) h = ucs4-short (a ∷ unit) h
 
-utf8_length-some : (x : ℕ) → 1 ≤ utf8_length x
-utf8_length-some x = grind (arith, nat_tests)
-
-if-within : (b : Bool) (m k n : ℕ) → (1 ≤ m) × (m ≤ n) → (1 ≤ k) × (k ≤ n)
-    → (1 ≤ (if b then m else k)) × ((if b then m else k) ≤ n)
-if-within true m k n h g = h
-if-within false m k n h g = g
-
-ucs-within : (b : Bool) (m n : ℕ) → nat_le m n ≡ b → 1 ≤ m → 1 ≤ n
-    → (1 ≤ (if b then m else 1)) × ((if b then m else 1) ≤ n)
-ucs-within true m n e h g = (h, grind (arith, nat_tests))
-ucs-within false m n e h g = (omega arith, g)
-
-size-within : (kind : Kind) (x : ℕ) (xs : List ℕ)
-    → (1 ≤ unit_size kind (x ∷ xs)) × (unit_size kind (x ∷ xs) ≤ length (x ∷ xs))
-size-within Octets x xs = (omega arith, omega arith)
-size-within Boolean x xs = (omega arith, omega arith)
-size-within Integer x xs = (omega arith, omega arith)
-size-within Bits x xs = (omega arith, omega arith)
-size-within Object x xs = (omega arith, omega arith)
-size-within Relative x xs = (omega arith, omega arith)
-size-within Text x xs = (omega arith, omega arith)
-size-within Utf8 x xs =
-    let l = length-take (utf8_length x) (x ∷ xs) in
-    let s = utf8_length-some x in
-    if-within (is_utf8 (take (utf8_length x) (x ∷ xs))) (length (take (utf8_length x) (x ∷ xs))) 1 (length (x ∷ xs))
-    (omega arith, omega arith) (omega arith, omega arith)
-size-within Ucs2 x xs = ucs-within (nat_le 2 (length (x ∷ xs))) 2 (length (x ∷ xs)) refl (omega arith) (omega arith)
-size-within Ucs4 x xs = ucs-within (nat_le 4 (length (x ∷ xs))) 4 (length (x ∷ xs)) refl (omega arith) (omega arith)
-
-pub units-short : (kind : Kind) (skipped : ℕ) (xs : List ℕ)
-    → length (flat_map (unit_text kind) (units kind skipped xs)) ≤ 5 * (length xs - skipped)
-units-short kind skipped [] = omega arith
-units-short kind (suc skipped) (x ∷ xs) = omega (arith, units-short kind skipped xs)
-units-short kind zero (x ∷ xs) =
+-- the first units
+first-short : (kind : Kind) (most : ℕ) (xs : List ℕ)
+    → length (flat_map (unit_text kind) (first_units most kind xs)) ≤ 5 * length xs
+first-short kind zero xs = omega arith
+first-short kind (suc more) [] = omega arith
+first-short kind (suc more) (x ∷ xs) =
     let m : ℕ = unit_size kind (x ∷ xs) in
     let w = size-within kind x xs in
     let l : length (take m (x ∷ xs)) ≡ m = length-take m (x ∷ xs) ∙ omega arith in
     let u = unit-short kind (take m (x ∷ xs)) (omega (arith, l, w.0)) in
-    let r = units-short kind (m - 1) xs in
+    let rest : List ℕ = drop m (x ∷ xs) in
     omega (
       arith,
-      length-append (unit_text kind (take m (x ∷ xs))) (flat_map (unit_text kind) (units kind (m - 1) xs)),
+      length-append (unit_text kind (take m (x ∷ xs))) (flat_map (unit_text kind) (first_units more kind rest)),
       u,
-      r,
+      first-short kind more rest,
+      length-drop m (x ∷ xs),
       l,
-      w.0,
       w.1,
     )
 
+pub units-short : (kind : Kind) (xs : List ℕ) → length (flat_map (unit_text kind) (units kind xs)) ≤ 5 * length xs
+units-short kind xs = first-short kind (length xs) xs
+
 pub quoted-short : (kind : Kind) (row : List ℕ) → length (quoted_text kind row) ≤ 5 * length row + 2
 quoted-short kind row =
-    omega (arith, length-append (flat_map (unit_text kind) (units kind 0 row)) (34 ∷ []), units-short kind 0 row)
+    omega (arith, length-append (flat_map (unit_text kind) (units kind row)) (34 ∷ []), units-short kind row)
 
 pub joined-short : (octets : List ℕ) → length (joined_pairs octets) ≤ 3 * length octets
 joined-short [] = omega arith

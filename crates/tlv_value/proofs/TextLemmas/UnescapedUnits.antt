@@ -60,25 +60,25 @@ unescaped-text Ucs4 x a h = absurd (cc)
 -- the first n octets are n units, which are written as they are
 pub unescaped-units : (kind : Kind) (n : ℕ) (octets : List ℕ) → n ≤ length octets → has_ascii_octets kind ≡ true
     → ((i : ℕ) → i < n → is_unescaped (get_or octets i 0) ≡ true)
-    → flat_map (unit_text kind) (units kind 0 octets)
-    ≡ take n octets ++ flat_map (unit_text kind) (units kind 0 (drop n octets))
+    → flat_map (unit_text kind) (units kind octets)
+    ≡ take n octets ++ flat_map (unit_text kind) (units kind (drop n octets))
 unescaped-units kind zero [] h a p = refl
 unescaped-units kind zero (x ∷ xs) h a p = refl
 unescaped-units kind (suc n) [] h a p = absurd (omega arith)
 unescaped-units kind (suc n) (x ∷ xs) h a p =
     let unescaped = p 0 (omega arith) in
-    units-step kind 1 (x ∷ xs) (unescaped-size kind x xs a unescaped) (omega arith) (omega arith)
-    ∙ ap (λ (t : List ℕ). t ++ flat_map (unit_text kind) (units kind 0 xs)) (unescaped-text kind x a unescaped)
+    units-step kind 1 (x ∷ xs) (unescaped-size kind x xs a unescaped) (omega arith)
+    ∙ ap (λ (t : List ℕ). t ++ flat_map (unit_text kind) (units kind xs)) (unescaped-text kind x a unescaped)
     ∙ ap (λ (t : List ℕ). x ∷ t) (unescaped-units kind n xs (omega arith) a (λ i g. p (suc i) (omega arith)))
 
 -- a row of such characters is written as it is
 pub unescaped-row : (kind : Kind) (row : List ℕ) → has_ascii_octets kind ≡ true → list_all is_unescaped row ≡ true
-    → flat_map (unit_text kind) (units kind 0 row) ≡ row
+    → flat_map (unit_text kind) (units kind row) ≡ row
 unescaped-row kind [] a p = refl
 unescaped-row kind (x ∷ xs) a p =
     let both = and-true (is_unescaped x) (list_all is_unescaped xs) p in
-    units-step kind 1 (x ∷ xs) (unescaped-size kind x xs a both.0) (omega arith) (omega arith)
-    ∙ ap (λ (t : List ℕ). t ++ flat_map (unit_text kind) (units kind 0 xs)) (unescaped-text kind x a both.0)
+    units-step kind 1 (x ∷ xs) (unescaped-size kind x xs a both.0) (omega arith)
+    ∙ ap (λ (t : List ℕ). t ++ flat_map (unit_text kind) (units kind xs)) (unescaped-text kind x a both.0)
     ∙ ap (λ (t : List ℕ). x ∷ t) (unescaped-row kind xs a both.1)
 
 -- the first of octets that are written as they are are so too

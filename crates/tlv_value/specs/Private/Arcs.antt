@@ -7,4 +7,4 @@ use Rattle.tlv_value.specs.Arcs.{dotted_arcs, first_arcs}
 abbrev pub arcs_text : Bool → Bool → ℕ → List ℕ
 arcs_text true true v = decimal v
 arcs_text true false v = dotted_arcs (first_arcs v)
-arcs_text false relative v = 46 ∷ decimal v
+arcs_text false relative v = 0x2e ∷ decimal v

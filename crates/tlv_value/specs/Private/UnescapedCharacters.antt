@@ -30,5 +30,5 @@ AreUnescaped kind octets n =
 abbrev pub IsPart : Kind → List ℕ → List ℕ → List ℕ → ℕ → Type 0
 IsPart kind octets old new n =
     (text : List ℕ) × AddsIfRoom old new text
-    × (flat_map (unit_text kind) (units kind 0 octets)
-    ≡ text ++ flat_map (unit_text kind) (units kind 0 (drop n octets)))
+    × (flat_map (unit_text kind) (units kind octets)
+    ≡ text ++ flat_map (unit_text kind) (units kind (drop n octets)))

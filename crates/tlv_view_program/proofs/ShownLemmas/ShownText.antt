@@ -1,11 +1,11 @@
 -- Texts that the lines of a dump are made of are printable ASCII: pairs of digits, characters in quotation marks, tags.
 use Rattle.std.proofs.Common.{◌≡◌, inl, inr, ℕ, zero, suc, ◌-◌, ◌<◌, ◌/◌, ◌%◌, ◌&&◌, ◌||◌, true, false, eqb}
-use Rattle.std.proofs.Common.{List, [], ◌∷◌, ◌++◌, refl, arith, length, take, ℤ, pos, negsuc}
+use Rattle.std.proofs.Common.{List, [], ◌∷◌, ◌++◌, refl, arith, length, take, drop, ℤ, pos, negsuc}
 use Rattle.std.specs.Prelude.{codes, decimal, flat_map, None, slice_index}
 use Rattle.std.specs.Fmt.{signed_decimal}
 use Rattle.std.specs.List.{All, join_by}
 use Rattle.std.proofs.lemmas.Bool.{and_parts, cases_Bool}
-use Rattle.std.proofs.lemmas.List.Elements.{All-cons, All-head, All-nil, All-tail, All-take}
+use Rattle.std.proofs.lemmas.List.Elements.{All-cons, All-drop, All-head, All-nil, All-tail, All-take}
 use Rattle.std.proofs.lemmas.List.Folds.{list_all_at}
 use Rattle.hex.specs.Hex.{encode_lower, encode_with, lower_digits}
 use Rattle.tlv_head.specs.Tag.{tag_text}
@@ -16,7 +16,7 @@ use Rattle.tlv_walk.specs.Reading.{AreOctets}
 use Rattle.tlv_head.specs.declared.kind.Kind.{Kind}
 use Rattle.tlv_head.specs.declared.kind.Kind.TheVariants as kind
 use Rattle.tlv_value.specs.Units.{escaped_number, escaped_octet, is_printable, octet_text, printable_text, quoted_text}
-use Rattle.tlv_value.specs.Units.{three_octets, unit_size, unit_text, units, utf8_number, without_zeros}
+use Rattle.tlv_value.specs.Units.{first_units, three_octets, unit_size, unit_text, units, utf8_number, without_zeros}
 use Rattle.tlv_value.specs.Value.{joined_pairs}
 use Rattle.tlv_why.specs.Laws.{AreShown, is_shown_octet}
 use Rattle.tlv_why.specs.Words.{named_element}
@@ -180,21 +180,21 @@ unit-shown kind.Object (a ∷ more) o = octet_text-shown a (first-octet a more o
 unit-shown kind.Relative (a ∷ more) o = octet_text-shown a (first-octet a more o)
 unit-shown kind.Text (a ∷ more) o = octet_text-shown a (first-octet a more o)
 
-units-octets : (k : Kind) (skipped : ℕ) (row : List ℕ) → AreOctets row
-    → All (λ (unit : List ℕ). AreOctets unit) (units k skipped row)
-units-octets k skipped [] o = All-nil (λ (unit : List ℕ). AreOctets unit)
-units-octets k zero (x ∷ xs) o =
-    All-cons (λ (unit : List ℕ). AreOctets unit) (take (unit_size k (x ∷ xs)) (x ∷ xs))
-    (units k (unit_size k (x ∷ xs) - 1) xs)
-    (All-take (λ (n : ℕ). n < 256) (unit_size k (x ∷ xs)) (x ∷ xs) o)
-    (units-octets k (unit_size k (x ∷ xs) - 1) xs (All-tail (λ (n : ℕ). n < 256) x xs o))
-units-octets k (suc skipped) (x ∷ xs) o = units-octets k skipped xs (All-tail (λ (n : ℕ). n < 256) x xs o)
+units-octets : (k : Kind) (most : ℕ) (row : List ℕ) → AreOctets row
+    → All (λ (unit : List ℕ). AreOctets unit) (first_units most k row)
+units-octets k zero row o = All-nil (λ (unit : List ℕ). AreOctets unit)
+units-octets k (suc more) [] o = All-nil (λ (unit : List ℕ). AreOctets unit)
+units-octets k (suc more) (x ∷ xs) o =
+    let size : ℕ = unit_size k (x ∷ xs) in
+    All-cons (λ (unit : List ℕ). AreOctets unit) (take size (x ∷ xs)) (first_units more k (drop size (x ∷ xs)))
+    (All-take (λ (n : ℕ). n < 256) size (x ∷ xs) o)
+    (units-octets k more (drop size (x ∷ xs)) (All-drop (λ (n : ℕ). n < 256) size (x ∷ xs) o))
 
 pub quoted-shown : (k : Kind) (row : List ℕ) → AreOctets row → AreShown (quoted_text k row)
 quoted-shown k row o =
-    joined-shown (flat_map (unit_text k) (units k 0 row)) (0x22 ∷ [])
-    (flat-shown (unit_text k) (λ (unit : List ℕ). AreOctets unit) (units k 0 row) (unit-shown k)
-    (units-octets k 0 row o)) refl
+    joined-shown (flat_map (unit_text k) (units k row)) (0x22 ∷ [])
+    (flat-shown (unit_text k) (λ (unit : List ℕ). AreOctets unit) (units k row) (unit-shown k)
+    (units-octets k (length row) row o)) refl
 
 -- ---- tags
 

@@ -1,23 +1,23 @@
-use Rattle.std.proofs.Common.{◌≡◌, ◌∷◌, [], List, ℕ, sym, ◌∙◌}
+use Rattle.std.proofs.Common.{◌≡◌, List, ℕ, false, refl, sym, ◌∙◌}
 use Rattle.std.specs.Prelude.{Bool, Some}
+use Rattle.tlv_value.specs.Private.TimeParts.{LeavesRest}
 use Rattle.tlv_value.specs.Times.{generalized_hour, generalized_tail, has_form, maybe, minute, second, ◌then◌}
-use Rattle.tlv_value.proofs.CheckLemmas.Forms.{form-then, form-three, maybe-left, maybe-there}
+use Rattle.tlv_value.proofs.CheckLemmas.Forms.{maybe-left, maybe-there, no_rest_then, then-assoc}
 use Rattle.tlv_value.proofs.time.general_ok.Goals as goal
 
 -- the minute is there
-with_minute : (rest after : List ℕ) (r : Bool) → after ∷ [] ≡ minute rest
+with_minute : (rest after : List ℕ) (r : Bool) → LeavesRest minute rest (Some after)
     → r ≡ has_form (maybe second then generalized_tail) after
     → r ≡ has_form ((minute then maybe second) then generalized_tail) rest
 with_minute rest after r e h =
-    h ∙ sym (form-then minute (maybe second then generalized_tail) rest (Some after) e)
-    ∙ sym (form-three minute (maybe second) generalized_tail rest)
+    h ∙ sym (e (maybe second then generalized_tail)) ∙ sym (then-assoc minute (maybe second) generalized_tail rest)
 
 -- the hour is there
-with_hour : (c rest : List ℕ) (r : Bool) → rest ∷ [] ≡ generalized_hour c
+with_hour : (c rest : List ℕ) (r : Bool) → LeavesRest generalized_hour c (Some rest)
     → r ≡ has_form (maybe (minute then maybe second) then generalized_tail) rest
     → r ≡ has_form (generalized_hour then maybe (minute then maybe second) then generalized_tail) c
 with_hour c rest r e h =
-    h ∙ sym (form-then generalized_hour (maybe (minute then maybe second) then generalized_tail) c (Some rest) e)
+    h ∙ sym (e (maybe (minute then maybe second) then generalized_tail))
 
 pub returns-then-is_second_and_tail : goal.returns-then-is_second_and_tail
 returns-then-is_second_and_tail c =
@@ -38,3 +38,11 @@ returns-else-is_second_and_tail c =
     (with_minute rest c.in-Some-after_two_digits.after.now r c.in-Some-after_two_digits.ensures
     c.is_second_and_tail.ensures)
     c.if-is_second_and_tail.false c.is_generalized_tail.ensures)
+
+pub returns-in-None : goal.returns-in-None
+returns-in-None c =
+    let rest : List ℕ = c.in-Some.rest.now in
+    with_hour c.args.contents.now rest c.is_generalized_tail-in-None.result c.in-Some.ensures
+    (maybe-left (minute then maybe second) generalized_tail rest false c.is_generalized_tail-in-None.result
+    (sym (no_rest_then minute (maybe second) rest c.in-None.ensures generalized_tail)) refl
+    c.is_generalized_tail-in-None.ensures)

@@ -4,8 +4,8 @@ use Rattle.tlv_value.proofs.time.is_canonical_fraction_rest.Given as goal
 
 abbrev pub invariant-loop-rest : goal.invariant-loop-rest
 invariant-loop-rest l =
-    has_form ((digits then octet_between 49 57) then mark 90) l.rest
-    ≡ has_form ((digits then octet_between 49 57) then mark 90) l.octets
+    has_form ((digits then octet_between 0x31 0x39) then mark 0x5a) l.rest
+    ≡ has_form ((digits then octet_between 0x31 0x39) then mark 0x5a) l.octets
 
 abbrev pub decreases-loop-rest : goal.decreases-loop-rest
 decreases-loop-rest l = length l.rest

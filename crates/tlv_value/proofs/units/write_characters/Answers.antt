@@ -17,4 +17,4 @@ returns-then-are_unescaped c =
 
 pub returns : goal.returns
 returns c = c.write_units.ensures
-    (omega (arith, units-short c.args.kind 0 c.args.row.now, c.requires.short, c.requires.room))
+    (omega (arith, units-short c.args.kind c.args.row.now, c.requires.short, c.requires.room))

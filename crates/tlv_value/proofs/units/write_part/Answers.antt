@@ -19,6 +19,5 @@ returns-clause-text c =
     let n : ℕ = c.unit_size-size.result in (
       unit_text c.args.kind (take n c.args.octets.now),
       (λ h. c.write_unit.ensures h),
-      units-step c.args.kind n c.args.octets.now c.unit_size-size.ensures.value c.unit_size-size.ensures.count.some
-          c.requires,
+      units-step c.args.kind n c.args.octets.now c.unit_size-size.ensures.value c.requires,
     )

@@ -15,6 +15,6 @@ loop-rest-preserved c =
           let written = i.1 (omega (arith, length-append i.0 part.0, h)) in
           part.1 (rw written (omega (arith, length-append i.0 part.0, length-append c.args.held.now i.0, h)))
           ∙ ap (λ (t : List ℕ). t ++ part.0) written ∙ append_assoc c.args.held.now i.0 part.0),
-      append_assoc i.0 part.0 (flat_map (unit_text c.args.kind) (units c.args.kind 0 c.split_at.result.1.now))
+      append_assoc i.0 part.0 (flat_map (unit_text c.args.kind) (units c.args.kind c.split_at.result.1.now))
           ∙ ap (λ (t : List ℕ). i.0 ++ t) (rw c.split_at.ensures.back (sym part.2)) ∙ i.2,
     )

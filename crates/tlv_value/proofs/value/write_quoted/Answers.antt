@@ -16,21 +16,21 @@ write_characters-requires c =
 
 pub add-requires-2 : goal.add-requires-2
 add-requires-2 c =
-    let text : List ℕ = flat_map (unit_text c.args.kind) (units c.args.kind 0 c.args.row.now) in
+    let text : List ℕ = flat_map (unit_text c.args.kind) (units c.args.kind c.args.row.now) in
     omega (
       arith,
       ap length c.write_characters.ensures,
       length-append c.add.new.self text,
       ap length c.add.ensures,
       length-append c.args.held.now (32 ∷ 34 ∷ []),
-      units-short c.args.kind 0 c.args.row.now,
+      units-short c.args.kind c.args.row.now,
       c.requires.short,
       c.requires.room,
     )
 
 pub returns : goal.returns
 returns c =
-    let text : List ℕ = flat_map (unit_text c.args.kind) (units c.args.kind 0 c.args.row.now) in
+    let text : List ℕ = flat_map (unit_text c.args.kind) (units c.args.kind c.args.row.now) in
     c.add-2.ensures
     ∙ ap (λ (l : List ℕ). l ++ 34 ∷ []) (c.write_characters.ensures ∙ ap (λ (l : List ℕ). l ++ text) c.add.ensures)
     ∙ append_assoc (c.args.held.now ++ 32 ∷ 34 ∷ []) text (34 ∷ [])
