@@ -8,7 +8,7 @@ use Rattle.tlv_head.specs.declared.header.Size.TheVariants.{Definite}
 use Rattle.tlv_head.specs.Header.{HeaderValue}
 use Rattle.tlv_head.specs.declared.kind.Kind.TheVariants.{Integer, Text}
 use Rattle.tlv_value.specs.declared.layout.Layout.{Layout}
-use Rattle.tlv_value.specs.ValueLines.{open_lines_with, shown_row_lines, whole_lines, whole_lines_with}
+use Rattle.tlv_value.specs.ValueLines.{incomplete_lines_with, shown_row_lines, whole_lines, whole_lines_with}
 use Rattle.tlv_value.specs.Value.{no_names, octets_value, row_text}
 
 three-letters : (octets_value true (codes "abc")).text ≡ codes " 61 62 63  |abc|"
@@ -95,7 +95,7 @@ unfolding encode_with
 rows-up-to-limit = refl
 
 -- the first row is known before the last octet
-known-rows : open_lines_with true (zero_header 17) all_rows (codes "0123456789abcdef")
+known-rows : incomplete_lines_with true (zero_header 17) all_rows (codes "0123456789abcdef")
     ≡ codes "       0     17: [0]\n"
     ++ codes "                   30 31 32 33 34 35 36 37 38 39 61 62 63 64 65 66  |0123456789abcdef|\n"
 unfolding encode_with digits

@@ -14,7 +14,7 @@ use Rattle.tlv_value.specs.Bits.{bits_of}
 use Rattle.tlv_value.specs.RowSizes.{row_size}
 use Rattle.tlv_head.specs.Kind.{is_text}
 use Rattle.tlv_value.specs.Number.{twos_complement}
-use Rattle.tlv_value.specs.Rows.{known_rows, rows_of}
+use Rattle.tlv_value.specs.Rows.{full_rows_in, rows_of}
 use Rattle.tlv_value.specs.Units.{is_printable, quoted_text}
 
 -- what the element's line has after the tag text, and the octets of each row
@@ -125,32 +125,37 @@ short_value with_text name_of Relative octets = object_value with_text no_names 
 short_value with_text name_of kind octets =
     if is_text kind then value_on_line (quoted_text kind octets) else octets_value with_text octets
 
--- for long contents: what the line of n octets shows, of which these have come. 8.6.2: for a BIT STRING, the number
--- of bits, if its first octet can be read
+-- what the line of a long value shows: for a BIT STRING of this size whose first octet can be read, the number of bits
+-- (8.6.2), and nothing for any other
 abbrev pub long_text : Kind → ℕ → List ℕ → List ℕ
-long_text Bits n (unused_bits ∷ octets) =
-    if nat_le unused_bits 7 then 0x20 ∷ bit_count_text unused_bits (n - 1) else []
-long_text kind n octets = []
+long_text Bits size (unused_bits ∷ octets) =
+    if nat_le unused_bits 7 then 0x20 ∷ bit_count_text unused_bits (size - 1) else []
+long_text kind size octets = []
 
 -- the octets that are shown in rows: all but such a first octet
 abbrev pub row_octets : Kind → List ℕ → List ℕ
 row_octets Bits (unused_bits ∷ octets) = if nat_le unused_bits 7 then octets else unused_bits ∷ octets
 row_octets kind octets = octets
 
--- the value of long contents of n octets, of which these have come, as far as it is known. The first argument says
--- whether they are whole
-abbrev pub long_value : Bool → Kind → ℕ → List ℕ → Value
-long_value whole kind n octets = record {
-  text = long_text kind n octets;
-  rows = known_rows whole kind (row_octets kind octets);
+-- the value of long contents
+abbrev pub long_value : Kind → List ℕ → Value
+long_value kind octets = record {
+  text = long_text kind (length octets) octets;
+  rows = rows_of kind (row_octets kind octets);
 }
 
--- the value of contents that are whole
+-- the value of whole contents: long, or on the line
 abbrev pub whole_value : Bool → NameOf → Kind → List ℕ → Value
 whole_value with_text name_of kind octets =
-    if is_long kind (length octets)
-    then long_value true kind (length octets) octets
-    else short_value with_text name_of kind octets
+    if is_long kind (length octets) then long_value kind octets else short_value with_text name_of kind octets
+
+-- the value of long contents that break off after these octets. `size` is the length that the header announces. All
+-- rows are shown but a last one that is not full
+abbrev pub incomplete_value : Kind → ℕ → List ℕ → Value
+incomplete_value kind size octets = record {
+  text = long_text kind size octets;
+  rows = full_rows_in kind (rows_of kind (row_octets kind octets));
+}
 
 -- pairs of digits with spaces between them
 abbrev pub joined_pairs : List ℕ → List ℕ

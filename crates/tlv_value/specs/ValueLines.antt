@@ -1,4 +1,5 @@
--- The lines of a primitive that is whole, and of one whose contents are still to come.
+-- The lines of a primitive that is whole, and of one that is incomplete: its contents break off, since the input ends or
+-- an octet is refused before the announced length is reached.
 use Rattle.std.specs.Prelude.{◌&&◌, Bool, true, false, if◌then◌else◌, List, [], ◌++◌, ℕ, decimal, flat_map, map}
 use Rattle.tlv_head.specs.Header.{HeaderValue, announced_length}
 use Rattle.tlv_head.specs.Tag.{tag_text}
@@ -7,13 +8,14 @@ use Rattle.tlv_head.specs.declared.kind.Kind.TheVariants.{Bits}
 use Rattle.tlv_value.specs.declared.layout.Layout.{Layout}
 use Rattle.tlv_head.specs.Kind.{kind_of}
 use Rattle.tlv_value.specs.Layout.{columns, inner_line, line, shown_rows}
-use Rattle.tlv_value.specs.Value.{NameOf, Value, is_long, long_value, row_text, whole_value}
+use Rattle.tlv_value.specs.Value.{NameOf, Value, incomplete_value, is_long, row_text, whole_value}
 
 -- the kind of the element's type
 abbrev pub header_kind : HeaderValue → Kind
 header_kind h = kind_of h.class h.number
 
--- the line of a long value is known from its header; for a BIT STRING, from its first contents octet
+-- the line of a long value is known from the header; for a BIT STRING, whose line shows the number of bits, only with
+-- the first contents octet
 abbrev pub has_line : Kind → List ℕ → Bool
 has_line Bits [] = false
 has_line kind octets = true
@@ -36,12 +38,12 @@ module _ (with_text : Bool) where
   whole_lines_with name_of h layout octets =
       value_lines h layout (whole_value with_text name_of (header_kind h) octets)
 
-  -- the lines of a primitive of whose contents these octets have come, and others are still to come: for a long value,
-  -- the lines that are known
-  abbrev pub open_lines_with : HeaderValue → Layout → List ℕ → List ℕ
-  open_lines_with h layout octets =
+  -- the lines of a primitive whose contents break off after these octets: none, unless the announced length is that of
+  -- a long value and its line is known
+  abbrev pub incomplete_lines_with : HeaderValue → Layout → List ℕ → List ℕ
+  incomplete_lines_with h layout octets =
       if is_long (header_kind h) (announced_length h.size) && has_line (header_kind h) octets
-      then value_lines h layout (long_value false (header_kind h) (announced_length h.size) octets)
+      then value_lines h layout (incomplete_value (header_kind h) (announced_length h.size) octets)
       else []
 
 -- the lines of a primitive that is whole, without text beside pairs

@@ -11,7 +11,7 @@ use Rattle.tlv_head.specs.declared.kind.Kind.TheVariants.{Octets}
 use Rattle.tlv_value.specs.declared.layout.Layout.{Layout}
 use Rattle.tlv_value.specs.Layout.{columns, inner_line, line}
 use Rattle.tlv_value.specs.declared.primitive.Primitive.{Primitive}
-use Rattle.tlv_value.specs.Rows.{full_rows, open_row}
+use Rattle.tlv_value.specs.RowsSoFar.{full_rows, open_row}
 use Rattle.tlv_value.specs.ValueLines.{has_line, header_kind, shown_row_lines}
 use Rattle.tlv_value.specs.Value.{NameOf, is_long, long_text, row_octets, row_text, short_value}
 

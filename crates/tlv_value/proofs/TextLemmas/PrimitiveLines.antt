@@ -1,5 +1,5 @@
 -- What the calls put is what the definitions say.
-use Rattle.std.proofs.Common.{◌≡◌, ℕ, ◌+◌, ◌≤◌, Bool, true, false, List, [], ◌∷◌, ◌++◌, length, refl, sym, ap, ◌∙◌}
+use Rattle.std.proofs.Common.{◌≡◌, ℕ, ◌≤◌, Bool, true, false, List, [], ◌∷◌, ◌++◌, length, refl, sym, ap, ◌∙◌}
 use Rattle.std.proofs.Common.{arith, append_assoc, append-nil}
 use Rattle.std.specs.Prelude.{nat_le, if◌then◌else◌}
 use Rattle.std.proofs.lemmas.Bool.Decides.{nat_tests}
@@ -10,7 +10,7 @@ use Rattle.tlv_value.specs.declared.layout.Layout.{Layout}
 use Rattle.tlv_value.specs.Private.ObjectLines.{object_lines}
 use Rattle.tlv_value.specs.Private.PrimitiveLines.{line_prefix}
 use Rattle.tlv_value.specs.declared.primitive.Primitive.{Primitive}
-use Rattle.tlv_value.specs.Rows.{full_rows}
+use Rattle.tlv_value.specs.RowsSoFar.{full_rows}
 use Rattle.tlv_value.specs.ValueLines.{shown_row_lines}
 use Rattle.tlv_value.specs.ValueTextState.{KeptContents, ValueTextState, contents_lines, end_lines, primitive_line}
 use Rattle.tlv_value.specs.ValueTextState.{primitive_lines, row_lines}

@@ -24,7 +24,7 @@ use Rattle.tlv_value.specs.declared.layout.Layout.{Layout}
 use Rattle.tlv_value.specs.Finding.{finding_code, finding_text}
 use Rattle.tlv_value.specs.Layout.{blank_columns, columns, inner_line, line, margin, shown_rows, spaces}
 use Rattle.tlv_value.specs.Value.{NameOf, Value, is_long, row_text, whole_value}
-use Rattle.tlv_value.specs.ValueLines.{has_line, header_kind, open_lines_with, shown_row_lines}
+use Rattle.tlv_value.specs.ValueLines.{incomplete_lines_with, has_line, header_kind, shown_row_lines}
 use Rattle.tlv_value.specs.ValueLines.{value_lines, whole_lines_with}
 use Rattle.tlv_show.specs.ShowJob.{top_layout}
 use Rattle.tlv_show.specs.HolderLines.{closing_line, opening_line, opening_word, padding_line, size_text}
@@ -46,7 +46,7 @@ use Rattle.tlv_view_program.proofs.ShownLemmas.ShownLists.{wording-shown}
 use Rattle.tlv_view_program.proofs.ShownLemmas.ShownReasons.{sends-shown}
 use Rattle.tlv_view_program.proofs.ShownLemmas.ShownText.{columns-shown, flat-shown, left-octets, right-octets}
 use Rattle.tlv_view_program.proofs.ShownLemmas.ShownText.{spaces-shown, tag-shown}
-use Rattle.tlv_view_program.proofs.ShownLemmas.ShownValues.{AreShownNames, IsShownValue, long-shown, row-shown}
+use Rattle.tlv_view_program.proofs.ShownLemmas.ShownValues.{AreShownNames, IsShownValue, incomplete-shown, row-shown}
 use Rattle.tlv_view_program.proofs.ShownLemmas.ShownValues.{whole-shown}
 
 -- ---- lines
@@ -105,13 +105,13 @@ whole_lines-shown with_text name_of h layout c names o =
     value-shown with_text h layout (whole_value with_text name_of (header_kind h) c)
     (whole-shown with_text name_of (header_kind h) c names o)
 
-open_lines-shown : (with_text : Bool) (h : HeaderValue) (layout : Layout) (c : List ℕ) → AreOctets c
-    → AreShown (open_lines_with with_text h layout c)
-open_lines-shown with_text h layout c o =
+incomplete_lines-shown : (with_text : Bool) (h : HeaderValue) (layout : Layout) (c : List ℕ) → AreOctets c
+    → AreShown (incomplete_lines_with with_text h layout c)
+incomplete_lines-shown with_text h layout c o =
     elim (cases_Bool (is_long (header_kind h) (announced_length h.size) && has_line (header_kind h) c)) [
       | inl known ↦
           rw known
-          (value-shown with_text h layout _ (long-shown false (header_kind h) (announced_length h.size) c o))
+          (value-shown with_text h layout _ (incomplete-shown (header_kind h) (announced_length h.size) c o))
       | inr unknown ↦ rw unknown refl
     ]
 
@@ -166,7 +166,7 @@ item-shown with_text name_of layout (ClosingLine level offset) names o = closing
 item-shown with_text name_of layout (PrimitiveLines level h c) names o =
     whole_lines-shown with_text name_of h (layout_at layout level) c names o
 item-shown with_text name_of layout (OpenPrimitiveLines level h c) names o =
-    open_lines-shown with_text h (layout_at layout level) c o
+    incomplete_lines-shown with_text h (layout_at layout level) c o
 item-shown with_text name_of layout (PaddingLine level offset) names o = padding-shown (layout_at layout level) offset
 
 findings-of : (level offset : ℕ) (findings : List Finding) → All IsOfOctets (finding_items level offset findings)

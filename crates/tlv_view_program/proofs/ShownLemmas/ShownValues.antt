@@ -15,9 +15,11 @@ use Rattle.tlv_value.specs.Bits.{bits_of, last_bits}
 use Rattle.tlv_head.specs.Kind.{is_text}
 use Rattle.tlv_value.specs.Number.{twos_complement}
 use Rattle.tlv_value.specs.RowSizes.{row_size}
-use Rattle.tlv_value.specs.Rows.{cut_of_contents, full_rows_in, known_rows, rows_of}
+use Rattle.tlv_value.specs.Rows.{full_rows_in, rows_of}
+use Rattle.tlv_value.proofs.RowLemmas.RowsFilled.{rows-are_cut}
 use Rattle.tlv_value.specs.Units.{is_printable, quoted_text}
-use Rattle.tlv_value.specs.Value.{NameOf, Value, bit_count_text, bits_value, boolean_value, digits_of_bits}
+use Rattle.tlv_value.specs.Value.{NameOf, Value, bit_count_text, bits_value, boolean_value, incomplete_value}
+use Rattle.tlv_value.specs.Value.{digits_of_bits}
 use Rattle.tlv_value.specs.Value.{integer_value, is_long, is_readable, joined_pairs, long_text, long_value, name_text}
 use Rattle.tlv_value.specs.Value.{no_names, object_value, octets_value, pairs_with_text, row_octets, row_text}
 use Rattle.tlv_value.specs.Value.{short_value, spaced_pairs, text_behind, used_digits, value_on_line, whole_value}
@@ -50,7 +52,7 @@ rows_of-octets : (k : Kind) (octets : List ℕ) → AreOctets octets
     → All (λ (row : List ℕ). AreOctets row) (rows_of k octets)
 rows_of-octets k octets o =
     rows-octets (rows_of k octets)
-    (subst (λ (l : List ℕ). AreOctets l) (sym (cut_of_contents k octets).is_cut.together) o)
+    (subst (λ (l : List ℕ). AreOctets l) (sym (rows-are_cut k octets).together) o)
 
 full-octets : (k : Kind) (rows : List (List ℕ)) → All (λ (row : List ℕ). AreOctets row) rows
     → All (λ (row : List ℕ). AreOctets row) (full_rows_in k rows)
@@ -63,11 +65,6 @@ full-octets k (row ∷ next ∷ rows) all =
     All-cons (λ (r : List ℕ). AreOctets r) row (full_rows_in k (next ∷ rows))
     (All-head (λ (r : List ℕ). AreOctets r) row (next ∷ rows) all)
     (full-octets k (next ∷ rows) (All-tail (λ (r : List ℕ). AreOctets r) row (next ∷ rows) all))
-
-known-octets : (whole : Bool) (k : Kind) (octets : List ℕ) → AreOctets octets
-    → All (λ (row : List ℕ). AreOctets row) (known_rows whole k octets)
-known-octets true k octets o = rows_of-octets k octets o
-known-octets false k octets o = full-octets k (rows_of k octets) (rows_of-octets k octets o)
 
 -- ---- octets
 
@@ -245,17 +242,25 @@ row_octets-octets kind.Utf8 octets o = o
 row_octets-octets kind.Ucs2 octets o = o
 row_octets-octets kind.Ucs4 octets o = o
 
-pub long-shown : (whole : Bool) (k : Kind) (n : ℕ) (octets : List ℕ) → AreOctets octets
-    → IsShownValue (long_value whole k n octets)
-long-shown whole k n octets o = record {
+long-shown : (k : Kind) (octets : List ℕ) → AreOctets octets → IsShownValue (long_value k octets)
+long-shown k octets o = record {
+  text = long_text-shown k (length octets) octets;
+  rows = rows_of-octets k (row_octets k octets) (row_octets-octets k octets o);
+}
+
+pub incomplete-shown : (k : Kind) (n : ℕ) (octets : List ℕ) → AreOctets octets
+    → IsShownValue (incomplete_value k n octets)
+incomplete-shown k n octets o = record {
   text = long_text-shown k n octets;
-  rows = known-octets whole k (row_octets k octets) (row_octets-octets k octets o);
+  rows =
+      full-octets k (rows_of k (row_octets k octets))
+      (rows_of-octets k (row_octets k octets) (row_octets-octets k octets o));
 }
 
 pub whole-shown : (with_text : Bool) (name_of : NameOf) (k : Kind) (octets : List ℕ) → AreShownNames name_of
     → AreOctets octets → IsShownValue (whole_value with_text name_of k octets)
 whole-shown with_text name_of k octets names o = elim (cases_Bool (is_long k (length octets))) [
-  | inl long ↦ rw long (long-shown true k (length octets) octets o)
+  | inl long ↦ rw long (long-shown k octets o)
   | inr short ↦ rw short (short-shown with_text name_of k octets names o)
 ]
 
