@@ -8,7 +8,8 @@ use Rattle.tlv_head.specs.declared.kind.Kind.TheVariants.{Bits}
 use Rattle.tlv_value.specs.declared.layout.Layout.{Layout}
 use Rattle.tlv_head.specs.Kind.{kind_of}
 use Rattle.tlv_value.specs.Layout.{columns, inner_line, line, shown_rows}
-use Rattle.tlv_value.specs.Value.{NameOf, Value, incomplete_value, is_long, row_text, whole_value}
+use Rattle.tlv_value.specs.Value.{NameOf, Value, incomplete_value, is_long, on_line_text, row_text}
+use Rattle.tlv_value.specs.Value.{whole_value}
 
 -- the kind of the element's type
 abbrev pub header_kind : HeaderValue → Kind
@@ -30,13 +31,13 @@ module _ (with_text : Bool) where
   -- the element's line, with its offset, its length, its tag and its value, and the lines of its rows
   abbrev pub value_lines : HeaderValue → Layout → Value → List ℕ
   value_lines h layout value =
-      line layout (columns h.offset (decimal (announced_length h.size))) (tag_text h.class h.number ++ value.text)
+      line layout (columns h.offset (decimal (announced_length h.size))) (tag_text h.class h.number ++ on_line_text with_text value.on_line)
       ++ shown_row_lines (header_kind h) layout value.rows
 
   -- the lines of a primitive that is whole
   abbrev pub whole_lines_with : NameOf → HeaderValue → Layout → List ℕ → List ℕ
   whole_lines_with name_of h layout octets =
-      value_lines h layout (whole_value with_text name_of (header_kind h) octets)
+      value_lines h layout (whole_value name_of (header_kind h) octets)
 
   -- the lines of a primitive whose contents break off after these octets: none, unless the announced length is that of
   -- a long value and its line is known

@@ -21,7 +21,8 @@ use Rattle.tlv_value.specs.ValueTextState.{new_value_text_of}
 use Rattle.tlv_value.specs.ValueTextState.{new_value_text_with, primitive_line, primitive_lines, new_primitive}
 use Rattle.tlv_value.specs.ValueTextState.{kept_contents_after_line, row_lines}
 use Rattle.tlv_value.specs.ValueTextState.{kept_contents_after, value_text_for, value_text_after}
-use Rattle.tlv_value.specs.Value.{NameOf, Value, is_long, long_text, row_octets, short_value}
+use Rattle.tlv_value.specs.Value.{NameOf, Value, Written, is_long, long_text, on_line_text, row_octets}
+use Rattle.tlv_value.specs.Value.{short_value}
 use Rattle.std.proofs.lemmas.Bool.Decides.{nat_tests}
 use Rattle.tlv_value.proofs.TextLemmas.RowLines.{row_lines-all, row_lines-append}
 use Rattle.tlv_value.proofs.RowLemmas.RowsFilled.{rows-filled}
@@ -140,7 +141,10 @@ first-open_row u rest false = refl
 
 -- the value of long contents, whose size is said apart
 abbrev long_by : Kind → ℕ → List ℕ → Value
-long_by kind size octets = record { text = long_text kind size octets; rows = rows_of kind (row_octets kind octets) }
+long_by kind size octets = record {
+  on_line = Written (long_text kind size octets);
+  rows = rows_of kind (row_octets kind octets);
+}
 
 abbrev begin_kept : Kind → KeptContents
 begin_kept kind = record { has_put_line = has_line kind []; row_count = 0; row = [] }
@@ -191,15 +195,15 @@ module _ (with_text : Bool) (layout : Layout) (line : List ℕ → List ℕ) (si
 
   abbrev whole_at : NameOf → Kind → Bool → List ℕ → List ℕ
   whole_at name_of kind long octets =
-      line (if long then long_by kind size octets else short_value with_text name_of kind octets).text
+      line (on_line_text with_text (if long then long_by kind size octets else short_value name_of kind octets).on_line)
       ++ shown_row_lines with_text kind layout
-      (if long then long_by kind size octets else short_value with_text name_of kind octets).rows
+      (if long then long_by kind size octets else short_value name_of kind octets).rows
 
   abbrev ended_at : NameOf → Kind → Bool → KeptContents → List ℕ
   ended_at name_of kind long k =
       if long then row_lines with_text kind layout k.row_count (last_rows k.row)
-      else line (short_value with_text name_of kind k.row).text
-      ++ shown_row_lines with_text kind layout (short_value with_text name_of kind k.row).rows
+      else line (on_line_text with_text (short_value name_of kind k.row).on_line)
+      ++ shown_row_lines with_text kind layout (short_value name_of kind k.row).rows
 
   abbrev WholeIsEnded : NameOf → Kind → Bool → List ℕ → Type 0
   WholeIsEnded name_of kind long octets =
@@ -318,9 +322,11 @@ long-some kind n size e h = grind (arith, nat_tests)
 
 abbrev whole_by : Bool → Layout → (List ℕ → List ℕ) → NameOf → Kind → ℕ → List ℕ → List ℕ
 whole_by with_text layout line name_of kind n octets =
-    line (if is_long kind n then long_by kind n octets else short_value with_text name_of kind octets).text
+    line
+    (on_line_text with_text
+    (if is_long kind n then long_by kind n octets else short_value name_of kind octets).on_line)
     ++ shown_row_lines with_text kind layout
-    (if is_long kind n then long_by kind n octets else short_value with_text name_of kind octets).rows
+    (if is_long kind n then long_by kind n octets else short_value name_of kind octets).rows
 
 pub lines-end : LinesEnd
 lines-end with_text name_of h layout octets e =

@@ -23,7 +23,7 @@ use Rattle.tlv_head.specs.declared.kind.Kind.{Kind}
 use Rattle.tlv_value.specs.declared.layout.Layout.{Layout}
 use Rattle.tlv_value.specs.Finding.{finding_code, finding_text}
 use Rattle.tlv_value.specs.Layout.{blank_columns, columns, inner_line, line, margin, shown_rows, spaces}
-use Rattle.tlv_value.specs.Value.{NameOf, Value, is_long, row_text, whole_value}
+use Rattle.tlv_value.specs.Value.{NameOf, Value, is_long, on_line_text, row_text, whole_value}
 use Rattle.tlv_value.specs.ValueLines.{incomplete_lines_with, has_line, header_kind, shown_row_lines}
 use Rattle.tlv_value.specs.ValueLines.{value_lines, whole_lines_with}
 use Rattle.tlv_show.specs.ShowJob.{top_layout}
@@ -92,18 +92,19 @@ value-shown : (with_text : Bool) (h : HeaderValue) (layout : Layout) (v : Value)
     → AreShown (value_lines with_text h layout v)
 value-shown with_text h layout v shown =
     let size : List ℕ = decimal (announced_length h.size) in
-    let text : List ℕ = tag_text h.class h.number ++ v.text in
+    let value_text : List ℕ = on_line_text with_text v.on_line in
+    let text : List ℕ = tag_text h.class h.number ++ value_text in
     joined-shown (line layout (columns h.offset size) text) (shown_row_lines with_text (header_kind h) layout v.rows)
     (line-shown layout (columns h.offset size) text
     (columns-shown h.offset size (decimal-shown (announced_length h.size)))
-    (joined-shown (tag_text h.class h.number) v.text (tag-shown h.class h.number) shown.text))
+    (joined-shown (tag_text h.class h.number) value_text (tag-shown h.class h.number) (shown.text with_text)))
     (rows-shown with_text (header_kind h) layout v.rows shown.rows)
 
 whole_lines-shown : (with_text : Bool) (name_of : NameOf) (h : HeaderValue) (layout : Layout) (c : List ℕ)
     → AreShownNames name_of → AreOctets c → AreShown (whole_lines_with with_text name_of h layout c)
 whole_lines-shown with_text name_of h layout c names o =
-    value-shown with_text h layout (whole_value with_text name_of (header_kind h) c)
-    (whole-shown with_text name_of (header_kind h) c names o)
+    value-shown with_text h layout (whole_value name_of (header_kind h) c)
+    (whole-shown name_of (header_kind h) c names o)
 
 incomplete_lines-shown : (with_text : Bool) (h : HeaderValue) (layout : Layout) (c : List ℕ) → AreOctets c
     → AreShown (incomplete_lines_with with_text h layout c)
