@@ -94,9 +94,9 @@ rows-up-to-limit : shown_row_lines true Integer one_row (codes "abc" ∷ []) ≡
 unfolding encode_with
 rows-up-to-limit = refl
 
--- the first row is known before the last octet
-known-rows : incomplete_lines_with true (zero_header 17) all_rows (codes "0123456789abcdef")
+-- the first row is shown without the last octet
+incomplete-rows : incomplete_lines_with true (zero_header 17) all_rows (codes "0123456789abcdef")
     ≡ codes "       0     17: [0]\n"
     ++ codes "                   30 31 32 33 34 35 36 37 38 39 61 62 63 64 65 66  |0123456789abcdef|\n"
 unfolding encode_with digits
-known-rows = refl
+incomplete-rows = refl

@@ -3,8 +3,8 @@ use Rattle.std.specs.Prelude.{eqb, if◌then◌else◌, List, ℕ, [], ◌∷◌
 use Rattle.tlv_head.specs.declared.kind.Kind.{Kind}
 use Rattle.tlv_value.specs.RowSizes.{has_room, row_size}
 
--- the rows of a row and the octets after it: an octet that the row has room for is its next octet, and any other octet
--- begins the next row
+-- the rows of a row that has begun and of the octets after it: an octet that the row has room for is its next octet,
+-- and any other octet begins the next row
 abbrev pub rows_from : Kind → List ℕ → List ℕ → List (List ℕ)
 rows_from kind row [] = row ∷ []
 rows_from kind row (x ∷ octets) =
@@ -12,8 +12,8 @@ rows_from kind row (x ∷ octets) =
     then rows_from kind (row ++ x ∷ []) octets
     else row ∷ rows_from kind (x ∷ []) octets
 
--- the rows of octets: the first octet begins the first row. The law `rows_have_one_cut` says the same of the rows
--- themselves: no other rows have these octets, split no character, and have no room left before the next row
+-- the rows of octets: the first octet begins the first row. The law `rows_have_one_cut` says the same as a condition on
+-- rows (`IsCut` of tlv_io)
 abbrev pub rows_of : Kind → List ℕ → List (List ℕ)
 rows_of kind [] = []
 rows_of kind (x ∷ octets) = rows_from kind (x ∷ []) octets

@@ -17,12 +17,12 @@ use Rattle.tlv_value.specs.Number.{twos_complement}
 use Rattle.tlv_value.specs.Rows.{full_rows_in, rows_of}
 use Rattle.tlv_value.specs.Units.{is_printable, quoted_text}
 
--- what the element's line has after the tag text: a text, or octets that are shown as pairs of digits
+-- what a line has after the tag text: a text, or octets that are shown as pairs of digits
 pub data OnLine : Type 0 where
   Written : (text : List ℕ) → OnLine
   InPairs : (octets : List ℕ) → OnLine
 
--- that, and the octets of each row
+-- what the element's line has after the tag text, and the octets of each row below it
 pub record Value : Type 0 where
   pub on_line : OnLine
   pub rows : List (List ℕ)
@@ -98,14 +98,15 @@ object_value name_of relative octets =
 
 -- ---- Of any kind
 
--- the size of the longest contents that wait for their last octet, so that they can be on the line
+-- contents of up to this many octets are read as a whole, to be on the element's line if they can be read; longer
+-- contents are shown in rows
 abbrev pub most_on_line : Kind → ℕ
 most_on_line Bits = 9
 most_on_line Object = 64
 most_on_line Relative = 64
 most_on_line kind = row_size kind
 
--- n contents octets are more than this
+-- contents of n octets are longer
 abbrev pub is_long : Kind → ℕ → Bool
 is_long kind n = nat_lt (most_on_line kind) n
 
@@ -119,14 +120,14 @@ short_value name_of Relative octets = object_value no_names true octets
 short_value name_of kind octets =
     if is_text kind then value_on_line (quoted_text kind octets) else octets_value octets
 
--- what the line of a long value shows: for a BIT STRING of this size whose first octet can be read, the number of bits
--- (8.6.2), and nothing for any other
+-- 8.6.2: the line of a long value of this size shows the number of bits of a BIT STRING whose first octet can be read,
+-- and nothing for any other value
 abbrev pub long_text : Kind → ℕ → List ℕ → List ℕ
 long_text Bits size (unused_bits ∷ octets) =
     if nat_le unused_bits 7 then 0x20 ∷ bit_count_text unused_bits (size - 1) else []
 long_text kind size octets = []
 
--- the octets that are shown in rows: all but such a first octet
+-- the octets that are shown in rows: all but the first octet of such a BIT STRING
 abbrev pub row_octets : Kind → List ℕ → List ℕ
 row_octets Bits (unused_bits ∷ octets) = if nat_le unused_bits 7 then octets else unused_bits ∷ octets
 row_octets kind octets = octets
@@ -138,13 +139,13 @@ long_value kind octets = record {
   rows = rows_of kind (row_octets kind octets);
 }
 
--- the value of whole contents: long, or on the line
+-- the value of whole contents
 abbrev pub whole_value : NameOf → Kind → List ℕ → Value
 whole_value name_of kind octets =
     if is_long kind (length octets) then long_value kind octets else short_value name_of kind octets
 
--- the value of long contents that break off after these octets. `size` is the length that the header announces. All
--- rows are shown but a last one that is not full
+-- the value of long contents that break off after these octets, of which the header announces `size`: all rows are
+-- shown but a last one that is not full
 abbrev pub incomplete_value : Kind → ℕ → List ℕ → Value
 incomplete_value kind size octets = record {
   on_line = Written (long_text kind size octets);

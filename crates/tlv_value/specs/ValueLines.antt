@@ -1,5 +1,5 @@
--- The lines of a primitive that is whole, and of one that is incomplete: its contents break off, since the input ends or
--- an octet is refused before the announced length is reached.
+-- The lines of a primitive that is whole, and of one that is incomplete: its contents break off, since the input ends
+-- or an octet is refused before the announced length is reached.
 use Rattle.std.specs.Prelude.{◌&&◌, Bool, true, false, if◌then◌else◌, List, [], ◌++◌, ℕ, decimal, flat_map, map}
 use Rattle.tlv_head.specs.Header.{HeaderValue, announced_length}
 use Rattle.tlv_head.specs.Tag.{tag_text}
@@ -31,7 +31,8 @@ module _ (with_text : Bool) where
   -- the element's line, with its offset, its length, its tag and its value, and the lines of its rows
   abbrev pub value_lines : HeaderValue → Layout → Value → List ℕ
   value_lines h layout value =
-      line layout (columns h.offset (decimal (announced_length h.size))) (tag_text h.class h.number ++ on_line_text with_text value.on_line)
+      line layout (columns h.offset (decimal (announced_length h.size)))
+      (tag_text h.class h.number ++ on_line_text with_text value.on_line)
       ++ shown_row_lines (header_kind h) layout value.rows
 
   -- the lines of a primitive that is whole
