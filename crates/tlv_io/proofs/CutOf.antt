@@ -1,4 +1,4 @@
--- There is a cut of any octets: the rows that they make one after another, octet by octet.
+-- The rows that octets fill one after another, octet by octet, are a cut of them.
 use Rattle.std.proofs.Common.{◌≡◌, ◌≢◌, ◌⊎◌, inl, inr, ℕ, zero, suc, ◌+◌, ◌<◌, ◌≤◌, Bool, true, false, List, [], ◌∷◌}
 use Rattle.std.proofs.Common.{◌++◌, length, get_or, refl, ap, ◌∙◌, arith, ⊎_elim, append_assoc, length-append}
 use Rattle.std.specs.Prelude.{eqb, nat_le, if◌then◌else◌, All}
@@ -7,7 +7,7 @@ use Rattle.std.proofs.lemmas.List.Elements.{All-cons, All-nil}
 use Rattle.std.specs.Int.{is_in_range}
 use Rattle.std.proofs.lemmas.Bool.{eqb-true, leb-true}
 use Rattle.std.proofs.lemmas.Bool.Decides.{nat_tests}
-use Rattle.tlv_io.specs.Cuts.{AreFull, RowsOf, IsCut, IsFull, IsRow, last_rows, utf8_length}
+use Rattle.tlv_io.specs.Cuts.{AreFull, IsCut, IsFull, IsRow, last_rows, utf8_length}
 
 -- ---- octet by octet
 
@@ -219,10 +219,6 @@ module _ (size : ℕ) (wanted : ℕ → ℕ) (some : 1 ≤ size) (fits : (x : �
       let c = cut-on [] octets (λ i g. absurd (omega arith)) (omega arith) in
       record { together = c.together; each = c.each; full = c.full }
 
-  -- so there is a cut of any octets
-  abbrev pub cut_of : (octets : List ℕ) → RowsOf size wanted octets
-  cut_of octets = record { rows = rows_after_row [] octets; is_cut = rows-cut octets }
-
 -- ---- rows of two sizes
 
 pub row-some : (long : Bool) → 1 ≤ (if long then 64 else 16)
@@ -234,11 +230,3 @@ character-fits x =
     most-if (is_in_range 0xc2 0xdf x) 2 _ 64 (omega arith)
     (most-if (is_in_range 0xe0 0xef x) 3 _ 64 (omega arith)
     (most-if (is_in_range 0xf0 0xf4 x) 4 1 64 (omega arith) (omega arith)))
-
--- so there is a cut into such rows that splits no character,
-abbrev pub cut_of_characters : (octets : List ℕ) → RowsOf 64 utf8_length octets
-cut_of_characters octets = cut_of 64 utf8_length (row-some true) character-fits octets
-
--- and one of octets that are by themselves, into rows of 64 or of 16
-abbrev pub cut_of_octets : (long : Bool) (octets : List ℕ) → RowsOf (if long then 64 else 16) (λ x. 1) octets
-cut_of_octets long octets = cut_of (if long then 64 else 16) (λ x. 1) (row-some long) (λ x. row-some long) octets

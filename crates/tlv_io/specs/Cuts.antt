@@ -37,11 +37,6 @@ module _ (size : ℕ) (wanted : ℕ → ℕ) where
     pub each : All IsRow rows
     pub full : AreFull rows
 
-  -- rows that are a cut of the octets
-  pub record RowsOf (octets : List ℕ) : Type 0 where
-    pub rows : List (List ℕ)
-    pub is_cut : IsCut octets rows
-
 -- RFC 3629, 4: the number of octets of a UTF-8 character that begins with this octet; 1 if none does
 abbrev pub utf8_length : ℕ → ℕ
 utf8_length x =

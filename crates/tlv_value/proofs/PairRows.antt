@@ -8,35 +8,35 @@ use Rattle.tlv_head.specs.declared.header.Size.TheVariants.{Definite}
 use Rattle.tlv_head.specs.Header.{HeaderValue}
 use Rattle.tlv_head.specs.declared.kind.Kind.TheVariants.{Integer, Text}
 use Rattle.tlv_value.specs.declared.layout.Layout.{Layout}
-use Rattle.tlv_value.specs.ValueLines.{open_lines_with, shown_row_lines, whole_lines, whole_lines_with}
-use Rattle.tlv_value.specs.Value.{no_names, octets_value, row_text}
+use Rattle.tlv_value.specs.ValueLines.{incomplete_lines_with, shown_row_lines, whole_lines, whole_lines_with}
+use Rattle.tlv_value.specs.Value.{no_names, octets_value, on_line_text, row_text}
 
-three-letters : (octets_value true (codes "abc")).text ≡ codes " 61 62 63  |abc|"
+three-letters : on_line_text true (octets_value (codes "abc")).on_line ≡ codes " 61 62 63  |abc|"
 unfolding encode_with
 three-letters = refl
 
-two-letters : (octets_value true (codes "ab")).text ≡ codes " 61 62"
+two-letters : on_line_text true (octets_value (codes "ab")).on_line ≡ codes " 61 62"
 unfolding encode_with
 two-letters = refl
 
-letters-without-text : (octets_value false (codes "abc")).text ≡ codes " 61 62 63"
+letters-without-text : on_line_text false (octets_value (codes "abc")).on_line ≡ codes " 61 62 63"
 unfolding encode_with
 letters-without-text = refl
 
 -- the first and the last printable character, and the octets before and after these
-first-and-last : (octets_value true (0x20 ∷ 0x7e ∷ 0x7c ∷ [])).text ≡ codes " 20 7e 7c  | ~||"
+first-and-last : on_line_text true (octets_value (0x20 ∷ 0x7e ∷ 0x7c ∷ [])).on_line ≡ codes " 20 7e 7c  | ~||"
 unfolding encode_with
 first-and-last = refl
 
-octet-1f : (octets_value true (0x61 ∷ 0x1f ∷ 0x62 ∷ [])).text ≡ codes " 61 1f 62"
+octet-1f : on_line_text true (octets_value (0x61 ∷ 0x1f ∷ 0x62 ∷ [])).on_line ≡ codes " 61 1f 62"
 unfolding encode_with
 octet-1f = refl
 
-octet-7f : (octets_value true (0x61 ∷ 0x62 ∷ 0x7f ∷ [])).text ≡ codes " 61 62 7f"
+octet-7f : on_line_text true (octets_value (0x61 ∷ 0x62 ∷ 0x7f ∷ [])).on_line ≡ codes " 61 62 7f"
 unfolding encode_with
 octet-7f = refl
 
-octet-80 : (octets_value true (0x80 ∷ 0x61 ∷ 0x62 ∷ [])).text ≡ codes " 80 61 62"
+octet-80 : on_line_text true (octets_value (0x80 ∷ 0x61 ∷ 0x62 ∷ [])).on_line ≡ codes " 80 61 62"
 unfolding encode_with
 octet-80 = refl
 
@@ -94,9 +94,9 @@ rows-up-to-limit : shown_row_lines true Integer one_row (codes "abc" ∷ []) ≡
 unfolding encode_with
 rows-up-to-limit = refl
 
--- the first row is known before the last octet
-known-rows : open_lines_with true (zero_header 17) all_rows (codes "0123456789abcdef")
+-- the first row is shown without the last octet
+incomplete-rows : incomplete_lines_with true (zero_header 17) all_rows (codes "0123456789abcdef")
     ≡ codes "       0     17: [0]\n"
     ++ codes "                   30 31 32 33 34 35 36 37 38 39 61 62 63 64 65 66  |0123456789abcdef|\n"
 unfolding encode_with digits
-known-rows = refl
+incomplete-rows = refl

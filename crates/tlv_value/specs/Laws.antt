@@ -6,7 +6,7 @@ use Rattle.tlv_head.specs.declared.kind.Kind.{Kind}
 use Rattle.tlv_value.specs.declared.layout.Layout.{Layout}
 use Rattle.tlv_value.specs.RowSizes.{character_length, row_size}
 use Rattle.tlv_value.specs.Rows.{rows_of}
-use Rattle.tlv_value.specs.ValueLines.{open_lines_with, whole_lines_with}
+use Rattle.tlv_value.specs.ValueLines.{incomplete_lines_with, whole_lines_with}
 use Rattle.tlv_value.specs.ValueTextState.{ValueTextState, begin_lines, contents_lines, end_lines}
 use Rattle.tlv_value.specs.ValueTextState.{new_value_text_with, value_text_for, value_text_after}
 use Rattle.tlv_value.specs.Value.{NameOf}
@@ -22,15 +22,15 @@ PiecesJoin =
 abbrev pub LinesBegin : Type 0
 LinesBegin =
     (with_text : Bool) (h : HeaderValue) (layout : Layout)
-    → (open_lines_with with_text h layout [] ≡ begin_lines (new_value_text_with with_text h layout))
+    → (incomplete_lines_with with_text h layout [] ≡ begin_lines (new_value_text_with with_text h layout))
     × (value_text_for with_text h layout [] ≡ new_value_text_with with_text h layout)
 
--- with more octets, what is new in the lines of the primitive, which is still open
+-- with more octets, what is new in the lines of the primitive, which is still incomplete
 abbrev pub LinesGoOn : Type 0
 LinesGoOn =
     (with_text : Bool) (h : HeaderValue) (layout : Layout) (octets x : List ℕ)
-    → open_lines_with with_text h layout (octets ++ x)
-    ≡ open_lines_with with_text h layout octets ++ contents_lines (value_text_for with_text h layout octets) x
+    → incomplete_lines_with with_text h layout (octets ++ x)
+    ≡ incomplete_lines_with with_text h layout octets ++ contents_lines (value_text_for with_text h layout octets) x
 
 -- with the end, the rest of the lines of the whole primitive
 abbrev pub LinesEnd : Type 0
@@ -38,7 +38,7 @@ LinesEnd =
     (with_text : Bool) (name_of : NameOf) (h : HeaderValue) (layout : Layout) (octets : List ℕ)
     → HasAllContents h octets
     → whole_lines_with with_text name_of h layout octets
-    ≡ open_lines_with with_text h layout octets ++ end_lines name_of (value_text_for with_text h layout octets)
+    ≡ incomplete_lines_with with_text h layout octets ++ end_lines name_of (value_text_for with_text h layout octets)
 
 -- the rows of contents are a cut
 abbrev pub RowsAreACut : Type 0

@@ -5,6 +5,7 @@ pub mod Arcs
 pub mod Times
 pub mod RowSizes
 pub mod Rows
+pub mod RowsSoFar
 pub mod Units
 pub mod Layout
 pub mod Value

@@ -1,5 +1,5 @@
--- How octets are cut into rows: `IsCut` of tlv_io says which rows are a cut.
-use Rattle.std.specs.Prelude.{ℕ, if◌then◌else◌, ◌<◌, List, length}
+-- What a row has room for.
+use Rattle.std.specs.Prelude.{ℕ, ◌+◌, Bool, nat_le, if◌then◌else◌, ◌<◌, List, length}
 use Rattle.tlv_io.specs.Cuts.{SplitsNone, utf8_length}
 use Rattle.tlv_head.specs.declared.kind.Kind.{Kind}
 use Rattle.tlv_head.specs.declared.kind.Kind.TheVariants.{Utf8}
@@ -13,6 +13,10 @@ row_size kind = if is_text kind then 64 else 16
 abbrev pub character_length : Kind → ℕ → ℕ
 character_length Utf8 x = utf8_length x
 character_length _ x = 1
+
+-- after this number of octets, a row has room for the octet x and for the octets that must be kept in one row with it
+abbrev pub has_room : Kind → ℕ → ℕ → Bool
+has_room kind octets x = nat_le (octets + character_length kind x) (row_size kind)
 
 -- the row has fewer octets than a row has room for, and splits no octets that must be kept in one row
 pub record IsOpenRow (kind : Kind) (row : List ℕ) : Type 0 where

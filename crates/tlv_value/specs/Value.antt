@@ -14,12 +14,17 @@ use Rattle.tlv_value.specs.Bits.{bits_of}
 use Rattle.tlv_value.specs.RowSizes.{row_size}
 use Rattle.tlv_head.specs.Kind.{is_text}
 use Rattle.tlv_value.specs.Number.{twos_complement}
-use Rattle.tlv_value.specs.Rows.{known_rows, rows_of}
+use Rattle.tlv_value.specs.Rows.{full_rows_in, rows_of}
 use Rattle.tlv_value.specs.Units.{is_printable, quoted_text}
 
--- what the element's line has after the tag text, and the octets of each row
+-- what a line has after the tag text: a text, or octets that are shown as pairs of digits
+pub data OnLine : Type 0 where
+  Written : (text : List ℕ) → OnLine
+  InPairs : (octets : List ℕ) → OnLine
+
+-- what the element's line has after the tag text, and the octets of each row below it
 pub record Value : Type 0 where
-  pub text : List ℕ
+  pub on_line : OnLine
   pub rows : List (List ℕ)
 
 -- names of object identifiers, by their dotted texts
@@ -27,40 +32,29 @@ abbrev pub NameOf : Type 0
 NameOf = List ℕ → Option (List ℕ)
 
 abbrev pub value_on_line : List ℕ → Value
-value_on_line text = record { text = 0x20 ∷ text; rows = [] }
-
--- ---- Pairs of digits, and the text beside them
-
--- three or more octets that are all printable ASCII, between bars and after two spaces; nothing for any other octets
-abbrev pub text_behind : List ℕ → List ℕ
-text_behind octets =
-    if nat_le 3 (length octets) && list_all is_printable octets
-    then codes "  |" ++ octets ++ codes "|"
-    else []
-
--- the pairs of these octets, followed by their text if the first argument says that it is wanted
-abbrev pub pairs_with_text : Bool → List ℕ → List ℕ → List ℕ
-pairs_with_text false octets pairs = pairs
-pairs_with_text true octets pairs = pairs ++ text_behind octets
-
--- up to 16 octets are on the line. Here and below a first argument `with_text` says whether text is beside pairs
-abbrev pub octets_value : Bool → List ℕ → Value
-octets_value with_text octets =
-    if nat_le (length octets) 16
-    then record { text = pairs_with_text with_text octets (spaced_pairs octets); rows = [] }
-    else record { text = []; rows = rows_of Octets octets }
+value_on_line text = record { on_line = Written (0x20 ∷ text); rows = [] }
 
 -- ---- Kind by kind. What cannot be read is shown as octets.
 
+-- up to 16 octets are on the line
+abbrev pub octets_value : List ℕ → Value
+octets_value octets =
+    if nat_le (length octets) 16
+    then record { on_line = InPairs octets; rows = [] }
+    else record { on_line = Written []; rows = rows_of Octets octets }
+
 -- 8.2.2: FALSE is zero
-abbrev pub boolean_value : Bool → List ℕ → Value
-boolean_value with_text (x ∷ []) = value_on_line (if eqb x 0 then codes "FALSE" else codes "TRUE")
-boolean_value with_text octets = octets_value with_text octets
+abbrev pub boolean_value : List ℕ → Value
+boolean_value (x ∷ []) = value_on_line (if eqb x 0 then codes "FALSE" else codes "TRUE")
+boolean_value octets = octets_value octets
 
 -- 8.3.3, 8.4; without octets nothing is on the line
+abbrev pub integer_text : List ℕ → List ℕ
+integer_text [] = []
+integer_text (x ∷ xs) = 0x20 ∷ signed_decimal (twos_complement (x ∷ xs))
+
 abbrev pub integer_value : List ℕ → Value
-integer_value [] = record { text = []; rows = [] }
-integer_value (x ∷ xs) = value_on_line (signed_decimal (twos_complement (x ∷ xs)))
+integer_value octets = record { on_line = Written (integer_text octets); rows = [] }
 
 -- the number of bits in this number of octets, without the unused bits
 abbrev pub bit_count_text : ℕ → ℕ → List ℕ
@@ -81,12 +75,12 @@ used_digits unused_bits octets =
     0x20 ∷ digits_of_bits (take (8 * length octets - unused_bits) (bits_of octets))
 
 -- 8.6.2: the first octet is the number of unused bits in the last one
-abbrev pub bits_value : Bool → List ℕ → Value
-bits_value with_text [] = octets_value with_text []
-bits_value with_text (unused_bits ∷ octets) =
+abbrev pub bits_value : List ℕ → Value
+bits_value [] = octets_value []
+bits_value (unused_bits ∷ octets) =
     if is_readable unused_bits (length octets)
     then value_on_line (bit_count_text unused_bits (length octets) ++ used_digits unused_bits octets)
-    else octets_value with_text (unused_bits ∷ octets)
+    else octets_value (unused_bits ∷ octets)
 
 -- a name after its object identifier
 abbrev pub name_text : Option (List ℕ) → List ℕ
@@ -97,60 +91,85 @@ abbrev pub no_names : NameOf
 no_names text = None
 
 -- 8.19; 8.20 for one that is relative
-abbrev pub object_value : Bool → NameOf → Bool → List ℕ → Value
-object_value with_text name_of relative octets =
+abbrev pub object_value : NameOf → Bool → List ℕ → Value
+object_value name_of relative octets =
     option_map_or (λ text. value_on_line (text ++ name_text (name_of text)))
-    (dotted_of relative octets) (octets_value with_text octets)
+    (dotted_of relative octets) (octets_value octets)
 
 -- ---- Of any kind
 
--- the size of the longest contents that wait for their last octet, so that they can be on the line
+-- contents of up to this many octets are read as a whole, to be on the element's line if they can be read; longer
+-- contents are shown in rows
 abbrev pub most_on_line : Kind → ℕ
 most_on_line Bits = 9
 most_on_line Object = 64
 most_on_line Relative = 64
 most_on_line kind = row_size kind
 
--- n contents octets are more than this
+-- contents of n octets are longer
 abbrev pub is_long : Kind → ℕ → Bool
 is_long kind n = nat_lt (most_on_line kind) n
 
 -- the value of contents that are not long
-abbrev pub short_value : Bool → NameOf → Kind → List ℕ → Value
-short_value with_text name_of Boolean octets = boolean_value with_text octets
-short_value with_text name_of Integer octets = integer_value octets
-short_value with_text name_of Bits octets = bits_value with_text octets
-short_value with_text name_of Object octets = object_value with_text name_of false octets
-short_value with_text name_of Relative octets = object_value with_text no_names true octets
-short_value with_text name_of kind octets =
-    if is_text kind then value_on_line (quoted_text kind octets) else octets_value with_text octets
+abbrev pub short_value : NameOf → Kind → List ℕ → Value
+short_value name_of Boolean octets = boolean_value octets
+short_value name_of Integer octets = integer_value octets
+short_value name_of Bits octets = bits_value octets
+short_value name_of Object octets = object_value name_of false octets
+short_value name_of Relative octets = object_value no_names true octets
+short_value name_of kind octets =
+    if is_text kind then value_on_line (quoted_text kind octets) else octets_value octets
 
--- for long contents: what the line of n octets shows, of which these have come. 8.6.2: for a BIT STRING, the number
--- of bits, if its first octet can be read
+-- 8.6.2: the line of a long value of this size shows the number of bits of a BIT STRING whose first octet can be read,
+-- and nothing for any other value
 abbrev pub long_text : Kind → ℕ → List ℕ → List ℕ
-long_text Bits n (unused_bits ∷ octets) =
-    if nat_le unused_bits 7 then 0x20 ∷ bit_count_text unused_bits (n - 1) else []
-long_text kind n octets = []
+long_text Bits size (unused_bits ∷ octets) =
+    if nat_le unused_bits 7 then 0x20 ∷ bit_count_text unused_bits (size - 1) else []
+long_text kind size octets = []
 
--- the octets that are shown in rows: all but such a first octet
+-- the octets that are shown in rows: all but the first octet of such a BIT STRING
 abbrev pub row_octets : Kind → List ℕ → List ℕ
 row_octets Bits (unused_bits ∷ octets) = if nat_le unused_bits 7 then octets else unused_bits ∷ octets
 row_octets kind octets = octets
 
--- the value of long contents of n octets, of which these have come, as far as it is known. The first argument says
--- whether they are whole
-abbrev pub long_value : Bool → Kind → ℕ → List ℕ → Value
-long_value whole kind n octets = record {
-  text = long_text kind n octets;
-  rows = known_rows whole kind (row_octets kind octets);
+-- the value of long contents
+abbrev pub long_value : Kind → List ℕ → Value
+long_value kind octets = record {
+  on_line = Written (long_text kind (length octets) octets);
+  rows = rows_of kind (row_octets kind octets);
 }
 
--- the value of contents that are whole
-abbrev pub whole_value : Bool → NameOf → Kind → List ℕ → Value
-whole_value with_text name_of kind octets =
-    if is_long kind (length octets)
-    then long_value true kind (length octets) octets
-    else short_value with_text name_of kind octets
+-- the value of whole contents
+abbrev pub whole_value : NameOf → Kind → List ℕ → Value
+whole_value name_of kind octets =
+    if is_long kind (length octets) then long_value kind octets else short_value name_of kind octets
+
+-- the value of long contents that break off after these octets, of which the header announces `size`: all rows are
+-- shown but a last one that is not full
+abbrev pub incomplete_value : Kind → ℕ → List ℕ → Value
+incomplete_value kind size octets = record {
+  on_line = Written (long_text kind size octets);
+  rows = full_rows_in kind (rows_of kind (row_octets kind octets));
+}
+
+-- ---- As text. A first argument `with_text` says whether text is beside pairs of digits.
+
+-- three or more octets that are all printable ASCII, between bars and after two spaces; nothing for any other octets
+abbrev pub text_behind : List ℕ → List ℕ
+text_behind octets =
+    if nat_le 3 (length octets) && list_all is_printable octets
+    then codes "  |" ++ octets ++ codes "|"
+    else []
+
+-- the pairs of these octets, and the text beside them if it is wanted
+abbrev pub pairs_with_text : Bool → List ℕ → List ℕ → List ℕ
+pairs_with_text false octets pairs = pairs
+pairs_with_text true octets pairs = pairs ++ text_behind octets
+
+-- the text on the element's line: before each pair is a space
+abbrev pub on_line_text : Bool → OnLine → List ℕ
+on_line_text with_text (Written text) = text
+on_line_text with_text (InPairs octets) = pairs_with_text with_text octets (spaced_pairs octets)
 
 -- pairs of digits with spaces between them
 abbrev pub joined_pairs : List ℕ → List ℕ

@@ -11,7 +11,7 @@ use Rattle.tlv_value.specs.declared.finding.Finding.TheVariants.{B06, B07, B08, 
 use Rattle.tlv_value.specs.declared.finding.Finding.TheVariants.{B15, B18, B19, S02, S03, S04}
 use Rattle.tlv_value.specs.Checks.{allows_octet, are_whole_characters, canonical_form, findings_by, first_octet}
 use Rattle.tlv_value.specs.Checks.{is_padded_integer, time_form}
-use Rattle.tlv_value.specs.Rows.{full_rows, open_row}
+use Rattle.tlv_value.specs.RowsSoFar.{full_rows, open_row}
 use Rattle.tlv_value.specs.Times as times
 use Rattle.tlv_value.specs.Types.{character_types, integer_types, is_number_of, object_types, tested_string_types}
 use Rattle.tlv_value.specs.Types.{time_types}

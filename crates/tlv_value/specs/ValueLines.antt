@@ -1,4 +1,5 @@
--- The lines of a primitive that is whole, and of one whose contents are still to come.
+-- The lines of a primitive that is whole, and of one that is incomplete: its contents break off, since the input ends
+-- or an octet is refused before the announced length is reached.
 use Rattle.std.specs.Prelude.{◌&&◌, Bool, true, false, if◌then◌else◌, List, [], ◌++◌, ℕ, decimal, flat_map, map}
 use Rattle.tlv_head.specs.Header.{HeaderValue, announced_length}
 use Rattle.tlv_head.specs.Tag.{tag_text}
@@ -7,13 +8,15 @@ use Rattle.tlv_head.specs.declared.kind.Kind.TheVariants.{Bits}
 use Rattle.tlv_value.specs.declared.layout.Layout.{Layout}
 use Rattle.tlv_head.specs.Kind.{kind_of}
 use Rattle.tlv_value.specs.Layout.{columns, inner_line, line, shown_rows}
-use Rattle.tlv_value.specs.Value.{NameOf, Value, is_long, long_value, row_text, whole_value}
+use Rattle.tlv_value.specs.Value.{NameOf, Value, incomplete_value, is_long, on_line_text, row_text}
+use Rattle.tlv_value.specs.Value.{whole_value}
 
 -- the kind of the element's type
 abbrev pub header_kind : HeaderValue → Kind
 header_kind h = kind_of h.class h.number
 
--- the line of a long value is known from its header; for a BIT STRING, from its first contents octet
+-- the line of a long value is known from the header; for a BIT STRING, whose line shows the number of bits, only with
+-- the first contents octet
 abbrev pub has_line : Kind → List ℕ → Bool
 has_line Bits [] = false
 has_line kind octets = true
@@ -28,20 +31,21 @@ module _ (with_text : Bool) where
   -- the element's line, with its offset, its length, its tag and its value, and the lines of its rows
   abbrev pub value_lines : HeaderValue → Layout → Value → List ℕ
   value_lines h layout value =
-      line layout (columns h.offset (decimal (announced_length h.size))) (tag_text h.class h.number ++ value.text)
+      line layout (columns h.offset (decimal (announced_length h.size)))
+      (tag_text h.class h.number ++ on_line_text with_text value.on_line)
       ++ shown_row_lines (header_kind h) layout value.rows
 
   -- the lines of a primitive that is whole
   abbrev pub whole_lines_with : NameOf → HeaderValue → Layout → List ℕ → List ℕ
   whole_lines_with name_of h layout octets =
-      value_lines h layout (whole_value with_text name_of (header_kind h) octets)
+      value_lines h layout (whole_value name_of (header_kind h) octets)
 
-  -- the lines of a primitive of whose contents these octets have come, and others are still to come: for a long value,
-  -- the lines that are known
-  abbrev pub open_lines_with : HeaderValue → Layout → List ℕ → List ℕ
-  open_lines_with h layout octets =
+  -- the lines of a primitive whose contents break off after these octets: none, unless the announced length is that of
+  -- a long value and its line is known
+  abbrev pub incomplete_lines_with : HeaderValue → Layout → List ℕ → List ℕ
+  incomplete_lines_with h layout octets =
       if is_long (header_kind h) (announced_length h.size) && has_line (header_kind h) octets
-      then value_lines h layout (long_value false (header_kind h) (announced_length h.size) octets)
+      then value_lines h layout (incomplete_value (header_kind h) (announced_length h.size) octets)
       else []
 
 -- the lines of a primitive that is whole, without text beside pairs

@@ -14,7 +14,7 @@ pub fn lines_begin()
     ensures { LinesBegin }
 {}
 
-/// `bytes` puts what its octets add to the lines of a primitive that is still open.
+/// `bytes` puts what its octets add to the lines of a primitive that is still incomplete.
 pub fn lines_go_on()
     ensures { LinesGoOn }
 {}

@@ -1,8 +1,8 @@
 //! Where a row of long contents ends.
 ghost use Rattle.std.specs.Prelude.{◌≡◌, ◌+◌, ◌<◌, ◌≤◌, false, length, slice_index};
-ghost use Rattle.tlv_value.specs.RowSizes.{row_size};
+ghost use Rattle.tlv_value.specs.RowSizes.{has_room, row_size};
 ghost use Rattle.tlv_io.specs.Cuts.{utf8_length};
-ghost use Rattle.tlv_value.specs.Private.Room.{HaveRoom, has_room};
+ghost use Rattle.tlv_value.specs.Private.Room.{HaveRoom};
 
 use tlv_head::Kind;
 

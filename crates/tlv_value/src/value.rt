@@ -5,8 +5,8 @@ ghost use Rattle.tlv_io.specs.LineTexts.{AddsAtMost, HasRoomFor};
 ghost use Rattle.tlv_value.specs.Bits.{last_bits};
 ghost use Rattle.tlv_value.specs.Private.UndottedText.{undotted_text};
 ghost use Rattle.tlv_value.specs.Units.{quoted_text};
-ghost use Rattle.tlv_value.specs.Value.{bit_count_text, bits_value, boolean_value, digits_of_bits, integer_value};
-ghost use Rattle.tlv_value.specs.Value.{is_long, is_readable, long_text, most_on_line};
+ghost use Rattle.tlv_value.specs.Value.{bit_count_text, bits_value, boolean_value, digits_of_bits, integer_text};
+ghost use Rattle.tlv_value.specs.Value.{is_long, is_readable, long_text, most_on_line, on_line_text};
 ghost use Rattle.tlv_value.specs.Value.{row_text, used_digits};
 
 use crate::decimal::{decimal_of, short_decimal_of};
@@ -63,7 +63,7 @@ fn write_quoted(held: &mut HeldOctets, kind: Kind, row: &[u8])
 fn write_boolean(held: &mut HeldOctets, with_text: bool, contents: &[u8])
     requires short { length contents.now ≤ 16 }
     requires room { HasRoomFor held.old 68 }
-    ensures { held.new ≡ held.old ++ (boolean_value with_text contents.now).text }
+    ensures { held.new ≡ held.old ++ on_line_text with_text (boolean_value contents.now).on_line }
 {
     match contents {
         [0] => held.add(b" FALSE"),
@@ -77,7 +77,7 @@ fn write_boolean(held: &mut HeldOctets, with_text: bool, contents: &[u8])
 fn write_integer(held: &mut HeldOctets, contents: &[u8])
     requires short { length contents.now ≤ 16 }
     requires room { HasRoomFor held.old 48 }
-    ensures { held.new ≡ held.old ++ (integer_value contents.now).text }
+    ensures { held.new ≡ held.old ++ integer_text contents.now }
 {
     if contents.len() > 8 {
         write_wide_integer(held, contents);
@@ -93,7 +93,7 @@ fn write_integer(held: &mut HeldOctets, contents: &[u8])
 fn write_wide_integer(held: &mut HeldOctets, contents: &[u8])
     requires short { length contents.now ≤ 16 }
     requires room { HasRoomFor held.old 48 }
-    ensures { held.new ≡ held.old ++ (integer_value contents.now).text }
+    ensures { held.new ≡ held.old ++ integer_text contents.now }
 {
     if let Some(number) = decimal_of(contents) {
         held.add(b" ");
@@ -117,7 +117,7 @@ fn write_signed(held: &mut HeldOctets, number: i128)
 fn write_bits(held: &mut HeldOctets, with_text: bool, contents: &[u8])
     requires short { length contents.now ≤ 9 }
     requires room { HasRoomFor held.old 128 }
-    ensures { held.new ≡ held.old ++ (bits_value with_text contents.now).text }
+    ensures { held.new ≡ held.old ++ on_line_text with_text (bits_value contents.now).on_line }
 {
     match contents {
         [unused_bits, octets @ ..] if is_readable(*unused_bits, octets.len()) => {

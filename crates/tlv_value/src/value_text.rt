@@ -4,7 +4,7 @@ ghost use Rattle.tlv_head.specs.Header.{HasAllContents, HeaderValue, announced_l
 ghost use Rattle.tlv_io.specs.Out.{Puts};
 ghost use Rattle.tlv_value.specs.PutsRest.{PutsRest};
 ghost use Rattle.tlv_value.specs.Value.{row_octets};
-ghost use Rattle.tlv_value.specs.ValueLines.{open_lines_with, whole_lines_with};
+ghost use Rattle.tlv_value.specs.ValueLines.{incomplete_lines_with, whole_lines_with};
 ghost use Rattle.tlv_value.specs.ValueTextState.{begin_lines, contents_lines, end_lines, idle_value_text};
 ghost use Rattle.tlv_value.specs.ValueTextState.{new_value_text, new_value_text_of, new_value_text_with};
 ghost use Rattle.tlv_value.specs.ValueTextState.{value_text_after, value_text_for};
@@ -136,7 +136,7 @@ impl ValueText {
         // In other words: the lines of the primitive with the header h, without contents.
         ensures lines { (with_text : Bool) (h : HeaderValue) (layout : Layout)
             → self.now ≡ new_value_text_with with_text h layout
-            → Puts D.state out.old out.new (open_lines_with with_text h layout []) result }
+            → Puts D.state out.old out.new (incomplete_lines_with with_text h layout []) result }
     {
         if !self.primitive.is_long() || !self.has_put_line {
             return Ok(());
@@ -159,7 +159,7 @@ impl ValueText {
         ensures lines { (with_text : Bool) (h : HeaderValue) (layout : Layout) (c : List ℕ)
             → self.old ≡ value_text_for with_text h layout c
             → PutsRest D.state out.old out.new
-            (open_lines_with with_text h layout c) (open_lines_with with_text h layout (c ++ octets.now))
+            (incomplete_lines_with with_text h layout c) (incomplete_lines_with with_text h layout (c ++ octets.now))
             result }
     {
         self.left -= octets.len() as u64;
@@ -205,7 +205,7 @@ impl ValueText {
             → self.old ≡ value_text_for with_text h layout c
             → HasAllContents h c
             → PutsRest D.state out.old out.new
-            (open_lines_with with_text h layout c)
+            (incomplete_lines_with with_text h layout c)
             (whole_lines_with with_text (N.name_of names.now) h layout c) result }
     {
         let contents = self.row.as_slice();

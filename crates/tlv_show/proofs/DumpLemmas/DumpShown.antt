@@ -8,7 +8,7 @@ use Rattle.tlv_head.specs.Header.{HasAllContents, HeaderValue, announced_length,
 use Rattle.tlv_value.specs.declared.layout.Layout.{Layout}
 use Rattle.tlv_value.specs.ValueCheckState.{has_unused_bits, value_check_for}
 use Rattle.tlv_value.specs.Names.{NamesValue}
-use Rattle.tlv_value.specs.ValueLines.{open_lines_with, whole_lines_with}
+use Rattle.tlv_value.specs.ValueLines.{incomplete_lines_with, whole_lines_with}
 use Rattle.tlv_value.specs.Types.{is_primitive}
 use Rattle.tlv_walk.specs.declared.follow.Go.{Go}
 use Rattle.tlv_walk.specs.Events.{Begin, Bytes, End, EventValue, Pad, closing_event, end_octets_offset, events}
@@ -279,7 +279,7 @@ module _ (with_text : Bool) (style : Layout) (names : NamesValue) (rules : Rules
         _ (OpenPrimitiveLines p.depth h c ∷ []) k.1
         (header-same rules w (site with_text style names rules p holder previous) h k.0)
         (part_shown with_text style names p.depth p.offset (is_padding previous) h c (omega (arith, v.1))
-        ∙ sym (append-nil (open_lines_with with_text h (layout_at style p.depth) c)));
+        ∙ sym (append-nil (incomplete_lines_with with_text h (layout_at style p.depth) c)));
     after = λ n e. absurd (cc (e));
   }
   shows_forest p holder previous w outer (OpenHolder h inside) v b k =

@@ -9,7 +9,7 @@ use Rattle.tlv_head.specs.declared.header.Size.TheVariants.{Definite, Indefinite
 use Rattle.tlv_head.specs.Header.{AllowsSize, HasAllContents, HeaderValue, announced_length, octets_of}
 use Rattle.tlv_value.specs.declared.layout.Layout.{Layout}
 use Rattle.tlv_value.specs.Names.{NamesValue}
-use Rattle.tlv_value.specs.ValueLines.{open_lines_with, whole_lines_with}
+use Rattle.tlv_value.specs.ValueLines.{incomplete_lines_with, whole_lines_with}
 use Rattle.tlv_value.specs.ValueTextState.{ValueTextState, begin_lines, contents_lines, end_lines}
 use Rattle.tlv_value.specs.ValueTextState.{new_value_text_with, value_text_after}
 use Rattle.tlv_value.specs.Value.{NameOf}
@@ -120,7 +120,7 @@ module _ (with_text : Bool) (style : Layout) (names : NamesValue) where
   pub part_shown : (level offset : ℕ) (padded : Bool) (h : HeaderValue) (c : List ℕ)
       → length c ≤ announced_length h.size
       → (effect_of lines_step (lines_between level offset padded) (Begin h ∷ Bytes c ∷ [])).put
-      ≡ open_lines_with with_text h (layout_at style level) c
+      ≡ incomplete_lines_with with_text h (layout_at style level) c
   part_shown level offset padded h c size =
       let t : ValueTextState = new_value_text_with with_text h (layout_at style level) in
       ap

@@ -14,7 +14,7 @@ use Rattle.tlv_value.specs.ValueCheckState.{type_number, value_check_for}
 use Rattle.tlv_value.specs.ValueCheckState.{with_each_noted, with_first_noted, with_octets_noted, with_time_noted}
 use Rattle.tlv_value.specs.Checks.{allows_octet, findings_by}
 use Rattle.tlv_value.specs.Types.{is_number_of, object_types}
-use Rattle.tlv_value.specs.Rows.{full_rows, open_row}
+use Rattle.tlv_value.specs.RowsSoFar.{full_rows, open_row}
 use Rattle.tlv_value.proofs.CheckLemmas.NotedContents.{class-same, noted-same}
 use Rattle.tlv_value.proofs.RowLemmas.OneCut.{rows-join}
 

@@ -10,7 +10,7 @@ use Rattle.tlv_value.specs.ValueCheckState.{ValueCheckState, is_padded_after, la
 use Rattle.tlv_value.specs.ValueCheckState.{with_each_noted}
 use Rattle.tlv_value.specs.Checks.{allows_octet}
 use Rattle.tlv_head.specs.declared.kind.Kind.TheVariants.{Utf8}
-use Rattle.tlv_value.specs.Rows.{full_rows, open_row}
+use Rattle.tlv_value.specs.RowsSoFar.{full_rows, open_row}
 use Rattle.tlv_value.proofs.CheckLemmas.Noting.{all-other}
 
 pub nothing-noted : (s : ValueCheckState) (octets : List ℕ) → notes_each s.number ≡ false

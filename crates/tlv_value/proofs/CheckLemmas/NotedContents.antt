@@ -13,7 +13,7 @@ use Rattle.tlv_value.specs.Checks.{findings_by, is_padded_integer, type_conditio
 use Rattle.tlv_value.specs.Types.{character_types, is_number_of}
 use Rattle.tlv_value.specs.ValueCheckState.{ValueCheckState, is_allowed, kept_conditions, new_value_check_of}
 use Rattle.tlv_value.specs.ValueCheckState.{notes_each, type_number, with_each_noted, with_octets_noted}
-use Rattle.tlv_value.specs.Rows.{full_rows, open_row}
+use Rattle.tlv_value.specs.RowsSoFar.{full_rows, open_row}
 use Rattle.tlv_head.specs.Header.{HeaderValue, is_universal}
 use Rattle.tlv_head.specs.UniversalTypes as types
 use Rattle.tlv_head.specs.declared.kind.Kind.TheVariants.{Utf8}

@@ -12,11 +12,14 @@ use Rattle.std.proofs.lemmas.Bool.Decides.{nat_tests}
 use Rattle.std.proofs.lemmas.Str.{IsUtf8-append, IsUtf8-encode, IsUtf8-nil, IsUtf8-from_is_utf8, is_utf8-from_IsUtf8}
 use Rattle.tlv_io.specs.Cuts.{last_rows, utf8_length}
 use Rattle.tlv_head.specs.declared.kind.Kind.TheVariants.{Utf8}
-use Rattle.tlv_value.specs.Private.Room.{HaveRoom, has_room}
+use Rattle.tlv_value.specs.RowSizes.{has_room}
+use Rattle.tlv_value.specs.Private.Room.{HaveRoom}
 use Rattle.tlv_value.proofs.RowLemmas.FilledRows.{row_begun, rows_filled}
-use Rattle.tlv_value.specs.Rows.{full_rows, open_row, rows_of}
+use Rattle.tlv_value.specs.Rows.{rows_of}
+use Rattle.tlv_value.specs.RowsSoFar.{full_rows, open_row}
 use Rattle.tlv_value.proofs.TextLemmas.Arcs.{and_right}
 use Rattle.tlv_value.proofs.RowLemmas.OneCut.{cut-parts}
+use Rattle.tlv_value.proofs.RowLemmas.RowsFilled.{rows-filled}
 use Rattle.tlv_value.proofs.RowLemmas.RowSteps.{begun-begins, filled-begins, shift-room}
 
 and_left : (a b : Bool) → (a && b) ≡ true → a ≡ true
@@ -303,7 +306,8 @@ last-formed (x ∷ row) = and-true (is_utf8 (x ∷ row))
 
 rows-all : (c : List ℕ) → list_all is_utf8 (rows_of Utf8 c) ≡ is_utf8 c
 rows-all c =
-    utf8-append (rows_filled Utf8 [] c) (last_rows (row_begun Utf8 [] c))
+    ap (λ (rows : List (List ℕ)). list_all is_utf8 rows) (rows-filled Utf8 c)
+    ∙ utf8-append (rows_filled Utf8 [] c) (last_rows (row_begun Utf8 [] c))
     ∙ ap (λ (b : Bool). list_all is_utf8 (rows_filled Utf8 [] c) && b) (last-formed (row_begun Utf8 [] c))
     ∙ steps-formed c
 

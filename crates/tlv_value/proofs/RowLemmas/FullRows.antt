@@ -18,7 +18,8 @@ use Rattle.tlv_value.specs.Layout.{spaces}
 use Rattle.tlv_value.specs.Private.Room.{HaveRoom}
 use Rattle.tlv_value.specs.Private.Rows.{pair_row_line, pair_row_lines, row_margin}
 use Rattle.tlv_value.specs.Rows.{rows_of}
-use Rattle.tlv_value.proofs.RowLemmas.FilledRows.{row_begun, rows-filled, rows_filled}
+use Rattle.tlv_value.proofs.RowLemmas.FilledRows.{row_begun, rows_filled}
+use Rattle.tlv_value.proofs.RowLemmas.RowsFilled.{rows-filled}
 use Rattle.tlv_value.specs.ValueLines.{shown_row_lines}
 use Rattle.tlv_value.specs.ValueTextState.{row_line, row_lines}
 use Rattle.tlv_value.specs.Private.UndottedText.{line_pairs}

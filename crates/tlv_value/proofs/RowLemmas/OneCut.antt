@@ -15,15 +15,13 @@ use Rattle.tlv_head.specs.declared.kind.Kind.{Kind}
 use Rattle.tlv_value.specs.RowSizes.{character_length, row_size, IsOpenRow}
 use Rattle.tlv_value.specs.Laws.{RowsHaveOneCut}
 use Rattle.tlv_value.specs.Private.Room.{HaveRoom}
-use Rattle.tlv_value.proofs.RowLemmas.FilledRows.{row_begun, rows-filled, rows_filled}
-use Rattle.tlv_value.specs.Rows.{cut_of_contents, full_rows, full_rows_in, open_row, open_row_in, rows_of}
+use Rattle.tlv_value.proofs.RowLemmas.FilledRows.{row_begun, rows_filled}
+use Rattle.tlv_value.proofs.RowLemmas.RowsFilled.{last-row, rows-are_cut, rows-filled}
+use Rattle.tlv_value.specs.Rows.{full_rows_in, rows_of}
+use Rattle.tlv_value.specs.RowsSoFar.{full_rows, open_row, open_row_in}
 use Rattle.tlv_value.proofs.RowLemmas.RowSteps.{FillsRow, begun-open, rest-stays_in_row, none-open, one_fits, open-room}
 use Rattle.tlv_value.proofs.RowLemmas.RowSteps.{steps-join}
 use Rattle.tlv_value.proofs.RowLemmas.RowSteps.{next_row}
-
-last-row : (row : List ℕ) → 1 ≤ length row → last_rows row ≡ row ∷ []
-last-row [] h = absurd (omega arith)
-last-row (x ∷ row) h = refl
 
 module _ (kind : Kind) where
   abbrev Row : List ℕ → Type 0
@@ -121,13 +119,13 @@ pub cut-parts : (kind : Kind) (octets : List ℕ)
     → (rows_filled kind [] octets ≡ full_rows_in kind (rows_of kind octets))
     × (row_begun kind [] octets ≡ open_row_in kind (rows_of kind octets))
 cut-parts kind octets =
-    let cut = (cut_of_contents kind octets).is_cut in
+    let cut = rows-are_cut kind octets in
     rw cut.together at (parts kind (rows_of kind octets) cut.each cut.full)
 
 -- all rows: the full ones, and the last
 pub rows-parts : (kind : Kind) (octets : List ℕ)
     → rows_of kind octets ≡ full_rows kind [] octets ++ last_rows (open_row kind [] octets)
-rows-parts kind octets = sym (all-parts kind (rows_of kind octets) (cut_of_contents kind octets).is_cut.each)
+rows-parts kind octets = sym (all-parts kind (rows_of kind octets) (rows-are_cut kind octets).each)
 
 -- so it is after an open row
 pub open-parts : (kind : Kind) (row octets : List ℕ) → IsOpenRow kind row

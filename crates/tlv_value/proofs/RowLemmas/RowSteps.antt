@@ -9,9 +9,9 @@ use Rattle.tlv_io.proofs.CutOf.{character-fits, fit-more, room-first, row-some}
 use Rattle.tlv_head.specs.declared.kind.Kind.{Kind}
 use Rattle.tlv_head.specs.declared.kind.Kind.TheVariants.{Octets, Boolean, Integer, Bits, Object, Relative, Text, Utf8}
 use Rattle.tlv_head.specs.declared.kind.Kind.TheVariants.{Ucs2, Ucs4}
-use Rattle.tlv_value.specs.RowSizes.{character_length, row_size, IsOpenRow}
+use Rattle.tlv_value.specs.RowSizes.{IsOpenRow, character_length, has_room, row_size}
 use Rattle.tlv_head.specs.Kind.{is_text}
-use Rattle.tlv_value.specs.Private.Room.{HaveRoom, has_room}
+use Rattle.tlv_value.specs.Private.Room.{HaveRoom}
 use Rattle.tlv_value.proofs.RowLemmas.FilledRows.{row_begun, rows_filled}
 
 -- any row has room for an octet,
@@ -19,7 +19,7 @@ pub one_fits : (kind : Kind) → 1 ≤ row_size kind
 one_fits kind = row-some (is_text kind)
 
 -- and for what is to be in one row with it
-character_fits : (kind : Kind) (x : ℕ) → character_length kind x ≤ row_size kind
+pub character_fits : (kind : Kind) (x : ℕ) → character_length kind x ≤ row_size kind
 character_fits Utf8 x = character-fits x
 character_fits kind x = one_fits kind
 

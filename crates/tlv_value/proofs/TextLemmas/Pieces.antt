@@ -11,19 +11,21 @@ use Rattle.tlv_value.specs.declared.layout.Layout.{Layout}
 use Rattle.tlv_value.specs.declared.primitive.Primitive.{Primitive}
 use Rattle.tlv_head.specs.Kind.{kind_of}
 use Rattle.tlv_value.specs.Laws.{LinesBegin, LinesEnd, LinesGoOn, PiecesJoin}
-use Rattle.tlv_value.specs.Rows.{full_rows, full_rows_in, open_row, open_row_in, rows_of}
+use Rattle.tlv_value.specs.Rows.{full_rows_in, rows_of}
+use Rattle.tlv_value.specs.RowsSoFar.{full_rows, open_row, open_row_in}
 use Rattle.tlv_value.specs.Private.PrimitiveLines.{lines_in_steps}
-use Rattle.tlv_value.specs.ValueLines.{has_line, open_lines_with, shown_row_lines, whole_lines_with}
+use Rattle.tlv_value.specs.ValueLines.{incomplete_lines_with, has_line, shown_row_lines, whole_lines_with}
 use Rattle.tlv_value.specs.ValueTextState.{KeptContents, ValueTextState, begin_lines, contents_lines, end_lines}
 use Rattle.tlv_value.specs.ValueTextState.{kept_contents_with_line, kept_contents_before_line, full_row_lines}
 use Rattle.tlv_value.specs.ValueTextState.{new_value_text_of}
 use Rattle.tlv_value.specs.ValueTextState.{new_value_text_with, primitive_line, primitive_lines, new_primitive}
 use Rattle.tlv_value.specs.ValueTextState.{kept_contents_after_line, row_lines}
 use Rattle.tlv_value.specs.ValueTextState.{kept_contents_after, value_text_for, value_text_after}
-use Rattle.tlv_value.specs.Value.{NameOf, is_long, long_text, long_value, row_octets, short_value}
+use Rattle.tlv_value.specs.Value.{NameOf, Value, Written, is_long, long_text, on_line_text, row_octets}
+use Rattle.tlv_value.specs.Value.{short_value}
 use Rattle.std.proofs.lemmas.Bool.Decides.{nat_tests}
 use Rattle.tlv_value.proofs.TextLemmas.RowLines.{row_lines-all, row_lines-append}
-use Rattle.tlv_value.proofs.RowLemmas.FilledRows.{rows-filled}
+use Rattle.tlv_value.proofs.RowLemmas.RowsFilled.{rows-filled}
 use Rattle.tlv_value.proofs.RowLemmas.OneCut.{rows-join, rows-parts}
 
 abbrev kept_with : ℕ → List ℕ → KeptContents
@@ -137,6 +139,13 @@ first-open_row : (u : ℕ) (rest : List ℕ) (b : Bool)
 first-open_row u rest true = refl
 first-open_row u rest false = refl
 
+-- the value of long contents, whose size is said apart
+abbrev long_by : Kind → ℕ → List ℕ → Value
+long_by kind size octets = record {
+  on_line = Written (long_text kind size octets);
+  rows = rows_of kind (row_octets kind octets);
+}
+
 abbrev begin_kept : Kind → KeptContents
 begin_kept kind = record { has_put_line = has_line kind []; row_count = 0; row = [] }
 
@@ -186,15 +195,15 @@ module _ (with_text : Bool) (layout : Layout) (line : List ℕ → List ℕ) (si
 
   abbrev whole_at : NameOf → Kind → Bool → List ℕ → List ℕ
   whole_at name_of kind long octets =
-      line (if long then long_value true kind size octets else short_value with_text name_of kind octets).text
+      line (on_line_text with_text (if long then long_by kind size octets else short_value name_of kind octets).on_line)
       ++ shown_row_lines with_text kind layout
-      (if long then long_value true kind size octets else short_value with_text name_of kind octets).rows
+      (if long then long_by kind size octets else short_value name_of kind octets).rows
 
   abbrev ended_at : NameOf → Kind → Bool → KeptContents → List ℕ
   ended_at name_of kind long k =
       if long then row_lines with_text kind layout k.row_count (last_rows k.row)
-      else line (short_value with_text name_of kind k.row).text
-      ++ shown_row_lines with_text kind layout (short_value with_text name_of kind k.row).rows
+      else line (on_line_text with_text (short_value name_of kind k.row).on_line)
+      ++ shown_row_lines with_text kind layout (short_value name_of kind k.row).rows
 
   abbrev WholeIsEnded : NameOf → Kind → Bool → List ℕ → Type 0
   WholeIsEnded name_of kind long octets =
@@ -248,7 +257,7 @@ line_for with_text h layout = primitive_line (new_primitive with_text h layout)
 
 -- all that is known of a primitive that is still open was written
 pub open-lines : (with_text : Bool) (h : HeaderValue) (layout : Layout) (octets : List ℕ)
-    → open_lines_with with_text h layout octets
+    → incomplete_lines_with with_text h layout octets
     ≡ begin_lines (new_value_text_with with_text h layout) ++ contents_lines (new_value_text_with with_text h layout) octets
 open-lines with_text h layout octets =
     known-open with_text layout (line_for with_text h layout) (size_of h.size) (kind_of h.class h.number)
@@ -313,9 +322,11 @@ long-some kind n size e h = grind (arith, nat_tests)
 
 abbrev whole_by : Bool → Layout → (List ℕ → List ℕ) → NameOf → Kind → ℕ → List ℕ → List ℕ
 whole_by with_text layout line name_of kind n octets =
-    line (if is_long kind n then long_value true kind n octets else short_value with_text name_of kind octets).text
+    line
+    (on_line_text with_text
+    (if is_long kind n then long_by kind n octets else short_value name_of kind octets).on_line)
     ++ shown_row_lines with_text kind layout
-    (if is_long kind n then long_value true kind n octets else short_value with_text name_of kind octets).rows
+    (if is_long kind n then long_by kind n octets else short_value name_of kind octets).rows
 
 pub lines-end : LinesEnd
 lines-end with_text name_of h layout octets e =

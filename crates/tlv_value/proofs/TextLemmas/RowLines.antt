@@ -9,7 +9,8 @@ use Rattle.tlv_io.specs.Cuts.{last_rows}
 use Rattle.tlv_head.specs.declared.kind.Kind.{Kind}
 use Rattle.tlv_value.specs.declared.layout.Layout.{Layout}
 use Rattle.tlv_value.specs.Layout.{inner_line, shown_rows}
-use Rattle.tlv_value.specs.Rows.{full_rows, open_row, rows_of}
+use Rattle.tlv_value.specs.Rows.{rows_of}
+use Rattle.tlv_value.specs.RowsSoFar.{full_rows, open_row}
 use Rattle.tlv_value.specs.ValueLines.{shown_row_lines}
 use Rattle.tlv_value.specs.ValueTextState.{row_by_limit, row_line, row_lines}
 use Rattle.tlv_value.specs.Value.{row_text}

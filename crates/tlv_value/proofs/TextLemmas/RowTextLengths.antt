@@ -23,7 +23,8 @@ use Rattle.tlv_head.specs.declared.kind.Kind.TheVariants.{Ucs2, Ucs4}
 use Rattle.tlv_value.specs.Units.{escaped_number, escaped_octet, is_printable, octet_text, printable_text, quoted_text}
 use Rattle.tlv_value.specs.Units.{first_units, three_octets, unit_size, unit_text, units, utf8_number, without_zeros}
 use Rattle.tlv_value.proofs.TextLemmas.UnitSteps.{size-within}
-use Rattle.tlv_value.specs.Value.{Value, bit_count_text, bits_value, boolean_value, integer_value, is_readable}
+use Rattle.tlv_value.specs.Value.{InPairs, OnLine, Value, Written, bit_count_text, bits_value, boolean_value}
+use Rattle.tlv_value.specs.Value.{integer_text, is_readable, on_line_text}
 use Rattle.tlv_value.specs.Private.UndottedText.{line_pairs}
 use Rattle.tlv_value.specs.Value.{joined_pairs, pairs_with_text, text_behind}
 use Rattle.tlv_io.specs.LineTexts.{AddsAtMost}
@@ -38,8 +39,8 @@ length-grown old new text n e h = omega (arith, ap length e, length-append old t
 pub adds_short : (old new text : List ℕ) (n : ℕ) → new ≡ old ++ text → length text ≤ n → AddsAtMost n old new text
 adds_short old new text n e h = record { text = e; within = length-grown old new text n e h }
 
-abbrev value_with : List ℕ → List (List ℕ) → Value
-value_with text rows = record { text = text; rows = rows }
+abbrev value_with : OnLine → List (List ℕ) → Value
+value_with on_line rows = record { on_line = on_line; rows = rows }
 
 pair-length : (x : ℕ) → length (encode_lower (x ∷ [])) ≡ 2
 pair-length x = length-encode_with lower_digits (x ∷ [])
@@ -175,10 +176,11 @@ pub pairs-short : (with_text : Bool) (octets : List ℕ) → length octets ≤ 6
 pairs-short with_text octets h =
     omega (arith, row-short with_text octets, h)
 
-octets-text-short : (with_text : Bool) (octets : List ℕ) → length (octets_value with_text octets).text ≤ 330
+octets-text-short : (with_text : Bool) (octets : List ℕ) → length (on_line_text with_text (octets_value octets).on_line) ≤ 330
 octets-text-short with_text octets =
     elim (nat_le (length octets) 16) as (λ b. nat_le (length octets) 16 ≡ b
-    → length (if b then value_with (line_pairs with_text octets) [] else value_with [] (rows_of Octets octets)).text
+    → length (on_line_text with_text
+    (if b then value_with (InPairs octets) [] else value_with (Written []) (rows_of Octets octets)).on_line)
     ≤ 330) [
       | true ↦ λ e.
           let h : length octets ≤ 16 = leb-true (length octets) 16 e in pairs-short with_text octets (omega (arith, h))
@@ -192,14 +194,14 @@ signed-short : (z : ℤ) → mag z < 2 ^ 127 → length (signed_decimal z) ≤ 4
 signed-short (pos n) h = omega (arith, digits-short n (omega arith))
 signed-short (negsuc n) h = omega (arith, digits-short (suc n) (omega arith))
 
-pub boolean-short : (with_text : Bool) (octets : List ℕ) → length octets ≤ 16 → length (boolean_value with_text octets).text ≤ 330
+pub boolean-short : (with_text : Bool) (octets : List ℕ) → length octets ≤ 16 → length (on_line_text with_text (boolean_value octets).on_line) ≤ 330
 boolean-short with_text [] h = octets-text-short with_text []
 boolean-short with_text (x ∷ []) h =
     elim (eqb x 0) as (λ b. length (32 ∷ (if b then codes "FALSE" else codes "TRUE")) ≤ 330)
     [ true ↦ omega arith | false ↦ omega arith ]
 boolean-short with_text (x ∷ y ∷ octets) h = octets-text-short with_text (x ∷ y ∷ octets)
 
-pub integer-short : (octets : List ℕ) → length octets ≤ 16 → length (integer_value octets).text ≤ 330
+pub integer-short : (octets : List ℕ) → length octets ≤ 16 → length (integer_text octets) ≤ 330
 integer-short [] h = omega arith
 integer-short (x ∷ xs) h =
     let f : FitsSigned w128 (twos_complement (x ∷ xs)) = twos-fits_all (x ∷ xs) h in
@@ -224,12 +226,12 @@ count-short unused_bits octets h =
       digits-short (8 * octets - unused_bits) (omega arith),
     )
 
-pub bits-short : (with_text : Bool) (octets : List ℕ) → length octets ≤ 9 → length (bits_value with_text octets).text ≤ 330
+pub bits-short : (with_text : Bool) (octets : List ℕ) → length octets ≤ 9 → length (on_line_text with_text (bits_value octets).on_line) ≤ 330
 bits-short with_text [] h = octets-text-short with_text []
 bits-short with_text (unused_bits ∷ octets) h =
-    elim (is_readable unused_bits (length octets)) as (λ b. length
+    elim (is_readable unused_bits (length octets)) as (λ b. length (on_line_text with_text
     (if b then value_on_line (bit_count_text unused_bits (length octets) ++ used_digits unused_bits octets)
-    else octets_value with_text (unused_bits ∷ octets)).text
+    else octets_value (unused_bits ∷ octets)).on_line)
     ≤ 330) [
       | true ↦
           omega (

@@ -3,17 +3,17 @@ use Rattle.std.specs.Prelude.{ℕ, Bool, List, [], ◌∷◌, ◌++◌}
 use Rattle.tlv_head.specs.declared.kind.Kind.TheVariants.{Octets}
 use Rattle.tlv_value.specs.declared.layout.Layout.{Layout}
 use Rattle.tlv_value.specs.ValueLines.{shown_row_lines}
-use Rattle.tlv_value.specs.Value.{NameOf, Value, object_value, octets_value}
+use Rattle.tlv_value.specs.Value.{NameOf, Value, object_value, octets_value, on_line_text}
 
 -- the rest of the line after the tag, and the rows below it. The first argument says whether text is beside pairs
 abbrev pub rest_of_lines : Bool → Layout → Value → List ℕ
-rest_of_lines with_text layout v = (v.text ++ 10 ∷ []) ++ shown_row_lines with_text Octets layout v.rows
+rest_of_lines with_text layout v = (on_line_text with_text v.on_line ++ 10 ∷ []) ++ shown_row_lines with_text Octets layout v.rows
 
 -- the same, of octets that are shown as pairs of digits
 abbrev pub octets_lines : Bool → Layout → List ℕ → List ℕ
-octets_lines with_text layout octets = rest_of_lines with_text layout (octets_value with_text octets)
+octets_lines with_text layout octets = rest_of_lines with_text layout (octets_value octets)
 
 -- the same, of an object identifier, or of a relative one
 abbrev pub object_lines : Bool → NameOf → Layout → Bool → List ℕ → List ℕ
 object_lines with_text name_of layout relative octets =
-    rest_of_lines with_text layout (object_value with_text name_of relative octets)
+    rest_of_lines with_text layout (object_value name_of relative octets)

@@ -3,7 +3,7 @@ ghost use Rattle.std.specs.List.{list_all};
 ghost use Rattle.std.specs.Prelude.{◌≡◌, ◌+◌, ◌≤◌, ◌++◌, [], length};
 ghost use Rattle.std.specs.Str.{is_utf8};
 ghost use Rattle.tlv_value.specs.RowSizes.{IsOpenRow};
-ghost use Rattle.tlv_value.specs.Rows.{full_rows, open_row};
+ghost use Rattle.tlv_value.specs.RowsSoFar.{full_rows, open_row};
 
 use super::both;
 use crate::row_sizes::fitting_length;

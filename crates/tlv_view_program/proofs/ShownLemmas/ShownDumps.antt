@@ -23,8 +23,8 @@ use Rattle.tlv_head.specs.declared.kind.Kind.{Kind}
 use Rattle.tlv_value.specs.declared.layout.Layout.{Layout}
 use Rattle.tlv_value.specs.Finding.{finding_code, finding_text}
 use Rattle.tlv_value.specs.Layout.{blank_columns, columns, inner_line, line, margin, shown_rows, spaces}
-use Rattle.tlv_value.specs.Value.{NameOf, Value, is_long, row_text, whole_value}
-use Rattle.tlv_value.specs.ValueLines.{has_line, header_kind, open_lines_with, shown_row_lines}
+use Rattle.tlv_value.specs.Value.{NameOf, Value, is_long, on_line_text, row_text, whole_value}
+use Rattle.tlv_value.specs.ValueLines.{incomplete_lines_with, has_line, header_kind, shown_row_lines}
 use Rattle.tlv_value.specs.ValueLines.{value_lines, whole_lines_with}
 use Rattle.tlv_show.specs.ShowJob.{top_layout}
 use Rattle.tlv_show.specs.HolderLines.{closing_line, opening_line, opening_word, padding_line, size_text}
@@ -46,7 +46,7 @@ use Rattle.tlv_view_program.proofs.ShownLemmas.ShownLists.{wording-shown}
 use Rattle.tlv_view_program.proofs.ShownLemmas.ShownReasons.{sends-shown}
 use Rattle.tlv_view_program.proofs.ShownLemmas.ShownText.{columns-shown, flat-shown, left-octets, right-octets}
 use Rattle.tlv_view_program.proofs.ShownLemmas.ShownText.{spaces-shown, tag-shown}
-use Rattle.tlv_view_program.proofs.ShownLemmas.ShownValues.{AreShownNames, IsShownValue, long-shown, row-shown}
+use Rattle.tlv_view_program.proofs.ShownLemmas.ShownValues.{AreShownNames, IsShownValue, incomplete-shown, row-shown}
 use Rattle.tlv_view_program.proofs.ShownLemmas.ShownValues.{whole-shown}
 
 -- ---- lines
@@ -92,26 +92,27 @@ value-shown : (with_text : Bool) (h : HeaderValue) (layout : Layout) (v : Value)
     → AreShown (value_lines with_text h layout v)
 value-shown with_text h layout v shown =
     let size : List ℕ = decimal (announced_length h.size) in
-    let text : List ℕ = tag_text h.class h.number ++ v.text in
+    let value_text : List ℕ = on_line_text with_text v.on_line in
+    let text : List ℕ = tag_text h.class h.number ++ value_text in
     joined-shown (line layout (columns h.offset size) text) (shown_row_lines with_text (header_kind h) layout v.rows)
     (line-shown layout (columns h.offset size) text
     (columns-shown h.offset size (decimal-shown (announced_length h.size)))
-    (joined-shown (tag_text h.class h.number) v.text (tag-shown h.class h.number) shown.text))
+    (joined-shown (tag_text h.class h.number) value_text (tag-shown h.class h.number) (shown.text with_text)))
     (rows-shown with_text (header_kind h) layout v.rows shown.rows)
 
 whole_lines-shown : (with_text : Bool) (name_of : NameOf) (h : HeaderValue) (layout : Layout) (c : List ℕ)
     → AreShownNames name_of → AreOctets c → AreShown (whole_lines_with with_text name_of h layout c)
 whole_lines-shown with_text name_of h layout c names o =
-    value-shown with_text h layout (whole_value with_text name_of (header_kind h) c)
-    (whole-shown with_text name_of (header_kind h) c names o)
+    value-shown with_text h layout (whole_value name_of (header_kind h) c)
+    (whole-shown name_of (header_kind h) c names o)
 
-open_lines-shown : (with_text : Bool) (h : HeaderValue) (layout : Layout) (c : List ℕ) → AreOctets c
-    → AreShown (open_lines_with with_text h layout c)
-open_lines-shown with_text h layout c o =
+incomplete_lines-shown : (with_text : Bool) (h : HeaderValue) (layout : Layout) (c : List ℕ) → AreOctets c
+    → AreShown (incomplete_lines_with with_text h layout c)
+incomplete_lines-shown with_text h layout c o =
     elim (cases_Bool (is_long (header_kind h) (announced_length h.size) && has_line (header_kind h) c)) [
       | inl known ↦
           rw known
-          (value-shown with_text h layout _ (long-shown false (header_kind h) (announced_length h.size) c o))
+          (value-shown with_text h layout _ (incomplete-shown (header_kind h) (announced_length h.size) c o))
       | inr unknown ↦ rw unknown refl
     ]
 
@@ -166,7 +167,7 @@ item-shown with_text name_of layout (ClosingLine level offset) names o = closing
 item-shown with_text name_of layout (PrimitiveLines level h c) names o =
     whole_lines-shown with_text name_of h (layout_at layout level) c names o
 item-shown with_text name_of layout (OpenPrimitiveLines level h c) names o =
-    open_lines-shown with_text h (layout_at layout level) c o
+    incomplete_lines-shown with_text h (layout_at layout level) c o
 item-shown with_text name_of layout (PaddingLine level offset) names o = padding-shown (layout_at layout level) offset
 
 findings-of : (level offset : ℕ) (findings : List Finding) → All IsOfOctets (finding_items level offset findings)

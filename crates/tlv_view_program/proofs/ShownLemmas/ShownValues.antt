@@ -15,11 +15,14 @@ use Rattle.tlv_value.specs.Bits.{bits_of, last_bits}
 use Rattle.tlv_head.specs.Kind.{is_text}
 use Rattle.tlv_value.specs.Number.{twos_complement}
 use Rattle.tlv_value.specs.RowSizes.{row_size}
-use Rattle.tlv_value.specs.Rows.{cut_of_contents, full_rows_in, known_rows, rows_of}
+use Rattle.tlv_value.specs.Rows.{full_rows_in, rows_of}
+use Rattle.tlv_value.proofs.RowLemmas.RowsFilled.{rows-are_cut}
 use Rattle.tlv_value.specs.Units.{is_printable, quoted_text}
-use Rattle.tlv_value.specs.Value.{NameOf, Value, bit_count_text, bits_value, boolean_value, digits_of_bits}
+use Rattle.tlv_value.specs.Value.{NameOf, Value, bit_count_text, bits_value, boolean_value, incomplete_value}
+use Rattle.tlv_value.specs.Value.{digits_of_bits}
 use Rattle.tlv_value.specs.Value.{integer_value, is_long, is_readable, joined_pairs, long_text, long_value, name_text}
-use Rattle.tlv_value.specs.Value.{no_names, object_value, octets_value, pairs_with_text, row_octets, row_text}
+use Rattle.tlv_value.specs.Value.{no_names, object_value, octets_value, on_line_text, pairs_with_text, row_octets}
+use Rattle.tlv_value.specs.Value.{row_text}
 use Rattle.tlv_value.specs.Value.{short_value, spaced_pairs, text_behind, used_digits, value_on_line, whole_value}
 use Rattle.tlv_why.specs.Laws.{AreShown, is_shown_octet}
 use Rattle.tlv_why.proofs.ShownLemmas.ShownWords.{decimal-shown}
@@ -29,14 +32,14 @@ use Rattle.tlv_view_program.proofs.ShownLemmas.ShownText.{right-octets, signed-s
 
 -- a value whose text is shown, and whose rows are of octets
 pub record IsShownValue (v : Value) : Type 0 where
-  pub text : AreShown v.text
+  pub text : (with_text : Bool) → AreShown (on_line_text with_text v.on_line)
   pub rows : All (λ (row : List ℕ). AreOctets row) v.rows
 
 no_rows : All (λ (row : List ℕ). AreOctets row) []
 no_rows = All-nil (λ (row : List ℕ). AreOctets row)
 
 on_line-shown : (text : List ℕ) → AreShown text → IsShownValue (value_on_line text)
-on_line-shown text shown = record { text = shown; rows = no_rows }
+on_line-shown text shown = record { text = λ with_text. shown; rows = no_rows }
 
 -- ---- rows
 
@@ -50,7 +53,7 @@ rows_of-octets : (k : Kind) (octets : List ℕ) → AreOctets octets
     → All (λ (row : List ℕ). AreOctets row) (rows_of k octets)
 rows_of-octets k octets o =
     rows-octets (rows_of k octets)
-    (subst (λ (l : List ℕ). AreOctets l) (sym (cut_of_contents k octets).is_cut.together) o)
+    (subst (λ (l : List ℕ). AreOctets l) (sym (rows-are_cut k octets).together) o)
 
 full-octets : (k : Kind) (rows : List (List ℕ)) → All (λ (row : List ℕ). AreOctets row) rows
     → All (λ (row : List ℕ). AreOctets row) (full_rows_in k rows)
@@ -63,11 +66,6 @@ full-octets k (row ∷ next ∷ rows) all =
     All-cons (λ (r : List ℕ). AreOctets r) row (full_rows_in k (next ∷ rows))
     (All-head (λ (r : List ℕ). AreOctets r) row (next ∷ rows) all)
     (full-octets k (next ∷ rows) (All-tail (λ (r : List ℕ). AreOctets r) row (next ∷ rows) all))
-
-known-octets : (whole : Bool) (k : Kind) (octets : List ℕ) → AreOctets octets
-    → All (λ (row : List ℕ). AreOctets row) (known_rows whole k octets)
-known-octets true k octets o = rows_of-octets k octets o
-known-octets false k octets o = full-octets k (rows_of k octets) (rows_of-octets k octets o)
 
 -- ---- octets
 
@@ -85,30 +83,29 @@ with_text-shown : (with_text : Bool) (octets pairs : List ℕ) → AreShown pair
 with_text-shown false octets pairs shown = shown
 with_text-shown true octets pairs shown = joined-shown pairs (text_behind octets) shown (behind-shown octets)
 
-octets_value-shown : (with_text : Bool) (octets : List ℕ) → AreOctets octets
-    → IsShownValue (octets_value with_text octets)
-octets_value-shown with_text octets o = elim (cases_Bool (nat_le (length octets) 16)) [
+octets_value-shown : (octets : List ℕ) → AreOctets octets → IsShownValue (octets_value octets)
+octets_value-shown octets o = elim (cases_Bool (nat_le (length octets) 16)) [
   | inl few ↦
       rw few
       (record {
-        text = with_text-shown with_text octets (spaced_pairs octets) (spaced_pairs-shown octets o);
+        text = λ with_text. with_text-shown with_text octets (spaced_pairs octets) (spaced_pairs-shown octets o);
         rows = no_rows;
       })
-  | inr many ↦ rw many (record { text = refl; rows = rows_of-octets kind.Octets octets o })
+  | inr many ↦ rw many (record { text = λ with_text. refl; rows = rows_of-octets kind.Octets octets o })
 ]
 
 -- ---- kind by kind
 
-boolean-shown : (with_text : Bool) (octets : List ℕ) → AreOctets octets → IsShownValue (boolean_value with_text octets)
-boolean-shown with_text [] o = octets_value-shown with_text [] o
-boolean-shown with_text (x ∷ []) o = elim (cases_Bool (eqb x 0)) [
+boolean-shown : (octets : List ℕ) → AreOctets octets → IsShownValue (boolean_value octets)
+boolean-shown [] o = octets_value-shown [] o
+boolean-shown (x ∷ []) o = elim (cases_Bool (eqb x 0)) [
   | inl is_false ↦ rw is_false (on_line-shown (codes "FALSE") refl)
   | inr is_true ↦ rw is_true (on_line-shown (codes "TRUE") refl)
 ]
-boolean-shown with_text (x ∷ y ∷ octets) o = octets_value-shown with_text (x ∷ y ∷ octets) o
+boolean-shown (x ∷ y ∷ octets) o = octets_value-shown (x ∷ y ∷ octets) o
 
 integer-shown : (octets : List ℕ) → IsShownValue (integer_value octets)
-integer-shown [] = record { text = refl; rows = no_rows }
+integer-shown [] = record { text = λ with_text. refl; rows = no_rows }
 integer-shown (x ∷ xs) =
     on_line-shown (signed_decimal (twos_complement (x ∷ xs))) (signed-shown (twos_complement (x ∷ xs)))
 
@@ -144,15 +141,15 @@ used-shown unused_bits (x ∷ xs) =
     digits-shown (take (8 * length (x ∷ xs) - unused_bits) (bits_of (x ∷ xs)))
     (All-take (λ (bit : ℕ). bit < 2) (8 * length (x ∷ xs) - unused_bits) (bits_of (x ∷ xs)) (bits-below (x ∷ xs)))
 
-bits-shown : (with_text : Bool) (octets : List ℕ) → AreOctets octets → IsShownValue (bits_value with_text octets)
-bits-shown with_text [] o = octets_value-shown with_text [] o
-bits-shown with_text (u ∷ octets) o = elim (cases_Bool (is_readable u (length octets))) [
+bits-shown : (octets : List ℕ) → AreOctets octets → IsShownValue (bits_value octets)
+bits-shown [] o = octets_value-shown [] o
+bits-shown (u ∷ octets) o = elim (cases_Bool (is_readable u (length octets))) [
   | inl readable ↦
       rw readable
       (on_line-shown (bit_count_text u (length octets) ++ used_digits u octets)
       (joined-shown (bit_count_text u (length octets)) (used_digits u octets) (count-shown u (length octets))
       (used-shown u octets)))
-  | inr unread ↦ rw unread (octets_value-shown with_text (u ∷ octets) o)
+  | inr unread ↦ rw unread (octets_value-shown (u ∷ octets) o)
 ]
 
 -- each name that a type has is shown
@@ -169,19 +166,19 @@ arcs-shown : (arcs : List ℕ) → AreShown (dotted_arcs arcs)
 arcs-shown arcs =
     join-shown decimal (codes ".") (λ (n : ℕ). Unit {0}) arcs (λ n p. decimal-shown n) refl (λ k d less. tt)
 
-dotted-value : (with_text : Bool) (name_of : NameOf) (octets text : List ℕ) (is : Bool) → AreShownNames name_of
+dotted-value : (name_of : NameOf) (octets text : List ℕ) (is : Bool) → AreShownNames name_of
     → AreOctets octets → AreShown text
     → IsShownValue (option_map_or (λ (t : List ℕ). value_on_line (t ++ name_text (name_of t)))
-    (if is then Some text else None) (octets_value with_text octets))
-dotted-value with_text name_of octets text true names o shown =
+    (if is then Some text else None) (octets_value octets))
+dotted-value name_of octets text true names o shown =
     on_line-shown (text ++ name_text (name_of text))
     (joined-shown text (name_text (name_of text)) shown (name-shown (name_of text) (names text)))
-dotted-value with_text name_of octets text false names o shown = octets_value-shown with_text octets o
+dotted-value name_of octets text false names o shown = octets_value-shown octets o
 
-object-shown : (with_text : Bool) (name_of : NameOf) (relative : Bool) (octets : List ℕ) → AreShownNames name_of
-    → AreOctets octets → IsShownValue (object_value with_text name_of relative octets)
-object-shown with_text name_of relative octets names o =
-    dotted-value with_text name_of octets (dotted_arcs (arcs_of relative (subidentifiers octets)))
+object-shown : (name_of : NameOf) (relative : Bool) (octets : List ℕ) → AreShownNames name_of
+    → AreOctets octets → IsShownValue (object_value name_of relative octets)
+object-shown name_of relative octets names o =
+    dotted-value name_of octets (dotted_arcs (arcs_of relative (subidentifiers octets)))
     (is_finished octets && nat_le (length octets) 64 && list_all (λ v. nat_lt v (2 ^ 128)) (subidentifiers octets))
     names o (arcs-shown (arcs_of relative (subidentifiers octets)))
 
@@ -193,19 +190,19 @@ no_names-shown dotted name is = cc is
 quoted-value : (k : Kind) (octets : List ℕ) → AreOctets octets → IsShownValue (value_on_line (quoted_text k octets))
 quoted-value k octets o = on_line-shown (quoted_text k octets) (quoted-shown k octets o)
 
-short-shown : (with_text : Bool) (name_of : NameOf) (k : Kind) (octets : List ℕ) → AreShownNames name_of
-    → AreOctets octets → IsShownValue (short_value with_text name_of k octets)
-short-shown with_text name_of kind.Boolean octets names o = boolean-shown with_text octets o
-short-shown with_text name_of kind.Integer octets names o = integer-shown octets
-short-shown with_text name_of kind.Bits octets names o = bits-shown with_text octets o
-short-shown with_text name_of kind.Object octets names o = object-shown with_text name_of false octets names o
-short-shown with_text name_of kind.Relative octets names o =
-    object-shown with_text no_names true octets no_names-shown o
-short-shown with_text name_of kind.Octets octets names o = octets_value-shown with_text octets o
-short-shown with_text name_of kind.Text octets names o = quoted-value kind.Text octets o
-short-shown with_text name_of kind.Utf8 octets names o = quoted-value kind.Utf8 octets o
-short-shown with_text name_of kind.Ucs2 octets names o = quoted-value kind.Ucs2 octets o
-short-shown with_text name_of kind.Ucs4 octets names o = quoted-value kind.Ucs4 octets o
+short-shown : (name_of : NameOf) (k : Kind) (octets : List ℕ) → AreShownNames name_of
+    → AreOctets octets → IsShownValue (short_value name_of k octets)
+short-shown name_of kind.Boolean octets names o = boolean-shown octets o
+short-shown name_of kind.Integer octets names o = integer-shown octets
+short-shown name_of kind.Bits octets names o = bits-shown octets o
+short-shown name_of kind.Object octets names o = object-shown name_of false octets names o
+short-shown name_of kind.Relative octets names o =
+    object-shown no_names true octets no_names-shown o
+short-shown name_of kind.Octets octets names o = octets_value-shown octets o
+short-shown name_of kind.Text octets names o = quoted-value kind.Text octets o
+short-shown name_of kind.Utf8 octets names o = quoted-value kind.Utf8 octets o
+short-shown name_of kind.Ucs2 octets names o = quoted-value kind.Ucs2 octets o
+short-shown name_of kind.Ucs4 octets names o = quoted-value kind.Ucs4 octets o
 
 long_bits-shown : (n : ℕ) (octets : List ℕ) → AreShown (long_text kind.Bits n octets)
 long_bits-shown n [] = refl
@@ -245,18 +242,26 @@ row_octets-octets kind.Utf8 octets o = o
 row_octets-octets kind.Ucs2 octets o = o
 row_octets-octets kind.Ucs4 octets o = o
 
-pub long-shown : (whole : Bool) (k : Kind) (n : ℕ) (octets : List ℕ) → AreOctets octets
-    → IsShownValue (long_value whole k n octets)
-long-shown whole k n octets o = record {
-  text = long_text-shown k n octets;
-  rows = known-octets whole k (row_octets k octets) (row_octets-octets k octets o);
+long-shown : (k : Kind) (octets : List ℕ) → AreOctets octets → IsShownValue (long_value k octets)
+long-shown k octets o = record {
+  text = λ with_text. long_text-shown k (length octets) octets;
+  rows = rows_of-octets k (row_octets k octets) (row_octets-octets k octets o);
 }
 
-pub whole-shown : (with_text : Bool) (name_of : NameOf) (k : Kind) (octets : List ℕ) → AreShownNames name_of
-    → AreOctets octets → IsShownValue (whole_value with_text name_of k octets)
-whole-shown with_text name_of k octets names o = elim (cases_Bool (is_long k (length octets))) [
-  | inl long ↦ rw long (long-shown true k (length octets) octets o)
-  | inr short ↦ rw short (short-shown with_text name_of k octets names o)
+pub incomplete-shown : (k : Kind) (n : ℕ) (octets : List ℕ) → AreOctets octets
+    → IsShownValue (incomplete_value k n octets)
+incomplete-shown k n octets o = record {
+  text = λ with_text. long_text-shown k n octets;
+  rows =
+      full-octets k (rows_of k (row_octets k octets))
+      (rows_of-octets k (row_octets k octets) (row_octets-octets k octets o));
+}
+
+pub whole-shown : (name_of : NameOf) (k : Kind) (octets : List ℕ) → AreShownNames name_of
+    → AreOctets octets → IsShownValue (whole_value name_of k octets)
+whole-shown name_of k octets names o = elim (cases_Bool (is_long k (length octets))) [
+  | inl long ↦ rw long (long-shown k octets o)
+  | inr short ↦ rw short (short-shown name_of k octets names o)
 ]
 
 pub row-shown : (with_text : Bool) (k : Kind) (row : List ℕ) → AreOctets row → AreShown (row_text with_text k row)

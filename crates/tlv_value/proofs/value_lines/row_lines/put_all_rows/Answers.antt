@@ -2,7 +2,7 @@ use Rattle.std.proofs.Common.{rules, ◌≡◌, ◌+◌, ℕ, List, [], length, 
 use Rattle.tlv_io.specs.Cuts.{last_rows}
 use Rattle.tlv_io.proofs.Puts.{puts_failed_in, puts_then_as}
 use Rattle.tlv_head.specs.declared.kind.Kind.TheVariants.{Octets}
-use Rattle.tlv_value.specs.Rows.{full_rows, open_row}
+use Rattle.tlv_value.specs.RowsSoFar.{full_rows, open_row}
 use Rattle.tlv_value.specs.ValueTextState.{row_lines}
 use Rattle.tlv_value.proofs.TextLemmas.RowLines.{rows-split}
 use Rattle.tlv_value.proofs.value_lines.row_lines.put_all_rows.Goals as goal

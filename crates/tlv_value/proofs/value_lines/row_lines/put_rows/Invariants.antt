@@ -2,7 +2,7 @@ use Rattle.std.proofs.Common.{◌≡◌, ℕ, ◌+◌, ◌≤◌, ◌++◌, List
 use Rattle.tlv_io.proofs.Puts.{HasPut}
 use Rattle.tlv_value.specs.RowSizes.{IsOpenRow}
 use Rattle.tlv_value.proofs.RowLemmas.FilledRows.{row_begun, rows_filled}
-use Rattle.tlv_value.specs.Rows.{full_rows, open_row}
+use Rattle.tlv_value.specs.RowsSoFar.{full_rows, open_row}
 use Rattle.tlv_value.specs.ValueTextState.{row_lines}
 use Rattle.tlv_value.proofs.value_lines.row_lines.put_rows.Given as goal
 

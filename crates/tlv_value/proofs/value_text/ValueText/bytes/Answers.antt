@@ -3,7 +3,7 @@ use Rattle.std.specs.Prelude.{true, false}
 use Rattle.std.proofs.lemmas.Grind.{common_steps}
 use Rattle.tlv_io.proofs.Puts.{puts_failed_in, puts_text, puts_then_as}
 use Rattle.tlv_head.specs.declared.kind.Kind.TheVariants.{Bits}
-use Rattle.tlv_value.specs.Rows.{full_rows}
+use Rattle.tlv_value.specs.RowsSoFar.{full_rows}
 use Rattle.tlv_value.specs.ValueTextState.{ValueTextState, contents_lines, primitive_line, row_lines}
 use Rattle.tlv_value.specs.ValueTextFields.{value_text_state_of}
 use Rattle.tlv_value.specs.Value.{is_long, long_text, row_octets}
