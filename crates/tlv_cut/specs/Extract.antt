@@ -6,7 +6,6 @@ use Rattle.tlv_walk.specs.Forest.{Primitive, is_whole, lead, spelling}
 use Rattle.tlv_walk.specs.declared.framing.Framing.{Framing}
 use Rattle.tlv_walk.specs.Job.{Job}
 use Rattle.tlv_cut.specs.declared.extract_call.Cut.{Cut}
-use Rattle.tlv_head.specs.Limits.{input_limit}
 
 -- the element whose header begins at the offset n, by itself, if its header is complete. No two elements begin at one
 -- offset
@@ -67,8 +66,7 @@ extract_text n contents_only f = option_map_or (element_text contents_only) (ele
 abbrev pub extract_job : ℕ → Bool → Framing → Job Cut
 extract_job offset contents_only framing = record {
   framing = framing;
-  limit = input_limit;
   text = extract_text offset contents_only;
   is_enough = has_whole_element_at offset;
-  result = λ f e. record { ending = e; found = has_element_at offset f };
+  returns = λ f e. record { ending = e; found = has_element_at offset f };
 }
