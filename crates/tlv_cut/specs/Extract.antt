@@ -6,10 +6,9 @@ use Rattle.tlv_walk.specs.Forest.{Primitive, is_whole, lead, spelling}
 use Rattle.tlv_walk.specs.declared.framing.Framing.{Framing}
 use Rattle.tlv_walk.specs.Job.{Job}
 use Rattle.tlv_cut.specs.declared.extract_call.Cut.{Cut}
-use Rattle.tlv_head.specs.Limits.{input_limit}
 
--- the element whose header begins at the offset n, by itself, if its header is complete. No two elements begin at one
--- offset
+-- the element that begins at the offset n, without what follows it. There is none before its header is complete. No
+-- two elements begin at one offset
 abbrev pub element_at : ℕ → Forest → Option Forest
 element_at n (PaddingOctet rest) = element_at n rest
 element_at n (Primitive h c rest) =
@@ -31,8 +30,8 @@ has_element_at n f = is_some (element_at n f)
 abbrev pub has_whole_element_at : ℕ → Forest → Bool
 has_whole_element_at n f = option_map_or is_whole (element_at n f) false
 
--- only the elements whose headers are complete. Padding, which belongs to no element, is left out, and so is what is
--- unfinished at the end: a prefix of a header, or the first of the end-of-contents octets without the second
+-- the same without octets that belong to no element yet: a prefix of a header, or the first of the end-of-contents
+-- octets without the second. Padding, which is in no element, is left out too
 abbrev pub elements_only : Forest → Forest
 elements_only (PaddingOctet rest) = elements_only rest
 elements_only (Primitive h c rest) = Primitive h c (elements_only rest)
@@ -42,12 +41,12 @@ elements_only (OpenHolder h children) = OpenHolder h (elements_only children)
 elements_only (OpenBitString h) = OpenBitString h
 elements_only _ = NoMore
 
--- 8.1.1.1: the octets of elements so far
+-- 8.1.1.1: the octets of elements, as far as they are there
 abbrev pub octets_so_far : Forest → List ℕ
 octets_so_far f = spelling (elements_only f)
 
--- 8.1.1.1: the contents octets so far of one element, without its identifier, length and end-of-contents octets. They
--- include the first contents octet of a BIT STRING that holds encodings
+-- 8.1.1.1: the contents octets of one element, as far as they are there: without its identifier, length and
+-- end-of-contents octets. Those of a BIT STRING that holds encodings begin with the octet for unused bits
 abbrev pub contents_so_far : Forest → List ℕ
 contents_so_far (Primitive h c _) = c
 contents_so_far (Holder h children _) = lead h ++ octets_so_far children
@@ -55,7 +54,7 @@ contents_so_far (OpenPrimitive h c) = c
 contents_so_far (OpenHolder h children) = lead h ++ octets_so_far children
 contents_so_far _ = []
 
--- what is written for an element
+-- what is written for an element: all its octets, or only its contents octets
 abbrev pub element_text : Bool → Forest → List ℕ
 element_text contents_only e = if contents_only then contents_so_far e else octets_so_far e
 
@@ -67,8 +66,7 @@ extract_text n contents_only f = option_map_or (element_text contents_only) (ele
 abbrev pub extract_job : ℕ → Bool → Framing → Job Cut
 extract_job offset contents_only framing = record {
   framing = framing;
-  limit = input_limit;
   text = extract_text offset contents_only;
   is_enough = has_whole_element_at offset;
-  result = λ f e. record { ending = e; found = has_element_at offset f };
+  returns = λ f e. record { ending = e; found = has_element_at offset f };
 }

@@ -8,7 +8,6 @@ use Rattle.tlv_walk.specs.Forest.{spelling}
 use Rattle.tlv_walk.specs.declared.ending.Ending.{Ending}
 use Rattle.tlv_walk.specs.declared.framing.Framing.{Framing}
 use Rattle.tlv_walk.specs.Job.{DeviceStates, Job, Runs}
-use Rattle.tlv_head.specs.Limits.{input_limit}
 use Rattle.tlv_walk.specs.Reading.{IsReading}
 use Rattle.tlv_walk.specs.declared.ending.Ending.TheVariants.{Done}
 use Rattle.tlv_walk.specs.declared.run.DeviceFault.{DeviceFault}
@@ -49,10 +48,9 @@ indef_framing padding = record { inside = []; padding = padding }
 abbrev pub indef_job : Bool → Job Ending
 indef_job padding = record {
   framing = indef_framing padding;
-  limit = input_limit;
   text = indef_text;
   is_enough = λ f. false;
-  result = λ f e. e;
+  returns = λ f e. e;
 }
 
 -- the same elements from the offset n on: each begins where the one before it ends

@@ -1,5 +1,5 @@
 -- The identifier and length octets of an element: X.690 8.1.2 and 8.1.3.
-use Rattle.std.specs.Prelude.{◌≡◌, ◌≢◌, ◌⊎◌, ℕ, ◌+◌, ◌*◌, ◌^◌, ◌<◌, ◌≤◌, Bool, true, not, ◌&&◌, ◌||◌, eqb}
+use Rattle.std.specs.Prelude.{◌≡◌, ◌≢◌, ◌⊎◌, ℕ, ◌+◌, ◌*◌, ◌^◌, ◌<◌, ◌≤◌, Bool, true, false, not, ◌&&◌, ◌||◌, eqb}
 use Rattle.std.specs.Prelude.{if◌then◌else◌, List, [], ◌∷◌, ◌++◌, length, slice_index, map, All, Option, Some, None}
 use Rattle.std.specs.Option.{is_some, unwrap_or}
 use Rattle.tlv_head.specs.UniversalTypes as universal
@@ -104,7 +104,8 @@ pub record IsHeader (h : HeaderValue) : Type 0 where
   pub lengths : IsLength h.size h.lengths
   pub allowed : AllowsSize h.constructed h.size
 
--- 8.1.3.3: the number of contents octets that the header announces
+-- 8.1.3.3: the number of contents octets that the header announces: its length, or 0 if the length is indefinite,
+-- since then it announces none
 abbrev pub announced_length : Size → ℕ
 announced_length size = unwrap_or (definite_length size) 0
 
@@ -112,9 +113,12 @@ announced_length size = unwrap_or (definite_length size) 0
 abbrev pub HasAllContents : HeaderValue → List ℕ → Type 0
 HasAllContents h contents = announced_length h.size ≡ length contents
 
--- 8.1.2.2 a): the class is universal
+-- 8.1.2.2, table 1: the class is universal
 abbrev pub is_universal : Class → Bool
-is_universal class = eqb (class_bits class) 0
+is_universal Universal = true
+is_universal Application = false
+is_universal Context = false
+is_universal Private = false
 
 -- 8.6.2, 8.7.2: a primitive OCTET STRING, or a primitive BIT STRING of one or more contents octets: its contents can be
 -- encodings

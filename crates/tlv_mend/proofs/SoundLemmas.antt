@@ -1,5 +1,5 @@
 -- A walk of which nothing is made tells whether octets are sound.
-use Rattle.std.proofs.Common.{◌≡◌, ◌≤◌, ℕ, List, [], ◌∷◌, ◌++◌, length, take, false, refl, sym, ap, ◌∙◌, subst, arith}
+use Rattle.std.proofs.Common.{◌≡◌, ◌≤◌, ℕ, List, [], ◌∷◌, ◌++◌, length, take, true, false, inl, inr, refl, sym, ap, ◌∙◌, subst, arith}
 use Rattle.std.proofs.Common.{append-nil, length-append}
 use Rattle.std.proofs.lemmas.List.{take_all}
 use Rattle.std.specs.Prelude.{◌↔◌, Some, Result, Ok, Err}
@@ -16,8 +16,8 @@ use Rattle.tlv_walk.specs.Ending.{IsFinalEnding}
 use Rattle.tlv_walk.specs.Events.{EventValue, events}
 use Rattle.tlv_walk.specs.Follow.{effect_of, had_enough}
 use Rattle.tlv_walk.specs.Forest.{Forest}
-use Rattle.tlv_walk.specs.Job.{ComesTo, Job, at_enough, at_fault, at_input_end, drain_result, read_failed}
-use Rattle.tlv_walk.specs.Job.{source_result, too_long, write_failed}
+use Rattle.tlv_walk.specs.Job.{ComesTo, Job, at_settled_result, at_source_end, drain_result, read_failed}
+use Rattle.tlv_walk.specs.Job.{source_result, too_long, with_enough, without_enough, write_failed}
 use Rattle.tlv_walk.specs.Reading.{IsSoundList}
 use Rattle.tlv_mend.specs.Private.Silence.{silent_step}
 
@@ -33,9 +33,9 @@ IsDone (Err e) = ⊥
 
 module _ {S : Type 0} (framing : Framing) (octets : List ℕ) (few : length octets ≤ input_limit) (before : S) where
   abbrev job : Job Run
-  job = drive_job silent_step framing input_limit before
+  job = drive_job silent_step framing before
 
-  ending-is : (f : Forest) (e : Ending) → (job.result f e).ending ≡ e
+  ending-is : (f : Forest) (e : Ending) → (job.returns f e).ending ≡ e
   ending-is f e = rw (never-enough before (events f)) refl
 
   module _ (given left : List ℕ) (all : octets ≡ given ++ left) (f : Forest) (new : SourceState)
@@ -45,25 +45,28 @@ module _ {S : Type 0} (framing : Framing) (octets : List ℕ) (few : length octe
         → take input_limit given ++ more ≡ octets
     refused-unsound more e = sym e ∙ ap (take input_limit) (sym all) ∙ take_all input_limit octets few
 
-    by_end : (result : Result Run DeviceFault) → ComesTo job given f new result
+    enough-never : job.is_enough f ≡ true → ⊥
+    enough-never k = let other : job.is_enough f ≡ false = never-enough before (events f) in absurd (cc (k, other))
+
+    by_end : (result : Result Run DeviceFault) → ComesTo job input_limit given f new result
         → 0 ≡ failures_after (source_result result) 0 → 0 ≡ failures_after (drain_result result) 0
         → IsDone result ↔ IsSoundList framing octets
-    by_end _ (at_enough k) r w =
-        let other : job.is_enough f ≡ false = never-enough before (events f) in
-        absurd (cc (k, other))
-    by_end _ (at_fault e k final) r w =
+    by_end _ (at_settled_result _ (with_enough k) _) r w = absurd (enough-never k)
+    by_end _ (at_settled_result e (without_enough _ _ x) (inl k)) r w = absurd (enough-never k)
+    by_end _ (at_settled_result e (without_enough _ _ x) (inr final)) r w =
         let more = take_prefix input_limit given left in (
           (λ d. absurd (subst IsFinalEnding (sym (ending-is f e) ∙ d) final)),
-          (λ s. absurd (k.ends.soundness.faults_are_right final more.0
+          (λ s. absurd (x.soundness.faults_are_right final more.0
               (subst (IsSoundList framing) (sym (refused-unsound more.0 more.1)) s))),
         )
-    by_end _ (at_input_end e k last end) r w =
+    by_end _ (at_source_end _ (with_enough k) last end) r w = absurd (enough-never k)
+    by_end _ (at_source_end e (without_enough _ _ x) last end) r w =
         let none : left ≡ [] = at_end new.left left left_is end in
         let whole : octets ≡ given = all ∙ ap (λ (l : List ℕ). given ++ l) none ∙ append-nil given in
         let read : take input_limit given ≡ octets =
         ap (take input_limit) (sym whole) ∙ take_all input_limit octets few in (
-          (λ d. subst (IsSoundList framing) read (k.ends.soundness.done_is_sound.0 (sym (ending-is f e) ∙ d))),
-          (λ s. ending-is f e ∙ k.ends.soundness.done_is_sound.1 (subst (IsSoundList framing) (sym read) s)),
+          (λ d. subst (IsSoundList framing) read (x.soundness.done_is_sound.0 (sym (ending-is f e) ∙ d))),
+          (λ s. ending-is f e ∙ x.soundness.done_is_sound.1 (subst (IsSoundList framing) (sym read) s)),
         )
     by_end _ (read_failed last) r w = absurd (cc (r))
     by_end _ write_failed r w = absurd (cc (w))

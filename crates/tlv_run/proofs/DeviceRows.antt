@@ -9,6 +9,7 @@ use Rattle.std.specs.Fmt.{digits}
 use Rattle.std.specs.FinMap as finite
 use Rattle.std.specs.List.{list_all}
 use Rattle.std.specs.Prelude.{◌&&◌}
+use Rattle.tlv_head.specs.Limits.{input_limit}
 use Rattle.tlv_head.specs.declared.fault.FaultCode.TheVariants.{Overrun, Short}
 use Rattle.tlv_show.specs.declared.rules.Rules.TheVariants.{Ber, Der}
 use Rattle.tlv_walk.proofs.GrammarLemmas.Readings.{is-reading, reading, reading-unique}
@@ -17,14 +18,14 @@ use Rattle.tlv_walk.specs.declared.run.DeviceFault.TheVariants.{ReadFailed, Writ
 use Rattle.tlv_walk.specs.Ending.{IsFinalEnding}
 use Rattle.tlv_walk.specs.Forest.{Forest}
 use Rattle.tlv_walk.specs.Framing.{plain_framing}
-use Rattle.tlv_walk.specs.Job.{Job}
+use Rattle.tlv_walk.specs.Job.{IsSettled, Job}
 use Rattle.tlv_walk.specs.Reading.{AreOctets, IsReading}
 use Rattle.tlv_run.proofs.Results.{is_result, makes_unique}
 use Rattle.tlv_run.proofs.RowWords.{check, clean_result, dump, extract, fault_result, lines, octets, result}
 use Rattle.tlv_run.specs.declared.command.Command.{Command}
 use Rattle.tlv_run.specs.RunsOctets.{IsReport, RunsOctets, at_source_end, read_failed, at_settled_result, too_long}
 use Rattle.tlv_run.specs.Report.{ReportValue, clean_report, device_report, report_with}
-use Rattle.tlv_run.specs.Results.{CommandResult, IsJobResult, IsSettled, command_job}
+use Rattle.tlv_run.specs.Results.{CommandResult, IsResult, command_job}
 
 -- ---- octets
 
@@ -54,23 +55,23 @@ module _ (command : Command) (b : List ℕ) where
   job = job_of command
 
   abbrev Makes : CommandResult → Type 0
-  Makes = IsJobResult job (take job.limit b)
+  Makes = IsResult job (take input_limit b)
 
-  ended-at : (f : Forest) (e : Ending) (r : ReportValue) → length b ≤ job.limit
-      → IsReport job b false f e r → r ≡ job.result f e
+  ended-at : (f : Forest) (e : Ending) (r : ReportValue) → length b ≤ input_limit
+      → IsReport job b false f e r → r ≡ job.returns f e
   ended-at f e r few (at_settled_result s) = refl
   ended-at f e r few (at_source_end t l) = refl
   ended-at f e r few (read_failed n t l) = absurd (cc (t))
   ended-at f e r few (too_long n less) = absurd (omega arith)
 
   settled-at : (fails : Bool) (f : Forest) (e : Ending) (r : ReportValue) → IsSettled job f e
-      → IsReport job b fails f e r → r ≡ job.result f e
+      → IsReport job b fails f e r → r ≡ job.returns f e
   settled-at fails f e r s (at_settled_result t) = refl
   settled-at fails f e r s (at_source_end t l) = refl
   settled-at fails f e r s (read_failed n t l) = absurd (n s)
   settled-at fails f e r s (too_long n less) = absurd (n s)
 
-  read-failed-at : (f : Forest) (e : Ending) (r : ReportValue) → length b ≤ job.limit
+  read-failed-at : (f : Forest) (e : Ending) (r : ReportValue) → length b ≤ input_limit
       → (IsSettled job f e → ⊥) → IsReport job b true f e r → r ≡ device_report ReadFailed
   read-failed-at f e r few n (at_settled_result s) = absurd (n s)
   read-failed-at f e r few n (at_source_end t l) = absurd (cc (t))
@@ -78,22 +79,22 @@ module _ (command : Command) (b : List ℕ) where
   read-failed-at f e r few n (too_long m less) = absurd (omega arith)
 
   -- the octets are below 256, and no more than are read; and what is made of them
-  module _ (m : CommandResult) (small : list_all (λ x. ltb x 256) b ≡ true) (whole : take job.limit b ≡ b)
-      (few : leb (length b) job.limit ≡ true)
+  module _ (m : CommandResult) (small : list_all (λ x. ltb x 256) b ≡ true) (whole : take input_limit b ≡ b)
+      (few : leb (length b) input_limit ≡ true)
       (row : result command b ≡ m) where
     are : AreOctets b
     are = are-octets b small
 
     is-made : (made : CommandResult) → Makes made → made ≡ m
     is-made made y =
-        makes_unique job b made (result command b) (subst (λ (o : List ℕ). IsJobResult job o made) whole y)
+        makes_unique job b made (result command b) (subst (λ (o : List ℕ). IsResult job o made) whole y)
         (is_result job b are)
         ∙ row
 
     -- what the job reports of the reading and the ending
-    report-is : (made : CommandResult) (y : Makes made) → job.result y.reading made.ending ≡ m.report
+    report-is : (made : CommandResult) (y : Makes made) → job.returns y.reading made.ending ≡ m.report
     report-is made y =
-        sym (ap (λ (n : CommandResult). n.report) y.made_is) ∙ ap (λ (n : CommandResult). n.report) (is-made made y)
+        sym y.report_is ∙ ap (λ (n : CommandResult). n.report) (is-made made y)
 
     output-is : (fails : Bool) (room : ℕ) (w : List ℕ) (r : ReportValue)
         (x : RunsOctets job b fails room (record { written = w; report = r }))
@@ -124,7 +125,7 @@ module _ (command : Command) (b : List ℕ) where
       to-end : Writes command b false room (take room m.output) m.report
       to-end w r x = (
         output-is false room w r x,
-        ended-at x.is_made.reading x.made.ending r (leb-true (length b) job.limit few) (report-of false w r x)
+        ended-at x.is_made.reading x.made.ending r (leb-true (length b) input_limit few) (report-of false w r x)
             ∙ report-is x.made x.is_made,
       )
 
@@ -133,7 +134,7 @@ module _ (command : Command) (b : List ℕ) where
           → Writes command b true room (take room m.output) (device_report ReadFailed)
       to-failure open_ w r x = (
         output-is true room w r x,
-        read-failed-at x.is_made.reading x.made.ending r (leb-true (length b) job.limit few)
+        read-failed-at x.is_made.reading x.made.ending r (leb-true (length b) input_limit few)
             (λ s. open_ x.is_made.reading
             (subst (λ (n : CommandResult). IsSettled job x.is_made.reading n.ending) (is-made x.made x.is_made) s))
             (report-of true w r x),

@@ -13,6 +13,7 @@ use Rattle.tlv_walk.proofs.GrammarLemmas.Endings.{IsRefused, fault-halt}
 use Rattle.tlv_io.proofs.Puts.{more_left}
 use Rattle.tlv_io.proofs.Sends.{sends_appends}
 use Rattle.tlv_walk.proofs.GrammarLemmas.Readings.{halt-longest, reading-unique}
+use Rattle.tlv_head.specs.Limits.{input_limit}
 use Rattle.tlv_walk.specs.declared.ending.Ending.{Ending}
 use Rattle.tlv_walk.specs.declared.ending.Ending.TheVariants as ending
 use Rattle.tlv_walk.specs.declared.framing.Framing.{Framing}
@@ -23,13 +24,13 @@ use Rattle.tlv_io.specs.Device.{DrainState, SourceState, gave, next_count}
 use Rattle.tlv_io.specs.Device.{octets_given}
 use Rattle.tlv_walk.specs.Ending.{IsEnding, IsFinalEnding}
 use Rattle.tlv_walk.specs.Forest.{Forest, spelling}
-use Rattle.tlv_walk.specs.Job.{Job, Runs, WantMore, device_states}
+use Rattle.tlv_walk.specs.Job.{IsSettled, Job, Runs, WantMore, device_states}
 use Rattle.tlv_io.specs.Out.{Sends}
 use Rattle.tlv_walk.specs.Reading.{AreOctets, IsPrefixOf, IsReading}
-use Rattle.tlv_run.proofs.Results.{EnoughStays, one_made, settled_stays}
+use Rattle.tlv_run.proofs.Results.{EnoughStays, command_result, one_made, settled_stays}
 use Rattle.tlv_run.specs.RunsOctets.{IsReport, RunsOctets, at_source_end, read_failed, at_settled_result, too_long}
 use Rattle.tlv_run.specs.Report.{ReportValue, device_report, result_report}
-use Rattle.tlv_run.specs.Results.{CommandResult, IsJobResult, IsSettled, command_result}
+use Rattle.tlv_run.specs.Results.{CommandResult, IsResult}
 use Rattle.tlv_run.specs.RunsAndReports.{RunsAndReports}
 use Rattle.tlv_run.proofs.KnownDevices.{at_end, failed_none, gave_none, left_of, prefix_and_rest, take_prefix, taken_of}
 
@@ -50,14 +51,14 @@ spelled_on framing b f (ending.Fault k) r s x final =
     )
 
 module _ (job : Job ReportValue) (stays : EnoughStays job)
-    (goes_on : (b c : List ℕ) (f g : Forest) → length (b ++ c) ≤ job.limit
+    (goes_on : (b c : List ℕ) (f g : Forest) → length (b ++ c) ≤ input_limit
     → IsReading job.framing b f → IsReading job.framing (b ++ c) g → IsPrefixOf (job.text f) (job.text g))
     (octets : List ℕ) (all : AreOctets octets) (read_fails : Bool) where
   abbrev limited_octets : List ℕ
-  limited_octets = take job.limit octets
+  limited_octets = take input_limit octets
 
   -- octets that have neither a fault nor enough settle nothing
-  want_more-not_settled : (b : List ℕ) (made : CommandResult) → (x : IsJobResult job b made) → WantMore job b
+  want_more-not_settled : (b : List ℕ) (made : CommandResult) → (x : IsResult job b made) → WantMore job b
       → IsSettled job x.reading made.ending → ⊥
   want_more-not_settled b made x s k =
       let same : x.reading ≡ s.0 = reading-unique job.framing b x.reading s.0 x.is_reading s.1.0 in
@@ -66,7 +67,7 @@ module _ (job : Job ReportValue) (stays : EnoughStays job)
         | inl enough ↦ true≢false (sym enough ∙ not_enough)
         | inr final ↦
             let ends : IsEnding job.framing b made.ending =
-            ends_as_octets job.framing b _ made.ending x.ends not_enough in
+            ends_as_octets job b x.reading made.ending x.ends not_enough in
             spelled_on job.framing b s.0 made.ending s.1.0 s.1.1 ends final
       ]
 
@@ -82,7 +83,7 @@ module _ (job : Job ReportValue) (stays : EnoughStays job)
     Comes report = RunsOctets job octets read_fails room (record { written = written; report = report })
 
     -- all was written
-    whole : (made : CommandResult) (report : ReportValue) → (x : IsJobResult job limited_octets made)
+    whole : (made : CommandResult) (report : ReportValue) → (x : IsResult job limited_octets made)
         → written ≡ made.output → IsReport job octets read_fails x.reading made.ending report → Comes report
     whole made report x e s = record {
       made = made;
@@ -93,15 +94,15 @@ module _ (job : Job ReportValue) (stays : EnoughStays job)
     }
 
     -- the report of the result
-    made_report : (made : CommandResult) (report : ReportValue) (x : IsJobResult job limited_octets made)
-        → made.report ≡ report → IsReport job octets read_fails x.reading made.ending (job.result x.reading made.ending)
+    made_report : (made : CommandResult) (report : ReportValue) (x : IsResult job limited_octets made)
+        → made.report ≡ report → IsReport job octets read_fails x.reading made.ending (job.returns x.reading made.ending)
         → IsReport job octets read_fails x.reading made.ending report
     made_report made report x same s =
         subst (IsReport job octets read_fails x.reading made.ending)
-        (sym (ap (λ (m : CommandResult). m.report) x.made_is) ∙ same) s
+        (sym x.report_is ∙ same) s
 
     -- a prefix was written, which fills the room, and there is more
-    short : (made : CommandResult) (rest : List ℕ) → (x : IsJobResult job limited_octets made)
+    short : (made : CommandResult) (rest : List ℕ) → (x : IsResult job limited_octets made)
         → made.output ≡ written ++ rest → rest ≢ [] → length written ≡ room → Comes (device_report WriteFailed)
     short made rest x e more n = record {
       made = made;
@@ -126,26 +127,27 @@ module _ (job : Job ReportValue) (stays : EnoughStays job)
     run_ok report x =
         let given : List ℕ = octets_given x.pieces in
         let left = left_of old.left new.left octets given known x.pieces.consumed in
-        let k = comes_to-result job given x.reading new (Ok report) x.comes in
+        let k = comes_to-result job input_limit given x.reading new (Ok report) x.comes in
         let e : Ending = k.0 in
         let m : CommandResult = command_result job x.reading e in
-        let b : List ℕ = take job.limit given in
+        let b : List ℕ = take input_limit given in
         let same : m.report ≡ report = sym k.1 in
-        let y : IsJobResult job b m = record {
+        let y : IsResult job b m = record {
           reading = x.reading;
           is_reading = x.is_reading;
           ends = k.2;
-          made_is = refl;
+          output_is = refl;
+          report_is = refl;
         } in
         let sent : written ≡ m.output = all_sent (job.text x.reading) x.sends in
-        let prefix = take_prefix job.limit given left.0 in
-        let is : limited_octets ≡ b ++ prefix.0 = ap (take job.limit) left.2 ∙ prefix.1 in
+        let prefix = take_prefix input_limit given left.0 in
+        let is : limited_octets ≡ b ++ prefix.0 = ap (take input_limit) left.2 ∙ prefix.1 in
         let final : IsSettled job x.reading e → Comes report = λ (z : IsSettled job x.reading e).
         let z =
-        settled_stays job stays b prefix.0 m (subst AreOctets is (All-take (λ x. x < 256) job.limit octets all)) y
+        settled_stays job stays b prefix.0 m (subst AreOctets is (All-take (λ x. x < 256) input_limit octets all)) y
         z in
-        let z' : (z : IsJobResult job limited_octets m) × IsSettled job z.reading e =
-        subst (λ (o : List ℕ). (z : IsJobResult job o m) × IsSettled job z.reading e) (sym is) z in
+        let z' : (z : IsResult job limited_octets m) × IsSettled job z.reading e =
+        subst (λ (o : List ℕ). (z : IsResult job o m) × IsSettled job z.reading e) (sym is) z in
         whole m report z'.0 sent (made_report m report z'.0 same (at_settled_result z'.1)) in
         elim k.3 [
           | inl enough ↦ final (inl enough)
@@ -155,7 +157,7 @@ module _ (job : Job ReportValue) (stays : EnoughStays job)
                 let none : left.0 ≡ [] = at_end new.left left.0 left.1 end.1 in
                 let whole_given : octets ≡ given = left.2 ∙ ap (λ (l : List ℕ). given ++ l) none ∙ append-nil given in
                 let last : x.pieces.last ≡ [] = gave_none new.last x.pieces.last end.0 x.pieces.gave_last in
-                let few : length octets ≤ job.limit =
+                let few : length octets ≤ input_limit =
                 omega (
                   arith,
                   x.within,
@@ -163,8 +165,8 @@ module _ (job : Job ReportValue) (stays : EnoughStays job)
                   length-append (concat x.pieces.pieces) x.pieces.last,
                   ap length last,
                 ) in
-                let z : IsJobResult job limited_octets m =
-                subst (λ (o : List ℕ). IsJobResult job o m) (sym (ap (take job.limit) whole_given)) y in
+                let z : IsResult job limited_octets m =
+                subst (λ (o : List ℕ). IsResult job o m) (sym (ap (take input_limit) whole_given)) y in
                 whole m report z sent
                 (made_report m report z same (at_source_end (ends (x.failures ∙ quiet) end.0) few))
           ]
@@ -176,9 +178,9 @@ module _ (job : Job ReportValue) (stays : EnoughStays job)
         → ((g : Forest) (e : Ending) → (IsSettled job g e → ⊥) → IsReport job octets read_fails g e report)
         → Comes report
     unsettled_all f report r s sent says =
-        let one = one_made job limited_octets (All-take (λ x. x < 256) job.limit octets all) in
+        let one = one_made job limited_octets (All-take (λ x. x < 256) input_limit octets all) in
         let same : f ≡ one.1.reading = reading-unique job.framing limited_octets f one.1.reading r one.1.is_reading in
-        whole one.0 report one.1 (sent ∙ ap job.text same ∙ sym (ap (λ (m : CommandResult). m.output) one.1.made_is))
+        whole one.0 report one.1 (sent ∙ ap job.text same ∙ sym one.1.output_is)
         (says one.1.reading one.0.ending (want_more-not_settled limited_octets one.0 one.1 s))
 
     run_read_failed : Runs job (device_states old from) (device_states new to) (Err ReadFailed)
@@ -190,14 +192,14 @@ module _ (job : Job ReportValue) (stays : EnoughStays job)
         let after = fails (x.failures ∙ ap next_count quiet ∙ one_failure) in
         let none : left.0 ≡ [] = at_end new.left left.0 left.1 after.1 in
         let last : x.pieces.last ≡ [] =
-        failed_none new.last x.pieces.last (comes_to-result job given x.reading new (Err ReadFailed) x.comes)
+        failed_none new.last x.pieces.last (comes_to-result job input_limit given x.reading new (Err ReadFailed) x.comes)
         x.pieces.gave_last in
         let given_before : given ≡ before = ap (λ (l : List ℕ). before ++ l) last ∙ append-nil before in
         let is_given : octets ≡ given = left.2 ∙ ap (λ (l : List ℕ). given ++ l) none ∙ append-nil given in
-        let few : length octets ≤ job.limit = omega (arith, x.within, ap length is_given, ap length given_before) in
-        let limited_is : limited_octets ≡ before = take_all job.limit octets few ∙ is_given ∙ given_before in
+        let few : length octets ≤ input_limit = omega (arith, x.within, ap length is_given, ap length given_before) in
+        let limited_is : limited_octets ≡ before = take_all input_limit octets few ∙ is_given ∙ given_before in
         unsettled_all x.reading (device_report ReadFailed)
-        (subst (λ (o : List ℕ). IsReading job.framing (take job.limit o) x.reading) (sym is_given) x.is_reading)
+        (subst (λ (o : List ℕ). IsReading job.framing (take input_limit o) x.reading) (sym is_given) x.is_reading)
         (subst (WantMore job) (sym limited_is) x.wants_more)
         (all_sent (job.text x.reading) x.sends)
         (λ (g : Forest) e apart. read_failed apart after.0 few)
@@ -207,11 +209,11 @@ module _ (job : Job ReportValue) (stays : EnoughStays job)
     run_long x =
         let given : List ℕ = octets_given x.pieces in
         let left = left_of old.left new.left octets given known x.pieces.consumed in
-        let k = comes_to-result job given x.reading new (Err InputTooLong) x.comes in
-        let many : job.limit < length given = k.0 in
-        let is : limited_octets ≡ take job.limit given =
-        ap (take job.limit) left.2 ∙ take-append-le job.limit given left.0 (omega (arith, many)) in
-        let more : job.limit < length octets = omega (arith, many, ap length left.2, length-append given left.0) in
+        let k = comes_to-result job input_limit given x.reading new (Err InputTooLong) x.comes in
+        let many : input_limit < length given = k.0 in
+        let is : limited_octets ≡ take input_limit given =
+        ap (take input_limit) left.2 ∙ take-append-le input_limit given left.0 (omega (arith, many)) in
+        let more : input_limit < length octets = omega (arith, many, ap length left.2, length-append given left.0) in
         unsettled_all x.reading (device_report InputTooLong)
         (subst (λ (o : List ℕ). IsReading job.framing o x.reading) (sym is) x.is_reading)
         (subst (WantMore job) (sym is) k.1)
@@ -223,18 +225,18 @@ module _ (job : Job ReportValue) (stays : EnoughStays job)
     run_short x =
         let given : List ℕ = octets_given x.pieces in
         let left = left_of old.left new.left octets given known x.pieces.consumed in
-        let b : List ℕ = take job.limit given in
-        let prefix = take_prefix job.limit given left.0 in
-        let is : limited_octets ≡ b ++ prefix.0 = ap (take job.limit) left.2 ∙ prefix.1 in
-        let one = one_made job limited_octets (All-take (λ x. x < 256) job.limit octets all) in
-        let few : length (b ++ prefix.0) ≤ job.limit = omega (arith, length-take job.limit octets, ap length is) in
+        let b : List ℕ = take input_limit given in
+        let prefix = take_prefix input_limit given left.0 in
+        let is : limited_octets ≡ b ++ prefix.0 = ap (take input_limit) left.2 ∙ prefix.1 in
+        let one = one_made job limited_octets (All-take (λ x. x < 256) input_limit octets all) in
+        let few : length (b ++ prefix.0) ≤ input_limit = omega (arith, length-take input_limit octets, ap length is) in
         let reads : IsReading job.framing (b ++ prefix.0) one.1.reading =
         subst (λ (o : List ℕ). IsReading job.framing o one.1.reading) is one.1.is_reading in
         let on = goes_on b prefix.0 x.reading one.1.reading few x.is_reading reads in
         let sent : written ≡ x.sends.sent =
         taken_of from.octets to.octets written x.sends.sent empty took x.sends.took in
         let text : job.text x.reading ++ on.0 ≡ one.0.output =
-        on.1 ∙ sym (ap (λ (m : CommandResult). m.output) one.1.made_is) in
+        on.1 ∙ sym one.1.output_is in
         let output : one.0.output ≡ written ++ (x.sends.left ++ on.0) =
         prefix_and_rest written x.sends.sent x.sends.left (job.text x.reading) on.0 one.0.output sent x.sends.prefix
         text in

@@ -1,11 +1,11 @@
 -- A job with what is reported of its result runs as the job itself.
-use Rattle.std.proofs.Common.{◌≡◌, ℕ, List, ap, refl}
+use Rattle.std.proofs.Common.{◌≡◌, ℕ, ◌^◌, List, ap, refl, take}
 use Rattle.std.specs.Prelude.{Result, Ok, Err}
 use Rattle.tlv_walk.specs.declared.run.DeviceFault.{DeviceFault}
 use Rattle.tlv_walk.specs.declared.run.DeviceFault.TheVariants.{ReadFailed, WriteFailed, InputTooLong}
 use Rattle.tlv_io.specs.Device.{octets_given}
 use Rattle.tlv_walk.specs.Job.{DeviceStates, Job, Runs, WantMore, read_failed, too_long, write_failed}
-use Rattle.tlv_walk.proofs.FollowerLemmas.Enough.{comes_to, comes_to-result}
+use Rattle.tlv_walk.proofs.FollowerLemmas.Enough.{comes_to, comes_to-result, ends_alike}
 use Rattle.tlv_run.specs.Report.{ReportValue, device_report}
 use Rattle.tlv_run.specs.Results.{job_with_report}
 use Rattle.tlv_run.specs.RunsAndReports.{RunsAndReports}
@@ -35,9 +35,13 @@ module _ {A : Type 0} (report : A → ReportValue) (job : Job A) where
         sends = x.sends;
         sent_before = λ failed. absurd (cc (failed));
         comes =
-            let k = comes_to-result job (octets_given x.pieces) x.reading new.source (Ok a) x.comes in
-            comes_to (job_with_report report job) (octets_given x.pieces) x.reading new.source (Ok (report a))
-            (k.0, ap report k.1, k.2, k.3);
+            let k = comes_to-result job (2 ^ 40) (octets_given x.pieces) x.reading new.source (Ok a) x.comes in
+            comes_to (job_with_report report job) (2 ^ 40) (octets_given x.pieces) x.reading new.source (Ok (report a)) (
+              k.0,
+              ap report k.1,
+              ends_alike (job_with_report report job) (take (2 ^ 40) (octets_given x.pieces)) x.reading job refl refl k.0 k.2,
+              k.3,
+            );
       };
       report_is = e;
     }
@@ -52,7 +56,7 @@ module _ {A : Type 0} (report : A → ReportValue) (job : Job A) where
         is_reading = x.is_reading;
         sends = x.sends;
         sent_before = λ failed. absurd (cc (failed));
-        comes = read_failed (comes_to-result job (octets_given x.pieces) x.reading new.source (Err ReadFailed) x.comes);
+        comes = read_failed (comes_to-result job (2 ^ 40) (octets_given x.pieces) x.reading new.source (Err ReadFailed) x.comes);
       };
       report_is = e;
     }
@@ -83,7 +87,7 @@ module _ {A : Type 0} (report : A → ReportValue) (job : Job A) where
         sends = x.sends;
         sent_before = λ failed. absurd (cc (failed));
         comes =
-            let k = comes_to-result job (octets_given x.pieces) x.reading new.source (Err InputTooLong) x.comes in
+            let k = comes_to-result job (2 ^ 40) (octets_given x.pieces) x.reading new.source (Err InputTooLong) x.comes in
             too_long k.0 (wants_too _ k.1);
       };
       report_is = e;

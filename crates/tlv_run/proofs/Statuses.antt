@@ -13,8 +13,8 @@ use Rattle.tlv_walk.specs.declared.ending.Ending.TheVariants as ending
 use Rattle.tlv_walk.specs.Ending.{IsEnding}
 use Rattle.tlv_walk.specs.Forest.{Forest}
 use Rattle.tlv_run.specs.Laws.{StatusesShowSoundness}
-use Rattle.tlv_run.specs.Report.{clean_report, findings_report, found_report, unused_report, report_with}
-use Rattle.tlv_run.specs.Results.{CommandResult, command_job}
+use Rattle.tlv_run.specs.Report.{ReportValue, clean_report, findings_report, found_report, unused_report, report_with}
+use Rattle.tlv_run.specs.Results.{command_job}
 use Rattle.tlv_run.specs.declared.command.Command.{Command}
 use Rattle.tlv_run.specs.declared.command.Command.TheVariants.{Check, Dump, Extract, Indef}
 
@@ -33,18 +33,18 @@ found_quiet offset true e = absurd (cc (e))
 found_quiet offset false e = absurd (cc (e))
 
 done_quiet : (command : Command) (names : NamesValue) (f : Forest)
-    → ((command_job command names).result f ending.Done).status ≡ 2 → ⊥
+    → ((command_job command names).returns f ending.Done).status ≡ 2 → ⊥
 done_quiet (Dump options names_file file) names f e =
-    let outcome : Outcome = (dump_job options names).result f ending.Done in no_fault-not_2 outcome.unused
+    let outcome : Outcome = (dump_job options names).returns f ending.Done in no_fault-not_2 outcome.unused
     outcome.findings e
 done_quiet (Check rules framing file) names f e =
-    let outcome : Outcome = (check_job rules framing).result f ending.Done in no_fault-not_2 outcome.unused
+    let outcome : Outcome = (check_job rules framing).returns f ending.Done in no_fault-not_2 outcome.unused
     outcome.findings e
 done_quiet (Extract offset contents framing file) names f e = found_quiet offset (has_element_at offset f) e
 done_quiet (Indef padding file) names f e = absurd (cc (e))
 
 fault_loud : (command : Command) (names : NamesValue) (f : Forest) (e : Ending) → (e ≡ ending.Done → ⊥)
-    → ((command_job command names).result f e).status ≡ 2
+    → ((command_job command names).returns f e).status ≡ 2
 fault_loud command names f ending.Done apart = absurd (apart refl)
 fault_loud (Dump options names_file file) names f (ending.Fault k) apart = refl
 fault_loud (Check rules framing file) names f (ending.Fault k) apart = refl
@@ -55,11 +55,11 @@ pub statuses_show_soundness : StatusesShowSoundness
 statuses_show_soundness command names b made x open_ =
     let job = command_job command names in
     let ends : IsEnding job.framing b made.ending =
-    ends_as_octets job.framing b _ made.ending x.ends open_ in
-    let status : made.report.status ≡ (job.result x.reading made.ending).status =
-    ap (λ (m : CommandResult). m.report.status) x.made_is in (
+    ends_as_octets job b x.reading made.ending x.ends open_ in
+    let status : made.report.status ≡ (job.returns x.reading made.ending).status =
+    ap (λ (r : ReportValue). r.status) x.report_is in (
       λ two sound. done_quiet command names x.reading
-          (ap (λ (e : Ending). (job.result x.reading e).status)
+          (ap (λ (e : Ending). (job.returns x.reading e).status)
           (sym (ending-unique job.framing b made.ending ending.Done ends (sound-done job.framing b sound)))
           ∙ sym status ∙ two),
       λ unsound. status

@@ -4,10 +4,10 @@ use Rattle.std.specs.Io.KnownBytes.{Appends}
 use Rattle.tlv_value.specs.Names.{NamesValue}
 use Rattle.tlv_walk.specs.declared.ending.Ending.TheVariants.{Done}
 use Rattle.tlv_io.specs.Device.{SourceState}
-use Rattle.tlv_walk.specs.Job.{DeviceStates}
+use Rattle.tlv_walk.specs.Job.{DeviceStates, IsSettled}
 use Rattle.tlv_walk.specs.Reading.{AreOctets, IsPrefixOf, IsSoundList}
 use Rattle.tlv_run.specs.Report.{ReportValue}
-use Rattle.tlv_run.specs.Results.{CommandResult, IsCommandResult, IsSettled, command_job}
+use Rattle.tlv_run.specs.Results.{CommandResult, IsResult, command_job}
 use Rattle.tlv_run.specs.RunsAndReports.{RunsAndReports}
 use Rattle.tlv_run.specs.declared.command.Command.{Command}
 use Rattle.tlv_run.specs.declared.command.Command.TheVariants.{Indef}
@@ -18,21 +18,21 @@ abbrev pub InputsHaveOneResult : Type 0
 InputsHaveOneResult =
     (command : Command) (names : NamesValue) (b : List ℕ) → AreOctets b
     → (made : CommandResult)
-    × IsCommandResult command names b made
-    × ((other : CommandResult) → IsCommandResult command names b other → other ≡ made)
+    × IsResult (command_job command names) b made
+    × ((other : CommandResult) → IsResult (command_job command names) b other → other ≡ made)
 
 -- after a fault other than F01 and F02, or when `extract` has its whole element, the result stays, whatever follows
 abbrev pub SettledResultsStay : Type 0
 SettledResultsStay =
     (command : Command) (names : NamesValue) (b c : List ℕ) (made : CommandResult) → AreOctets (b ++ c)
-    → (x : IsCommandResult command names b made) → IsSettled (command_job command names) x.reading made.ending
-    → IsCommandResult command names (b ++ c) made
+    → (x : IsResult (command_job command names) b made) → IsSettled (command_job command names) x.reading made.ending
+    → IsResult (command_job command names) (b ++ c) made
 
 -- what is written for an input of at most 2^40 octets begins with what is written for a prefix of the input
 abbrev pub OutputsGoOn : Type 0
 OutputsGoOn =
     (command : Command) (names : NamesValue) (b c : List ℕ) (made more : CommandResult) → length (b ++ c) ≤ input_limit
-    → IsCommandResult command names b made → IsCommandResult command names (b ++ c) more
+    → IsResult (command_job command names) b made → IsResult (command_job command names) (b ++ c) more
     → IsPrefixOf made.output more.output
 
 -- when `indef` reads its own output, it writes it unchanged; and if the input ended without a fault, so does the
@@ -40,7 +40,7 @@ OutputsGoOn =
 abbrev pub SecondIndefIsTheFirst : Type 0
 SecondIndefIsTheFirst =
     (padding : Bool) (file : Option (List ℕ)) (names : NamesValue) (b : List ℕ) (made again : CommandResult)
-    → IsCommandResult (Indef padding file) names b made → IsCommandResult (Indef padding file) names made.output again
+    → IsResult (command_job (Indef padding file) names) b made → IsResult (command_job (Indef padding file) names) made.output again
     → (again.output ≡ made.output) × (made.ending ≡ Done → again ≡ made)
 
 -- the source has these octets left, at most 2^40
@@ -64,7 +64,7 @@ RunsAreResults =
     → HasInput old.source octets → FailsNowhere old new
     → RunsAndReports (command_job command names) old new report
     → (made : CommandResult)
-    × IsCommandResult command names octets made
+    × IsResult (command_job command names) octets made
     × Appends old.drain.octets new.drain.octets made.output
     × (report ≡ made.report)
 
@@ -73,6 +73,6 @@ RunsAreResults =
 abbrev pub StatusesShowSoundness : Type 0
 StatusesShowSoundness =
     (command : Command) (names : NamesValue) (b : List ℕ) (made : CommandResult)
-    → (x : IsCommandResult command names b made)
+    → (x : IsResult (command_job command names) b made)
     → let job = command_job command names in job.is_enough x.reading ≡ false
     → (made.report.status ≡ 2) ↔ (IsSoundList job.framing b → ⊥)

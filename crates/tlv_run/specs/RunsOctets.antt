@@ -1,12 +1,13 @@
 -- The result of a run over octets in memory.
 use Rattle.std.specs.Prelude.{◌≡◌, ℕ, ◌<◌, ◌≤◌, Bool, true, false, List, length, take}
+use Rattle.tlv_head.specs.Limits.{input_limit}
 use Rattle.tlv_walk.specs.declared.ending.Ending.{Ending}
 use Rattle.tlv_walk.specs.declared.run.DeviceFault.TheVariants.{ReadFailed, WriteFailed, InputTooLong}
 use Rattle.tlv_walk.specs.Forest.{Forest}
-use Rattle.tlv_walk.specs.Job.{Job}
+use Rattle.tlv_walk.specs.Job.{IsSettled, Job}
 use Rattle.tlv_run.specs.declared.run_octets_call.OctetsRun.{OctetsRun}
 use Rattle.tlv_run.specs.Report.{ReportValue, device_report, report_value_of}
-use Rattle.tlv_run.specs.Results.{CommandResult, IsJobResult, IsSettled}
+use Rattle.tlv_run.specs.Results.{CommandResult, IsResult}
 
 -- what such a run wrote, and its report
 pub record OctetsRunValue : Type 0 where
@@ -22,19 +23,19 @@ module _ (job : Job ReportValue) (octets : List ℕ) (read_fails : Bool) where
   -- ending: by what comes after these octets, one line for each cause
   pub data IsReport (f : Forest) (e : Ending) : ReportValue → Type 0 where
     -- nothing that could follow matters
-    at_settled_result : IsSettled job f e → IsReport f e (job.result f e)
+    at_settled_result : IsSettled job f e → IsReport f e (job.returns f e)
     -- the input ends with the octets
-    at_source_end : read_fails ≡ false → length octets ≤ job.limit → IsReport f e (job.result f e)
+    at_source_end : read_fails ≡ false → length octets ≤ input_limit → IsReport f e (job.returns f e)
     -- a read failed after the octets
-    read_failed : (IsSettled job f e → ⊥) → read_fails ≡ true → length octets ≤ job.limit
+    read_failed : (IsSettled job f e → ⊥) → read_fails ≡ true → length octets ≤ input_limit
         → IsReport f e (device_report ReadFailed)
     -- there are too many octets
-    too_long : (IsSettled job f e → ⊥) → job.limit < length octets → IsReport f e (device_report InputTooLong)
+    too_long : (IsSettled job f e → ⊥) → input_limit < length octets → IsReport f e (device_report InputTooLong)
 
   -- what was written, into this much room, and what is reported
   pub record RunsOctets (room : ℕ) (run : OctetsRunValue) : Type 0 where
     pub made : CommandResult
-    pub is_made : IsJobResult job (take job.limit octets) made
+    pub is_made : IsResult job (take input_limit octets) made
     pub written_is : run.written ≡ take room made.output
     pub with_room : length made.output ≤ room → IsReport is_made.reading made.ending run.report
     pub without_room : room < length made.output → run.report ≡ device_report WriteFailed

@@ -1,6 +1,6 @@
 -- What is reported of elements, item by item. A dump and a check write the lines of the items in this order, and
 -- their number of findings is the number of findings here.
-use Rattle.std.specs.Prelude.{ℕ, if◌then◌else◌, List, [], ◌∷◌, ◌++◌, map, None, Option}
+use Rattle.std.specs.Prelude.{ℕ, if◌then◌else◌, List, [], ◌∷◌, ◌++◌, map, Option}
 use Rattle.tlv_head.specs.Header.{HeaderValue}
 use Rattle.tlv_value.specs.declared.finding.Finding.{Finding}
 use Rattle.tlv_walk.specs.Events.{end_octets_offset}
@@ -60,7 +60,7 @@ module _ (rules : Rules) where
   items s (Holder h children rest) =
       header_items s h
       ++ (OpeningLine s.level h ∷ items (site_of_children s h) children
-      ++ (ClosingLine s.level (if h.constructed then end_octets_offset h children else None)
+      ++ (ClosingLine s.level (end_octets_offset h children)
       ∷ end_items s h children ++ items (site_after_holder s h children) rest))
   items s (OpenPrimitive h c) = header_items s h ++ OpenPrimitiveLines s.level h c ∷ []
   items s (OpenHolder h children) =

@@ -9,7 +9,6 @@ use Rattle.tlv_show.specs.declared.rules.Rules.{Rules}
 use Rattle.tlv_show.specs.Items.{Item, items}
 use Rattle.tlv_show.specs.Site.{top_site}
 use Rattle.tlv_show.specs.Texts.{check_line, finding_count, item_text}
-use Rattle.tlv_head.specs.Limits.{input_limit}
 use Rattle.tlv_value.specs.declared.layout.Layout.{Layout}
 use Rattle.tlv_value.specs.Names.{NamesValue}
 use Rattle.tlv_show.specs.declared.options.Options.{Options}
@@ -19,10 +18,9 @@ use Rattle.tlv_show.specs.declared.options.Options.{Options}
 abbrev pub show_job : Rules → Framing → (Item → List ℕ) → Job Outcome
 show_job rules framing text_of = record {
   framing = framing;
-  limit = input_limit;
   text = λ f. flat_map text_of (items rules top_site f);
   is_enough = λ f. false;
-  result = λ f e. record {
+  returns = λ f e. record {
     ending = e;
     findings = finding_count rules f;
     unused = first_without_wrapper framing.inside f;

@@ -5,6 +5,7 @@ pub mod Faults
 pub mod FinalFaults
 pub mod FramedInputRows
 pub mod InputRows
+pub mod Leads
 pub mod Lengths
 pub mod Pop
 pub mod PopHeaders

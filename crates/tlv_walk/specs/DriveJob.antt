@@ -9,7 +9,7 @@ use Rattle.tlv_io.specs.Device.{DrainState, SourceState}
 use Rattle.tlv_walk.specs.Events.{EventValue, events, octets_of_events}
 use Rattle.tlv_walk.specs.Follow.{Effect, effect_of, followed_events, had_enough}
 use Rattle.tlv_walk.specs.Forest.{Forest, spelling}
-use Rattle.tlv_walk.specs.Job.{DeviceStates, Job, Runs, device_states, drain_result}
+use Rattle.tlv_walk.specs.Job.{DeviceStates, Job, RunsUpTo, device_states, drain_result}
 use Rattle.tlv_walk.specs.Wrappers.{first_not_among, first_without_wrapper, entered_offsets}
 
 -- the run over a forest whose events were all followed, with this ending
@@ -43,19 +43,18 @@ module _ {S : Type 0} (next : S → EventValue → Effect S) where
   forest_effect s f = effect_of next s (events f)
 
   -- a walk, followed from this state on
-  abbrev pub drive_job : Framing → ℕ → S → Job Run
-  drive_job framing limit s = record {
+  abbrev pub drive_job : Framing → S → Job Run
+  drive_job framing s = record {
     framing = framing;
-    limit = limit;
     text = λ f. (forest_effect s f).put;
     is_enough = λ f. had_enough (forest_effect s f).goes;
-    result = λ f e. if had_enough (forest_effect s f).goes
+    returns = λ f e. if had_enough (forest_effect s f).goes
         then enough_run framing (followed_events next s (events f)) else run_over framing f e;
   }
 
-  -- the result of a walk, followed from this state on, and the follower's state after it
+  -- the result of a walk over at most `limit` octets, followed from this state on, and the follower's state after it
   pub record Drives (framing : Framing) (limit : ℕ) (old new : DriveStates S) (result : Result Run DeviceFault)
       : Type 0 where
-    pub runs : Runs (drive_job framing limit old.follower) old.devices new.devices result
+    pub runs : RunsUpTo (drive_job framing old.follower) limit old.devices new.devices result
     pub state : OnOk (drain_result result)
         (new.follower ≡ (forest_effect old.follower runs.reading).state)

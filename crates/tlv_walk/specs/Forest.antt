@@ -27,13 +27,10 @@ pub data Forest : Type 0 where
   -- the first of the end-of-contents octets
   OpenEndOctets : Forest
 
--- 8.6.2.2: the contents octets before the held elements, by whether the element is constructed, and is a BIT STRING
-abbrev pub lead_by : Bool → Bool → List ℕ
-lead_by constructed bit_string = if constructed then [] else (if bit_string then 0 ∷ [] else [])
-
--- the contents octets of a wrapper before the elements that it holds: 00 in a BIT STRING, no unused bits
+-- 8.6.2.2: the contents octets before the elements that an element holds: in a wrapping BIT STRING 00, for no unused
+-- bits, and otherwise none
 abbrev pub lead : HeaderValue → List ℕ
-lead h = lead_by h.constructed (eqb h.number universal.bit_string)
+lead h = if h.constructed then [] else (if eqb h.number universal.bit_string then 0 ∷ [] else [])
 
 -- 8.1.1.1: the octets of an element before the elements that it holds
 abbrev pub opening : HeaderValue → List ℕ

@@ -1,18 +1,14 @@
 -- Which of the named offsets are offsets of strings that hold encodings.
-use Rattle.std.specs.Prelude.{ℕ, Bool, not, if◌then◌else◌, List, [], ◌∷◌, ◌++◌, Option}
+use Rattle.std.specs.Prelude.{ℕ, not, if◌then◌else◌, List, [], ◌∷◌, ◌++◌, Option}
 use Rattle.std.specs.List.{find}
 use Rattle.tlv_head.specs.Header.{HeaderValue}
 use Rattle.tlv_walk.specs.Events.{Enter, EventValue}
 use Rattle.tlv_walk.specs.Forest.{Forest, PaddingOctet, Primitive, Holder, OpenHolder, OpenBitString}
 use Rattle.tlv_walk.specs.Inside.{is_among}
 
--- the offset of an element that holds others, or none if it is not a wrapper: by whether it is constructed
-abbrev pub wrapper_offset_by : Bool → ℕ → List ℕ
-wrapper_offset_by constructed offset = if constructed then [] else offset ∷ []
-
--- the offset of an element that holds others, or none if it is not a wrapper: by its header
+-- the offset of an element that holds others, or none if it is constructed, and so not a wrapper
 abbrev pub wrapper_offset : HeaderValue → List ℕ
-wrapper_offset h = wrapper_offset_by h.constructed h.offset
+wrapper_offset h = if h.constructed then [] else h.offset ∷ []
 
 -- the offsets of the wrappers
 abbrev pub wrapper_offsets : Forest → List ℕ

@@ -39,14 +39,14 @@ module _ (padding : Bool) (s t : IndefState) (old new : SourceState) (from to : 
       let w = indef_framing padding in
       let given : List ℕ = octets_given x.pieces in
       let octets : List ℕ = take (2 ^ 40) given in
-      let k = comes_to-result (indef_job padding) given x.reading new (Ok e) x.comes in
+      let k = comes_to-result (indef_job padding) (2 ^ 40) given x.reading new (Ok e) x.comes in
       let all : x.sends.sent ≡ indef_text x.reading =
       sym (append-nil x.sends.sent) ∙ ap (λ (l : List ℕ). x.sends.sent ++ l) (sym x.sends.all_sent) ∙ x.sends.prefix in
       subst (λ (l : List ℕ). IsReadBack padding x.reading l × IsEnding w l Done) (sym all) (
         indef_text_is_read_back padding octets x.reading x.is_reading,
         indef_text_is_done padding octets x.reading x.is_reading
             (subst (λ (d : Ending). IsEnding w octets d) (sym k.1 ∙ done)
-            (ends_as_octets w octets false k.0 k.2 refl)),
+            (ends_as_octets (indef_job padding) octets x.reading k.0 k.2 refl)),
       )
 
   runs_ok : (run : Run)

@@ -4,6 +4,8 @@ use Rattle.std.proofs.lemmas.Bool.{and_parts, cases_Bool, or_cases}
 use Rattle.std.proofs.Common.{◌≡◌, ◌⊎◌, inl, inr, ℕ, ◌<◌, ◌≤◌, Bool, true, false, ◌&&◌, List, ◌++◌, length, take}
 use Rattle.std.proofs.Common.{subst, drop, refl, sym, ap, ap₂, ◌∙◌, arith, length-append}
 use Rattle.std.proofs.Math.Seq.{take-append_seam}
+use Rattle.tlv_head.specs.declared.header.Class.{Class}
+use Rattle.tlv_head.specs.declared.header.Class.TheVariants.{Universal, Application, Context, Private}
 use Rattle.tlv_head.specs.declared.header.HeaderFields.{HeaderFields}
 use Rattle.tlv_head.specs.declared.header.Size.{Size}
 use Rattle.tlv_head.specs.declared.header.Size.TheVariants.{Definite, Indefinite}
@@ -44,12 +46,18 @@ first_in : (a b c x octets : List ℕ) (n : ℕ) → a ≡ n ∷ x → (a ++ b) 
 first_in a b c x octets n e d =
     ap (λ (o : List ℕ). get_or o 0 0) (sym d) ∙ ap (λ (o : List ℕ). get_or ((o ++ b) ++ c) 0 0) e
 
+universal-bits : (class : Class) → is_universal class ≡ true → class_bits class ≡ 0
+universal-bits Universal is = refl
+universal-bits Application is = absurd (cc (is))
+universal-bits Context is = absurd (cc (is))
+universal-bits Private is = absurd (cc (is))
+
 object-first : (k : HeaderValue) (more octets : List ℕ) → IsHeader k → k.constructed ≡ false
     → is_a universal.object_identifier k ≡ true → octets_of k ++ more ≡ octets
     → (get_or octets 0 0 ≢ 6) → (get_or octets 0 0 ≢ 0x1f) → ⊥
 object-first k more octets v form is e six high =
     let parts : (is_universal k.class ≡ true) × (eqb k.number 6 ≡ true) = and_parts _ _ is in
-    let class : class_bits k.class ≡ 0 = eqb-true (class_bits k.class) 0 parts.0 in
+    let class : class_bits k.class ≡ 0 = universal-bits k.class parts.0 in
     let number : k.number ≡ 6 = eqb-true k.number 6 parts.1 in
     elim v.identifier [
       | inl low ↦

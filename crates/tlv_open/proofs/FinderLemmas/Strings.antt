@@ -11,7 +11,8 @@ use Rattle.std.proofs.Common.{append-nil, eqb-true}
 use Rattle.std.proofs.lemmas.Bool.{cases_Bool}
 use Rattle.tlv_head.specs.declared.header.Class.{Class}
 use Rattle.tlv_head.specs.Header.{HeaderValue, IsHeader, announced_length, is_universal, octets_of}
-use Rattle.tlv_walk.specs.Forest.{Forest, lead, lead_by, opening, spelling}
+use Rattle.tlv_walk.specs.Forest.{Forest, lead, opening, spelling}
+use Rattle.tlv_walk.proofs.GrammarLemmas.Leads.{lead_by}
 use Rattle.tlv_walk.specs.Place.{ObeysGrammar}
 use Rattle.tlv_walk.proofs.GrammarLemmas.SoundElements.{sound-obeys_grammar}
 use Rattle.tlv_walk.proofs.GrammarLemmas.Spellings.{length-opening}

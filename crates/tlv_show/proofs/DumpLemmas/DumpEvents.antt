@@ -20,7 +20,7 @@ use Rattle.tlv_show.proofs.DumpLemmas.DumpSteps.{all_on, each-shown}
 use Rattle.tlv_show.proofs.DumpLemmas.DumpTexts.{primitives_shown}
 use Rattle.tlv_show.proofs.FindingLemmas.FinderSteps.{primitive-found}
 use Rattle.tlv_show.specs.SaturatingSum.{saturating_sum}
-use Rattle.tlv_walk.specs.Forest.{lead_by}
+use Rattle.tlv_walk.proofs.GrammarLemmas.Leads.{lead_by}
 
 -- ---- events one after another
 

@@ -1,7 +1,7 @@
 -- What a dump makes of the events of one element is the text of its items.
 use Rattle.std.specs.FinMap as finite
 use Rattle.std.proofs.Common.{◌≡◌, ℕ, ◌+◌, ◌-◌, ◌^◌, ◌<◌, ◌≤◌, ◌==◌, Bool, true, false, List, [], ◌∷◌, ◌++◌, length}
-use Rattle.std.proofs.Common.{refl, sym, ap, ap₂, ◌∙◌, arith, if◌then◌else◌}
+use Rattle.std.proofs.Common.{refl, sym, ap, ap₂, ◌∙◌, arith}
 use Rattle.std.proofs.lemmas.Grind.{flat_map-append}
 use Rattle.std.specs.Prelude.{flat_map, Option, None}
 use Rattle.tlv_head.specs.Header.{AllowsSize, HasAllContents, HeaderValue, announced_length, octets_of}
@@ -153,12 +153,12 @@ module _ (with_text : Bool) (style : Layout) (names : NamesValue) (rules : Rules
       ≡ effect_with
       (start (place_after p (extent h inside)) false
       (frame_after w (is_primitive h) (announced_length h.size) false) outer (after_end rules h inside n))
-      (closing_line (layout_at style p.depth) (if h.constructed then end_octets_offset h inside else None)
+      (closing_line (layout_at style p.depth) (end_octets_offset h inside)
       ++ styled_lines (Dump style.pure) (length outer) h.offset (end_findings rules h (headers inside)))
   closed-shown p w outer n h inside v whole there allowed far =
       let end : ℕ = p.offset + length (opening h) + length (spelling inside) in
       let close : List ℕ =
-      closing_line (layout_at style p.depth) (if h.constructed then end_octets_offset h inside else None) in
+      closing_line (layout_at style p.depth) (end_octets_offset h inside) in
       let last : List ℕ =
       styled_lines (Dump style.pure) (length outer) h.offset (end_findings rules h (headers inside)) in
       let after : CheckState =

@@ -168,7 +168,7 @@ module _ (with_text : Bool) (style : Layout) (names : NamesValue) (rules : Rules
       let end : ℕ = p.offset + length (opening h) + length (spelling inside) in
       let line : List ℕ = opening_line (layout_at style p.depth) h (opening_word h.constructed) in
       let close : List ℕ =
-      closing_line (layout_at style p.depth) (if h.constructed then end_octets_offset h inside else None) in
+      closing_line (layout_at style p.depth) (end_octets_offset h inside) in
       let first : List ℕ =
       styled_lines (Dump style.pure) (length outer) h.offset (header_findings_in rules (surroundings_in w) h) in
       let last : List ℕ =
@@ -229,7 +229,7 @@ module _ (with_text : Bool) (style : Layout) (names : NamesValue) (rules : Rules
       ((first ++ line) ++ (held ++ (close ++ last))) rest refl (element n).1 t in
       let others : List Item = items rules (site_after_holder s h inside) rest in
       let closing : List Item =
-      ClosingLine p.depth (if h.constructed then end_octets_offset h inside else None)
+      ClosingLine p.depth (end_octets_offset h inside)
       ∷ (finding_items p.depth h.offset (end_findings rules h (headers inside)) ++ others) in
       record {
         text = λ n.

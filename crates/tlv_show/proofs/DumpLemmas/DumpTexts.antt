@@ -19,7 +19,7 @@ use Rattle.tlv_walk.specs.Events.{end_offset, end_octets_offset, opening_events}
 use Rattle.tlv_walk.specs.Follow.{Effect, effect_if_more, effect_of, effect_with}
 use Rattle.tlv_walk.specs.Forest.{Forest, NoMore, PaddingOctet, Primitive, Holder, OpenPrimitive, OpenHolder}
 use Rattle.tlv_walk.specs.Forest.{OpenBitString, OpenHeader, OpenEndOctets, end_octets, extent, lead, opening, spelling}
-use Rattle.tlv_walk.specs.Forest.{lead_by}
+use Rattle.tlv_walk.proofs.GrammarLemmas.Leads.{lead_by}
 use Rattle.tlv_walk.specs.Place.{ObeysGrammar, Place, place_after}
 use Rattle.tlv_walk.proofs.GrammarLemmas.Spellings.{length-opening}
 use Rattle.tlv_show.specs.LinesStep.{LinesState, lines_step, lines_after_header}
@@ -174,7 +174,7 @@ module _ (with_text : Bool) (style : Layout) (names : NamesValue) where
   closer_by : (level o : ℕ) (k : Bool) (size : Size) → AllowsSize k size → o + length (end_octets size) ≤ 2 ^ 64 - 1
       → effect_of lines_step (lines_between (level + 1) o false) ((if k then Close (end_offset size o) else Leave) ∷ [])
       ≡ effect_with (lines_between level (o + length (end_octets size)) false)
-      (closing_line (layout_at style level) (if k then end_offset size o else None))
+      (closing_line (layout_at style level) (end_offset size o))
   closer_by level o true (Definite n) allowed far_enough =
       between-equal (level + 1 - 1) level o (o + 0) false false _ (closing_line (layout_at style level) None)
       (omega arith)
@@ -199,13 +199,13 @@ module _ (with_text : Bool) (style : Layout) (names : NamesValue) where
       → o + length (end_octets h.size) ≤ 2 ^ 64 - 1
       → effect_of lines_step (lines_between (level + 1) o false) (closing_event h inside ∷ [])
       ≡ effect_with (lines_between level (o + length (end_octets h.size)) false)
-      (closing_line (layout_at style level) (if h.constructed then end_octets_offset h inside else None))
+      (closing_line (layout_at style level) (end_octets_offset h inside))
   closer_shown level o h inside there allowed far_enough =
       subst
       (λ (n : ℕ). effect_of lines_step (lines_between (level + 1) o false)
       ((if h.constructed then Close (end_offset h.size n) else Leave) ∷ [])
       ≡ effect_with (lines_between level (o + length (end_octets h.size)) false)
-      (closing_line (layout_at style level) (if h.constructed then end_offset h.size n else None)))
+      (closing_line (layout_at style level) (end_offset h.size n)))
       (sym there) (closer_by level o h.constructed h.size allowed far_enough)
 
   -- ---- elements

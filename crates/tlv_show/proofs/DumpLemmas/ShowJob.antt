@@ -50,7 +50,7 @@ module _ {S : Type 0} (next : S → EventValue → Effect S) (first : S) (rules 
 
   -- the run over all events
   run_on : (f : Forest) (e : Ending)
-      → (drive_job next framing (2 ^ 40) first).result f e ≡ run_over framing f e
+      → (drive_job next framing first).returns f e ≡ run_over framing f e
   run_on f e =
       ap (λ (g : Go). if had_enough g then enough_run framing (followed_events next first (events f))
       else run_over framing f e)

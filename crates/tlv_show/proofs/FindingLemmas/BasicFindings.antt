@@ -2,7 +2,7 @@
 use Rattle.std.proofs.Common.{◌≡◌, ℕ, Bool, true, false, if◌then◌else◌, List, [], ◌∷◌, ◌++◌, refl, sym, ap, ap₂, ◌∙◌}
 use Rattle.std.proofs.lemmas.List.Elements.{filter-append}
 use Rattle.std.specs.List.{filter}
-use Rattle.std.specs.Prelude.{◌||◌, None, flat_map}
+use Rattle.std.specs.Prelude.{◌||◌, flat_map}
 use Rattle.tlv_value.specs.declared.finding.Finding.{Finding}
 use Rattle.tlv_value.specs.Checks.{findings_by, all_contents_findings}
 use Rattle.tlv_walk.specs.Events.{end_octets_offset}
@@ -83,7 +83,7 @@ module _ (rules : Rules) where
   basic_items-same s (Holder h inside rest) =
       let last : Rules
       → List Item =
-      λ r. ClosingLine s.level (if h.constructed then end_octets_offset h inside else None)
+      λ r. ClosingLine s.level (end_octets_offset h inside)
       ∷ (end_items r s h inside ++ items r (site_after_holder s h inside) rest) in
       same-found s.level h.offset (findings_by (header_conditions s h))
       (OpeningLine s.level h ∷ (items Ber (site_of_children s h) inside ++ last Ber))

@@ -210,12 +210,12 @@ module _ (rules : Rules) where
       (items rules (site_after_holder s h inside) rest) 2 _ (few-end h inside) r in
       let m =
       few-both (items rules (site_of_children s h) inside)
-      (ClosingLine s.level (if h.constructed then end_octets_offset h inside else None) ∷ last) _ _ i b in
+      (ClosingLine s.level (end_octets_offset h inside) ∷ last) _ _ i b in
       let a =
       few-at s.level h.offset (header_findings rules s h)
       (OpeningLine s.level h
       ∷ (items rules (site_of_children s h) inside
-      ++ ClosingLine s.level (if h.constructed then end_octets_offset h inside else None) ∷ last))
+      ++ ClosingLine s.level (end_octets_offset h inside) ∷ last))
       14 _ (few-header s h) m in
       omega (arith, a, header-two h v.0.0.header.valid, length-holder h inside rest, length-opening h)
     where

@@ -145,7 +145,7 @@ module _ (rules : Rules) where
             (run-closing rules (place_of_children p h) w outer t.0 h inside (events rest) v.1 v.0.1)),
       ) in
       let last : List Item =
-      ClosingLine s.level (if h.constructed then end_octets_offset h inside else None)
+      ClosingLine s.level (end_octets_offset h inside)
       ∷ (end_items rules s h inside ++ items rules (site_after_holder s h inside) rest) in
       record {
         put = λ n.

@@ -15,7 +15,7 @@ use Rattle.tlv_walk.specs.Events.{end_offset, opening_events}
 use Rattle.tlv_walk.specs.Forest.{Forest}
 use Rattle.tlv_walk.specs.Forest.{is_whole, opening, spelling}
 use Rattle.tlv_walk.specs.Place.{ObeysGrammar, Place}
-use Rattle.tlv_walk.specs.Forest.{lead_by}
+use Rattle.tlv_walk.proofs.GrammarLemmas.Leads.{lead_by}
 use Rattle.tlv_show.specs.declared.holder_frame.HolderFrame.{HolderFrame}
 use Rattle.tlv_show.specs.declared.rules.Rules.{Rules}
 use Rattle.tlv_show.specs.FinderState.{CheckState, FinderState, contents_findings_in, finder_begin_step}

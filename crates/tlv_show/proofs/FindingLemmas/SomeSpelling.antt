@@ -7,7 +7,7 @@ use Rattle.std.proofs.lemmas.Bool.{or_from, true≢false}
 use Rattle.std.proofs.lemmas.Bool.Decides.{eqb_tells}
 use Rattle.std.proofs.lemmas.List.Folds.{list_any-append}
 use Rattle.std.specs.List.{list_any}
-use Rattle.std.specs.Prelude.{None, if◌then◌else◌}
+use Rattle.std.specs.Prelude.{if◌then◌else◌}
 use Rattle.tlv_head.specs.Header.{HeaderValue, is_universal, octets_of}
 use Rattle.tlv_value.specs.Checks.{contents_conditions, type_conditions}
 use Rattle.tlv_walk.specs.declared.framing.Framing.{Framing}
@@ -136,9 +136,9 @@ module _ (rules : Rules) (strict : rules ≢ Ber) where
       let held : List Item = items rules (site_of_children s h) inside in
       both-none (header_items rules s h)
       (OpeningLine s.level h
-      ∷ (held ++ ClosingLine s.level (if h.constructed then end_octets_offset h inside else None) ∷ last))
+      ∷ (held ++ ClosingLine s.level (end_octets_offset h inside) ∷ last))
       (header-none s h r.0)
-      (both-none held (ClosingLine s.level (if h.constructed then end_octets_offset h inside else None) ∷ last)
+      (both-none held (ClosingLine s.level (end_octets_offset h inside) ∷ last)
       (none-found (place_of_children p h) (site_of_children s h) inside u.3 r.1)
       (both-none (end_items rules s h inside) (items rules (site_after_holder s h inside) rest) (end-none s h inside)
       (none-found (place_after p (extent h inside)) (site_after_holder s h inside) rest u.4 r.2)))

@@ -5,7 +5,7 @@ use Rattle.std.proofs.lemmas.Bool.{or_parts}
 use Rattle.std.proofs.lemmas.Bool.Decides.{nat_tests}
 use Rattle.std.proofs.lemmas.List.Folds.{list_any-append}
 use Rattle.std.specs.List.{list_any}
-use Rattle.std.specs.Prelude.{None, if◌then◌else◌, slice_index}
+use Rattle.std.specs.Prelude.{if◌then◌else◌, slice_index}
 use Rattle.tlv_head.specs.declared.header.Size.{Size}
 use Rattle.tlv_head.specs.declared.header.Size.TheVariants.{Definite, Indefinite}
 use Rattle.tlv_head.specs.Header.{AllowsSize, HeaderValue, IsHeader, announced_length, octets_of, second_length_octet}
@@ -148,11 +148,11 @@ module _ (rules : Rules) (strict : rules ≢ Ber) where
       let last : List Item = end_items rules s h inside ++ items rules (site_after_holder s h inside) rest in
       let held_and_last : List Item =
       items rules (site_of_children s h) inside
-      ++ ClosingLine s.level (if h.constructed then end_octets_offset h inside else None) ∷ last in
+      ++ ClosingLine s.level (end_octets_offset h inside) ∷ last in
       let header = none-in (header_items rules s h) (OpeningLine s.level h ∷ held_and_last) e in
       let held =
       none-in (items rules (site_of_children s h) inside)
-      (ClosingLine s.level (if h.constructed then end_octets_offset h inside else None) ∷ last) header.1 in
+      (ClosingLine s.level (end_octets_offset h inside) ∷ last) header.1 in
       let others = none-in (end_items rules s h inside) (items rules (site_after_holder s h inside) rest) held.1 in (
         no_findings-regular rules s h strict u.0.0.valid header.0,
         all-regular (place_of_children p h) (site_of_children s h) inside u.3 held.0,

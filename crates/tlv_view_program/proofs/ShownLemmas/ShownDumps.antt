@@ -208,7 +208,7 @@ module _ (rules : Rules) where
       (items-of (site_of_children s h) children
       (left-octets (spelling children) (end_octets h.size ++ spelling rest) after))
       (All-cons IsOfOctets
-      (ClosingLine s.level (if h.constructed then end_octets_offset h children else None)) _ tt
+      (ClosingLine s.level (end_octets_offset h children)) _ tt
       (All-append IsOfOctets (end_items rules s h children) _
       (findings-of s.level h.offset (end_findings rules h (headers children)))
       (items-of (site_after_holder s h children) rest

@@ -127,26 +127,25 @@ text_report-shown text.Memory = refl
 
 -- each report that a job may come to is shown
 abbrev pub ReportsShown : Job ReportValue → Type 0
-ReportsShown job = (f : Forest) (e : Ending) → IsShownReport (job.result f e)
+ReportsShown job = (f : Forest) (e : Ending) → IsShownReport (job.returns f e)
 
 module _ (job : Job ReportValue) (all : ReportsShown job) where
-  comes-shown : (given : List ℕ) (f : Forest) (new : SourceState) (result : Result ReportValue DeviceFault)
-      → ComesTo job given f new result → IsShownReport (result_report result)
-  comes-shown given f new _ (ComesTo.at_enough is) = all f ending.Done
-  comes-shown given f new _ (ComesTo.at_fault e ends final) = all f e
-  comes-shown given f new _ (ComesTo.at_input_end e ends last end) = all f e
-  comes-shown given f new _ (ComesTo.read_failed last) = device_report-shown ReadFailed
-  comes-shown given f new _ ComesTo.write_failed = device_report-shown WriteFailed
-  comes-shown given f new _ (ComesTo.too_long long more) = device_report-shown InputTooLong
+  comes-shown : (limit : ℕ) (given : List ℕ) (f : Forest) (new : SourceState) (result : Result ReportValue DeviceFault)
+      → ComesTo job limit given f new result → IsShownReport (result_report result)
+  comes-shown limit given f new _ (ComesTo.at_settled_result e ends settled) = all f e
+  comes-shown limit given f new _ (ComesTo.at_source_end e ends last end) = all f e
+  comes-shown limit given f new _ (ComesTo.read_failed last) = device_report-shown ReadFailed
+  comes-shown limit given f new _ ComesTo.write_failed = device_report-shown WriteFailed
+  comes-shown limit given f new _ (ComesTo.too_long long more) = device_report-shown InputTooLong
 
   runs-shown : (old new : DeviceStates) (report : ReportValue) → RunsAndReports job old new report
       → IsShownReport report
   runs-shown old new report r =
-      subst IsShownReport (sym r.report_is) (comes-shown _ _ _ r.result r.runs.comes)
+      subst IsShownReport (sym r.report_is) (comes-shown _ _ _ _ r.result r.runs.comes)
 
 job-shown : {A : Type 0} (make : A → ReportValue) (job : Job A) → ((a : A) → IsShownReport (make a))
     → ReportsShown (job_with_report make job)
-job-shown make job all f e = all (job.result f e)
+job-shown make job all f e = all (job.returns f e)
 
 view-shown : (v : View) (framing : Framing) (names : NamesValue) → ReportsShown (job_of_view v framing names)
 view-shown (view.Dump rules limit pure text) framing names =

@@ -10,7 +10,8 @@ use Rattle.tlv_walk.specs.Inside.{is_among}
 use Rattle.tlv_walk.specs.Place.{IsHeaderAt, ObeysGrammar, Place, place_after, place_of_children}
 use Rattle.tlv_walk.specs.Events.{Begin, Bytes, Close, End, Enter, EventValue, Leave, Open, Pad, Unused, closing_event}
 use Rattle.tlv_walk.specs.Events.{events, opening_events, single_octets}
-use Rattle.tlv_walk.specs.Wrappers.{entered_offsets, wrapper_offset, wrapper_offset_by, wrapper_offsets}
+use Rattle.tlv_walk.specs.Wrappers.{entered_offsets, wrapper_offset, wrapper_offsets}
+use Rattle.tlv_walk.proofs.GrammarLemmas.Leads.{wrapper_offset_by}
 use Rattle.tlv_walk.proofs.GrammarLemmas.Spellings.{length-holder, length-opening, length-primitive}
 use Rattle.tlv_head.proofs.ReaderLemmas.Prefix.{header-two}
 

@@ -22,7 +22,7 @@ use Rattle.tlv_walk.specs.Events.{AreEqualJoined, EventValue, events}
 use Rattle.tlv_walk.specs.Follow.{Effect, effect_of, followed_events, had_enough, FollowsEvents}
 use Rattle.tlv_walk.specs.Forest.{Forest, spelling}
 use Rattle.tlv_walk.specs.Ending.{IsEnding, IsFinalEnding}
-use Rattle.tlv_walk.specs.Job.{ComesTo, EndsWith, Runs, WantMore, at_end, device_states, drain_result, read_failed}
+use Rattle.tlv_walk.specs.Job.{ComesTo, EndsWith, RunsUpTo, WantMore, device_states, drain_result, read_failed}
 use Rattle.tlv_walk.specs.Job.{source_result, too_long, with_enough, write_failed}
 use Rattle.tlv_io.specs.Out.{Sends}
 use Rattle.tlv_walk.specs.Reading.{AreOctets, IsReading}
@@ -31,7 +31,7 @@ use Rattle.tlv_walk.specs.OneTurn.{EndsIn, FollowsMore, FollowsOneRead, LastRead
 use Rattle.tlv_walk.specs.OneTurn.{TurnStates, TurnsTo, WalkEnds, at_enough, at_fault, at_input_end, last_octets}
 use Rattle.tlv_walk.specs.Wrappers.{first_not_among}
 use Rattle.tlv_walk.proofs.FollowerLemmas.FollowSteps.{made_both, made_put}
-use Rattle.tlv_walk.proofs.FollowerLemmas.Enough.{comes_to}
+use Rattle.tlv_walk.proofs.FollowerLemmas.Enough.{comes_to, ends_without}
 use Rattle.tlv_io.proofs.Pieces.{pieces_so_far_more, pieces_all, together_more}
 use Rattle.tlv_io.proofs.Sends.{sends_as, sends_ok, sends_then, sends_then-sent}
 use Rattle.tlv_walk.proofs.FollowerLemmas.Pauses.{stands_spelled, stands_yielded}
@@ -148,7 +148,7 @@ module _ {S : Type 0} (next : S → EventValue → Effect S) (framing : Framing)
           x.stands.has_events.is_reading)
 
       -- the octets so far hold neither a fault nor enough
-      abbrev first_wants : WantMore (drive_job next framing limit s) b
+      abbrev first_wants : WantMore (drive_job next framing s) b
       first_wants = (x.stands.has_events.reading, (first_reading, first_spelled), ap had_enough first_made.wants)
 
       abbrev Driven : Result Run DeviceFault → Type 0
@@ -161,9 +161,9 @@ module _ {S : Type 0} (next : S → EventValue → Effect S) (framing : Framing)
           → (goes : Go) (k : MadeAll next s new.follower f goes (effect_of next s es).put)
           → source_result answer ≡ source_result result
           → Sends from new.devices.drain (effect_of next s es).put (drain_result answer)
-          → ComesTo (drive_job next framing limit s) (b ++ r) f new.devices.source answer
+          → ComesTo (drive_job next framing s) limit (b ++ r) f new.devices.source answer
           → (answer ≡ Err WriteFailed → ⊥)
-          → Runs (drive_job next framing limit s) (device_states old from) new.devices answer
+          → RunsUpTo (drive_job next framing s) limit (device_states old from) new.devices answer
       runs_by answer f last is_reading es goes k same sends comes written = record {
         pieces =
             pieces_all old now.devices.source new.devices.source x.gathered r read.calls.octets read.calls.reads last
@@ -191,11 +191,11 @@ module _ {S : Type 0} (next : S → EventValue → Effect S) (framing : Framing)
           if enough then enough_run framing (followed_events next s (events f)) else run_over framing f e
 
       -- with a fault or the end of the input
-      ends_without : (run : Run) → result ≡ Ok (Ended run) → EndsIn next now new walked_octets x.yielded run
+      ends_at : (run : Run) → result ≡ Ok (Ended run) → EndsIn next now new walked_octets x.yielded run
           → IsFinalEnding run.ending ⊎ ((new.devices.source.last ≡ gave 0) × IsAtEnd new.devices.source.left)
           → Driven (Ok run)
       unfolding runs_by
-      ends_without run is y ended =
+      ends_at run is y ended =
           let g : LastReadGaveUpTo (length piece) new.devices.source.last = gave_so (Ok (Ended run)) is in
           let es : List EventValue = y.all in
           let f : Forest = y.has_events.reading in
@@ -204,16 +204,17 @@ module _ {S : Type 0} (next : S → EventValue → Effect S) (framing : Framing)
           let made : FollowsEvents next s new.follower es go.On = followed es go.On y.follows in
           let k : MadeAll next s new.follower f go.On (effect_of next s es).put =
           made_all next laws s new.follower es f go.On made y.has_events.all_events in
-          let answer : run ≡ (drive_job next framing limit s).result f run.ending =
+          let answer : run ≡ (drive_job next framing s).returns f run.ending =
           y.run_is ∙ ap (λ (k : Framing). run_over k f run.ending) x.same
           ∙ ap (result_if f run.ending) (sym (is_enough_so f go.On (effect_of next s es).put k)) in
-          let ends : EndsWith framing walked_octets (had_enough (effect_of next s (events f)).goes) run.ending =
-          at_end run.ending (is_enough_so f go.On (effect_of next s es).put k)
+          let ends : EndsWith (drive_job next framing s) walked_octets f run.ending =
+          ends_without (drive_job next framing s) walked_octets f run.ending
+          (is_enough_so f go.On (effect_of next s es).put k)
           (subst (λ (k : Framing). IsEnding k walked_octets run.ending) x.same y.is_ending) in record {
             runs =
                 runs_by (Ok run) f (gave_last new.devices.source.last piece g) is_reading es go.On k
                 (ap source_result (sym is)) (sent_all es go.On y.follows)
-                (comes_to (drive_job next framing limit s) (b ++ r) f new.devices.source (Ok run) (
+                (comes_to (drive_job next framing s) limit (b ++ r) f new.devices.source (Ok run) (
                   run.ending,
                   answer,
                   ends,
@@ -241,7 +242,7 @@ module _ {S : Type 0} (next : S → EventValue → Effect S) (framing : Framing)
           let ending_is : run.ending ≡ Done = ap (λ (k : Run). k.ending) y.run_is in
           let enough : had_enough (effect_of next s (events f)).goes ≡ true =
           is_enough_so f go.Enough (effect_of next s es).put k in
-          let answer : run ≡ (drive_job next framing limit s).result f run.ending =
+          let answer : run ≡ (drive_job next framing s).returns f run.ending =
           y.run_is ∙ ap (λ (k : Framing). enough_run k es) x.same
           ∙ ap₂ (λ (n : ℕ) (u : Option ℕ). record (enough_run framing es) { octets = n; unused = u })
           (ap length (enough_octets next laws s new.follower es others.0 f made others.1))
@@ -250,10 +251,10 @@ module _ {S : Type 0} (next : S → EventValue → Effect S) (framing : Framing)
             runs =
                 runs_by (Ok run) f (gave_last new.devices.source.last piece g) is_reading es go.Enough k
                 (ap source_result (sym is)) (sent_all es go.Enough y.follows)
-                (comes_to (drive_job next framing limit s) (b ++ r) f new.devices.source (Ok run) (
+                (comes_to (drive_job next framing s) limit (b ++ r) f new.devices.source (Ok run) (
                   run.ending,
                   answer,
-                  subst (EndsWith framing walked_octets _) (sym ending_is) (with_enough enough),
+                  subst (EndsWith (drive_job next framing s) walked_octets f) (sym ending_is) (with_enough enough),
                   inl enough,
                 ))
                 (λ failed. absurd (cc (failed)));
@@ -264,11 +265,11 @@ module _ {S : Type 0} (next : S → EventValue → Effect S) (framing : Framing)
       ends_so_far : (run : Run) → result ≡ Ok (Ended run) → WalkEnds next now new limit b x.yielded r run
           → Driven (Ok run)
       ends_so_far run is (at_enough y) = ends_with run is y
-      ends_so_far run is (at_fault y final) = ends_without run is y (inl final)
+      ends_so_far run is (at_fault y final) = ends_at run is y (inl final)
       ends_so_far run is (at_input_end y none) =
           let last : new.devices.source.last ≡ gave 0 =
           gave_none new.devices.source.last piece (gave_so (Ok (Ended run)) is) none in
-          ends_without run is y (inr (last, read.calls.at_end last))
+          ends_at run is y (inr (last, read.calls.at_end last))
 
       pub drives_ended : (run : Run) → result ≡ Ok (Ended run) → Driven (Ok run)
       drives_ended run is = ends_so_far run is (turned (Ok (Ended run)) is)
@@ -357,7 +358,7 @@ module _ {S : Type 0} (next : S → EventValue → Effect S) (framing : Framing)
           let k : MadeAll next s new.follower f go.On (effect_of next s es).put =
           made_all next laws s new.follower es f go.On (followed es go.On z.follows)
           (stands_yielded new.walker walked_octets es f z.stands z.idle z.stands.has_events.is_reading) in
-          let wants : WantMore (drive_job next framing limit s) walked_octets = (
+          let wants : WantMore (drive_job next framing s) walked_octets = (
             f,
             (is_reading, stands_spelled new.walker walked_octets es f z.stands z.stands.has_events.is_reading),
             is_enough_so f go.On (effect_of next s es).put k,

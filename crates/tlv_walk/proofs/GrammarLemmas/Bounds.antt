@@ -9,7 +9,8 @@ use Rattle.tlv_head.specs.declared.header.Size.{Size}
 use Rattle.tlv_head.specs.declared.header.Size.TheVariants.{Definite, Indefinite}
 use Rattle.tlv_head.specs.Header.{HeaderValue, announced_length, holds, octets_of}
 use Rattle.tlv_head.proofs.Wraps.{is_wrapper}
-use Rattle.tlv_walk.specs.Forest.{end_octets, lead, lead_by}
+use Rattle.tlv_walk.specs.Forest.{end_octets, lead}
+use Rattle.tlv_walk.proofs.GrammarLemmas.Leads.{lead_by}
 use Rattle.tlv_walk.proofs.GrammarLemmas.Spellings.{length-opening}
 use Rattle.tlv_walk.specs.Place.{Fits, Place, bound_in, is_indefinite, place_of_children}
 use Rattle.tlv_walk.proofs.GrammarLemmas.Lengths.{HasLength, LacksOctets}

@@ -6,7 +6,8 @@ use Rattle.tlv_walk.specs.Forest.{Forest, spelling}
 use Rattle.tlv_walk.specs.Inside.{is_among}
 use Rattle.tlv_walk.specs.Place.{Place}
 use Rattle.tlv_walk.specs.Reading.{IsSound}
-use Rattle.tlv_walk.specs.Wrappers.{wrapper_offset_by, wrapper_offsets}
+use Rattle.tlv_walk.specs.Wrappers.{wrapper_offsets}
+use Rattle.tlv_walk.proofs.GrammarLemmas.Leads.{wrapper_offset_by}
 use Rattle.tlv_walk.proofs.GrammarLemmas.AlikeSpellings.{AreRegular}
 use Rattle.tlv_walk.proofs.GrammarLemmas.ShortHeaders.{own-there, own-apart, in-first, in-second, in-third}
 

@@ -16,10 +16,10 @@ use Rattle.tlv_head.specs.ShortestHeaders.{IsShortest}
 use Rattle.tlv_head.proofs.ShortestLemmas.LengthOctets.{FewLengths, few-lengths}
 use Rattle.tlv_head.proofs.ShortestLemmas.OneShortest.{identifier-le, identifier-some}
 use Rattle.tlv_head.proofs.ShortestLemmas.ShortestSpelling.{ShortIdentifier, ShortLength, short-identifier}
-use Rattle.tlv_walk.specs.Forest.{end_octets, lead_by}
+use Rattle.tlv_walk.specs.Forest.{end_octets}
 use Rattle.tlv_walk.specs.Inside.{is_among}
 use Rattle.tlv_walk.specs.Place.{is_indefinite}
-use Rattle.tlv_walk.specs.Wrappers.{wrapper_offset_by}
+use Rattle.tlv_walk.proofs.GrammarLemmas.Leads.{lead_by, wrapper_offset_by}
 use Rattle.tlv_walk.proofs.GrammarLemmas.Lengths.{HasLength}
 
 -- ---- headers

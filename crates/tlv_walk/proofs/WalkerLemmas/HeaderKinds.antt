@@ -12,7 +12,8 @@ use Rattle.tlv_walk.specs.declared.walker.headers.HeaderKind.{HeaderKind}
 use Rattle.tlv_walk.specs.declared.walker.headers.HeaderKind.TheVariants as kind
 use Rattle.tlv_walk.specs.Walker.{Between, InBitString, InPrimitive, PhaseValue, WalkerState}
 use Rattle.tlv_walk.specs.Events.{Begin, Enter, EventValue, Open}
-use Rattle.tlv_walk.specs.Forest.{NoMore, lead, lead_by}
+use Rattle.tlv_walk.specs.Forest.{NoMore, lead}
+use Rattle.tlv_walk.proofs.GrammarLemmas.Leads.{lead_by}
 use Rattle.tlv_walk.specs.Private.Stack.{frame_with}
 use Rattle.tlv_walk.specs.Private.WalkerCalls.{TakesHeader, after_header}
 use Rattle.tlv_walk.specs.Private.WrapperCount.{next_wrapper_count, wrapper_count_after}
