@@ -1,6 +1,6 @@
 //! Which blocks of a text count.
 ghost use Rattle.std.specs.List.{list_any};
-ghost use Rattle.std.specs.Prelude.{◌≡◌, [], ◌∷◌, ◌+◌, ◌≤◌, All, IfErr, IfOk, Some, false, filter, map};
+ghost use Rattle.std.specs.Prelude.{◌≡◌, ◌+◌, ◌≤◌, All, IfErr, IfOk, Some, false, filter, map};
 ghost use Rattle.tlv_forms.specs.Private.Counting.{IsBounded, IsFaultAmong, IsFittingForm, IsTextFault, is_kept};
 ghost use Rattle.tlv_forms.specs.Taken.{AreFirstBlocks, BlocksCount, Counts, HasInner, IsTakingFault, RunsCount};
 ghost use Rattle.tlv_forms.specs.Taken.{TextBlocks, all_forms, begins_with_zeros, is_complete, is_whole_block};

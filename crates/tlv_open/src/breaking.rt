@@ -1,5 +1,5 @@
 //! Strings that look like encodings, and where they break when they are read as encodings.
-ghost use Rattle.std.specs.Prelude.{◌≡◌, ◌≤◌, ◌+◌, ◌↔◌, ◌++◌, IsTrue, MatchOption, OnOk, length, slice_index};
+ghost use Rattle.std.specs.Prelude.{◌≡◌, ◌≤◌, ◌+◌, ◌↔◌, ◌++◌, IsTrue, MatchOption, OnOk, length};
 ghost use Rattle.tlv_head.specs.Limits.{input_limit};
 ghost use Rattle.tlv_open.specs.Breaks.{BeginsAs, BreaksAt, HaveAnnouncedSize, IsBrokenString, LooksEncoded};
 ghost use Rattle.tlv_open.specs.Breaks.{octets_around};

@@ -1,5 +1,5 @@
 //! Finds the strings that are opened, and the strings that break.
-ghost use Rattle.std.specs.Prelude.{◌≡◌, ◌≤◌, IfOk, length};
+ghost use Rattle.std.specs.Prelude.{◌≤◌, IfOk, length};
 ghost use Rattle.tlv_head.specs.Limits.{input_limit};
 ghost use Rattle.tlv_open.specs.Breaks.{AreBroken};
 ghost use Rattle.tlv_open.specs.Opens.{AreOpened};

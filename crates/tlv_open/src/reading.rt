@@ -6,7 +6,7 @@ ghost use Rattle.tlv_open.specs.Private.Walks.{HasWalkedOver, WalksOverMore};
 ghost use Rattle.tlv_walk.specs.Ending.{IsEnding};
 ghost use Rattle.tlv_walk.specs.Forest.{Forest, spelling};
 ghost use Rattle.tlv_walk.specs.Reading.{IsReading, IsSoundList};
-ghost use Rattle.tlv_walk.specs.Walker.{IsWithinInputLimit, new_walker};
+ghost use Rattle.tlv_walk.specs.Walker.{IsWithinInputLimit};
 
 use crate::elements::elements_size;
 use tlv_walk::{Ending, Framing, Inside, Step, Walker};

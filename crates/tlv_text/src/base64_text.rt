@@ -1,6 +1,6 @@
 //! Octets in base64.
 ghost use Rattle.std.specs.Prelude.{◌≡◌, ◌<◌, ◌≤◌, ◌+◌, ◌%◌, [], IfErr, IfOk, OnErr, OnOk, length, slice_index, true, false};
-ghost use Rattle.tlv_text.specs.Base64.{ReadsBase64, base64_of, fits_after, is_escaped_line_end};
+ghost use Rattle.tlv_text.specs.Base64.{ReadsBase64, fits_after, is_escaped_line_end};
 ghost use Rattle.tlv_text.specs.Base64.{is_escaped_slash, is_left_out, is_symbol, no_symbols, padding_of, symbols_read};
 ghost use Rattle.tlv_text.specs.Private.SymbolSteps.{AreAdded, AreSymbols, IsAtEnd, IsFailure, IsOfNone};
 ghost use Rattle.tlv_text.specs.Private.SymbolSteps.{PaddingFits, ReadsOn, symbols_then};

@@ -1,5 +1,5 @@
 //! Marks at the start of a text.
-ghost use Rattle.std.specs.Prelude.{◌≡◌, IfOk, OnOk, Some, length, option_map};
+ghost use Rattle.std.specs.Prelude.{◌≡◌, IfOk, Some, option_map};
 ghost use Rattle.tlv_text.specs.Marks.{after_mark, ascii_of_pair, ascii_of_units, ascii_of_utf16};
 
 use std::alloc::{AllocError, Global};

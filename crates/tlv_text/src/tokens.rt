@@ -1,9 +1,7 @@
 //! Octets as tokens of a source text.
-ghost use Rattle.hex.specs.Hex.{is_hex_digit};
 ghost use Rattle.std.specs.Prelude.{◌≡◌, ◌<◌, ◌≤◌, ◌+◌, ◌↔◌, ◌||◌, ◌&&◌, IfOk, IsTrue, MatchOption, length};
 ghost use Rattle.std.specs.Prelude.{nat_le, true};
 ghost use Rattle.tlv_text.specs.Characters.{is_quote, is_white};
-ghost use Rattle.tlv_text.specs.Pairs.{hex_value};
 ghost use Rattle.tlv_text.specs.Private.TokenSteps.{IsTokenOrEnd, NoneMarked, token_from};
 ghost use Rattle.tlv_text.specs.TextRead.{refused_at};
 ghost use Rattle.tlv_text.specs.Tokens.{begins_like_token, begins_word, ends_escape, escape_token, is_word};

@@ -1,5 +1,5 @@
 //! Puts the rest of lines, after the tag texts, to an [`Out`].
-ghost use Rattle.std.specs.Prelude.{◌≤◌, ◌++◌, [], codes, false, length, true};
+ghost use Rattle.std.specs.Prelude.{◌≤◌, ◌++◌, codes, false, length, true};
 ghost use Rattle.tlv_io.specs.LineTexts.{HasRoomFor};
 ghost use Rattle.tlv_io.specs.Out.{Puts, held_octets};
 ghost use Rattle.tlv_value.specs.Private.ObjectLines.{object_lines, octets_lines};

@@ -1,6 +1,6 @@
 //! The lines of a primitive, from its contents in pieces.
 ghost use Rattle.std.specs.Prelude.{◌≡◌, ◌≤◌, ◌++◌, ◌∷◌, [], ℕ, Bool, List, length, OnOk};
-ghost use Rattle.tlv_head.specs.Header.{HasAllContents, HeaderValue, announced_length};
+ghost use Rattle.tlv_head.specs.Header.{HasAllContents, HeaderValue};
 ghost use Rattle.tlv_io.specs.Out.{Puts};
 ghost use Rattle.tlv_value.specs.PutsRest.{PutsRest};
 ghost use Rattle.tlv_value.specs.Value.{row_octets};

@@ -1,7 +1,7 @@
 //! The lines of a primitive whose contents are all available. If the value is on its line, or in rows of pairs of
 //! digits without a limit, its lines are made in one step: no contents are copied, and the type is looked up once.
 ghost use Rattle.std.specs.Prelude.{◌≡◌, ◌++◌, None, length, true};
-ghost use Rattle.tlv_head.specs.Header.{HasAllContents, announced_length};
+ghost use Rattle.tlv_head.specs.Header.{HasAllContents};
 ghost use Rattle.tlv_io.specs.Out.{Puts};
 ghost use Rattle.tlv_value.specs.RowSizes.{row_size};
 ghost use Rattle.tlv_value.specs.Private.PrimitiveLines.{lines_in_steps};

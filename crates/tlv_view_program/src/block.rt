@@ -1,6 +1,5 @@
 //! What is shown of a block of the inputs, and what is said about it.
-ghost use Rattle.std.specs.Prelude.{◌≡◌, ◌≤◌, [], length};
-ghost use Rattle.tlv_head.specs.Limits.{input_limit};
+ghost use Rattle.std.specs.Prelude.{◌≡◌, []};
 ghost use Rattle.tlv_io.specs.Out.{Sends};
 ghost use Rattle.tlv_run.specs.Report.{report_value_of};
 ghost use Rattle.tlv_text.specs.Blocks.{block_value};

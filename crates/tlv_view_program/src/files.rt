@@ -1,5 +1,5 @@
 //! All files: their blocks, one after another.
-ghost use Rattle.std.specs.Prelude.{◌≡◌, length, map, max};
+ghost use Rattle.std.specs.Prelude.{◌≡◌, map, max};
 ghost use Rattle.tlv_run.specs.BorrowedText.{text_in};
 ghost use Rattle.tlv_view_program.specs.Private.BlockParts.{all_fit, blocks_place, input_block};
 ghost use Rattle.tlv_view_program.specs.ShowsAll.{ShowsBlocks, ShowsFiles, file_of_word, files_of_words};

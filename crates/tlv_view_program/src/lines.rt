@@ -1,6 +1,6 @@
 //! The lines that are written beside views.
 ghost use Rattle.std.specs.List.{list_all};
-ghost use Rattle.std.specs.Prelude.{◌≡◌, ◌++◌, decimal, flat_map};
+ghost use Rattle.std.specs.Prelude.{◌≡◌, flat_map};
 ghost use Rattle.tlv_forms.specs.Taken.{taken_value};
 ghost use Rattle.tlv_io.specs.Out.{Puts, Sends};
 ghost use Rattle.tlv_open.specs.BrokenLine.{broken_line};

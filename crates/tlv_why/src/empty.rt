@@ -1,5 +1,4 @@
 //! The lines about an input that has no element.
-ghost use Rattle.std.specs.Prelude.{◌≡◌};
 ghost use Rattle.tlv_io.specs.Out.{Puts};
 ghost use Rattle.tlv_why.specs.CutLines.{empty_line, empty_lines, empty_try_line};
 

@@ -1,6 +1,5 @@
 //! The lines about the octets after the last whole encoding.
 ghost use Rattle.std.specs.Prelude.{◌≡◌};
-ghost use Rattle.std.specs.List.{list_all};
 ghost use Rattle.tlv_io.specs.Out.{Puts};
 ghost use Rattle.tlv_why.specs.Leftovers.{are_blank_octets, are_filler, blanks_line, blanks_lines, filler_line};
 ghost use Rattle.tlv_why.specs.Leftovers.{filler_lines, following_lines, is_blank_octet, is_followed_by_filler};

@@ -1,5 +1,5 @@
 //! Records from the events of a walk what is open, and what came last.
-ghost use Rattle.std.specs.Prelude.{◌≡◌, ◌≤◌, ◌<◌, ◌+◌, ◌++◌, ◌∷◌, [], length, take};
+ghost use Rattle.std.specs.Prelude.{◌≡◌, ◌<◌, ◌+◌, length};
 ghost use Rattle.tlv_walk.specs.Events.{event_octets, event_value_of};
 ghost use Rattle.tlv_why.specs.Private.Tracking.{bit_string_opened, element_ended, holder_noted, holder_ended};
 ghost use Rattle.tlv_why.specs.Private.Tracking.{innermost, new_tracker, primitive_ended, track, with_nearest};

@@ -1,5 +1,4 @@
 //! What to try, and which other lengths may be wrong.
-ghost use Rattle.std.specs.Prelude.{◌≡◌};
 ghost use Rattle.tlv_io.specs.Out.{Puts};
 ghost use Rattle.tlv_why.specs.TryLines.{anew_line, anew_lines, look_line, look_lines, suspect_line};
 ghost use Rattle.tlv_why.specs.TryLines.{suspect_line_of};

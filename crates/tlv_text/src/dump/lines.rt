@@ -5,7 +5,6 @@ ghost use Rattle.hex.specs.Hex.{is_hex_digit};
 ghost use Rattle.tlv_text.specs.DumpLines.{after_blanks, after_prefix, base, ends_offset, is_dump_blank, is_digit_of};
 ghost use Rattle.tlv_text.specs.DumpLines.{kind_from, line_kind, dump_lines, offset_read, row_at, new_text_line};
 ghost use Rattle.tlv_text.specs.DumpLines.{begins_colon, has_od_offset, without_return};
-ghost use Rattle.tlv_text.specs.Pairs.{hex_value};
 ghost use Rattle.tlv_text.specs.Private.DumpSteps.{begins_offset, dump_kind_of, offset_seen, row_seen};
 
 use crate::digits::{digit_value, is_digit};

@@ -1,5 +1,5 @@
 //! The octets decoded so far from a hex dump.
-ghost use Rattle.std.specs.Prelude.{◌≡◌, ◌<◌, ◌≤◌, ◌↔◌, ◌+◌, ◌*◌, [], IsTrue, OnOk};
+ghost use Rattle.std.specs.Prelude.{◌<◌, ◌≤◌, ◌↔◌, ◌+◌, ◌*◌, [], IsTrue, OnOk};
 ghost use Rattle.tlv_text.specs.Dump.{octets_repeated};
 ghost use Rattle.tlv_text.specs.Private.DumpSteps.{RowHolds, IsAdded};
 ghost use Rattle.tlv_text.specs.Private.PairSteps.{AreWholePairs, pair_octets};

@@ -1,5 +1,4 @@
 //! Pairs of digits in a row of a hex dump.
-ghost use Rattle.hex.specs.Hex.{is_hex_digit};
 ghost use Rattle.std.specs.Prelude.{◌≡◌, ◌<◌, ◌≤◌, ◌+◌, ◌||◌, ◌&&◌, [], drop, length, take, true};
 ghost use Rattle.tlv_text.specs.Dump.{after_few, after_gap, after_one, before_pairs, begins_blank, begins_digit};
 ghost use Rattle.tlv_text.specs.Dump.{begins_lone_pair, begins_pair, dump_row_octets, gap_of, octets_if, pairs_after};

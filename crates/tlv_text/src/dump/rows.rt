@@ -1,5 +1,5 @@
 //! Rows of a hex dump after the first.
-ghost use Rattle.std.specs.Prelude.{◌≡◌, ◌<◌, ◌≤◌, IfOk, length};
+ghost use Rattle.std.specs.Prelude.{◌≡◌, ◌<◌, ◌≤◌, IfOk};
 ghost use Rattle.tlv_text.specs.Dump.{at_row, is_full, dump_row_step, dump_line_step, times_before};
 ghost use Rattle.tlv_text.specs.DumpLines.{LineKind};
 ghost use Rattle.tlv_text.specs.Private.DumpSteps.{IsTaken, dump_kind_of, dump_place_of, row_seen};

@@ -3,7 +3,7 @@ ghost use Rattle.std.specs.Prelude.{◌≡◌, ◌≢◌, ◌+◌, ◌^◌, ◌<
 ghost use Rattle.tlv_head.specs.Limits.{depth_limit, input_limit};
 ghost use Rattle.tlv_head.specs.HeaderFields.{IsHeaderSized, new_header};
 ghost use Rattle.tlv_head.specs.Header.{announced_length, holds, octets_of};
-ghost use Rattle.tlv_walk.specs.Walker.{Between, IsWithinInputLimit, least_octets};
+ghost use Rattle.tlv_walk.specs.Walker.{Between, IsWithinInputLimit};
 ghost use Rattle.tlv_walk.specs.Events.{IsNoEmptyPart, event_value_of};
 ghost use Rattle.tlv_walk.specs.Private.WalkerCalls.{CanTakeHeader, CanRead, CanReadOn, CountsStep};
 ghost use Rattle.tlv_walk.specs.Private.WalkerCalls.{TakesHeader, CountsAt};
