@@ -5,7 +5,8 @@ use Rattle.std.proofs.lemmas.Bool.{and_parts, cases_order, eqb-true, not-true}
 use Rattle.std.proofs.Math.Seq.{drop-append_seam, get_or-append_seam, take-append_seam}
 use Rattle.std.specs.Prelude.{unwrap_or}
 use Rattle.std.specs.List.{list_all}
-use Rattle.std.proofs.lemmas.List.{length-append, length-drop, length-take-le, drop-drop, drop_all, take-append-drop}
+use Rattle.std.proofs.lemmas.List.{get_or-drop, length-append, length-drop, length-take-le, drop-drop, drop_all}
+use Rattle.std.proofs.lemmas.List.{take-append-drop}
 use Rattle.tlv_text.proofs.Slices.{from-on, slice_from}
 use Rattle.memchr.specs.Find.{FindsNeedle, IsFirstByte, OccursAt, is_byte}
 use Rattle.memchr.proofs.lemmas.MatchLemmas.{OccursAt-from_part, OccursAt-split}
@@ -13,25 +14,90 @@ use Rattle.tlv_text.specs.Pem.{BeginsBlock, EndsBody, HasNoBlock, IsFirstBlock, 
 use Rattle.tlv_text.specs.Pem.{is_label, is_label_character}
 use Rattle.tlv_text.specs.Private.PemSteps.{BeginsLabel, BeginsNoLabel, begin_dashes}
 
+from-or-before : (a b : ℕ) → (a ≤ b) ⊎ (b < a)
+from-or-before a b =
+    elim (cases_order a b) [
+      | inl same ↦ inl (omega (arith, same))
+      | inr (inl less) ↦ inl (omega (arith, less))
+      | inr (inr more) ↦ inr more
+    ]
+
 -- ---- a body
 
-pub body-found : (after : List ℕ) (n : ℕ) → FindsNeedle after dashes 0 (Some n)
-    → EndsBody after (take n after) (drop n after)
-body-found after n f =
-    let size : length (take n after) ≡ n = length-take-le n after (omega (arith, f.1.fits)) in
+-- five hyphens begin with one
+pub no-dashes : (text : List ℕ) (n : ℕ) → IsFirstByte (is_byte 45) text (Some n)
+    → (k : ℕ) → k < n → OccursAt text dashes k → ⊥
+no-dashes text n found k less o =
+    found.0.before k (omega arith) less
+    (ap (λ (x : ℕ). x == 45) (ap (slice_index text) (omega arith) ∙ o.reads 0 (omega arith)))
+
+pub no-dashes-at_all : (text : List ℕ) → IsFirstByte (is_byte 45) text None
+    → (k : ℕ) → k < length text → OccursAt text dashes k → ⊥
+no-dashes-at_all text none k less o =
+    none k (omega arith) less
+    (ap (λ (x : ℕ). x == 45) (ap (slice_index text) (omega arith) ∙ o.reads 0 (omega arith)))
+
+-- where they are in the text after a place
+dashes-later : (text : List ℕ) (start k : ℕ) → start ≤ k → OccursAt text dashes k
+    → OccursAt (drop start text) dashes (k - start)
+dashes-later text start k up o = record {
+  fits = omega (arith, o.fits, up, length-drop start text);
+  reads = λ j less.
+      get_or-drop start text (k - start + j) 0
+      ∙ ap (slice_index text) (omega (arith, up))
+      ∙ o.reads j less;
+}
+
+dashes-sooner : (text : List ℕ) (start n : ℕ) → start ≤ length text → OccursAt (drop start text) dashes n
+    → OccursAt text dashes (start + n)
+dashes-sooner text start n within o = record {
+  fits = omega (arith, o.fits, within, length-drop start text);
+  reads = λ j less.
+      ap (slice_index text) (omega arith)
+      ∙ sym (get_or-drop start text (n + j) 0)
+      ∙ o.reads j less;
+}
+
+none-sooner : (text : List ℕ) (start n k : ℕ) → ((k : ℕ) → k < start → OccursAt text dashes k → ⊥)
+    → ((k : ℕ) → k < n → OccursAt (drop start text) dashes k → ⊥)
+    → k < start + n → OccursAt text dashes k → ⊥
+none-sooner text start n k before later less o =
+    elim (from-or-before start k) [
+      | inl up ↦ later (k - start) (omega (arith, up, less)) (dashes-later text start k up o)
+      | inr down ↦ before k down o
+    ]
+
+-- a body that ends at five hyphens, of which none begin before a place
+pub body-found : (after : List ℕ) (start n : ℕ) → start ≤ length after
+    → ((k : ℕ) → k < start → OccursAt after dashes k → ⊥)
+    → FindsNeedle (slice_from start after) dashes 0 (Some n)
+    → EndsBody after (take (start + n) after) (drop (start + n) after)
+body-found after start n within before f =
+    let found = subst (λ t. FindsNeedle t dashes 0 (Some n)) (from-on start after) f in
+    let here = dashes-sooner after start n within found.1 in
+    let size : length (take (start + n) after) ≡ start + n = length-take-le (start + n) after (omega (arith, here.fits)) in
     record {
-      spelled = sym (take-append-drop n after);
-      no_sooner = λ k less. f.0.before k (omega arith) (omega (arith, less, size));
-      end = inr (subst (OccursAt after dashes) (sym size) f.1);
+      spelled = sym (take-append-drop (start + n) after);
+      no_sooner = λ k less.
+          none-sooner after start n k before (λ i low. found.0.before i (omega arith) low) (omega (arith, less, size));
+      end = inr (subst (OccursAt after dashes) (sym size) here);
     }
 
-pub body-to_end : (after : List ℕ) → FindsNeedle after dashes 0 None
+pub body-to_end : (after : List ℕ) (start : ℕ) → start ≤ length after
+    → ((k : ℕ) → k < start → OccursAt after dashes k → ⊥)
+    → FindsNeedle (slice_from start after) dashes 0 None
     → EndsBody after (take (length after) after) (drop (length after) after)
-body-to_end after none = record {
-  spelled = sym (take-append-drop (length after) after);
-  no_sooner = λ k less. none k (omega arith) (omega (arith, less, length-take-le (length after) after (omega arith)));
-  end = inl (drop_all (length after) after (omega arith));
-}
+body-to_end after start within before n =
+    let none = subst (λ t. FindsNeedle t dashes 0 None) (from-on start after) n in
+    let size = length-drop start after in
+    record {
+      spelled = sym (take-append-drop (length after) after);
+      no_sooner = λ k less.
+          none-sooner after start (length after - start) k before
+          (λ i low. none i (omega arith) (omega (arith, low, size)))
+          (omega (arith, within, less, length-take-le (length after) after (omega arith)));
+      end = inl (drop_all (length after) after (omega arith));
+    }
 
 -- ---- a label
 
@@ -122,14 +188,6 @@ label-split text n b =
 -- no block begins before a place
 abbrev pub NoneBefore_of : List ℕ → ℕ → Type 0
 NoneBefore_of text n = (k : ℕ) → k < n → (label after : List ℕ) → BeginsBlock (drop k text) label after → ⊥
-
-from-or-before : (a b : ℕ) → (a ≤ b) ⊎ (b < a)
-from-or-before a b =
-    elim (cases_order a b) [
-      | inl same ↦ inl (omega (arith, same))
-      | inr (inl less) ↦ inl (omega (arith, less))
-      | inr (inr more) ↦ inr more
-    ]
 
 -- where a block begins there is its marker
 begins-occurs : (text label after : List ℕ) (start k : ℕ) → start ≤ k → BeginsBlock (drop k text) label after

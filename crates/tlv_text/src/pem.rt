@@ -1,7 +1,8 @@
 //! Blocks of PEM in a text.
 ghost use Rattle.std.specs.List.{list_all};
-ghost use Rattle.std.specs.Prelude.{◌≡◌, ◌≤◌, ◌&&◌, MatchOption, drop, length, take};
-ghost use Rattle.tlv_text.specs.Pem.{EndsBody, HasNoBlock, IsFirstBlock, is_label, is_label_character};
+ghost use Rattle.std.specs.Prelude.{◌≡◌, ◌<◌, ◌≤◌, ◌&&◌, ℕ, MatchOption, drop, length, take};
+ghost use Rattle.memchr.specs.Find.{OccursAt};
+ghost use Rattle.tlv_text.specs.Pem.{EndsBody, HasNoBlock, IsFirstBlock, dashes, is_label, is_label_character};
 ghost use Rattle.tlv_text.specs.Private.PemSteps.{BeginsLabel, BeginsNoLabel, begin_dashes};
 
 use memchr::{memchr, memmem};
@@ -102,8 +103,21 @@ fn are_label_characters(label: &[u8]) -> bool
 fn split_body(after: &[u8]) -> (&[u8], &[u8])
     ensures { EndsBody after.now result.0.now result.1.now }
 {
-    match memmem::find(after, DASHES) {
-        Some(length) => after.split_at(length),
+    // Base64 has no hyphen, and one is found sooner than five.
+    let start = first_hyphen(after);
+    match memmem::find(&after[start..], DASHES) {
+        Some(length) => after.split_at(start + length),
         None => after.split_at(after.len()),
+    }
+}
+
+/// The number of characters before the first hyphen.
+fn first_hyphen(text: &[u8]) -> usize
+    ensures none { (k : ℕ) → k < result → OccursAt text.now dashes k → ⊥ }
+    ensures within { result ≤ length text.now }
+{
+    match memchr(b'-', text) {
+        Some(length) => length,
+        None => text.len(),
     }
 }
