@@ -113,26 +113,19 @@ pub plain : (alphabet : Alphabet) (octets : List ℕ)
 plain Standard octets = append-nil (encode_symbols (encodes Standard) octets)
 plain UrlSafe octets = append-nil (encode_symbols (encodes UrlSafe) octets)
 
--- whole groups of symbols are the base64 of these octets
-pub groups-of : (alphabet : Alphabet) (symbols : List ℕ) (n : ℕ) → IsBytes symbols → AreSymbols alphabet symbols
-    → 4 * n ≡ length symbols
-    → IsBytes (groups_bytes (decodes alphabet) symbols n)
-    × (base64_of alphabet (groups_bytes (decodes alphabet) symbols n) ≡ symbols)
-groups-of alphabet symbols n bytes all size =
-    let values : HaveValues (decodes alphabet) symbols (4 * n) =
-    subst (HaveValues (decodes alphabet) symbols) (sym size) (symbols-have_values alphabet symbols bytes all) in (
-      groups-bytes (decodes alphabet) symbols n values,
-      plain alphabet (groups_bytes (decodes alphabet) symbols n)
-          ∙ sym (take_groups (encodes alphabet) (decodes alphabet) symbols n (are-inverse alphabet) bytes
-          (omega (arith, size)) (no-groups_error (decodes alphabet) symbols n values))
-          ∙ ap (λ (m : ℕ). take m symbols) size
-          ∙ take-length symbols,
-    )
-
--- so they are base64
+-- whole groups of symbols are base64
 pub groups-decode : (alphabet : Alphabet) (symbols : List ℕ) → IsBytes symbols → AreSymbols alphabet symbols
     → length symbols % 4 ≡ 0 → IsOfNone alphabet symbols → ⊥
 groups-decode alphabet symbols bytes all whole none =
     let n : ℕ = length symbols / 4 in
-    let octets = groups-of alphabet symbols n bytes all (omega (arith, whole)) in
-    none (groups_bytes (decodes alphabet) symbols n) octets.0 octets.1
+    let size : 4 * n ≡ length symbols = omega (arith, whole) in
+    let values : HaveValues (decodes alphabet) symbols (4 * n) =
+    subst (HaveValues (decodes alphabet) symbols) (sym size) (symbols-have_values alphabet symbols bytes all) in
+    let octets : List ℕ = groups_bytes (decodes alphabet) symbols n in
+    none octets (groups-bytes (decodes alphabet) symbols n values) (
+    plain alphabet octets
+    ∙ sym (take_groups (encodes alphabet) (decodes alphabet) symbols n (are-inverse alphabet) bytes
+    (omega (arith, size)) (no-groups_error (decodes alphabet) symbols n values))
+    ∙ ap (λ (m : ℕ). take m symbols) size
+    ∙ take-length symbols
+    )

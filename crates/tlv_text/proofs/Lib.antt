@@ -23,7 +23,6 @@ pub mod RunLemmas
 pub mod RunRows
 pub mod SeparatedLemmas
 pub mod Slices
-pub mod SymbolBlockLemmas
 pub mod SymbolLemmas
 pub mod TableLemmas
 pub mod TextLemmas

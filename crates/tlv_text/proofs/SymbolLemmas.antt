@@ -20,7 +20,7 @@ symbol-first : (alphabet : Alphabet) (x : ℕ) (text : List ℕ) → is_symbol a
 symbol-first alphabet x [] e = rw e refl
 symbol-first alphabet x (y ∷ text) e = rw e refl
 
-pub run-first : (alphabet : Alphabet) (run rest : List ℕ) → AreSymbols alphabet run
+run-first : (alphabet : Alphabet) (run rest : List ℕ) → AreSymbols alphabet run
     → symbols_read alphabet (run ++ rest) ≡ symbols_then run (symbols_read alphabet rest)
 run-first alphabet [] rest all = refl
 run-first alphabet (x ∷ run) rest all =

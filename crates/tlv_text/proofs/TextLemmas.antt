@@ -11,10 +11,17 @@ use Rattle.base64.proofs.EngineFacts.{encode_of-append, encode_of-nil}
 use Rattle.base64.proofs.RoundTrip.{length-encode_symbols}
 use Rattle.tlv_text.specs.Base64.{IsBase64, ReadsBase64, SymbolsRead, base64_of, fits_after, padding_of}
 use Rattle.tlv_text.specs.Base64.{symbols_read, whole_groups}
-use Rattle.tlv_text.specs.Private.SymbolSteps.{AreAdded, IsAtEnd, IsOfNone, IsReadSoFar, PaddingFits, symbols_then}
+use Rattle.tlv_text.specs.Private.SymbolSteps.{AreAdded, IsAtEnd, IsOfNone, PaddingFits, symbols_then}
 use Rattle.tlv_text.specs.declared.base64_text.Alphabet.{Alphabet}
 use Rattle.tlv_text.specs.declared.base64_text.Alphabet.TheVariants.{Standard, UrlSafe}
 use Rattle.tlv_text.proofs.GroupLemmas.{bytes-append, bytes-nil, encodes, plain}
+
+-- these octets are those of whole groups, and the rest of the text comes after them
+pub record IsReadSoFar (alphabet : Alphabet) (text octets rest : List ℕ) : Type 0 where
+  pub read : symbols_read alphabet text ≡ symbols_then (base64_of alphabet octets) (symbols_read alphabet rest)
+  pub are_octets : IsBytes octets
+  pub whole : length octets % 3 ≡ 0
+  pub less : length rest ≤ length text
 
 -- ---- base64 of octets, and of others after them
 

@@ -3,6 +3,5 @@ pub mod NumberSteps
 pub mod DumpSteps
 pub mod PairSteps
 pub mod PemSteps
-pub mod SymbolBlocks
 pub mod SymbolSteps
 pub mod TokenSteps

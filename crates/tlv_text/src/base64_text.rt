@@ -3,21 +3,17 @@ ghost use Rattle.std.specs.Prelude.{◌≡◌, ◌<◌, ◌≤◌, ◌+◌, ◌%
 ghost use Rattle.tlv_text.specs.Base64.{ReadsBase64, fits_after, is_escaped_line_end};
 ghost use Rattle.tlv_text.specs.Base64.{is_escaped_slash, is_left_out, is_symbol, no_symbols, padding_of, symbols_read};
 ghost use Rattle.tlv_text.specs.Private.SymbolSteps.{AreAdded, AreSymbols, IsAtEnd, IsFailure, IsOfNone};
-ghost use Rattle.tlv_text.specs.Private.SymbolSteps.{PaddingFits, ReadsOn, symbols_then};
+ghost use Rattle.tlv_text.specs.Private.SymbolSteps.{PaddingFits, symbols_then};
 
 use crate::Decoded;
-use crate::symbol_blocks::block_octets;
 use crate::symbols::symbols_before;
 use arrayvec::ArrayVec;
 use base64::DecodeAllocError;
 use base64::engine::general_purpose::{STANDARD_NO_PAD, URL_SAFE_NO_PAD};
 use std::alloc::{AllocError, Global};
 
-/// The number of symbols that are gathered and decoded at once: whole groups of four.
-const SYMBOLS: usize = 256;
-
-/// The number of characters for whose octets memory is taken at once.
-const AHEAD: usize = 4096;
+/// The number of symbols that are decoded at once: whole groups of four.
+const SYMBOLS: usize = 4096;
 
 /// The last two of the 64 symbols.
 #[derive(Clone, Copy, Debug, PartialEq, Eq)]
@@ -42,7 +38,6 @@ pub fn decode_base64(alloc: Global, alphabet: Alphabet, text: &[u8]) -> Result<D
     let mut octets = Vec::new(alloc);
     let mut rest = text;
     loop {
-        take_blocks(alphabet, &mut rest, &mut octets)?;
         let mut symbols = ArrayVec::new();
         take_symbols(alphabet, &mut rest, &mut symbols);
         if symbols.len() < SYMBOLS {
@@ -52,49 +47,15 @@ pub fn decode_base64(alloc: Global, alphabet: Alphabet, text: &[u8]) -> Result<D
     }
 }
 
-/// Takes blocks of 64 symbols from the front of a text, with what is left out before and between them, and adds their
-/// octets. Such blocks are the lines of PEM, and are decoded where they are.
-fn take_blocks(alphabet: Alphabet, text: &mut &[u8], octets: &mut Vec<u8>) -> Result<(), AllocError>
-    ensures read { OnOk result
-        (ReadsOn alphabet octets.old.items text.old.now octets.new.items text.new.now) }
-    ensures less { length text.new.now ≤ length text.old.now }
-{
-    // A short text needs memory only once.
-    octets.reserve(text.len().min(AHEAD) / 4 * 3 + 3)?;
-    let mut rest = after_left_out(*text);
-    while let Some((block, more)) = rest.split_first_chunk()
-        && let Some(decoded) = block_octets(alphabet, block)
-    {
-        octets.extend_from_slice(&decoded)?;
-        rest = after_left_out(more);
-    }
-    *text = rest;
-    Ok(())
-}
-
-/// The text after leading characters that are left out.
-fn after_left_out(text: &[u8]) -> &[u8]
-    ensures read { (alphabet : Alphabet) → symbols_read alphabet text.now ≡ symbols_read alphabet result.now }
-    ensures less { length result.now ≤ length text.now }
-{
-    let mut rest = text;
-    while let [x, more @ ..] = rest
-        && is_left_out(*x)
-    {
-        rest = more;
-    }
-    rest
-}
-
-/// Takes at most 256 symbols from the front of a text, up to the first character that is neither a symbol nor left
+/// Takes at most 4096 symbols from the front of a text, up to the first character that is neither a symbol nor left
 /// out.
 fn take_symbols(alphabet: Alphabet, rest: &mut &[u8], symbols: &mut ArrayVec<u8, SYMBOLS>)
     requires { symbols.old.items ≡ [] }
     ensures symbols { AreSymbols alphabet symbols.new.items }
     ensures read { symbols_read alphabet rest.old.now
         ≡ symbols_then symbols.new.items (symbols_read alphabet rest.new.now) }
-    ensures few { length symbols.new.items ≤ 256 }
-    ensures last { length symbols.new.items < 256
+    ensures few { length symbols.new.items ≤ 4096 }
+    ensures last { length symbols.new.items < 4096
         → symbols_read alphabet rest.new.now ≡ no_symbols rest.new.now }
     ensures less { length rest.new.now ≤ length rest.old.now }
     ensures used { 0 < length symbols.new.items → length rest.new.now < length rest.old.now }
@@ -116,12 +77,12 @@ fn take_symbols(alphabet: Alphabet, rest: &mut &[u8], symbols: &mut ArrayVec<u8,
 /// Takes the leading symbols of a text, as many as there is room for.
 fn take_run(alphabet: Alphabet, rest: &mut &[u8], symbols: &mut ArrayVec<u8, SYMBOLS>)
     requires symbols { AreSymbols alphabet symbols.old.items }
-    requires few { length symbols.old.items ≤ 256 }
+    requires few { length symbols.old.items ≤ 4096 }
     ensures symbols { AreSymbols alphabet symbols.new.items }
     ensures read { symbols_then symbols.old.items (symbols_read alphabet rest.old.now)
         ≡ symbols_then symbols.new.items (symbols_read alphabet rest.new.now) }
-    ensures few { length symbols.new.items ≤ 256 }
-    ensures last { length symbols.new.items < 256 → 0 < length rest.new.now
+    ensures few { length symbols.new.items ≤ 4096 }
+    ensures last { length symbols.new.items < 4096 → 0 < length rest.new.now
         → is_symbol alphabet (slice_index rest.new.now 0) ≡ false }
     ensures moved { length rest.new.now + length symbols.new.items
         ≡ length rest.old.now + length symbols.old.items }

@@ -14,7 +14,6 @@ mod numbers;
 mod pairs;
 mod pem;
 mod runs;
-mod symbol_blocks;
 mod symbols;
 mod text_fault;
 mod tokens;

@@ -22,18 +22,6 @@ pub record AreAdded (alphabet : Alphabet) (symbols old new : List ℕ) : Type 0 
   pub symbols_of : base64_of alphabet more ≡ symbols
   pub added : new ≡ old ++ more
 
--- these octets are those of whole groups, and the rest of the text comes after them
-pub record IsReadSoFar (alphabet : Alphabet) (text octets rest : List ℕ) : Type 0 where
-  pub read : symbols_read alphabet text ≡ symbols_then (base64_of alphabet octets) (symbols_read alphabet rest)
-  pub are_octets : IsBytes octets
-  pub whole : length octets % 3 ≡ 0
-  pub less : length rest ≤ length text
-
--- a text of which these octets were read is read up to the place that is left, with the new octets
-abbrev pub ReadsOn : Alphabet → List ℕ → List ℕ → List ℕ → List ℕ → Type 0
-ReadsOn alphabet octets rest new left =
-    (text : List ℕ) → IsReadSoFar alphabet text octets rest → IsReadSoFar alphabet text new left
-
 -- these symbols are not the base64 of any octets
 abbrev pub IsOfNone : Alphabet → List ℕ → Type 0
 IsOfNone alphabet symbols = (octets : List ℕ) → IsBytes octets → base64_of alphabet octets ≡ symbols → ⊥

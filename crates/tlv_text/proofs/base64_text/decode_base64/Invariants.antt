@@ -1,9 +1,9 @@
 use Rattle.std.proofs.Common.{length}
-use Rattle.tlv_text.specs.Private.SymbolSteps.{IsReadSoFar}
+use Rattle.tlv_text.proofs.TextLemmas.{IsReadSoFar}
 use Rattle.tlv_text.proofs.base64_text.decode_base64.Given as goal
 
-abbrev pub invariant-loop-octets : goal.invariant-loop-octets
-invariant-loop-octets l = IsReadSoFar l.alphabet l.text l.octets.items l.rest
+abbrev pub invariant-loop-rest : goal.invariant-loop-rest
+invariant-loop-rest l = IsReadSoFar l.alphabet l.text l.octets.items l.rest
 
-abbrev pub decreases-loop-octets : goal.decreases-loop-octets
-decreases-loop-octets l = length l.rest
+abbrev pub decreases-loop-rest : goal.decreases-loop-rest
+decreases-loop-rest l = length l.rest

@@ -8,7 +8,7 @@ invariant-loop-alphabet l = record {
   symbols : AreSymbols l.alphabet l.symbols.items;
   read : symbols_read l.alphabet l.initial.rest.now
       ≡ symbols_then l.symbols.items (symbols_read l.alphabet l.rest.now);
-  few : length l.symbols.items ≤ 256;
+  few : length l.symbols.items ≤ 4096;
   less : length l.rest.now + length l.symbols.items ≤ length l.initial.rest.now;
 }
 
