@@ -95,7 +95,8 @@ module _ (job : Job ReportValue) (stays : EnoughStays job)
 
     -- the report of the result
     made_report : (made : CommandResult) (report : ReportValue) (x : IsResult job limited_octets made)
-        → made.report ≡ report → IsReport job octets read_fails x.reading made.ending (job.returns x.reading made.ending)
+        → made.report ≡ report
+        → IsReport job octets read_fails x.reading made.ending (job.returns x.reading made.ending)
         → IsReport job octets read_fails x.reading made.ending report
     made_report made report x same s =
         subst (IsReport job octets read_fails x.reading made.ending)
@@ -192,8 +193,8 @@ module _ (job : Job ReportValue) (stays : EnoughStays job)
         let after = fails (x.failures ∙ ap next_count quiet ∙ one_failure) in
         let none : left.0 ≡ [] = at_end new.left left.0 left.1 after.1 in
         let last : x.pieces.last ≡ [] =
-        failed_none new.last x.pieces.last (comes_to-result job input_limit given x.reading new (Err ReadFailed) x.comes)
-        x.pieces.gave_last in
+        failed_none new.last x.pieces.last
+        (comes_to-result job input_limit given x.reading new (Err ReadFailed) x.comes) x.pieces.gave_last in
         let given_before : given ≡ before = ap (λ (l : List ℕ). before ++ l) last ∙ append-nil before in
         let is_given : octets ≡ given = left.2 ∙ ap (λ (l : List ℕ). given ++ l) none ∙ append-nil given in
         let few : length octets ≤ input_limit = omega (arith, x.within, ap length is_given, ap length given_before) in

@@ -16,6 +16,9 @@ report_of report (Ok a) = report a
 report_of report (Err fault) = device_report fault
 
 module _ {A : Type 0} (report : A → ReportValue) (job : Job A) where
+  abbrev reported_job : Job ReportValue
+  reported_job = job_with_report report job
+
   abbrev wants_too : (b : List ℕ) → WantMore job b → WantMore (job_with_report report job) b
   wants_too b x = x
 
@@ -36,10 +39,10 @@ module _ {A : Type 0} (report : A → ReportValue) (job : Job A) where
         sent_before = λ failed. absurd (cc (failed));
         comes =
             let k = comes_to-result job (2 ^ 40) (octets_given x.pieces) x.reading new.source (Ok a) x.comes in
-            comes_to (job_with_report report job) (2 ^ 40) (octets_given x.pieces) x.reading new.source (Ok (report a)) (
+            comes_to reported_job (2 ^ 40) (octets_given x.pieces) x.reading new.source (Ok (report a)) (
               k.0,
               ap report k.1,
-              ends_alike (job_with_report report job) (take (2 ^ 40) (octets_given x.pieces)) x.reading job refl refl k.0 k.2,
+              ends_alike reported_job (take (2 ^ 40) (octets_given x.pieces)) x.reading job refl refl k.0 k.2,
               k.3,
             );
       };
@@ -56,7 +59,9 @@ module _ {A : Type 0} (report : A → ReportValue) (job : Job A) where
         is_reading = x.is_reading;
         sends = x.sends;
         sent_before = λ failed. absurd (cc (failed));
-        comes = read_failed (comes_to-result job (2 ^ 40) (octets_given x.pieces) x.reading new.source (Err ReadFailed) x.comes);
+        comes =
+            read_failed
+            (comes_to-result job (2 ^ 40) (octets_given x.pieces) x.reading new.source (Err ReadFailed) x.comes);
       };
       report_is = e;
     }
@@ -87,7 +92,8 @@ module _ {A : Type 0} (report : A → ReportValue) (job : Job A) where
         sends = x.sends;
         sent_before = λ failed. absurd (cc (failed));
         comes =
-            let k = comes_to-result job (2 ^ 40) (octets_given x.pieces) x.reading new.source (Err InputTooLong) x.comes in
+            let k =
+            comes_to-result job (2 ^ 40) (octets_given x.pieces) x.reading new.source (Err InputTooLong) x.comes in
             too_long k.0 (wants_too _ k.1);
       };
       report_is = e;

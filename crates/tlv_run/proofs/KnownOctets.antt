@@ -90,7 +90,8 @@ pub run_results : RunsAreResults
 unfolding GivesReport
 run_results command names octets before after report input nowhere x =
     let job = command_job command names in
-    let y = run-gives_report job (stays_for command names) octets input.are_octets input.limit before after input.left_is
+    let y =
+    run-gives_report job (stays_for command names) octets input.are_octets input.limit before after input.left_is
     nowhere.can_count_failed_read nowhere.no_failed_read nowhere.can_count_failed_write nowhere.no_failed_write x.result
     x.runs in
     (y.0, y.1, y.2, x.report_is ∙ y.3)

@@ -40,7 +40,7 @@ OutputsGoOn =
 abbrev pub SecondIndefIsTheFirst : Type 0
 SecondIndefIsTheFirst =
     (padding : Bool) (file : Option (List ℕ)) (names : NamesValue) (b : List ℕ) (made again : CommandResult)
-    → IsResult (command_job (Indef padding file) names) b made → IsResult (command_job (Indef padding file) names) made.output again
+    → let job = command_job (Indef padding file) names in IsResult job b made → IsResult job made.output again
     → (again.output ≡ made.output) × (made.ending ≡ Done → again ≡ made)
 
 -- the source has these octets left, at most 2^40

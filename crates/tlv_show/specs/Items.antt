@@ -11,18 +11,18 @@ use Rattle.tlv_show.specs.ShownFindings.{contents_findings, end_findings, header
 use Rattle.tlv_show.specs.Site.{Site, is_padding, site_after_holder, site_after_padding, site_after_primitive}
 use Rattle.tlv_show.specs.Site.{site_of_children}
 
--- an item, with its level: the number of elements that hold what it is about
+-- an item, with its depth: the number of elements that hold what it is about
 pub data Item : Type 0 where
   -- a finding in the element that begins at this offset
-  FindingAt : (level offset : ℕ) (finding : Finding) → Item
+  FindingAt : (depth offset : ℕ) (finding : Finding) → Item
   -- an element that holds others begins, and ends: with the offset of its end-of-contents octets, if it has them
-  OpeningLine : (level : ℕ) (header : HeaderValue) → Item
-  ClosingLine : (level : ℕ) (offset : Option ℕ) → Item
+  OpeningLine : (depth : ℕ) (header : HeaderValue) → Item
+  ClosingLine : (depth : ℕ) (offset : Option ℕ) → Item
   -- a primitive, and one that lacks contents octets
-  PrimitiveLines : (level : ℕ) (header : HeaderValue) (contents : List ℕ) → Item
-  OpenPrimitiveLines : (level : ℕ) (header : HeaderValue) (contents : List ℕ) → Item
+  PrimitiveLines : (depth : ℕ) (header : HeaderValue) (contents : List ℕ) → Item
+  OpenPrimitiveLines : (depth : ℕ) (header : HeaderValue) (contents : List ℕ) → Item
   -- padding begins at this offset
-  PaddingLine : (level offset : ℕ) → Item
+  PaddingLine : (depth offset : ℕ) → Item
 
 -- the headers of whole elements one after another
 abbrev pub headers : Forest → List HeaderValue
@@ -31,39 +31,39 @@ headers (Primitive h c rest) = h ∷ headers rest
 headers (Holder h children rest) = h ∷ headers rest
 headers _ = []
 
--- findings in an element at this level and offset, in order
+-- findings in an element at this depth and offset, in order
 abbrev pub finding_items : ℕ → ℕ → List Finding → List Item
-finding_items level offset findings = map (FindingAt level offset) findings
+finding_items depth offset findings = map (FindingAt depth offset) findings
 
 module _ (rules : Rules) where
   -- the findings of the header of an element, on the contents of a primitive, and of the end of an element that held
   -- others
   abbrev pub header_items : Site → HeaderValue → List Item
-  header_items s h = finding_items s.level h.offset (header_findings rules s h)
+  header_items s h = finding_items s.depth h.offset (header_findings rules s h)
 
   abbrev pub contents_items : Site → HeaderValue → List ℕ → List Item
-  contents_items s h c = finding_items s.level h.offset (contents_findings rules h c)
+  contents_items s h c = finding_items s.depth h.offset (contents_findings rules h c)
 
   abbrev pub end_items : Site → HeaderValue → Forest → List Item
-  end_items s h children = finding_items s.level h.offset (end_findings rules h (headers children))
+  end_items s h children = finding_items s.depth h.offset (end_findings rules h (headers children))
 
   -- the items of elements, the first of which is at this site. The findings of a header come before the element's
   -- first line, all other findings after its last line
   abbrev pub items : Site → Forest → List Item
   -- a run of padding has one line
   items s (PaddingOctet rest) =
-      (if is_padding s.previous then [] else PaddingLine s.level s.offset ∷ [])
+      (if is_padding s.previous then [] else PaddingLine s.depth s.offset ∷ [])
       ++ items (site_after_padding s) rest
   items s (Primitive h c rest) =
       header_items s h
-      ++ (PrimitiveLines s.level h c ∷ contents_items s h c ++ items (site_after_primitive s h c) rest)
+      ++ (PrimitiveLines s.depth h c ∷ contents_items s h c ++ items (site_after_primitive s h c) rest)
   items s (Holder h children rest) =
       header_items s h
-      ++ (OpeningLine s.level h ∷ items (site_of_children s h) children
-      ++ (ClosingLine s.level (end_octets_offset h children)
+      ++ (OpeningLine s.depth h ∷ items (site_of_children s h) children
+      ++ (ClosingLine s.depth (end_octets_offset h children)
       ∷ end_items s h children ++ items (site_after_holder s h children) rest))
-  items s (OpenPrimitive h c) = header_items s h ++ OpenPrimitiveLines s.level h c ∷ []
+  items s (OpenPrimitive h c) = header_items s h ++ OpenPrimitiveLines s.depth h c ∷ []
   items s (OpenHolder h children) =
-      header_items s h ++ OpeningLine s.level h ∷ items (site_of_children s h) children
-  items s (OpenBitString h) = header_items s h ++ OpeningLine s.level h ∷ []
+      header_items s h ++ OpeningLine s.depth h ∷ items (site_of_children s h) children
+  items s (OpenBitString h) = header_items s h ++ OpeningLine s.depth h ∷ []
   items s _ = []

@@ -18,15 +18,15 @@ pub data Previous : Type 0 where
 pub record Site : Type 0 where
   -- the offset of its first octet
   pub offset : ℕ
-  -- how far its line is indented: the number of elements that hold it
-  pub level : ℕ
+  -- the number of elements that hold it: so far is its line indented
+  pub depth : ℕ
   -- the innermost of these elements
   pub holder : Option HeaderValue
   pub previous : Previous
 
 -- the start of the input
 abbrev pub top_site : Site
-top_site = record { offset = 0; level = 0; holder = None; previous = Start }
+top_site = record { offset = 0; depth = 0; holder = None; previous = Start }
 
 -- the site this number of octets further on, with `previous` before it
 abbrev pub later_site : Site → ℕ → Previous → Site
@@ -36,7 +36,7 @@ later_site s count previous = record s { offset = s.offset + count; previous = p
 abbrev pub site_of_children : Site → HeaderValue → Site
 site_of_children s h = record {
   offset = s.offset + length (opening h);
-  level = s.level + 1;
+  depth = s.depth + 1;
   holder = Some h;
   previous = Start;
 }

@@ -46,7 +46,7 @@ module _ (with_text : Bool) (style : Layout) (names : NamesValue) (rules : Rules
   item_texts l = flat_map item l
 
   abbrev pub site : Place → Option HeaderValue → Previous → Site
-  site p holder previous = record { offset = p.offset; level = p.depth; holder = holder; previous = previous }
+  site p holder previous = record { offset = p.offset; depth = p.depth; holder = holder; previous = previous }
 
   pub lines_of : (level offset : ℕ) (fs : List Finding)
       → styled_lines (Dump style.pure) level offset fs ≡ item_texts (finding_items level offset fs)

@@ -71,39 +71,39 @@ module _ (rules : Rules) where
 
   basic_items-same : (s : Site) (f : Forest) → only (items Ber s f) ≡ basic (items rules s f)
   basic_items-same s NoMore = refl
-  basic_items-same s (PaddingOctet rest) = same-pads (is_padding s.previous) s.level s.offset _ _
+  basic_items-same s (PaddingOctet rest) = same-pads (is_padding s.previous) s.depth s.offset _ _
       (basic_items-same (site_after_padding s) rest)
   basic_items-same s (Primitive h c rest) =
-      same-found s.level h.offset (findings_by (header_conditions s h))
-      (PrimitiveLines s.level h c
+      same-found s.depth h.offset (findings_by (header_conditions s h))
+      (PrimitiveLines s.depth h c
       ∷ (contents_items Ber s h c ++ items Ber (site_after_primitive s h c) rest))
-      (PrimitiveLines s.level h c
+      (PrimitiveLines s.depth h c
       ∷ (contents_items rules s h c ++ items rules (site_after_primitive s h c) rest))
-      (same-found s.level h.offset (all_contents_findings h c) _ _ (basic_items-same (site_after_primitive s h c) rest))
+      (same-found s.depth h.offset (all_contents_findings h c) _ _ (basic_items-same (site_after_primitive s h c) rest))
   basic_items-same s (Holder h inside rest) =
       let last : Rules
       → List Item =
-      λ r. ClosingLine s.level (end_octets_offset h inside)
+      λ r. ClosingLine s.depth (end_octets_offset h inside)
       ∷ (end_items r s h inside ++ items r (site_after_holder s h inside) rest) in
-      same-found s.level h.offset (findings_by (header_conditions s h))
-      (OpeningLine s.level h ∷ (items Ber (site_of_children s h) inside ++ last Ber))
-      (OpeningLine s.level h ∷ (items rules (site_of_children s h) inside ++ last rules))
+      same-found s.depth h.offset (findings_by (header_conditions s h))
+      (OpeningLine s.depth h ∷ (items Ber (site_of_children s h) inside ++ last Ber))
+      (OpeningLine s.depth h ∷ (items rules (site_of_children s h) inside ++ last rules))
       (filter-append _ (items Ber (site_of_children s h) inside) (last Ber)
       ∙ ap₂ (λ (a b : List Item). a ++ b) (basic_items-same (site_of_children s h) inside)
-      (same-found s.level h.offset (findings_by (end_conditions h (headers inside)))
+      (same-found s.depth h.offset (findings_by (end_conditions h (headers inside)))
       _ _ (basic_items-same (site_after_holder s h inside) rest))
       ∙ sym (filter-append is_basic (items rules (site_of_children s h) inside) (last rules)))
   basic_items-same s (OpenPrimitive h c) =
-      same-found s.level h.offset (findings_by (header_conditions s h))
-      (OpenPrimitiveLines s.level h c ∷ []) (OpenPrimitiveLines s.level h c ∷ []) refl
+      same-found s.depth h.offset (findings_by (header_conditions s h))
+      (OpenPrimitiveLines s.depth h c ∷ []) (OpenPrimitiveLines s.depth h c ∷ []) refl
   basic_items-same s (OpenHolder h inside) =
-      same-found s.level h.offset (findings_by (header_conditions s h))
-      (OpeningLine s.level h ∷ items Ber (site_of_children s h) inside)
-      (OpeningLine s.level h ∷ items rules (site_of_children s h) inside)
+      same-found s.depth h.offset (findings_by (header_conditions s h))
+      (OpeningLine s.depth h ∷ items Ber (site_of_children s h) inside)
+      (OpeningLine s.depth h ∷ items rules (site_of_children s h) inside)
       (basic_items-same (site_of_children s h) inside)
   basic_items-same s (OpenBitString h) =
-      same-found s.level h.offset (findings_by (header_conditions s h)) (OpeningLine s.level h ∷ [])
-      (OpeningLine s.level h ∷ []) refl
+      same-found s.depth h.offset (findings_by (header_conditions s h)) (OpeningLine s.depth h ∷ [])
+      (OpeningLine s.depth h ∷ []) refl
   basic_items-same s (OpenHeader octets) = refl
   basic_items-same s OpenEndOctets = refl
 

@@ -186,7 +186,7 @@ module _ (rules : Rules) where
   findings-within p s (PaddingOctet rest) v =
       omega (
         arith,
-        few-pads (is_padding s.previous) s.level s.offset (items rules (site_after_padding s) rest),
+        few-pads (is_padding s.previous) s.depth s.offset (items rules (site_after_padding s) rest),
         findings-within (place_after p 1) (site_after_padding s) rest v.1,
       )
   findings-within p s (Primitive h c rest) v =
@@ -194,10 +194,10 @@ module _ (rules : Rules) where
       let inner : List Item =
       contents_items rules s h c ++ items rules (site_after_primitive s h c) rest in
       let b =
-      few-at s.level h.offset (contents_findings rules h c) (items rules (site_after_primitive s h c) rest) 15
+      few-at s.depth h.offset (contents_findings rules h c) (items rules (site_after_primitive s h c) rest) 15
       _ (few-contents h c) r in
       let a =
-      few-at s.level h.offset (header_findings rules s h) (PrimitiveLines s.level h c ∷ inner)
+      few-at s.depth h.offset (header_findings rules s h) (PrimitiveLines s.depth h c ∷ inner)
       14 _ (few-header s h) b in
       omega (arith, a, header-two h v.0.0.header.valid, length-primitive h c rest)
   findings-within p s (Holder h inside rest) v =
@@ -206,16 +206,16 @@ module _ (rules : Rules) where
       let last : List Item =
       end_items rules s h inside ++ items rules (site_after_holder s h inside) rest in
       let b =
-      few-at s.level h.offset (end_findings rules h (headers inside))
+      few-at s.depth h.offset (end_findings rules h (headers inside))
       (items rules (site_after_holder s h inside) rest) 2 _ (few-end h inside) r in
       let m =
       few-both (items rules (site_of_children s h) inside)
-      (ClosingLine s.level (end_octets_offset h inside) ∷ last) _ _ i b in
+      (ClosingLine s.depth (end_octets_offset h inside) ∷ last) _ _ i b in
       let a =
-      few-at s.level h.offset (header_findings rules s h)
-      (OpeningLine s.level h
+      few-at s.depth h.offset (header_findings rules s h)
+      (OpeningLine s.depth h
       ∷ (items rules (site_of_children s h) inside
-      ++ ClosingLine s.level (end_octets_offset h inside) ∷ last))
+      ++ ClosingLine s.depth (end_octets_offset h inside) ∷ last))
       14 _ (few-header s h) m in
       omega (arith, a, header-two h v.0.0.header.valid, length-holder h inside rest, length-opening h)
     where
@@ -225,19 +225,19 @@ module _ (rules : Rules) where
           omega (arith, e, f, ap length (filter-append is_finding xs ys), length-append (only xs) (only ys))
   findings-within p s (OpenPrimitive h c) v =
       let a =
-      few-at s.level h.offset (header_findings rules s h) (OpenPrimitiveLines s.level h c ∷ [])
+      few-at s.depth h.offset (header_findings rules s h) (OpenPrimitiveLines s.depth h c ∷ [])
       14 0 (few-header s h) (omega arith) in
       omega (arith, a, header-two h v.0.header.valid, length-append (octets_of h) c)
   findings-within p s (OpenHolder h inside) v =
       let i = findings-within (place_of_children p h) (site_of_children s h) inside v.1 in
       let a =
-      few-at s.level h.offset (header_findings rules s h)
-      (OpeningLine s.level h ∷ items rules (site_of_children s h) inside) 14 _ (few-header s h) i in
+      few-at s.depth h.offset (header_findings rules s h)
+      (OpeningLine s.depth h ∷ items rules (site_of_children s h) inside) 14 _ (few-header s h) i in
       omega
       (arith, a, header-two h v.0.0.header.valid, length-append (opening h) (spelling inside), length-opening h)
   findings-within p s (OpenBitString h) v =
       let a =
-      few-at s.level h.offset (header_findings rules s h) (OpeningLine s.level h ∷ []) 14 0
+      few-at s.depth h.offset (header_findings rules s h) (OpeningLine s.depth h ∷ []) 14 0
       (few-header s h) (omega arith) in
       omega (arith, a, header-two h v.0.header.valid)
   findings-within p s (OpenHeader octets) v = omega arith

@@ -60,24 +60,24 @@ module _ (rules : Rules) where
 
   -- findings with a header, and then other items
   header-items : (s : Site) (w : HolderFrame) (outer : List HolderFrame) (h : HeaderValue) (found rest : List Item)
-      → Knows w s → length outer ≡ s.level → found ≡ only rest
+      → Knows w s → length outer ≡ s.depth → found ≡ only rest
       → finding_items (length outer) h.offset (header_findings_in rules (surroundings_in w) h) ++ found
       ≡ only (header_items rules s h ++ rest)
   header-items s w outer h found rest k l e =
       ap₂ (λ (n : ℕ) (fs : List Finding). finding_items n h.offset fs ++ found) l (header-same rules w s h k)
       ∙ ap (λ (t : List Item). header_items rules s h ++ t) e
-      ∙ sym (only-finding_items s.level h.offset (header_findings rules s h) rest)
+      ∙ sym (only-finding_items s.depth h.offset (header_findings rules s h) rest)
 
   -- other findings, and then other items
   more-items : (s : Site) (outer : List HolderFrame) (offset : ℕ) (fs : List Finding) (found rest : List Item)
-      → length outer ≡ s.level → found ≡ only rest
-      → finding_items (length outer) offset fs ++ found ≡ only (finding_items s.level offset fs ++ rest)
+      → length outer ≡ s.depth → found ≡ only rest
+      → finding_items (length outer) offset fs ++ found ≡ only (finding_items s.depth offset fs ++ rest)
   more-items s outer offset fs found rest l e =
       ap₂ (λ (n : ℕ) (t : List Item). finding_items n offset fs ++ t) l e
-      ∙ sym (only-finding_items s.level offset fs rest)
+      ∙ sym (only-finding_items s.depth offset fs rest)
 
   pub finds_forest : (p : Place) (s : Site) (w : HolderFrame) (outer : List HolderFrame) (f : Forest) → ObeysGrammar p f
-      → Knows w s → length outer ≡ s.level → s.level ≡ p.depth → (p.padding ≡ true → s.holder ≡ None)
+      → Knows w s → length outer ≡ s.depth → s.depth ≡ p.depth → (p.padding ≡ true → s.holder ≡ None)
       → IsFoundAs s w outer f
   finds_forest p s w outer NoMore v k l d free = record { put = λ n. refl; after = λ n e. (n, refl) }
   finds_forest p s w outer (PaddingOctet rest) v k l d free =
@@ -87,7 +87,7 @@ module _ (rules : Rules) where
       record {
         put =
             λ n. r.put n
-            ∙ sym (only-pads (is_padding s.previous) s.level s.offset (items rules (site_after_padding s) rest));
+            ∙ sym (only-pads (is_padding s.previous) s.depth s.offset (items rules (site_after_padding s) rest));
         after = r.after;
       }
   finds_forest p s w outer (Primitive h c rest) v k l d free =
@@ -106,7 +106,7 @@ module _ (rules : Rules) where
         put = λ n.
             ap (λ (t : FinderRun). t.put) (run-primitive rules w outer n h c (events rest) size)
             ∙ header-items s w outer h
-            _ (PrimitiveLines s.level h c
+            _ (PrimitiveLines s.depth h c
             ∷ (contents_items rules s h c ++ items rules (site_after_primitive s h c) rest))
             k l
             (more-items s outer h.offset (contents_findings rules h c)
@@ -145,13 +145,13 @@ module _ (rules : Rules) where
             (run-closing rules (place_of_children p h) w outer t.0 h inside (events rest) v.1 v.0.1)),
       ) in
       let last : List Item =
-      ClosingLine s.level (end_octets_offset h inside)
+      ClosingLine s.depth (end_octets_offset h inside)
       ∷ (end_items rules s h inside ++ items rules (site_after_holder s h inside) rest) in
       record {
         put = λ n.
             let a = all n in
             ap (λ (t : FinderRun). t.put) a.1
-            ∙ header-items s w outer h _ (OpeningLine s.level h ∷ (items rules (site_of_children s h) inside ++ last))
+            ∙ header-items s w outer h _ (OpeningLine s.depth h ∷ (items rules (site_of_children s h) inside ++ last))
             k l
             (ap (λ (t : List Item). only (items rules (site_of_children s h) inside) ++ t)
             (more-items s outer h.offset (end_findings rules h (headers inside))
@@ -163,7 +163,7 @@ module _ (rules : Rules) where
             (t.0, ap (λ (x : FinderRun). x.state) a.1 ∙ t.1);
       }
   finds_forest p s w outer (OpenPrimitive h c) v k l d free = record {
-    put = λ n. header-items s w outer h [] (OpenPrimitiveLines s.level h c ∷ []) k l refl;
+    put = λ n. header-items s w outer h [] (OpenPrimitiveLines s.depth h c ∷ []) k l refl;
     after = λ n e. absurd (cc (e));
   }
   finds_forest p s w outer (OpenHolder h inside) v k l d free =
@@ -174,12 +174,12 @@ module _ (rules : Rules) where
       record {
         put = λ n.
             ap (λ (t : FinderRun). t.put) (run-opening rules w outer n h (events inside) few)
-            ∙ header-items s w outer h _ (OpeningLine s.level h ∷ items rules (site_of_children s h) inside) k l
+            ∙ header-items s w outer h _ (OpeningLine s.depth h ∷ items rules (site_of_children s h) inside) k l
             (i.put (later_header rules w h n));
         after = λ n e. absurd (cc (e));
       }
   finds_forest p s w outer (OpenBitString h) v k l d free = record {
-    put = λ n. header-items s w outer h [] (OpeningLine s.level h ∷ []) k l refl;
+    put = λ n. header-items s w outer h [] (OpeningLine s.depth h ∷ []) k l refl;
     after = λ n e. absurd (cc (e));
   }
   finds_forest p s w outer (OpenHeader octets) v k l d free = record { put = λ n. refl; after = λ n e. absurd (cc (e)) }

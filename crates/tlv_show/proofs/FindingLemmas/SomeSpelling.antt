@@ -100,20 +100,20 @@ module _ (rules : Rules) (strict : rules ≢ Ber) where
   header-none : (s : Site) (h : HeaderValue) → IsRegular (form_by rules) h
       → list_any is_item_on_spelling (header_items rules s h) ≡ false
   header-none s h r =
-      items-found s.level h.offset (header_findings rules s h)
+      items-found s.depth h.offset (header_findings rules s h)
       ∙ found-with_header is_on_spelling rules s h ∙ header-absent rules s h strict r
 
   contents-none : (s : Site) (h : HeaderValue) (c : List ℕ)
       → list_any is_item_on_spelling (contents_items rules s h c) ≡ false
   contents-none s h c =
-      items-found s.level h.offset (contents_findings rules h c)
+      items-found s.depth h.offset (contents_findings rules h c)
       ∙ all-found is_on_spelling rules (contents_conditions h c)
       ∙ contents-absent rules h c
 
   end-none : (s : Site) (h : HeaderValue) (inside : Forest)
       → list_any is_item_on_spelling (end_items rules s h inside) ≡ false
   end-none s h inside =
-      items-found s.level h.offset (end_findings rules h (headers inside))
+      items-found s.depth h.offset (end_findings rules h (headers inside))
       ∙ all-found is_on_spelling rules (end_conditions h (headers inside))
       ∙ end-absent rules h (headers inside)
 
@@ -121,13 +121,13 @@ module _ (rules : Rules) (strict : rules ≢ Ber) where
       → list_any is_item_on_spelling (items rules s f) ≡ false
   none-found p s NoMore u r = refl
   none-found p s (PaddingOctet rest) u r =
-      both-none (if is_padding s.previous then [] else PaddingLine s.level s.offset ∷ [])
+      both-none (if is_padding s.previous then [] else PaddingLine s.depth s.offset ∷ [])
       (items rules (site_after_padding s) rest)
-      (padding-none (is_padding s.previous) s.level s.offset)
+      (padding-none (is_padding s.previous) s.depth s.offset)
       (none-found (place_after p 1) (site_after_padding s) rest u.1 r)
   none-found p s (Primitive h c rest) u r =
       both-none (header_items rules s h)
-      (PrimitiveLines s.level h c ∷ (contents_items rules s h c ++ items rules (site_after_primitive s h c) rest))
+      (PrimitiveLines s.depth h c ∷ (contents_items rules s h c ++ items rules (site_after_primitive s h c) rest))
       (header-none s h r.0)
       (both-none (contents_items rules s h c) (items rules (site_after_primitive s h c) rest) (contents-none s h c)
       (none-found (place_after p (length (octets_of h) + length c)) (site_after_primitive s h c) rest u.2 r.1))
@@ -135,10 +135,10 @@ module _ (rules : Rules) (strict : rules ≢ Ber) where
       let last : List Item = end_items rules s h inside ++ items rules (site_after_holder s h inside) rest in
       let held : List Item = items rules (site_of_children s h) inside in
       both-none (header_items rules s h)
-      (OpeningLine s.level h
-      ∷ (held ++ ClosingLine s.level (end_octets_offset h inside) ∷ last))
+      (OpeningLine s.depth h
+      ∷ (held ++ ClosingLine s.depth (end_octets_offset h inside) ∷ last))
       (header-none s h r.0)
-      (both-none held (ClosingLine s.level (end_octets_offset h inside) ∷ last)
+      (both-none held (ClosingLine s.depth (end_octets_offset h inside) ∷ last)
       (none-found (place_of_children p h) (site_of_children s h) inside u.3 r.1)
       (both-none (end_items rules s h inside) (items rules (site_after_holder s h inside) rest) (end-none s h inside)
       (none-found (place_after p (extent h inside)) (site_after_holder s h inside) rest u.4 r.2)))

@@ -47,7 +47,7 @@ none-by_conditions : (rules : Rules) (s : Site) (h : HeaderValue)
     → any_of is_on_spelling rules (header_conditions s h) ≡ false
 none-by_conditions rules s h e =
     sym (found-with_header is_on_spelling rules s h)
-    ∙ sym (items-found s.level h.offset (header_findings rules s h)) ∙ e
+    ∙ sym (items-found s.depth h.offset (header_findings rules s h)) ∙ e
 
 -- of four tests none holds
 none-of_four : (a b c d : Bool) → (a || (b || (c || (d || false)))) ≡ false
@@ -134,12 +134,12 @@ module _ (rules : Rules) (strict : rules ≢ Ber) where
   all-regular p s NoMore u e = tt
   all-regular p s (PaddingOctet rest) u e =
       all-regular (place_after p 1) (site_after_padding s) rest u.1
-      (none-in (if is_padding s.previous then [] else PaddingLine s.level s.offset ∷ [])
+      (none-in (if is_padding s.previous then [] else PaddingLine s.depth s.offset ∷ [])
       (items rules (site_after_padding s) rest) e).1
   all-regular p s (Primitive h c rest) u e =
       let header =
       none-in (header_items rules s h)
-      (PrimitiveLines s.level h c ∷ (contents_items rules s h c ++ items rules (site_after_primitive s h c) rest)) e in
+      (PrimitiveLines s.depth h c ∷ (contents_items rules s h c ++ items rules (site_after_primitive s h c) rest)) e in
       let others = none-in (contents_items rules s h c) (items rules (site_after_primitive s h c) rest) header.1 in (
         no_findings-regular rules s h strict u.0.0.valid header.0,
         all-regular (place_after p (length (octets_of h) + length c)) (site_after_primitive s h c) rest u.2 others.1,
@@ -148,11 +148,11 @@ module _ (rules : Rules) (strict : rules ≢ Ber) where
       let last : List Item = end_items rules s h inside ++ items rules (site_after_holder s h inside) rest in
       let held_and_last : List Item =
       items rules (site_of_children s h) inside
-      ++ ClosingLine s.level (end_octets_offset h inside) ∷ last in
-      let header = none-in (header_items rules s h) (OpeningLine s.level h ∷ held_and_last) e in
+      ++ ClosingLine s.depth (end_octets_offset h inside) ∷ last in
+      let header = none-in (header_items rules s h) (OpeningLine s.depth h ∷ held_and_last) e in
       let held =
       none-in (items rules (site_of_children s h) inside)
-      (ClosingLine s.level (end_octets_offset h inside) ∷ last) header.1 in
+      (ClosingLine s.depth (end_octets_offset h inside) ∷ last) header.1 in
       let others = none-in (end_items rules s h inside) (items rules (site_after_holder s h inside) rest) held.1 in (
         no_findings-regular rules s h strict u.0.0.valid header.0,
         all-regular (place_of_children p h) (site_of_children s h) inside u.3 held.0,

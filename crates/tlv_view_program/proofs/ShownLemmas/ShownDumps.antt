@@ -185,44 +185,44 @@ module _ (rules : Rules) where
       → All IsOfOctets (header_items rules s h ++ more)
   header-of s h more all =
       All-append IsOfOctets (header_items rules s h) more
-      (findings-of s.level h.offset (header_findings rules s h)) all
+      (findings-of s.depth h.offset (header_findings rules s h)) all
 
   items-of : (s : Site) (f : Forest) → AreOctets (spelling f) → All IsOfOctets (items rules s f)
   items-of s (PaddingOctet rest) o =
-      All-append IsOfOctets (if is_padding s.previous then [] else PaddingLine s.level s.offset ∷ []) _
-      (padding-of (is_padding s.previous) s.level s.offset)
+      All-append IsOfOctets (if is_padding s.previous then [] else PaddingLine s.depth s.offset ∷ []) _
+      (padding-of (is_padding s.previous) s.depth s.offset)
       (items-of (site_after_padding s) rest (right-octets (0 ∷ []) (spelling rest) o))
   items-of s (Primitive h c rest) o =
       let after : AreOctets (c ++ spelling rest) = right-octets (octets_of h) (c ++ spelling rest) o in
       header-of s h _
-      (All-cons IsOfOctets (PrimitiveLines s.level h c) _ (left-octets c (spelling rest) after)
+      (All-cons IsOfOctets (PrimitiveLines s.depth h c) _ (left-octets c (spelling rest) after)
       (All-append IsOfOctets (contents_items rules s h c) _
-      (findings-of s.level h.offset (contents_findings rules h c))
+      (findings-of s.depth h.offset (contents_findings rules h c))
       (items-of (site_after_primitive s h c) rest (right-octets c (spelling rest) after))))
   items-of s (Holder h children rest) o =
       let after : AreOctets (spelling children ++ (end_octets h.size ++ spelling rest)) =
       right-octets (opening h) (spelling children ++ (end_octets h.size ++ spelling rest)) o in
       header-of s h _
-      (All-cons IsOfOctets (OpeningLine s.level h) _ tt
+      (All-cons IsOfOctets (OpeningLine s.depth h) _ tt
       (All-append IsOfOctets (items rules (site_of_children s h) children) _
       (items-of (site_of_children s h) children
       (left-octets (spelling children) (end_octets h.size ++ spelling rest) after))
       (All-cons IsOfOctets
-      (ClosingLine s.level (end_octets_offset h children)) _ tt
+      (ClosingLine s.depth (end_octets_offset h children)) _ tt
       (All-append IsOfOctets (end_items rules s h children) _
-      (findings-of s.level h.offset (end_findings rules h (headers children)))
+      (findings-of s.depth h.offset (end_findings rules h (headers children)))
       (items-of (site_after_holder s h children) rest
       (right-octets (end_octets h.size) (spelling rest)
       (right-octets (spelling children) (end_octets h.size ++ spelling rest) after)))))))
   items-of s (OpenPrimitive h c) o =
       header-of s h _
-      (All-cons IsOfOctets (OpenPrimitiveLines s.level h c) [] (right-octets (octets_of h) c o) none-of)
+      (All-cons IsOfOctets (OpenPrimitiveLines s.depth h c) [] (right-octets (octets_of h) c o) none-of)
   items-of s (OpenHolder h children) o =
       header-of s h _
-      (All-cons IsOfOctets (OpeningLine s.level h) _ tt
+      (All-cons IsOfOctets (OpeningLine s.depth h) _ tt
       (items-of (site_of_children s h) children (right-octets (opening h) (spelling children) o)))
   items-of s (OpenBitString h) o =
-      header-of s h _ (All-cons IsOfOctets (OpeningLine s.level h) [] tt none-of)
+      header-of s h _ (All-cons IsOfOctets (OpeningLine s.depth h) [] tt none-of)
   items-of s NoMore o = none-of
   items-of s (OpenHeader octets) o = none-of
   items-of s OpenEndOctets o = none-of

@@ -17,7 +17,8 @@ use Rattle.tlv_walk.specs.Events.{EventValue, events}
 use Rattle.tlv_walk.specs.Follow.{Effect, effect_of, go_of, had_enough}
 use Rattle.tlv_walk.specs.Forest.{Forest}
 use Rattle.tlv_walk.specs.Job.{Job, Runs, WantMore, device_states, read_failed, too_long, write_failed}
-use Rattle.tlv_walk.proofs.FollowerLemmas.Enough.{ComesToResult, Settled, comes_to, comes_to-result, ends_alike, ends_done}
+use Rattle.tlv_walk.proofs.FollowerLemmas.Enough.{ComesToResult, Settled, comes_to, comes_to-result, ends_alike}
+use Rattle.tlv_walk.proofs.FollowerLemmas.Enough.{ends_done}
 use Rattle.tlv_io.specs.Out.{Sends}
 use Rattle.tlv_io.proofs.Sends.{sends_as}
 use Rattle.tlv_walk.specs.Reading.{IsReading}
@@ -120,8 +121,8 @@ module _ {S A : Type 0} (next : S → EventValue → Effect S) (job : Job A) (s 
   runs_err InputTooLong x =
       let w = x.runs in
       let k =
-      comes_to-result (drive_job next job.framing s) input_limit (octets_given w.pieces) w.reading new (Err InputTooLong)
-      w.comes in record {
+      comes_to-result (drive_job next job.framing s) input_limit (octets_given w.pieces) w.reading new
+      (Err InputTooLong) w.comes in record {
         pieces = w.pieces;
         failures = w.failures;
         wants_more = wants_as (concat w.pieces.pieces) w.within w.wants_more;
@@ -131,5 +132,6 @@ module _ {S A : Type 0} (next : S → EventValue → Effect S) (job : Job A) (s 
         sends = sent_as (octets_given w.pieces) w.reading (Ok tt) w.is_reading w.sends;
         sent_before = λ failed. absurd (cc (failed));
         comes =
-            too_long k.0 (wants_as (take input_limit (octets_given w.pieces)) (within_limit (octets_given w.pieces)) k.1);
+            too_long k.0
+            (wants_as (take input_limit (octets_given w.pieces)) (within_limit (octets_given w.pieces)) k.1);
       }
