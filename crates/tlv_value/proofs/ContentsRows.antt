@@ -1,11 +1,11 @@
 -- The definitions on short contents.
-use Rattle.std.proofs.Common.{◌≡◌, ℕ, true, false, [], ◌∷◌, refl}
+use Rattle.std.proofs.Common.{◌≡◌, ◌++◌, ℕ, true, false, List, [], ◌∷◌, refl, replicate}
 use Rattle.std.specs.Prelude.{Some, None, codes, pos, negsuc}
 use Rattle.tlv_head.specs.Header.{HeaderValue}
 use Rattle.tlv_head.specs.declared.header.Class.TheVariants.{Universal, Context}
 use Rattle.tlv_head.specs.declared.header.Size.TheVariants.{Definite}
 use Rattle.tlv_value.specs.declared.finding.Finding.TheVariants.{B08, B11, B12, B15, B19, S02, S03, S04}
-use Rattle.tlv_head.specs.declared.kind.Kind.TheVariants.{Octets, Integer}
+use Rattle.tlv_head.specs.declared.kind.Kind.TheVariants.{Integer, Octets, Text, Utf8}
 use Rattle.tlv_value.specs.Arcs.{arcs_of, subidentifiers}
 use Rattle.tlv_value.specs.Checks.{all_contents_findings}
 use Rattle.tlv_head.specs.Kind.{kind_of}
@@ -44,6 +44,19 @@ three-bits = refl
 two-rows : rows_of Octets (1 ∷ 2 ∷ 3 ∷ 4 ∷ 5 ∷ 6 ∷ 7 ∷ 8 ∷ 9 ∷ 10 ∷ 11 ∷ 12 ∷ 13 ∷ 14 ∷ 15 ∷ 16 ∷ 17 ∷ [])
     ≡ (1 ∷ 2 ∷ 3 ∷ 4 ∷ 5 ∷ 6 ∷ 7 ∷ 8 ∷ 9 ∷ 10 ∷ 11 ∷ 12 ∷ 13 ∷ 14 ∷ 15 ∷ 16 ∷ []) ∷ (17 ∷ []) ∷ []
 two-rows = refl
+
+-- 62 octets and a character of three octets, which is kept in one row, and then one octet more
+characters : List ℕ
+characters = replicate 62 97 ++ (0xe2 ∷ 0x82 ∷ 0xac ∷ 98 ∷ [])
+
+kept-together : rows_of Utf8 characters ≡ replicate 62 97 ∷ (0xe2 ∷ 0x82 ∷ 0xac ∷ 98 ∷ []) ∷ []
+unfolding characters
+kept-together = refl
+
+-- as octets they would not be
+cut-apart : rows_of Text characters ≡ (replicate 62 97 ++ (0xe2 ∷ 0x82 ∷ [])) ∷ (0xac ∷ 98 ∷ []) ∷ []
+unfolding characters
+cut-apart = refl
 
 utc : has_form utc_time_form (codes "910506234540+0000") ≡ true
 utc = refl
