@@ -10,6 +10,9 @@ use crate::reading::count_read;
 use crate::spot::Spot;
 use std::alloc::{AllocError, Global};
 
+/// The number of strings for which memory is taken at first: a certificate has no more, and a text may have thousands.
+const FEW: usize = 16;
+
 /// Returns the offsets of the opened strings of an input, in order, in octets from its start. A string is opened if
 /// it holds encodings, and is either no segment or the only segment of a whole string. With `padding`, octets `00`
 /// are allowed at the top. The input may be sound or damaged; in a damaged input, only what is read before the fault
@@ -41,7 +44,7 @@ pub fn strings_of(alloc: Global, octets: &[u8], padding: bool) -> Result<Strings
     ensures broken { IfOk result (λ s. AreBroken padding octets.now s.broken.items) }
 {
     let mut found = Strings {
-        opened: Vec::new(alloc),
+        opened: Vec::with_capacity(alloc, FEW)?,
         broken: Vec::new(alloc),
     };
     let spot = Spot {

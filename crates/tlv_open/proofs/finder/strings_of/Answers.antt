@@ -18,7 +18,7 @@ returns-then-sound-clause-opened c =
     (subst
     (λ (old : FoundStrings). AddsAll (top_spot c.args.padding) 0 false c.args.octets.now old
     (found_of c.add_all_strings.new.found) (length c.args.octets.now))
-    (λ i. record { opened = c.new.ensures.items i; broken = c.new-2.ensures.items i })
+    (λ i. record { opened = c.in_ok-with_capacity.ensures.items i; broken = c.new.ensures.items i })
     c.in_ok-sound.ensures.adds)).0
 
 pub returns-then-sound-clause-broken : goal.returns-then-sound-clause-broken
@@ -32,7 +32,7 @@ returns-then-sound-clause-broken c =
     (subst
     (λ (old : FoundStrings). AddsAll (top_spot c.args.padding) 0 false c.args.octets.now old
     (found_of c.add_all_strings.new.found) (length c.args.octets.now))
-    (λ i. record { opened = c.new.ensures.items i; broken = c.new-2.ensures.items i })
+    (λ i. record { opened = c.in_ok-with_capacity.ensures.items i; broken = c.new.ensures.items i })
     c.in_ok-sound.ensures.adds)).1
 
 pub slice_bounds-read-end : goal.slice_bounds-read-end
