@@ -97,8 +97,8 @@ definite_length Indefinite = None
 abbrev pub AllowsSize : Bool → Size → Type 0
 AllowsSize constructed size = (constructed || is_some (definite_length size)) ≡ true
 
--- 8.1.2, 8.1.3: the identifier and length octets say the other fields. Nothing is said of `offset` and `named`, which are
--- not in the octets (`IsHeaderAt` of tlv_walk)
+-- 8.1.2, 8.1.3: `class`, `constructed` and `number` are those of the identifier octets, and `size` is that of the length
+-- octets. `offset` and `named` are not in the octets: `IsHeaderAt` of tlv_walk says what they are
 pub record IsHeader (h : HeaderValue) : Type 0 where
   pub identifier : IsIdentifier h.class h.constructed h.number h.identifier
   pub lengths : IsLength h.size h.lengths

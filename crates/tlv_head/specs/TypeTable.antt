@@ -13,7 +13,7 @@ use Rattle.tlv_head.specs.declared.type_table.Encodings.TheVariants.{Primitive, 
 pub record TypeRow : Type 0 where
   pub number : ℕ
   pub name : List ℕ
-  -- whether its encodings are primitive, constructed, or either: those of a string, which has segments if constructed.
+  -- whether its encodings are primitive, constructed, or either: a string, which has segments if it is constructed.
   -- `Unjudged`: tlvdump has no finding on this. 8.21, 8.22 and 8.26 say that encodings of these types are primitive
   pub encodings : Encodings
   -- how the contents of a primitive are shown
@@ -23,9 +23,10 @@ abbrev pub row : ℕ → List ℕ → Encodings → Kind → TypeRow
 row number name encodings kind = record { number = number; name = name; encodings = encodings; kind = kind }
 
 -- in the order of the numbers. The clauses are 8.2 to 8.7 for BOOLEAN, INTEGER, ENUMERATED, REAL, BIT STRING and OCTET
--- STRING, 8.8 for NULL, 8.9 to 8.12 for SEQUENCE and SET, 8.17 for EMBEDDED PDV, 8.18 for EXTERNAL, 8.19 and 8.20 for the
--- two kinds of object identifiers, 8.21 and 8.22 for OID-IRI and RELATIVE-OID-IRI, 8.23 for the strings of characters, 8.24
--- for CHARACTER STRING, 8.25 for ObjectDescriptor, UTCTime and GeneralizedTime, and 8.26 for the other times
+-- STRING, 8.8 for NULL, 8.9 to 8.12 for SEQUENCE and SET, 8.17 for EMBEDDED PDV, 8.18 for EXTERNAL, 8.19 and 8.20 for
+-- the two kinds of object identifiers, 8.21 and 8.22 for OID-IRI and RELATIVE-OID-IRI, 8.23 for the strings of
+-- characters, 8.24 for CHARACTER STRING, 8.25 for ObjectDescriptor, UTCTime and GeneralizedTime, and 8.26 for the other
+-- times
 abbrev pub type_table : List TypeRow
 type_table =
     row universal.boolean (codes "BOOLEAN") Primitive Boolean

@@ -10,8 +10,9 @@ use crate::reading::count_read;
 use crate::spot::Spot;
 use std::alloc::{AllocError, Global};
 
-/// The number of strings for which memory is taken at first: a certificate has no more, and a text may have thousands.
-const FEW: usize = 16;
+/// The number of opened strings for which memory is taken at first. Most certificates have no more, and a text may have
+/// thousands of them.
+const FIRST_CAPACITY: usize = 16;
 
 /// Returns the offsets of the opened strings of an input, in order, in octets from its start. A string is opened if
 /// it holds encodings, and is either no segment or the only segment of a whole string. With `padding`, octets `00`
@@ -33,7 +34,8 @@ pub fn opened(alloc: Global, octets: &[u8], padding: bool) -> Result<Vec<u64>, A
 /// like encodings ([`Suspicion`](crate::Suspicion)), is not opened, and breaks when it is read as encodings. The
 /// search continues inside an opened string, but not inside a broken one. With `padding`, octets `00` are allowed at
 /// the top. The input may be sound or damaged; in a damaged input, only what is read before the fault counts. Needs
-/// memory for the strings that it finds, and for the strings that it tries but does not open.
+/// some memory even if there are no such strings; more for the strings that it finds, and for those that it tries but
+/// does not open.
 ///
 /// # Errors
 ///
@@ -44,7 +46,7 @@ pub fn strings_of(alloc: Global, octets: &[u8], padding: bool) -> Result<Strings
     ensures broken { IfOk result (λ s. AreBroken padding octets.now s.broken.items) }
 {
     let mut found = Strings {
-        opened: Vec::with_capacity(alloc, FEW)?,
+        opened: Vec::with_capacity(alloc, FIRST_CAPACITY)?,
         broken: Vec::new(alloc),
     };
     let spot = Spot {

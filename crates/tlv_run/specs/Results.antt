@@ -12,7 +12,7 @@ use Rattle.tlv_run.specs.Report.{ReportValue, cut_report, indef_report, outcome_
 use Rattle.tlv_run.specs.declared.command.Command.{Command}
 use Rattle.tlv_run.specs.declared.command.Command.TheVariants.{Check, Dump, Extract, Indef}
 
--- the same job, which returns the report of what it returned
+-- the same job, but it returns the report of its result
 abbrev pub job_with_report : {A : Type 0} → (A → ReportValue) → Job A → Job ReportValue
 job_with_report report job = record {
   framing = job.framing;

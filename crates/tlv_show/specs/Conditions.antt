@@ -80,8 +80,8 @@ basic_conditions_of_header h =
 -- and of a segment, by the string that holds it and what is right before it
 abbrev pub basic_conditions_of_segment : Site → HeaderValue → List (Bool × Finding)
 basic_conditions_of_segment s h =
-    -- 8.6.4: each segment of a BIT STRING but the last has a multiple of eight bits. Of a constructed segment this is
-    -- not looked at: its own last segment may have unused bits without this finding
+    -- 8.6.4: each segment of a BIT STRING but the last has a multiple of eight bits. A constructed segment right before
+    -- is not looked into
     (in_bit_string s && leaves_unused_bits s.previous, B16)
     -- 8.6.4, 8.7.3: a segment has the tag of that type
     ∷ (in_string s && not (is_a (segment_type (in_bit_string s)) h), B17)
@@ -158,6 +158,6 @@ end_conditions h children =
     (has_segments h && list_all is_primitive children && nat_le (length_as_primitive h children) 1000, C05)
     -- 9.2 says that the last segment may be shorter than 1000 octets, and not whether it may be empty. A string has the
     -- fewest segments if it is not, so an empty one is a finding. A segment of a BIT STRING that has only its octet for
-    -- unused bits is none
+    -- unused bits does not count as empty
     ∷ (has_segments h && ends_empty children, C06)
     ∷ []

@@ -89,12 +89,12 @@ ChecksMakeTexts =
 
 -- a finding of BER
 abbrev pub is_basic : Item → Bool
-is_basic (FindingAt level offset finding) = is_shown Ber finding
-is_basic (OpeningLine level h) = false
-is_basic (ClosingLine level offset) = false
-is_basic (PrimitiveLines level h c) = false
-is_basic (OpenPrimitiveLines level h c) = false
-is_basic (PaddingLine level offset) = false
+is_basic (FindingAt depth offset finding) = is_shown Ber finding
+is_basic (OpeningLine depth h) = false
+is_basic (ClosingLine depth offset) = false
+is_basic (PrimitiveLines depth h c) = false
+is_basic (OpenPrimitiveLines depth h c) = false
+is_basic (PaddingLine depth offset) = false
 
 -- what a check lists under BER is what it lists under other rules, without the findings that these rules add
 abbrev pub BasicFindingsStay : Type 0

@@ -18,7 +18,7 @@ pub data Previous : Type 0 where
 pub record Site : Type 0 where
   -- the offset of its first octet
   pub offset : ℕ
-  -- the number of elements that hold it: so far is its line indented
+  -- the number of elements that hold it. Its line is indented by two spaces for each
   pub depth : ℕ
   -- the innermost of these elements
   pub holder : Option HeaderValue

@@ -7,13 +7,13 @@ use Rattle.std.proofs.lemmas.Bool.{and_parts, cases_Bool, le-ltb, lt-ltb}
 use Rattle.std.proofs.lemmas.List.Elements.{All-cons, All-drop, All-nil}
 use Rattle.std.proofs.lemmas.List.Sums.{list_all-from_AllPass}
 use Rattle.hex.specs.Hex.{is_hex_digit}
-use Rattle.tlv_text.specs.Blocks.{IsHexAlone, IsNotHexAlone, only_block}
+use Rattle.tlv_text.specs.Blocks.{IsHexAlone, HasNoSeparatedBlock, only_block}
 use Rattle.tlv_text.specs.Dump.{begins_digit, dump_limit, dump_read, refused_with}
 use Rattle.tlv_text.specs.DumpLines.{TextLine, after_blanks, dump_lines, into_line, is_dump_blank, kind_from, line_kind}
 use Rattle.tlv_text.specs.DumpLines.{OffsetRead, new_text_line, offset_read, row_of, row_or_other, without_return}
 use Rattle.tlv_text.specs.Pairs.{is_between_pairs}
 use Rattle.tlv_text.specs.Pem.{HasNoBlock, begin_marker, dashes}
-use Rattle.tlv_text.specs.Separated.{IsNotSeparated, IsSeparated, are_separated}
+use Rattle.tlv_text.specs.Separated.{IsSeparated, are_separated}
 use Rattle.tlv_text.specs.declared.block.BlockState.TheVariants.{Whole}
 use Rattle.tlv_text.specs.declared.dump.lines.Radix.TheVariants.{Hexadecimal}
 use Rattle.tlv_text.proofs.BlockLemmas.{hex-of_pairs}
@@ -279,12 +279,9 @@ hex-alone text octets s short =
       fits = le-ltb dump_limit (length octets) short;
     }
 
--- ---- any other text
+-- ---- a block that is too long
 
-pub not-alone : (text : List ℕ) → IsNotSeparated text → IsNotHexAlone text
-not-alone text not = λ are whole. absurd (not are whole)
-
-pub too-long : (text octets : List ℕ) → IsSeparated text octets → dump_limit < length octets → IsNotHexAlone text
+pub too-long : (text octets : List ℕ) → IsSeparated text octets → dump_limit < length octets → HasNoSeparatedBlock text
 too-long text octets s long = λ are whole.
     let same = hex-of_pairs text None (rw s.read refl) refl in
     rw (same, s.read) (lt-ltb dump_limit (length octets) long)

@@ -166,6 +166,6 @@ pub record IsHexAlone (text : List ℕ) (b : BlockValue) : Type 0 where
   pub hex : hex_block text ≡ b
   pub fits : is_too_long b ≡ false
 
--- a text that is not pairs, none of which a digit follows at once, or whose block of hexadecimal is too long
-abbrev pub IsNotHexAlone : List ℕ → Type 0
-IsNotHexAlone text = are_separated text ≡ true → (pairs_read text).rest ≡ [] → is_too_long (hex_block text) ≡ true
+-- the text is not pairs to its end, none of which a digit follows at once, or its block of hexadecimal is too long
+abbrev pub HasNoSeparatedBlock : List ℕ → Type 0
+HasNoSeparatedBlock text = are_separated text ≡ true → (pairs_read text).rest ≡ [] → is_too_long (hex_block text) ≡ true

@@ -18,6 +18,6 @@ pub record IsSeparated (text octets : List ℕ) : Type 0 where
   pub separated : are_separated text ≡ true
   pub read : pairs_read text ≡ record { octets = octets; rest = [] }
 
--- a text that is not: a text that has something else, or whose last pair lacks a digit
+-- any other text: it has something else, a digit follows a pair at once, or the last pair lacks a digit
 abbrev pub IsNotSeparated : List ℕ → Type 0
 IsNotSeparated text = are_separated text ≡ true → (pairs_read text).rest ≡ [] → ⊥

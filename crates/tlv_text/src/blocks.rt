@@ -1,7 +1,7 @@
 //! The blocks of a text in a form.
 ghost use Rattle.std.specs.List.{list_any};
 ghost use Rattle.std.specs.Prelude.{◌≡◌, [], ◌∷◌, IfErr, IfOk, MatchOption, false, map};
-ghost use Rattle.tlv_text.specs.Blocks.{AreBlocks, IsBlocksFault, IsHexAlone, IsNotHexAlone, block_value};
+ghost use Rattle.tlv_text.specs.Blocks.{AreBlocks, IsBlocksFault, IsHexAlone, HasNoSeparatedBlock, block_value};
 ghost use Rattle.tlv_text.specs.Blocks.{is_too_long, or_absent};
 
 mod lines;
@@ -45,7 +45,7 @@ pub fn blocks_of(alloc: Global, form: Form, text: &[u8]) -> Result<Vec<Block>, T
 ///
 /// `AllocError` if memory for the octets is refused.
 pub fn separated_block(alloc: Global, text: &[u8]) -> Result<Option<Block>, AllocError>
-    ensures { IfOk result (λ block. MatchOption block (IsNotHexAlone text.now)
+    ensures { IfOk result (λ block. MatchOption block (HasNoSeparatedBlock text.now)
         (λ b. IsHexAlone text.now (block_value b))) }
 {
     let Some(octets) = separated_octets(alloc, text)? else {

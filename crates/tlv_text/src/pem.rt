@@ -103,7 +103,7 @@ fn are_label_characters(label: &[u8]) -> bool
 fn split_body(after: &[u8]) -> (&[u8], &[u8])
     ensures { EndsBody after.now result.0.now result.1.now }
 {
-    // Base64 has no hyphen, and one is found sooner than five.
+    // The base64 of PEM has no hyphen, and a search for one is faster than a search for five.
     let start = first_hyphen(after);
     match memmem::find(&after[start..], DASHES) {
         Some(length) => after.split_at(start + length),
@@ -111,7 +111,7 @@ fn split_body(after: &[u8]) -> (&[u8], &[u8])
     }
 }
 
-/// The number of characters before the first hyphen.
+/// The number of characters before the first hyphen, or of all characters if there is none.
 fn first_hyphen(text: &[u8]) -> usize
     ensures none { (k : ℕ) → k < result → OccursAt text.now dashes k → ⊥ }
     ensures within { result ≤ length text.now }

@@ -23,12 +23,12 @@ first_arcs v =
     else if nat_lt v 80 then 1 ∷ (v - 40) ∷ []
     else 2 ∷ (v - 80) ∷ []
 
--- 8.19.3: the arcs that the subidentifiers of an object identifier stand for
+-- 8.19.3 to 8.19.5: the arcs that the subidentifiers of an object identifier stand for
 abbrev pub absolute_arcs : List ℕ → List ℕ
 absolute_arcs [] = []
 absolute_arcs (v ∷ vs) = first_arcs v ++ vs
 
--- 8.19.3, 8.20.3: the arcs; for a relative object identifier they are the subidentifiers
+-- 8.20.3, 8.20.4: the arcs; for a relative object identifier they are the subidentifiers
 abbrev pub arcs_of : Bool → List ℕ → List ℕ
 arcs_of relative vs = if relative then vs else absolute_arcs vs
 

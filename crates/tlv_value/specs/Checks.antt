@@ -46,7 +46,7 @@ abbrev pub has_padded_part : List ℕ → Bool
 has_padded_part contents = list_any (begins_with 0x80) (parts_of contents)
 
 abbrev pub is_digit_or_space : ℕ → Bool
-is_digit_or_space x = eqb x 32 || is_ascii_digit x
+is_digit_or_space x = eqb x 0x20 || is_ascii_digit x
 
 -- X.680 41.4
 abbrev pub is_printable_string_octet : ℕ → Bool

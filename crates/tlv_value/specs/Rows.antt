@@ -12,8 +12,8 @@ rows_from kind row (x ∷ octets) =
     then rows_from kind (row ++ x ∷ []) octets
     else row ∷ rows_from kind (x ∷ []) octets
 
--- the rows of octets: the first octet begins the first row. The law `rows_have_one_cut` says the same as a condition on
--- rows (`IsCut` of tlv_io)
+-- the rows of octets: the first octet begins the first row. The laws `rows_are_a_cut` and `rows_have_one_cut` say the
+-- same as a condition on rows (`IsCut` of tlv_io)
 abbrev pub rows_of : Kind → List ℕ → List (List ℕ)
 rows_of kind [] = []
 rows_of kind (x ∷ octets) = rows_from kind (x ∷ []) octets

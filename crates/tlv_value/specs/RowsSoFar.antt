@@ -11,7 +11,7 @@ open_row_in kind [] = []
 open_row_in kind (row ∷ []) = if eqb (length row) (row_size kind) then [] else row
 open_row_in kind (row ∷ next ∷ rows) = open_row_in kind (next ∷ rows)
 
--- the rows that are full with more octets
+-- the rows that are full once these octets follow the row that has begun
 abbrev pub full_rows : Kind → List ℕ → List ℕ → List (List ℕ)
 full_rows kind row octets = full_rows_in kind (rows_of kind (row ++ octets))
 

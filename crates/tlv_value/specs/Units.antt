@@ -53,7 +53,7 @@ unit_size Ucs4 octets = if nat_le 4 (length octets) then 4 else 1
 unit_size Utf8 octets = if is_utf8 (character_octets octets) then length (character_octets octets) else 1
 unit_size _ octets = 1
 
--- the first units, at most this many: the first one, and the first ones of the octets behind it
+-- the first units, at most this many: the first one, and the first ones of the octets after it
 abbrev pub first_units : ℕ → Kind → List ℕ → List (List ℕ)
 first_units zero kind octets = []
 first_units (suc more) kind [] = []

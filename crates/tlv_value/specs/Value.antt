@@ -64,9 +64,9 @@ bit_count_text unused_bits octet_count = decimal (8 * octet_count - unused_bits)
 abbrev pub is_readable : ℕ → ℕ → Bool
 is_readable unused_bits octet_count = nat_le unused_bits 7 && (eqb unused_bits 0 || not (eqb octet_count 0))
 
--- bits as digits
+-- bits as digits: 30 is the digit 0
 abbrev pub digits_of_bits : List ℕ → List ℕ
-digits_of_bits bits = map (λ bit. 48 + bit) bits
+digits_of_bits bits = map (λ bit. 0x30 + bit) bits
 
 -- the bits of octets, without the unused bits, after a space if there are any
 abbrev pub used_digits : ℕ → List ℕ → List ℕ

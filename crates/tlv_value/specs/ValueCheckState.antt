@@ -85,7 +85,7 @@ last_octet_after previous (x ∷ xs) = last_octet_after x xs
 -- the first of these octets is `previous`
 abbrev pub is_padded_after : ℕ → List ℕ → Bool
 is_padded_after previous [] = false
-is_padded_after previous (x ∷ xs) = (nat_lt previous 128 && eqb x 0x80) || is_padded_after x xs
+is_padded_after previous (x ∷ xs) = (nat_lt previous 0x80 && eqb x 0x80) || is_padded_after x xs
 
 -- whether a subidentifier begins with 80, in the octets before or in these
 abbrev pub is_padded_with : Bool → ℕ → List ℕ → Bool

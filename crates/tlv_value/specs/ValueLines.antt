@@ -1,5 +1,5 @@
--- The lines of a primitive that is whole, and of one that is incomplete: its contents break off, since the input ends
--- or an octet is refused before the announced length is reached.
+-- The lines of a primitive that is whole, and of one that is incomplete: its contents break off before the announced
+-- length, since the input ends, a read fails, or the input is too long.
 use Rattle.std.specs.Prelude.{◌&&◌, Bool, true, false, if◌then◌else◌, List, [], ◌++◌, ℕ, decimal, flat_map, map}
 use Rattle.tlv_head.specs.Header.{HeaderValue, announced_length}
 use Rattle.tlv_head.specs.Tag.{tag_text}

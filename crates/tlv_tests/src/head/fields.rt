@@ -36,7 +36,7 @@ fn are_of_shape(fields: &HeaderFields, shape: &Shape<'_>) -> bool {
         && fields.id_len == shape.id_len
 }
 
-/// Returns whether the header has the shape, and returns the identifier octets and the fields of the shape.
+/// Returns whether the header has the shape, and gives its identifier octets and its fields.
 fn gives_shape(header: &Header, shape: &Shape<'_>) -> bool {
     is_of_shape(header, shape)
         && shape.octets.get(..usize::from(shape.id_len)) == Some(header.identifier())

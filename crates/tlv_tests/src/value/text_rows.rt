@@ -116,7 +116,7 @@ pub(super) static FOUR_OCTETS: [Row<'static>; 6] = [
         element: b"\x1c\x04\x00\x01\xf6\x00",
         lines: &["       0      4: UniversalString \"\\u{1f600}\""],
     },
-    // One octet, three octets and three octets alone remain after the last whole character.
+    // One octet and three octets after a whole character, and three octets alone.
     Row {
         element: b"\x1c\x05\x00\x00\x00\x22\x42",
         lines: &["       0      5: UniversalString \"\\\"\\x42\""],

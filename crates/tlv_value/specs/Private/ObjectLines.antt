@@ -7,7 +7,8 @@ use Rattle.tlv_value.specs.Value.{NameOf, Value, object_value, octets_value, on_
 
 -- the rest of the line after the tag, and the rows below it. The first argument says whether text is beside pairs
 abbrev pub rest_of_lines : Bool → Layout → Value → List ℕ
-rest_of_lines with_text layout v = (on_line_text with_text v.on_line ++ 10 ∷ []) ++ shown_row_lines with_text Octets layout v.rows
+rest_of_lines with_text layout v =
+    (on_line_text with_text v.on_line ++ 10 ∷ []) ++ shown_row_lines with_text Octets layout v.rows
 
 -- the same, of octets that are shown as pairs of digits
 abbrev pub octets_lines : Bool → Layout → List ℕ → List ℕ
