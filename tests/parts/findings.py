@@ -60,6 +60,9 @@ def check_table(part):
 # Violations of X.690 clauses 8 to 11 that the program does not look for: a word of the line in the table, octets, and
 # the rule sets under which nothing else is found.
 UNSEEN = [
+    ("components of a SEQUENCE", "30 03 02 01 05", "ber der"),
+    ("instance-of", "28 03 06 01 2a", "ber der"),
+    ("named bits", "03 02 00 80", "ber der cer"),
     ("default values", "30 03 01 01 00", "ber der"),
     ("not universal", "81 02 00 7f", "ber der cer"),
     ("order of a SET", "31 06 04 01 00 02 01 00", "ber der"),
