@@ -30,8 +30,8 @@ has_element_at n f = is_some (element_at n f)
 abbrev pub has_whole_element_at : ℕ → Forest → Bool
 has_whole_element_at n f = option_map_or is_whole (element_at n f) false
 
--- a forest without the octets that belong to no element yet: a prefix of a header, or the first of the end-of-contents
--- octets without the second. Padding, which is in no element, is left out too
+-- the elements, without what belongs to none of them: a prefix of a header, or the first of the end-of-contents octets
+-- without the second; and padding
 abbrev pub elements_only : Forest → Forest
 elements_only (PaddingOctet rest) = elements_only rest
 elements_only (Primitive h c rest) = Primitive h c (elements_only rest)

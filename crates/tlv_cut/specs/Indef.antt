@@ -19,7 +19,8 @@ indefinite_header h = record h { size = Indefinite; lengths = 128 ∷ [] }
 
 -- the same elements, each constructed element with an indefinite length. The octets of an unfinished header are left
 -- out, and so is the first of the end-of-contents octets without the second. A string that holds encodings is a
--- primitive: its header stays unchanged, and what it holds is its contents octets
+-- primitive: its header stays unchanged, and what it holds is its contents octets. No run of `indef` has such a string,
+-- since `indef_framing` names none
 abbrev pub with_indefinite_lengths : Forest → Forest
 with_indefinite_lengths (PaddingOctet rest) = PaddingOctet (with_indefinite_lengths rest)
 with_indefinite_lengths (Primitive h c rest) = Primitive h c (with_indefinite_lengths rest)

@@ -34,7 +34,9 @@ pub record IsLowForm (class : Class) (constructed : Bool) (number : ℕ) (octets
   pub octets_are : octets ≡ identifier_octet class constructed number ∷ []
   pub nonzero : identifier_octet class constructed number ≢ 0
 
--- 8.1.2.4: a first octet with bits 5 to 1 set, then one to nine digits in base 128, with bit 8 set in all but the last
+-- 8.1.2.4: a first octet with bits 5 to 1 set, then digits in base 128, with bit 8 set in all but the last. Nine digits
+-- are the most, a limit of our own (F06). A number below 31 and first digits that are 0, which 8.1.2.2 and 8.1.2.4.2 c)
+-- forbid, are taken here, and left to findings (B01, B02)
 pub record IsHighForm (class : Class) (constructed : Bool) (number : ℕ) (octets : List ℕ) : Type 0 where
   pub digits : List ℕ
   pub last : ℕ
@@ -49,7 +51,8 @@ abbrev pub IsIdentifier : Class → Bool → ℕ → List ℕ → Type 0
 IsIdentifier class constructed number octets =
     IsLowForm class constructed number octets ⊎ IsHighForm class constructed number octets
 
--- 8.1.3.5: the number of octets that follow, 1 to 126, and the length in base 256, here below 2^40
+-- 8.1.3.5: the number of octets that follow, 1 to 126, and the length in base 256. It is below 2^40, a limit of our own
+-- (F09)
 pub record IsLongForm (n : ℕ) (octets : List ℕ) : Type 0 where
   pub digits : List ℕ
   pub each : All (λ d. d < 256) digits

@@ -156,8 +156,7 @@ end_conditions h children =
     -- 9.2: a string of at most 1000 contents octets is primitive. If a segment is constructed, C03 says so, and the
     -- contents octets are not counted
     (has_segments h && list_all is_primitive children && nat_le (length_as_primitive h children) 1000, C05)
-    -- 9.2 says that the last segment may be shorter than 1000 octets, and not whether it may be empty. A string has the
-    -- fewest segments if it is not, so an empty one is a finding. A segment of a BIT STRING that has only its octet for
-    -- unused bits does not count as empty
+    -- an inference of our own: 9.2 lets the last segment be shorter than 1000 octets, and does not say that it may be
+    -- empty. A segment of a BIT STRING that has only its octet for unused bits does not count as empty
     ∷ (has_segments h && ends_empty children, C06)
     ∷ []

@@ -122,16 +122,16 @@ type_conditions number contents =
     ∷ (number == universal.bit_string && length contents == 0, B13)
     -- 8.6.2.2: it is at most 7
     ∷ (number == universal.bit_string && nat_lt 7 (first_octet contents), B14)
-    -- 8.6.2.3: it is 0 if no other octet follows
+    -- 8.6.2.3: it is 0 if no other octet follows. Above 7 it has B14 alone
     ∷ (
       number == universal.bit_string && length contents == 1
           && nat_le 1 (first_octet contents) && nat_le (first_octet contents) 7,
       B15,
     )
     -- X.680 41: a string of characters has only characters that its type allows. Of a BMPString and a UniversalString
-    -- only the length is looked at: it is that of whole characters
+    -- only the length is looked at: it is that of whole characters. Strings of registered characters are not looked at
     ∷ (is_number_of character_types number && not (allows number contents), B18)
-    -- X.680 46, 47: a time follows the grammar of its type
+    -- X.680 46, 47: a time of at most 64 octets follows the grammar of its type, as `Times` has it
     ∷ (is_short_time number contents && not (times.has_form (time_form number) contents), B19)
     -- 11.1: TRUE is ff
     ∷ (
@@ -145,7 +145,8 @@ type_conditions number contents =
           && not (unused_bits_value contents == 0),
       S03,
     )
-    -- 11.7, 11.8: a time is in the canonical form
+    -- 11.7, 11.8: a time of at most 64 octets that follows the grammar of its type is in the canonical form, as `Times`
+    -- has it
     ∷ (
       is_short_time number contents && times.has_form (time_form number) contents
           && not (times.has_form (canonical_form number) contents),

@@ -14,7 +14,8 @@ abbrev pub character_length : Kind → ℕ → ℕ
 character_length Utf8 x = utf8_length x
 character_length _ x = 1
 
--- after this number of octets, a row has room for the octet x and for the octets that must be kept in one row with it
+-- after this number of octets of a row, there is room in it for the octet x and for the octets that must be kept in one
+-- row with it
 abbrev pub has_room : Kind → ℕ → ℕ → Bool
 has_room kind octets x = nat_le (octets + character_length kind x) (row_size kind)
 

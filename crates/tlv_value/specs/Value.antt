@@ -121,7 +121,7 @@ short_value name_of kind octets =
     if is_text kind then value_on_line (quoted_text kind octets) else octets_value octets
 
 -- 8.6.2: the line of a long value of this size shows the number of bits of a BIT STRING whose first octet can be read,
--- and nothing for any other value
+-- and nothing for any other value. A long BIT STRING has octets after the first one, so 7 or less can be read
 abbrev pub long_text : Kind → ℕ → List ℕ → List ℕ
 long_text Bits size (unused_bits ∷ octets) =
     if nat_le unused_bits 7 then 0x20 ∷ bit_count_text unused_bits (size - 1) else []

@@ -17,8 +17,8 @@ use Rattle.tlv_walk.specs.Forest.{primitive_extent, spelling}
 use Rattle.tlv_walk.specs.Place.{Fits, IsHeaderAt, Place, announced_extent, place_after, place_of_children, top_place}
 use Rattle.tlv_walk.specs.Reading.{CannotBecomeSound, IsReading, IsSoundList, ReadsAll}
 
--- an open end of a forest: where it begins, and what is there: nothing between encodings (`NoMore`), or an incomplete
--- primitive, wrapping BIT STRING, header or end-of-contents octets
+-- an open end of a forest: its place, and what is open there: nothing, between encodings (`NoMore`), or an incomplete
+-- primitive, wrapping BIT STRING, header or end-of-contents octets, whose place is that of their first octet
 pub record OpenEnd : Type 0 where
   pub place : Place
   pub forest : Forest
@@ -37,7 +37,8 @@ open_end p end = end_at p end
 
 -- why the octet x is refused at an open end, one line for each cause. The bound is checked before the octet
 pub data IsRefusedAt : OpenEnd → ℕ → FaultCode → Type 0 where
-  -- 8.6.2.2: a wrapping BIT STRING must begin with 00
+  -- F12, a rule of our own: encodings are whole octets, so a BIT STRING that holds encodings has no unused bits.
+  -- 8.6.2.2 allows 00 to 07
   bad_inside : {x : ℕ} {p : Place} {h : HeaderValue} → x ≢ 0 → IsRefusedAt (end_at p (OpenBitString h)) x BadInside
   -- 8.1.5: the second 00 is missing at the bound, or is another octet
   missing_end : {x : ℕ} {p : Place} → (Fits p 2 → ⊥) → IsRefusedAt (end_at p OpenEndOctets) x MissingEnd
@@ -70,7 +71,7 @@ fault_at code offset = record { code = code; offset = offset }
 abbrev pub fault_ending : FaultCode → ℕ → Ending
 fault_ending code offset = ending.Fault (fault_at code offset)
 
--- the ending of an input
+-- the ending of an input. In each case the forest is the reading of the input, which has one reading
 pub data IsEnding (framing : Framing) (b : List ℕ) : Ending → Type 0 where
   -- F01: no octet of an element came
   empty : (f : Forest) → ReadsAll framing b f → has_element f ≡ false

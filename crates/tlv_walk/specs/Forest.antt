@@ -27,8 +27,8 @@ pub data Forest : Type 0 where
   -- the first of the end-of-contents octets
   OpenEndOctets : Forest
 
--- 8.6.2.2: the contents octets before the elements that an element holds: in a wrapping BIT STRING 00, for no unused
--- bits, and otherwise none
+-- 8.6.2: the contents octets before the elements that an element holds: in a BIT STRING that holds encodings 00, for no
+-- unused bits, and otherwise none. An element that holds others is constructed, an OCTET STRING or a BIT STRING
 abbrev pub lead : HeaderValue → List ℕ
 lead h = if h.constructed then [] else (if eqb h.number universal.bit_string then 0 ∷ [] else [])
 
@@ -64,7 +64,8 @@ primitive_extent h contents = length (octets_of h) + length contents
 abbrev pub extent : HeaderValue → Forest → ℕ
 extent h children = length (opening h) + (length (spelling children) + length (end_octets h.size))
 
--- nothing is open
+-- nothing is open behind the outermost elements. What a `Holder` holds is not looked at: `ObeysGrammar` asks of each
+-- `Holder` that this is whole
 abbrev pub is_whole : Forest → Bool
 is_whole NoMore = true
 is_whole (PaddingOctet rest) = is_whole rest

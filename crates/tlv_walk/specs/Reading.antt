@@ -18,7 +18,7 @@ abbrev pub IsPrefixOf : List ℕ → List ℕ → Type 0
 IsPrefixOf p b = (rest : List ℕ) × (p ++ rest ≡ b)
 
 -- the reading of an input: a forest that obeys the grammar and spells a prefix of it, the longest prefix that any
--- such forest spells
+-- such forest spells. There is one (the law `octets_have_one_reading`)
 pub record IsReading (framing : Framing) (b : List ℕ) (f : Forest) : Type 0 where
   pub obeys_grammar : ObeysGrammar (top_place framing) f
   pub is_prefix : IsPrefixOf (spelling f) b
@@ -30,7 +30,8 @@ abbrev pub ReadsAll : Framing → List ℕ → Forest → Type 0
 ReadsAll framing b f = IsReading framing b f × (spelling f ≡ b)
 
 -- 8.1.1 to 8.1.5: nothing is open, each definite length is the length of the contents, and each element that holds
--- others is inside fewer than `depth_limit` such elements; padding is at the top level only
+-- others is inside fewer than `depth_limit` such elements; padding is at the top level only. A string that the user named
+-- is an element that holds others, so it has to hold sound encodings, which X.690 does not ask for
 abbrev pub IsSound : Place → Forest → Type 0
 IsSound p NoMore = Unit {0}
 IsSound p (PaddingOctet rest) = (p.padding ≡ true) × IsSound (place_after p 1) rest

@@ -6,7 +6,7 @@ use Rattle.tlv_walk.specs.Events.{Enter, EventValue}
 use Rattle.tlv_walk.specs.Forest.{Forest, PaddingOctet, Primitive, Holder, OpenHolder, OpenBitString}
 use Rattle.tlv_walk.specs.Inside.{is_among}
 
--- the offset of an element that holds others, or none if it is constructed, and so not a wrapper
+-- a list of the offset of an element that holds others; an empty list if it is constructed, and so not a wrapper
 abbrev pub wrapper_offset : HeaderValue → List ℕ
 wrapper_offset h = if h.constructed then [] else h.offset ∷ []
 
