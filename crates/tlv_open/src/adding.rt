@@ -24,7 +24,7 @@ use tlv_head::{HeaderFields, Size};
 /// this offset from `spot.start`. Returns whether the elements are sound. Most elements are in an element of definite
 /// length, so this function is called most often: returning only a `bool` makes it fast.
 #[cycle(find)]
-#[inline(never)]
+#[inline(always)]
 pub(crate) fn add_all_strings(
     octets: &[u8],
     offset: u64,
@@ -42,7 +42,7 @@ pub(crate) fn add_all_strings(
 /// Adds the strings found among the leading elements of the octets, up to `00 00`, and inside those elements. Returns
 /// the size of the elements in octets, and whether they are sound.
 #[cycle(find)]
-#[inline(never)]
+#[inline(always)]
 fn add_ended_strings(
     octets: &[u8],
     offset: u64,
@@ -60,7 +60,7 @@ fn add_ended_strings(
 /// inside those elements. With `end_octets`, the elements end before `00 00`; otherwise they end with the octets.
 /// Returns their size in octets, and whether they are sound. Inlined into both callers, one per `end_octets`.
 #[cycle(find)]
-#[inline(always)]
+#[inline(never)]
 fn add_strings(
     octets: &[u8],
     offset: u64,
