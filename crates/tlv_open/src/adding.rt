@@ -21,8 +21,7 @@ use std::alloc::AllocError;
 use tlv_head::{HeaderFields, Size};
 
 /// Adds the strings found among the elements that make up the octets, and inside those elements. The octets begin at
-/// this offset from `spot.start`. Returns whether the elements are sound. Most elements are in an element of definite
-/// length, so this function is called most often: returning only a `bool` makes it fast.
+/// this offset from `spot.start`. Returns whether the elements are sound.
 #[cycle(find)]
 #[inline(always)]
 pub(crate) fn add_all_strings(
@@ -58,7 +57,8 @@ fn add_ended_strings(
 
 /// Adds the strings found among the leading elements of the octets, which begin at this offset from `spot.start`, and
 /// inside those elements. With `end_octets`, the elements end before `00 00`; otherwise they end with the octets.
-/// Returns their size in octets, and whether they are sound. Inlined into both callers, one per `end_octets`.
+/// Returns their size in octets, and whether they are sound. One loop for both callers: two of them, one in each, are
+/// slower.
 #[cycle(find)]
 #[inline(never)]
 fn add_strings(
