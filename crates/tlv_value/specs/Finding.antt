@@ -3,8 +3,9 @@ use Rattle.std.specs.Prelude.{ℕ, List, ◌∷◌, ◌++◌, codes}
 use Rattle.tlv_value.specs.declared.finding.Finding.{Finding}
 use Rattle.tlv_value.specs.declared.finding.Finding.TheVariants.{B01, B02, B03, B04, B05, B06, B07, B08, B09}
 use Rattle.tlv_value.specs.declared.finding.Finding.TheVariants.{B10, B11, B12, B13, B14, B15, B16, B17, B18}
-use Rattle.tlv_value.specs.declared.finding.Finding.TheVariants.{B19, S01, S02, S03, S04, D01, D02, C01, C02}
-use Rattle.tlv_value.specs.declared.finding.Finding.TheVariants.{C03, C04, C05, C06}
+use Rattle.tlv_value.specs.declared.finding.Finding.TheVariants.{B19, B20, B21, B22, B23, B24, B25, B26, B27}
+use Rattle.tlv_value.specs.declared.finding.Finding.TheVariants.{B28, S01, S02, S03, S04, S05, S06, D01, D02}
+use Rattle.tlv_value.specs.declared.finding.Finding.TheVariants.{C01, C02, C03, C04, C05, C06}
 
 -- the code of a finding, and its text
 abbrev pub code_and_text : Finding → List ℕ × List ℕ
@@ -27,10 +28,21 @@ code_and_text B16 = (codes "B16", codes "segment follows unused bits")
 code_and_text B17 = (codes "B17", codes "segment has another tag")
 code_and_text B18 = (codes "B18", codes "characters not of the type")
 code_and_text B19 = (codes "B19", codes "time not of its grammar")
+code_and_text B20 = (codes "B20", codes "REAL of no form")
+code_and_text B21 = (codes "B21", codes "no such date or time")
+code_and_text B22 = (codes "B22", codes "time or IRI must be primitive")
+code_and_text B23 = (codes "B23", codes "IRI not of its grammar")
+code_and_text B24 = (codes "B24", codes "no contents of a relative identifier")
+code_and_text B25 = (codes "B25", codes "surrogate, or number above 10ffff")
+code_and_text B26 = (codes "B26", codes "month has no such day")
+code_and_text B27 = (codes "B27", codes "components are missing")
+code_and_text B28 = (codes "B28", codes "segments have characters not of the type")
 code_and_text S01 = (codes "S01", codes "length is not the shortest")
 code_and_text S02 = (codes "S02", codes "TRUE is not ff")
 code_and_text S03 = (codes "S03", codes "unused bits are set")
 code_and_text S04 = (codes "S04", codes "time is not canonical")
+code_and_text S05 = (codes "S05", codes "element of a SET is out of order")
+code_and_text S06 = (codes "S06", codes "REAL is not canonical")
 code_and_text D01 = (codes "D01", codes "indefinite length")
 code_and_text D02 = (codes "D02", codes "constructed string")
 code_and_text C01 = (codes "C01", codes "definite length of a constructed element")

@@ -44,6 +44,24 @@ pub enum Finding {
     B18,
     /// A time that does not follow the grammar of its type (X.680 46, 47).
     B19,
+    /// A REAL of no form (8.5.6 to 8.5.9).
+    B20,
+    /// A DATE, TIME-OF-DAY or DATE-TIME that is none (8.26).
+    B21,
+    /// A constructed time or internationalized resource identifier (8.21, 8.22, 8.26).
+    B22,
+    /// An OID-IRI or RELATIVE-OID-IRI that does not follow its grammar (8.21, 8.22).
+    B23,
+    /// A RELATIVE-OID without contents (8.20.2).
+    B24,
+    /// A surrogate, or a number above 10ffff, in a BMPString or UniversalString (8.23).
+    B25,
+    /// A UTCTime or GeneralizedTime with a day that its month does not have (X.680 46, 47).
+    B26,
+    /// An EXTERNAL, EMBEDDED PDV or CHARACTER STRING that holds no element (8.17, 8.18, 8.24).
+    B27,
+    /// A string whose segments have characters that the type does not allow (8.23, X.680 41).
+    B28,
     /// A length that is not the shortest (9.1, 10.1).
     S01,
     /// TRUE that is not `ff` (11.1).
@@ -52,6 +70,10 @@ pub enum Finding {
     S03,
     /// A time that is not in the canonical form (11.7, 11.8).
     S04,
+    /// An element of a SET that is out of order (9.3, 10.3, 11.6).
+    S05,
+    /// A REAL that is not in the canonical form (11.3).
+    S06,
     /// The indefinite length (10.1).
     D01,
     /// A constructed string (10.2).
@@ -118,10 +140,21 @@ impl Finding {
             Finding::B17 => (b"B17 segment has another tag                     ", 27),
             Finding::B18 => (b"B18 characters not of the type                  ", 30),
             Finding::B19 => (b"B19 time not of its grammar                     ", 27),
+            Finding::B20 => (b"B20 REAL of no form                             ", 19),
+            Finding::B21 => (b"B21 no such date or time                        ", 24),
+            Finding::B22 => (b"B22 time or IRI must be primitive               ", 33),
+            Finding::B23 => (b"B23 IRI not of its grammar                      ", 26),
+            Finding::B24 => (b"B24 no contents of a relative identifier        ", 40),
+            Finding::B25 => (b"B25 surrogate, or number above 10ffff           ", 37),
+            Finding::B26 => (b"B26 month has no such day                       ", 25),
+            Finding::B27 => (b"B27 components are missing                      ", 26),
+            Finding::B28 => (b"B28 segments have characters not of the type    ", 44),
             Finding::S01 => (b"S01 length is not the shortest                  ", 30),
             Finding::S02 => (b"S02 TRUE is not ff                              ", 18),
             Finding::S03 => (b"S03 unused bits are set                         ", 23),
             Finding::S04 => (b"S04 time is not canonical                       ", 25),
+            Finding::S05 => (b"S05 element of a SET is out of order            ", 36),
+            Finding::S06 => (b"S06 REAL is not canonical                       ", 25),
             Finding::D01 => (b"D01 indefinite length                           ", 21),
             Finding::D02 => (b"D02 constructed string                          ", 22),
             Finding::C01 => (b"C01 definite length of a constructed element    ", 44),
