@@ -11,10 +11,14 @@ use Rattle.tlv_head.specs.Header.{HeaderValue, is_universal}
 use Rattle.tlv_head.specs.UniversalTypes as universal
 use Rattle.tlv_value.specs.declared.finding.Finding.{Finding}
 use Rattle.tlv_value.specs.declared.finding.Finding.TheVariants.{B06, B07, B08, B09, B10, B11, B12, B13, B14}
-use Rattle.tlv_value.specs.declared.finding.Finding.TheVariants.{B15, B18, B19, S02, S03, S04}
+use Rattle.tlv_value.specs.declared.finding.Finding.TheVariants.{B15, B18, B19, B21, B23, B24, B25, B26, S02}
+use Rattle.tlv_value.specs.declared.finding.Finding.TheVariants.{S03, S04}
 use Rattle.tlv_value.specs.Arcs.{parts_of}
+use Rattle.tlv_value.specs.Characters.{has_wrong_unit}
+use Rattle.tlv_value.specs.Dates.{is_date_or_time, month_has_day, month_has_day_in_some_century}
 use Rattle.tlv_value.specs.Times as times
-use Rattle.tlv_value.specs.Types.{character_types, integer_types, is_number_of, object_types, time_types}
+use Rattle.tlv_value.specs.Types.{character_types, date_types, integer_types, iri_types, is_number_of}
+use Rattle.tlv_value.specs.Types.{object_types, time_types, wide_string_types}
 use Rattle.tlv_value.specs.Units.{is_printable}
 
 -- the first octet, or 0 if there is none. In a BIT STRING it is the number of unused bits
@@ -91,6 +95,18 @@ abbrev pub canonical_form : ℕ → times.Form
 canonical_form number =
     if number == universal.utc_time then times.canonical_utc_time_form else times.canonical_generalized_time_form
 
+-- X.680 46, 47: the month of the time has its day. The century of a UTCTime is not known
+abbrev pub time_has_day : ℕ → List ℕ → Bool
+time_has_day number contents =
+    if number == universal.utc_time then month_has_day_in_some_century contents else month_has_day contents
+
+-- 8.21, 8.22: the contents of an OID-IRI or RELATIVE-OID-IRI, the type with this number, are UTF-8 that begins as it
+-- has to: 2f is /
+abbrev pub is_iri : ℕ → List ℕ → Bool
+is_iri number contents =
+    is_utf8 contents
+    && (if number == universal.oid_iri then begins_with 0x2f contents else not (length contents == 0))
+
 -- ---- The findings
 
 -- the finding, if the condition holds
@@ -129,10 +145,25 @@ type_conditions number contents =
       B15,
     )
     -- X.680 41: a string of characters has only characters that its type allows. Of a BMPString and a UniversalString
-    -- only the length is looked at: it is that of whole characters. Strings of registered characters are not looked at
+    -- only the length is looked at here: it is that of whole characters. Strings of registered characters are not
+    -- looked at
     ∷ (is_number_of character_types number && not (allows number contents), B18)
     -- X.680 46, 47: a time of at most 64 octets follows the grammar of its type, as `Times` has it
     ∷ (is_short_time number contents && not (times.has_form (time_form number) contents), B19)
+    -- 8.26: a DATE, TIME-OF-DAY or DATE-TIME is one, as `Dates` has it
+    ∷ (is_number_of date_types number && not (is_date_or_time number contents), B21)
+    -- 8.21: an OID-IRI is UTF-8 and begins with /. 8.22: a RELATIVE-OID-IRI is UTF-8, and is not empty
+    ∷ (is_number_of iri_types number && not (is_iri number contents), B23)
+    -- 8.20.2: a RELATIVE-OID has one subidentifier or more
+    ∷ (number == universal.relative_oid && length contents == 0, B24)
+    -- 8.23: each whole unit of a BMPString or UniversalString is a character, as `Characters` has it
+    ∷ (is_number_of wide_string_types number && has_wrong_unit number contents, B25)
+    -- X.680 46, 47: in a time of at most 64 octets that follows the grammar of its type, the month has the day
+    ∷ (
+      is_short_time number contents && times.has_form (time_form number) contents
+          && not (time_has_day number contents),
+      B26,
+    )
     -- 11.1: TRUE is ff
     ∷ (
       number == universal.boolean && length contents == 1

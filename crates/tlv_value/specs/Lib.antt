@@ -15,6 +15,9 @@ pub mod PutsRest
 pub mod ValueTextFields
 pub mod Laws
 pub mod Types
+pub mod Dates
+pub mod Characters
+pub mod UnitsSoFar
 pub mod Checks
 pub mod ValueCheckState
 pub mod ValueCheckFields

@@ -40,6 +40,18 @@ character_types =
 abbrev pub time_types : List ℕ
 time_types = universal.utc_time ∷ universal.generalized_time ∷ []
 
+-- 8.26
+abbrev pub date_types : List ℕ
+date_types = universal.date ∷ universal.time_of_day ∷ universal.date_time ∷ []
+
+-- 8.21, 8.22
+abbrev pub iri_types : List ℕ
+iri_types = universal.oid_iri ∷ universal.relative_oid_iri ∷ []
+
+-- 8.23: strings whose characters have two octets or four
+abbrev pub wide_string_types : List ℕ
+wide_string_types = universal.universal_string ∷ universal.bmp_string ∷ []
+
 -- its encodings are always primitive
 abbrev pub is_always_primitive : HeaderValue → Bool
 is_always_primitive h = is_universal h.class && has_encodings are_primitive h.number

@@ -8,13 +8,16 @@ use Rattle.tlv_head.specs.Header.{HeaderValue, announced_length, is_universal}
 use Rattle.tlv_head.specs.declared.kind.Kind.TheVariants.{Utf8}
 use Rattle.tlv_value.specs.declared.finding.Finding.{Finding}
 use Rattle.tlv_value.specs.declared.finding.Finding.TheVariants.{B06, B07, B08, B09, B10, B11, B12, B13, B14}
-use Rattle.tlv_value.specs.declared.finding.Finding.TheVariants.{B15, B18, B19, S02, S03, S04}
-use Rattle.tlv_value.specs.Checks.{allows_octet, are_whole_characters, canonical_form, findings_by, first_octet}
-use Rattle.tlv_value.specs.Checks.{is_padded_integer, time_form}
+use Rattle.tlv_value.specs.declared.finding.Finding.TheVariants.{B15, B18, B19, B21, B23, B24, B25, B26, S02}
+use Rattle.tlv_value.specs.declared.finding.Finding.TheVariants.{S03, S04}
+use Rattle.tlv_value.specs.Checks.{allows_octet, are_whole_characters, begins_with, canonical_form, findings_by}
+use Rattle.tlv_value.specs.Checks.{first_octet, is_padded_integer, time_form, time_has_day}
+use Rattle.tlv_value.specs.Dates.{is_date_or_time}
 use Rattle.tlv_value.specs.RowsSoFar.{full_rows, open_row}
 use Rattle.tlv_value.specs.Times as times
-use Rattle.tlv_value.specs.Types.{character_types, integer_types, is_number_of, object_types, tested_string_types}
-use Rattle.tlv_value.specs.Types.{time_types}
+use Rattle.tlv_value.specs.Types.{character_types, date_types, integer_types, iri_types, is_number_of}
+use Rattle.tlv_value.specs.Types.{object_types, tested_string_types, time_types, wide_string_types}
+use Rattle.tlv_value.specs.UnitsSoFar.{are_characters_after, character_size, open_unit}
 
 -- what contracts see of a `ValueCheck`
 pub record ValueCheckState : Type 0 where
@@ -29,11 +32,15 @@ pub record ValueCheckState : Type 0 where
   -- whether the type allows each octet, and whether a subidentifier is padded
   pub are_octets_allowed : Bool
   pub is_padded : Bool
-  -- for a UTF8String, whether the rows that were full are well-formed, and the row that has begun
+  -- for a UTF8String or an OID-IRI or RELATIVE-OID-IRI, whether the rows that were full are well-formed, and the row
+  -- that has begun
   pub are_full_rows_utf8 : Bool
   pub row : List ℕ
-  -- the first 64 octets of a time
+  -- the first 64 octets of a time or date
   pub time : List ℕ
+  -- for a BMPString or UniversalString, whether the units that were whole are characters, and the unit that has begun
+  pub are_characters : Bool
+  pub unit : List ℕ
 
 -- the state before any octet, for a primitive of the universal type with this number and with this many contents octets
 abbrev pub new_value_check_of : ℕ → ℕ → ValueCheckState
@@ -48,6 +55,8 @@ new_value_check_of number size = record {
   are_full_rows_utf8 = true;
   row = [];
   time = [];
+  are_characters = true;
+  unit = [];
 }
 
 -- the universal number of the type; for another class, the number of OCTET STRING, whose contents have no findings
@@ -72,9 +81,17 @@ notes_each number =
     (universal.object_identifier ∷ universal.utf8_string ∷ universal.relative_oid ∷ tested_string_types)
     number
 
--- the two times
+-- the first octets are kept: the two times, and DATE, TIME-OF-DAY, DATE-TIME
 abbrev pub notes_time : ℕ → Bool
-notes_time number = is_number_of time_types number
+notes_time number = is_number_of (time_types ++ date_types) number
+
+-- each unit is checked: BMPString, UniversalString
+abbrev pub notes_units : ℕ → Bool
+notes_units number = is_number_of wide_string_types number
+
+-- the first octet and each row are checked: OID-IRI, RELATIVE-OID-IRI
+abbrev pub notes_iri : ℕ → Bool
+notes_iri number = is_number_of iri_types number
 
 -- the last of these octets, or `previous` if there are none
 abbrev pub last_octet_after : ℕ → List ℕ → ℕ
@@ -91,7 +108,8 @@ is_padded_after previous (x ∷ xs) = (nat_lt previous 0x80 && eqb x 0x80) || is
 abbrev pub is_padded_with : Bool → ℕ → List ℕ → Bool
 is_padded_with is_padded previous octets = is_padded || is_padded_after previous octets
 
--- the state with more octets noted: the first ones and the last, what must be known of each, or the time
+-- the state with more octets noted: the first ones and the last, what must be known of each, the time, the units, or
+-- what must be known of an OID-IRI
 abbrev pub with_first_noted : ValueCheckState → List ℕ → ValueCheckState
 with_first_noted s octets = record s {
   first_octets = take 2 (s.first_octets ++ octets);
@@ -113,12 +131,28 @@ with_each_noted s octets = record s {
 abbrev pub with_time_noted : ValueCheckState → List ℕ → ValueCheckState
 with_time_noted s octets = record s { time = take 64 (s.time ++ octets) }
 
+abbrev pub with_units_noted : ValueCheckState → List ℕ → ValueCheckState
+with_units_noted s octets = record s {
+  are_characters = s.are_characters && are_characters_after (character_size s.number) s.unit octets;
+  unit = open_unit (character_size s.number) s.unit octets;
+}
+
+abbrev pub with_iri_noted : ValueCheckState → List ℕ → ValueCheckState
+with_iri_noted s octets = record s {
+  first_octets = take 2 (s.first_octets ++ octets);
+  last = last_octet_after s.last octets;
+  are_full_rows_utf8 = s.are_full_rows_utf8 && list_all is_utf8 (full_rows Utf8 s.row octets);
+  row = open_row Utf8 s.row octets;
+}
+
 -- the same, as the type needs it
 abbrev pub with_octets_noted : ValueCheckState → List ℕ → ValueCheckState
 with_octets_noted s octets =
     if notes_first s.number then with_first_noted s octets
     else if notes_each s.number then with_each_noted s octets
     else if notes_time s.number then with_time_noted s octets
+    else if notes_units s.number then with_units_noted s octets
+    else if notes_iri s.number then with_iri_noted s octets
     else s
 
 -- the state after more octets
@@ -146,6 +180,20 @@ is_allowed s =
     else are_whole_characters s.number s.size)
     && s.are_octets_allowed
 
+-- a DATE, TIME-OF-DAY or DATE-TIME is one
+abbrev pub is_kept_date : ℕ → ValueCheckState → Bool
+is_kept_date number s = nat_le s.size 64 && is_date_or_time number s.time
+
+-- an OID-IRI or RELATIVE-OID-IRI is UTF-8, and begins as it has to
+abbrev pub is_kept_iri : ℕ → ValueCheckState → Bool
+is_kept_iri number s =
+    (s.are_full_rows_utf8 && is_utf8 s.row)
+    && (if number == universal.oid_iri then begins_with 0x2f s.first_octets else not (s.size == 0))
+
+-- a UTCTime or GeneralizedTime, all of which is kept
+abbrev pub is_kept_time : ℕ → ValueCheckState → Bool
+is_kept_time number s = is_number_of time_types number && nat_le s.size 64
+
 -- the conditions of `type_conditions` (Checks.antt), said of what is kept of the contents. The law `FindingsEnd` says
 -- that the same is found
 abbrev pub kept_conditions : ℕ → ValueCheckState → List (Bool × Finding)
@@ -165,7 +213,15 @@ kept_conditions number s =
       B15,
     )
     ∷ (is_number_of character_types number && not (is_allowed s), B18)
-    ∷ (notes_time number && nat_le s.size 64 && not (times.has_form (time_form number) s.time), B19)
+    ∷ (is_kept_time number s && not (times.has_form (time_form number) s.time), B19)
+    ∷ (is_number_of date_types number && not (is_kept_date number s), B21)
+    ∷ (is_number_of iri_types number && not (is_kept_iri number s), B23)
+    ∷ (number == universal.relative_oid && s.size == 0, B24)
+    ∷ (is_number_of wide_string_types number && not s.are_characters, B25)
+    ∷ (
+      is_kept_time number s && times.has_form (time_form number) s.time && not (time_has_day number s.time),
+      B26,
+    )
     ∷ (
       number == universal.boolean && s.size == 1
           && not (first_octet s.first_octets == 0 || first_octet s.first_octets == 0xff),
@@ -177,7 +233,7 @@ kept_conditions number s =
       S03,
     )
     ∷ (
-      notes_time number && nat_le s.size 64 && times.has_form (time_form number) s.time
+      is_kept_time number s && times.has_form (time_form number) s.time
           && not (times.has_form (canonical_form number) s.time),
       S04,
     )

@@ -2,6 +2,7 @@
 //! findings on it, in whatever pieces its octets come.
 #![tactic(auto)]
 
+mod dates;
 mod decimal;
 mod dotted_texts;
 mod finding;

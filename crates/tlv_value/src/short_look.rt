@@ -1,15 +1,19 @@
 //! A short look at all of the contents of a primitive.
 ghost use Rattle.std.specs.Prelude.{◌≡◌, ◌||◌, ◌==◌, [], IsTrue, eqb, false, length, nat_le, true};
 ghost use Rattle.tlv_head.specs.UniversalTypes.{bit_string, boolean, generalized_time, utc_time};
-ghost use Rattle.tlv_value.specs.Checks.{all_contents_findings, has_padded_part, is_padded_integer, last_octet};
-ghost use Rattle.tlv_value.specs.Checks.{type_findings};
+ghost use Rattle.tlv_value.specs.Checks.{all_contents_findings, begins_with, has_padded_part, is_padded_integer};
+ghost use Rattle.tlv_value.specs.Checks.{last_octet, type_findings};
 ghost use Rattle.tlv_value.specs.Private.TimeFindings.{generalized_time_findings, utc_time_findings};
 ghost use Rattle.tlv_head.specs.TypeTable.{are_constructed, has_encodings};
 ghost use Rattle.tlv_value.specs.Types.{has_primitives};
 ghost use Rattle.tlv_value.specs.Types.{is_unassigned_number};
 
+use crate::dates::{is_date_or_time, month_has_day, month_has_day_in_some_century};
 use crate::time::{general_canonical, utc_canonical};
-use crate::value_check::{are_allowed, is_any_set, is_padded_after, is_utf8, last_octet};
+use crate::value_check::{
+    are_allowed, are_characters_of_four, are_characters_of_two, is_any_set, is_padded_after,
+    is_utf8, last_octet,
+};
 use tlv_head::{Class, Header, universal};
 
 /// Whether a short look shows that there is no finding on these contents of a primitive with this header. `false`
@@ -36,8 +40,9 @@ fn is_type_clear(number: u64, contents: &[u8]) -> bool
         universal::INTEGER | universal::ENUMERATED => is_shortest(contents),
         universal::BIT_STRING => has_clear_bits(contents),
         universal::NULL => contents.is_empty(),
-        universal::OBJECT_IDENTIFIER => !contents.is_empty() && are_subidentifiers(contents),
-        universal::RELATIVE_OID => are_subidentifiers(contents),
+        universal::OBJECT_IDENTIFIER | universal::RELATIVE_OID => {
+            !contents.is_empty() && are_subidentifiers(contents)
+        }
         universal::UTF8_STRING => is_utf8(contents),
         universal::NUMERIC_STRING => are_allowed(universal::NUMERIC_STRING, contents),
         universal::PRINTABLE_STRING => are_allowed(universal::PRINTABLE_STRING, contents),
@@ -45,8 +50,13 @@ fn is_type_clear(number: u64, contents: &[u8]) -> bool
         universal::VISIBLE_STRING => are_allowed(universal::VISIBLE_STRING, contents),
         universal::UTC_TIME => contents.len() > 64 || is_utc_clear(contents),
         universal::GENERALIZED_TIME => contents.len() > 64 || is_generalized_clear(contents),
-        universal::UNIVERSAL_STRING => contents.len() % 4 == 0,
-        universal::BMP_STRING => contents.len() % 2 == 0,
+        universal::UNIVERSAL_STRING => contents.len() % 4 == 0 && are_characters_of_four(contents),
+        universal::BMP_STRING => contents.len() % 2 == 0 && are_characters_of_two(contents),
+        universal::DATE | universal::TIME_OF_DAY | universal::DATE_TIME => is_date_or_time(
+            number, contents,
+        ),
+        universal::OID_IRI => begins_with_solidus(contents) && is_utf8(contents),
+        universal::RELATIVE_OID_IRI => !contents.is_empty() && is_utf8(contents),
         // The other types that have primitives are not checked here.
         universal::OCTET_STRING
         | universal::OBJECT_DESCRIPTOR
@@ -56,7 +66,7 @@ fn is_type_clear(number: u64, contents: &[u8]) -> bool
         | universal::VIDEOTEX_STRING
         | universal::GRAPHIC_STRING
         | universal::GENERAL_STRING
-        | universal::DATE..=universal::RELATIVE_OID_IRI => true,
+        | universal::DURATION => true,
         _ => false,
     }
 }
@@ -111,6 +121,13 @@ fn are_subidentifiers(contents: &[u8]) -> bool
     last_octet(0, contents) < 128 && !is_padded_after(0, contents)
 }
 
+/// Whether the first octet is `/`.
+fn begins_with_solidus(contents: &[u8]) -> bool
+    ensures { result ≡ begins_with 0x2f contents.now }
+{
+    matches!(contents, [b'/', ..])
+}
+
 /// Whether nothing is found on a UTCTime.
 #[inline(never)]
 #[tactic(auto, using(crate::proofs::CheckLemmas::NestedForms::utc_clear))]
@@ -119,7 +136,7 @@ fn is_utc_clear(time: &[u8]) -> bool
     ensures contents { IsTrue result → type_findings utc_time time.now ≡ [] }
 {
     // A canonical time follows the grammar of its type.
-    utc_canonical(time)
+    utc_canonical(time) && month_has_day_in_some_century(time)
 }
 
 /// Whether nothing is found on a GeneralizedTime.
@@ -130,5 +147,5 @@ fn is_generalized_clear(time: &[u8]) -> bool
     ensures contents { IsTrue result → type_findings generalized_time time.now ≡ [] }
 {
     // A canonical time follows the grammar of its type.
-    general_canonical(time)
+    general_canonical(time) && month_has_day(time)
 }

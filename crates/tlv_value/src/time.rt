@@ -98,7 +98,7 @@ fn after_canonical_second(octets: &[u8]) -> Option<&[u8]>
 }
 
 /// What is after `MMDD`.
-fn after_month_and_day(octets: &[u8]) -> Option<&[u8]>
+pub(crate) fn after_month_and_day(octets: &[u8]) -> Option<&[u8]>
     ensures { LeavesRest month_and_day octets.now (option_copied result) }
 {
     let rest = after_two_digits(octets, 1, 12)?;
@@ -223,7 +223,7 @@ fn after_mark(octets: &[u8], octet: u8) -> Option<&[u8]>
 
 /// What is after two digits of a number from `low` to `high`.
 #[inline(always)]
-fn after_two_digits(octets: &[u8], low: u8, high: u8) -> Option<&[u8]>
+pub(crate) fn after_two_digits(octets: &[u8], low: u8, high: u8) -> Option<&[u8]>
     ensures { LeavesRest (two_digits low high) octets.now (option_copied result) }
 {
     let [tens @ b'0'..=b'9', ones @ b'0'..=b'9', rest @ ..] = octets else {

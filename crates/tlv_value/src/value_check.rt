@@ -2,23 +2,29 @@
 ghost use Rattle.std.specs.Prelude.{◌≡◌, ◌+◌, ◌≤◌, ◌&&◌, ℕ, List, length, slice_index};
 ghost use Rattle.tlv_head.specs.Header.{HasAllContents, HeaderValue, announced_length};
 ghost use Rattle.tlv_value.specs.ValueCheckState.{value_check_after, value_check_for, findings_in, has_unused_bits};
-ghost use Rattle.tlv_value.specs.ValueCheckState.{is_allowed, new_value_check, new_value_check_of};
+ghost use Rattle.tlv_value.specs.ValueCheckState.{new_value_check, new_value_check_of};
 ghost use Rattle.tlv_value.specs.ValueCheckState.{type_number, with_each_noted, with_first_noted};
+ghost use Rattle.tlv_value.specs.ValueCheckState.{with_iri_noted, with_units_noted};
 ghost use Rattle.tlv_value.specs.Checks.{all_contents_findings, is_padded_integer};
 
 mod characters;
 mod findings;
 mod notes;
+mod units;
 mod utf8_rows;
 
 use crate::Finding;
 use arrayvec::ArrayVec;
 pub(crate) use characters::are_allowed;
 pub(crate) use findings::is_any_set;
-use notes::{is_padded_with, note_time, notes_each, notes_first, notes_time};
+use notes::{
+    is_padded_with, note_time, notes_each, notes_first, notes_iri, notes_time, notes_units,
+};
 pub(crate) use notes::{is_padded_after, last_octet};
 use std::marker::Model;
 use tlv_head::{Class, Header, universal};
+pub(crate) use units::{are_characters_of_four, are_characters_of_two};
+use units::{character_size, take_units};
 pub(crate) use utf8_rows::is_utf8;
 use utf8_rows::take_rows;
 
@@ -40,12 +46,16 @@ pub struct ValueCheck {
     are_octets_allowed: bool,
     /// Whether a subidentifier begins with `80`.
     is_padded: bool,
-    /// Whether the rows of a UTF8String that were full are well-formed.
+    /// Whether the rows of a UTF8String, OID-IRI or RELATIVE-OID-IRI that were full are well-formed.
     are_full_rows_utf8: bool,
-    /// The octets of its row that has begun.
+    /// Whether the units of a BMPString or UniversalString that were whole are characters.
+    are_characters: bool,
+    /// The octets of the row that has begun.
     row: ArrayVec<u8, 64>,
-    /// The first octets of a time.
+    /// The first octets of a time or date.
     time: ArrayVec<u8, 64>,
+    /// The octets of the unit that has begun.
+    unit: ArrayVec<u8, 4>,
 }
 
 impl Model for ValueCheck {
@@ -83,8 +93,10 @@ impl ValueCheck {
             are_octets_allowed: true,
             is_padded: false,
             are_full_rows_utf8: true,
+            are_characters: true,
             row: ArrayVec::new(),
             time: ArrayVec::new(),
+            unit: ArrayVec::new(),
         }
     }
 
@@ -102,6 +114,10 @@ impl ValueCheck {
         self.are_octets_allowed = true;
         self.is_padded = false;
         self.are_full_rows_utf8 = true;
+        self.are_characters = true;
+        if !self.unit.is_empty() {
+            self.unit.clear();
+        }
         if !self.row.is_empty() {
             self.row.clear();
         }
@@ -145,6 +161,10 @@ impl ValueCheck {
             self.note_each(octets);
         } else if notes_time(self.number) {
             note_time(&mut self.time, octets);
+        } else if notes_units(self.number) {
+            self.note_units(octets);
+        } else if notes_iri(self.number) {
+            self.note_iri(octets);
         }
     }
 
@@ -195,6 +215,25 @@ impl ValueCheck {
         self.last = last_octet(self.last, octets);
     }
 
+    /// Notes whether each unit of the octets is a character.
+    fn note_units(&mut self, octets: &[u8])
+        ensures { self.new ≡ with_units_noted self.old octets.now }
+    {
+        let size = character_size(self.number);
+        self.are_characters = both(
+            self.are_characters,
+            take_units(size, &mut self.unit, octets),
+        );
+    }
+
+    /// Notes the first octets of an OID-IRI or RELATIVE-OID-IRI, and whether its rows are UTF-8.
+    fn note_iri(&mut self, octets: &[u8])
+        ensures { self.new ≡ with_iri_noted self.old octets.now }
+    {
+        self.note_first(octets);
+        self.are_full_rows_utf8 = both(self.are_full_rows_utf8, take_rows(&mut self.row, octets));
+    }
+
     /// The findings on the contents, in order, by the rules of BER, CER or DER.
     #[inline(always)]
     pub fn end(&self) -> ArrayVec<Finding, 16>
@@ -231,20 +270,6 @@ impl ValueCheck {
             255 => self.second >= 128,
             _ => false,
         }
-    }
-
-    /// Whether the type allows the characters of the contents.
-    #[inline(always)]
-    fn is_allowed(&self) -> bool
-        ensures { result ≡ is_allowed self.now }
-    {
-        let all = match self.number {
-            universal::UTF8_STRING => both(self.are_full_rows_utf8, is_utf8(self.row.as_slice())),
-            universal::BMP_STRING => self.size % 2 == 0,
-            universal::UNIVERSAL_STRING => self.size % 4 == 0,
-            _ => true,
-        };
-        both(all, self.are_octets_allowed)
     }
 }
 

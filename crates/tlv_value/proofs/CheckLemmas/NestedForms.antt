@@ -1,10 +1,13 @@
 -- One form of text within another, and a canonical time within its grammar.
-use Rattle.std.proofs.Common.{◌≡◌, ℕ, ◌≤◌, Bool, true, false, ◌&&◌, ◌||◌, nat_le, List, [], ◌∷◌}
+use Rattle.std.proofs.Common.{◌≡◌, ℕ, ◌≤◌, Bool, true, false, ◌&&◌, ◌||◌, not, nat_le, List, [], ◌∷◌, ◌++◌}
 use Rattle.std.proofs.Common.{length, eqb, refl, sym, ◌∙◌, ◌⊎◌, inl, inr, arith}
 use Rattle.std.specs.List.{list_any}
 use Rattle.std.proofs.lemmas.Bool.{and_parts, or_cases, leb-true, le-leb}
 use Rattle.std.proofs.lemmas.Bool.Decides.{nat_tests}
 use Rattle.std.specs.Char.{is_ascii_digit}
+use Rattle.tlv_value.specs.declared.finding.Finding.TheVariants.{B19, B26, S04}
+use Rattle.tlv_value.specs.Checks.{finding_if}
+use Rattle.tlv_value.specs.Dates.{month_has_day, month_has_day_in_some_century}
 use Rattle.tlv_value.specs.Times.{Form, canonical_fraction, canonical_generalized_time_form, canonical_utc_time_form}
 use Rattle.tlv_value.specs.Times.{digits, generalized_tail, generalized_time_form, has_form, hour, mark, maybe, minute}
 use Rattle.tlv_value.specs.Times.{month_and_day, no_octets, octet_between, second, sign, splits, two_digit_number}
@@ -150,24 +153,41 @@ generalized-within =
     (within-first no_octets (within-then (within-same minute) (within-first no_octets (within-same second))))
     generalized-tail))))
 
--- if the canonical form is within the grammar, nothing is found exactly on contents of the canonical form
+-- if the canonical form is within the grammar, nothing is found exactly on contents of the canonical form whose month
+-- has the day
 clear-within :
-    {f g : Form} → Within f g → (text : List ℕ)
-    → has_form f text ≡ eqb (length (time_findings (has_form g text) (has_form f text))) 0
-clear-within {f} {g} w text = go (has_form f text) (has_form g text) (w.has text)
+    {f g : Form} → Within f g → (day : Bool) (text : List ℕ)
+    → (has_form f text && day) ≡ eqb (length (time_findings (has_form g text) day (has_form f text))) 0
+clear-within {f} {g} w day text = go (has_form f text) (has_form g text) day (w.has text)
   where
-    go : (a b : Bool) → (a ≡ true → b ≡ true) → a ≡ eqb (length (time_findings b a)) 0
-    go true true v = refl
-    go true false v = absurd (let e = v refl in cc)
-    go false true v = refl
-    go false false v = refl
+    go : (a b day : Bool) → (a ≡ true → b ≡ true) → (a && day) ≡ eqb (length (time_findings b day a)) 0
+    go true true true v = refl
+    go true true false v = refl
+    go true false day v = absurd (let e = v refl in cc)
+    go false true true v = refl
+    go false true false v = refl
+    go false false day v = refl
 
 pub utc_clear :
     (octets : List ℕ)
-    → has_form canonical_utc_time_form octets ≡ eqb (length (utc_time_findings octets)) 0
-utc_clear octets = clear-within utc-within octets
+    → (has_form canonical_utc_time_form octets && month_has_day_in_some_century octets)
+    ≡ eqb (length (utc_time_findings octets)) 0
+utc_clear octets = clear-within utc-within (month_has_day_in_some_century octets) octets
 
 pub generalized_clear :
     (octets : List ℕ)
-    → has_form canonical_generalized_time_form octets ≡ eqb (length (generalized_time_findings octets)) 0
-generalized_clear octets = clear-within generalized-within octets
+    → (has_form canonical_generalized_time_form octets && month_has_day octets)
+    ≡ eqb (length (generalized_time_findings octets)) 0
+generalized_clear octets = clear-within generalized-within (month_has_day octets) octets
+
+-- then there are no findings on contents of either type, whether they are short or not
+pub time-clear : (short form day canonical : Bool) → eqb (length (time_findings form day canonical)) 0 ≡ true
+    → finding_if (short && not form) B19
+    ++ (finding_if (short && form && not day) B26 ++ (finding_if (short && form && not canonical) S04 ++ []))
+    ≡ []
+time-clear false form day canonical h = refl
+time-clear true true true true h = refl
+time-clear true true true false h = absurd cc
+time-clear true true false true h = absurd cc
+time-clear true true false false h = absurd cc
+time-clear true false day canonical h = absurd cc

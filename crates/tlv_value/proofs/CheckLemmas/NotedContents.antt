@@ -7,9 +7,12 @@ use Rattle.std.specs.List.{list_all}
 use Rattle.std.specs.Prelude.{slice_index}
 use Rattle.tlv_value.specs.declared.finding.Finding.{Finding}
 use Rattle.tlv_value.specs.declared.finding.Finding.TheVariants.{B06, B07, B08, B10, B11, B12, B13, B14, B15, B18, B19}
-use Rattle.tlv_value.specs.declared.finding.Finding.TheVariants.{S02, S03, S04}
-use Rattle.tlv_value.specs.Checks.{all_contents_findings, allows, allows_octet, are_whole_characters, finding_if}
-use Rattle.tlv_value.specs.Checks.{findings_by, is_padded_integer, type_conditions, type_findings}
+use Rattle.tlv_value.specs.declared.finding.Finding.TheVariants.{B21, B23, B24, B25, B26, S02, S03, S04}
+use Rattle.tlv_value.specs.Characters.{has_wrong_unit}
+use Rattle.tlv_value.specs.Dates.{month_has_day, month_has_day_in_some_century}
+use Rattle.tlv_value.specs.UnitsSoFar.{are_characters_after}
+use Rattle.tlv_value.specs.Checks.{all_contents_findings, allows, allows_octet, are_whole_characters, begins_with}
+use Rattle.tlv_value.specs.Checks.{finding_if, findings_by, is_padded_integer, type_conditions, type_findings}
 use Rattle.tlv_value.specs.Types.{character_types, is_number_of}
 use Rattle.tlv_value.specs.ValueCheckState.{ValueCheckState, is_allowed, kept_conditions, new_value_check_of}
 use Rattle.tlv_value.specs.ValueCheckState.{notes_each, type_number, with_each_noted, with_octets_noted}
@@ -18,6 +21,8 @@ use Rattle.tlv_head.specs.Header.{HeaderValue, is_universal}
 use Rattle.tlv_head.specs.UniversalTypes as types
 use Rattle.tlv_head.specs.declared.kind.Kind.TheVariants.{Utf8}
 use Rattle.std.specs.Str.{is_utf8}
+use Rattle.tlv_value.proofs.CheckLemmas.ClearStrings.{all-allowed, fours-kept, twos-kept}
+use Rattle.tlv_value.proofs.CheckLemmas.DatesNoted.{date-kept}
 use Rattle.tlv_value.proofs.CheckLemmas.EachNoted.{nothing-noted}
 use Rattle.tlv_value.proofs.CheckLemmas.LastAndPadded.{last_of_all, padded_of_all}
 use Rattle.tlv_value.proofs.CheckLemmas.Utf8ByRow.{rows-formed_at}
@@ -71,30 +76,74 @@ identifier-same c =
 
 relative-same : (c : List ℕ) → Same 13 c
 relative-same c =
-    ap₂ (λ (is_padded : Bool) (last : ℕ). finding_if is_padded B11 ++ (finding_if (nat_le 128 last) B12 ++ []))
+    ap₂ (λ (is_padded : Bool) (last : ℕ). finding_if is_padded B11
+    ++ (finding_if (nat_le 128 last) B12 ++ (finding_if (length c == 0) B24 ++ [])))
     (sym (padded_of_all c)) (sym (last_of_all c))
 
 -- a time of at most 64 octets is noted as it is
-time-by : (short : Bool) (form canonical : Form) (c time : List ℕ) → (short ≡ true → time ≡ c)
+time-by : (short : Bool) (form canonical : Form) (has_day : List ℕ → Bool) (c time : List ℕ) → (short ≡ true → time ≡ c)
     → finding_if (short && not (has_form form c)) B19
-    ++ (finding_if (short && has_form form c && not (has_form canonical c)) S04 ++ [])
+    ++ (finding_if (short && has_form form c && not (has_day c)) B26
+    ++ (finding_if (short && has_form form c && not (has_form canonical c)) S04 ++ []))
     ≡ finding_if (short && not (has_form form time)) B19
-    ++ (finding_if (short && has_form form time && not (has_form canonical time)) S04 ++ [])
-time-by false form canonical c time e = refl
-time-by true form canonical c time e =
+    ++ (finding_if (short && has_form form time && not (has_day time)) B26
+    ++ (finding_if (short && has_form form time && not (has_form canonical time)) S04 ++ []))
+time-by false form canonical has_day c time e = refl
+time-by true form canonical has_day c time e =
     ap (λ (d : List ℕ). finding_if (not (has_form form d)) B19
-    ++ (finding_if (has_form form d && not (has_form canonical d)) S04 ++ []))
+    ++ (finding_if (has_form form d && not (has_day d)) B26
+    ++ (finding_if (has_form form d && not (has_form canonical d)) S04 ++ [])))
     (sym (e refl))
 
 utc-same : (c : List ℕ) → Same 23 c
 utc-same c =
-    time-by (nat_le (length c) 64) utc_time_form canonical_utc_time_form c (take 64 c)
+    time-by (nat_le (length c) 64) utc_time_form canonical_utc_time_form month_has_day_in_some_century c (take 64 c)
     (λ e. take_all 64 c (leb-true (length c) 64 e))
 
 general-same : (c : List ℕ) → Same 24 c
 general-same c =
-    time-by (nat_le (length c) 64) generalized_time_form canonical_generalized_time_form c (take 64 c)
+    time-by (nat_le (length c) 64) generalized_time_form canonical_generalized_time_form month_has_day c (take 64 c)
     (λ e. take_all 64 c (leb-true (length c) 64 e))
+
+-- dates: 64 octets are enough
+date-same : (c : List ℕ) → Same 31 c
+date-same c = ap (λ (is_one : Bool). finding_if (not is_one) B21 ++ []) (date-kept 31 c)
+
+time_of_day-same : (c : List ℕ) → Same 32 c
+time_of_day-same c = ap (λ (is_one : Bool). finding_if (not is_one) B21 ++ []) (date-kept 32 c)
+
+date_time-same : (c : List ℕ) → Same 33 c
+date_time-same c = ap (λ (is_one : Bool). finding_if (not is_one) B21 ++ []) (date-kept 33 c)
+
+-- strings of wide characters
+wide-by : (whole all wrong kept : Bool) → all ≡ true → wrong ≡ not kept
+    → finding_if (not (whole && all)) B18 ++ (finding_if wrong B25 ++ [])
+    ≡ finding_if (not (whole && true)) B18 ++ (finding_if (not kept) B25 ++ [])
+wide-by whole all wrong kept e f = rw (e, f) refl
+
+fours-same : (c : List ℕ) → Same 28 c
+fours-same c =
+    wide-by (are_whole_characters 28 (length c)) (list_all (allows_octet 28) c) (has_wrong_unit 28 c)
+    (are_characters_after 4 [] c) (all-allowed 28 (λ x. refl) c) (fours-kept c)
+
+twos-same : (c : List ℕ) → Same 30 c
+twos-same c =
+    wide-by (are_whole_characters 30 (length c)) (list_all (allows_octet 30) c) (has_wrong_unit 30 c)
+    (are_characters_after 2 [] c) (all-allowed 30 (λ x. refl) c) (twos-kept c)
+
+-- internationalized resource identifiers
+begins-noted : (x : ℕ) (c : List ℕ) → begins_with x c ≡ begins_with x (take 2 c)
+begins-noted x [] = refl
+begins-noted x (y ∷ c) = refl
+
+iri-same : (c : List ℕ) → Same 35 c
+iri-same c =
+    ap₂ (λ (text begins : Bool). finding_if (not (text && begins)) B23 ++ [])
+    (sym (rows-formed_at c)) (begins-noted 0x2f c)
+
+relative_iri-same : (c : List ℕ) → Same 36 c
+relative_iri-same c =
+    ap (λ (text : Bool). finding_if (not (text && not (length c == 0))) B23 ++ []) (sym (rows-formed_at c))
 
 -- any other type
 allowed-each : (n : ℕ) (c : List ℕ) (text : Bool)
@@ -107,84 +156,120 @@ allowed-each : (n : ℕ) (c : List ℕ) (text : Bool)
 allowed-each n c true = ap (λ (f : Bool). f && list_all (allows_octet n) c) (rows-formed_at c)
 allowed-each n c false = refl
 
-other-allowed : (n : ℕ) (c : List ℕ) → eqb n 1 ≡ false → eqb n 2 ≡ false → eqb n 3 ≡ false → eqb n 10 ≡ false
-    → eqb n 23 ≡ false → eqb n 24 ≡ false
-    → is_allowed (with_octets_noted (new_value_check_of n (length c)) c) ≡ allows n c
-other-allowed n c e1 e2 e3 e10 e23 e24 = rw (e1, e2, e3, e10, e23, e24) (by (notes_each n) refl)
+-- the number is that of no type with findings of its own
+pub record IsOther (n : ℕ) : Type 0 where
+  pub e1 : eqb n 1 ≡ false
+  pub e2 : eqb n 2 ≡ false
+  pub e3 : eqb n 3 ≡ false
+  pub e5 : eqb n 5 ≡ false
+  pub e6 : eqb n 6 ≡ false
+  pub e10 : eqb n 10 ≡ false
+  pub e13 : eqb n 13 ≡ false
+  pub e23 : eqb n 23 ≡ false
+  pub e24 : eqb n 24 ≡ false
+  pub e28 : eqb n 28 ≡ false
+  pub e30 : eqb n 30 ≡ false
+  pub e31 : eqb n 31 ≡ false
+  pub e32 : eqb n 32 ≡ false
+  pub e33 : eqb n 33 ≡ false
+  pub e35 : eqb n 35 ≡ false
+  pub e36 : eqb n 36 ≡ false
+
+-- of such a type nothing is noted but what must be known of each octet
+abbrev each-noted : ℕ → List ℕ → Bool → ValueCheckState
+each-noted n c each =
+    if each then with_each_noted (new_value_check_of n (length c)) c else new_value_check_of n (length c)
+
+other-noted : (n : ℕ) (c : List ℕ) → IsOther n → all_noted n c ≡ each-noted n c (notes_each n)
+other-noted n c o =
+    rw (o.e1, o.e2, o.e3, o.e10, o.e23, o.e24, o.e28, o.e30, o.e31, o.e32, o.e33, o.e35, o.e36) refl
+
+other-allowed : (n : ℕ) (c : List ℕ) → IsOther n → is_allowed (all_noted n c) ≡ allows n c
+other-allowed n c o = ap is_allowed (other-noted n c o) ∙ by (notes_each n) refl
   where
     by : (k : Bool) → notes_each n ≡ k
-        → is_allowed
-        (if k then with_each_noted (new_value_check_of n (length c)) c else new_value_check_of n (length c))
-        ≡ allows n c
+        → is_allowed (each-noted n c k) ≡ allows n c
     by true e = allowed-each n c (eqb n 12)
     by false e = ap is_allowed (sym (nothing-noted (new_value_check_of n (length c)) c e)) ∙ allowed-each n c (eqb n 12)
 
-abbrev on_characters : ℕ → Bool → List Finding
+abbrev pub on_characters : ℕ → Bool → List Finding
 on_characters n allowed = finding_if (is_number_of character_types n && not allowed) B18 ++ []
 
-other-by : (n : ℕ) (c : List ℕ) (s : ValueCheckState) → eqb n 1 ≡ false → eqb n 2 ≡ false → eqb n 3 ≡ false
-    → eqb n 5 ≡ false → eqb n 6 ≡ false → eqb n 10 ≡ false → eqb n 13 ≡ false → eqb n 23 ≡ false → eqb n 24 ≡ false
+pub other-by : (n : ℕ) (c : List ℕ) (s : ValueCheckState) → IsOther n
     → (type_findings n c ≡ on_characters n (allows n c))
     × (findings_by (kept_conditions n s) ≡ on_characters n (is_allowed s))
-other-by n c s e1 e2 e3 e5 e6 e10 e13 e23 e24 = rw (e1, e2, e3, e5, e6, e10, e13, e23, e24) (refl, refl)
+other-by n c s o =
+    rw (
+      o.e1,
+      o.e2,
+      o.e3,
+      o.e5,
+      o.e6,
+      o.e10,
+      o.e13,
+      o.e23,
+      o.e24,
+      o.e28,
+      o.e30,
+      o.e31,
+      o.e32,
+      o.e33,
+      o.e35,
+      o.e36,
+    ) (refl, refl)
 
-other-same : (n : ℕ) (c : List ℕ) → eqb n 1 ≡ false → eqb n 2 ≡ false → eqb n 3 ≡ false → eqb n 5 ≡ false
-    → eqb n 6 ≡ false → eqb n 10 ≡ false → eqb n 13 ≡ false → eqb n 23 ≡ false → eqb n 24 ≡ false
-    → Same n c
-other-same n c e1 e2 e3 e5 e6 e10 e13 e23 e24 =
-    let both = other-by n c (all_noted n c) e1 e2 e3 e5 e6 e10 e13 e23 e24 in
-    both.0 ∙ ap (on_characters n) (sym (other-allowed n c e1 e2 e3 e10 e23 e24)) ∙ sym both.1
+other-same : (n : ℕ) (c : List ℕ) → IsOther n → Same n c
+other-same n c o =
+    let both = other-by n c (all_noted n c) o in
+    both.0 ∙ ap (on_characters n) (sym (other-allowed n c o)) ∙ sym both.1
 
 -- ---- all types
 
 by-number : (n k : ℕ) (c : List ℕ) → Same k c → eqb n k ≡ true → Same n c
 by-number n k c same e = subst (λ (m : ℕ). Same m c) (sym (eqb-true n k e)) same
 
-from-24 : (n : ℕ) (c : List ℕ) (test : Bool) → eqb n 24 ≡ test → eqb n 1 ≡ false → eqb n 2 ≡ false → eqb n 3 ≡ false
-    → eqb n 5 ≡ false → eqb n 6 ≡ false → eqb n 10 ≡ false → eqb n 13 ≡ false → eqb n 23 ≡ false → Same n c
-from-24 n c true e e1 e2 e3 e5 e6 e10 e13 e23 = by-number n 24 c (general-same c) e
-from-24 n c false e e1 e2 e3 e5 e6 e10 e13 e23 = other-same n c e1 e2 e3 e5 e6 e10 e13 e23 e
-
-from-23 : (n : ℕ) (c : List ℕ) (test : Bool) → eqb n 23 ≡ test → eqb n 1 ≡ false → eqb n 2 ≡ false → eqb n 3 ≡ false
-    → eqb n 5 ≡ false → eqb n 6 ≡ false → eqb n 10 ≡ false → eqb n 13 ≡ false → Same n c
-from-23 n c true e e1 e2 e3 e5 e6 e10 e13 = by-number n 23 c (utc-same c) e
-from-23 n c false e e1 e2 e3 e5 e6 e10 e13 = from-24 n c (eqb n 24) refl e1 e2 e3 e5 e6 e10 e13 e
-
-from-13 : (n : ℕ) (c : List ℕ) (test : Bool) → eqb n 13 ≡ test → eqb n 1 ≡ false → eqb n 2 ≡ false → eqb n 3 ≡ false
-    → eqb n 5 ≡ false → eqb n 6 ≡ false → eqb n 10 ≡ false → Same n c
-from-13 n c true e e1 e2 e3 e5 e6 e10 = by-number n 13 c (relative-same c) e
-from-13 n c false e e1 e2 e3 e5 e6 e10 = from-23 n c (eqb n 23) refl e1 e2 e3 e5 e6 e10 e
-
-from-10 : (n : ℕ) (c : List ℕ) (test : Bool) → eqb n 10 ≡ test → eqb n 1 ≡ false → eqb n 2 ≡ false → eqb n 3 ≡ false
-    → eqb n 5 ≡ false → eqb n 6 ≡ false → Same n c
-from-10 n c true e e1 e2 e3 e5 e6 = by-number n 10 c (integer-by c) e
-from-10 n c false e e1 e2 e3 e5 e6 = from-13 n c (eqb n 13) refl e1 e2 e3 e5 e6 e
-
-from-6 : (n : ℕ) (c : List ℕ) (test : Bool) → eqb n 6 ≡ test → eqb n 1 ≡ false → eqb n 2 ≡ false → eqb n 3 ≡ false
-    → eqb n 5 ≡ false → Same n c
-from-6 n c true e e1 e2 e3 e5 = by-number n 6 c (identifier-same c) e
-from-6 n c false e e1 e2 e3 e5 = from-10 n c (eqb n 10) refl e1 e2 e3 e5 e
-
-from-5 : (n : ℕ) (c : List ℕ) (test : Bool) → eqb n 5 ≡ test → eqb n 1 ≡ false → eqb n 2 ≡ false → eqb n 3 ≡ false
-    → Same n c
-from-5 n c true e e1 e2 e3 = by-number n 5 c refl e
-from-5 n c false e e1 e2 e3 = from-6 n c (eqb n 6) refl e1 e2 e3 e
-
-from-3 : (n : ℕ) (c : List ℕ) (test : Bool) → eqb n 3 ≡ test → eqb n 1 ≡ false → eqb n 2 ≡ false → Same n c
-from-3 n c true e e1 e2 = by-number n 3 c (bits-same c) e
-from-3 n c false e e1 e2 = from-5 n c (eqb n 5) refl e1 e2 e
-
-from-2 : (n : ℕ) (c : List ℕ) (test : Bool) → eqb n 2 ≡ test → eqb n 1 ≡ false → Same n c
-from-2 n c true e e1 = by-number n 2 c (integer-by c) e
-from-2 n c false e e1 = from-3 n c (eqb n 3) refl e1 e
-
-from-1 : (n : ℕ) (c : List ℕ) (test : Bool) → eqb n 1 ≡ test → Same n c
-from-1 n c true e = by-number n 1 c (boolean-same c) e
-from-1 n c false e = from-2 n c (eqb n 2) refl e
+-- the number is that of this type, or it is that of another one
+type-by : (n k : ℕ) (c : List ℕ) (test : Bool) → eqb n k ≡ test → Same k c → (eqb n k ≡ false → Same n c) → Same n c
+type-by n k c true e same other = by-number n k c same e
+type-by n k c false e same other = other e
 
 -- of the type with this number
 pub noted-same : (n : ℕ) (c : List ℕ) → Same n c
-noted-same n c = from-1 n c (eqb n 1) refl
+noted-same n c =
+    type-by n 1 c (eqb n 1) refl (boolean-same c) (λ e1.
+    type-by n 2 c (eqb n 2) refl (integer-by c) (λ e2.
+    type-by n 3 c (eqb n 3) refl (bits-same c) (λ e3.
+    type-by n 5 c (eqb n 5) refl refl (λ e5.
+    type-by n 6 c (eqb n 6) refl (identifier-same c) (λ e6.
+    type-by n 10 c (eqb n 10) refl (integer-by c) (λ e10.
+    type-by n 13 c (eqb n 13) refl (relative-same c) (λ e13.
+    type-by n 23 c (eqb n 23) refl (utc-same c) (λ e23.
+    type-by n 24 c (eqb n 24) refl (general-same c) (λ e24.
+    type-by n 28 c (eqb n 28) refl (fours-same c) (λ e28.
+    type-by n 30 c (eqb n 30) refl (twos-same c) (λ e30.
+    type-by n 31 c (eqb n 31) refl (date-same c) (λ e31.
+    type-by n 32 c (eqb n 32) refl (time_of_day-same c) (λ e32.
+    type-by n 33 c (eqb n 33) refl (date_time-same c) (λ e33.
+    type-by n 35 c (eqb n 35) refl (iri-same c) (λ e35.
+    type-by n 36 c (eqb n 36) refl (relative_iri-same c) (λ e36.
+    other-same n c (record {
+      e1 = e1;
+      e2 = e2;
+      e3 = e3;
+      e5 = e5;
+      e6 = e6;
+      e10 = e10;
+      e13 = e13;
+      e23 = e23;
+      e24 = e24;
+      e28 = e28;
+      e30 = e30;
+      e31 = e31;
+      e32 = e32;
+      e33 = e33;
+      e35 = e35;
+      e36 = e36;
+    })))))))))))))))))
 
 -- ---- another class
 

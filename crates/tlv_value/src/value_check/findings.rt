@@ -1,13 +1,15 @@
 //! The findings on contents, from what was noted of them.
-ghost use Rattle.std.specs.Prelude.{◌≡◌, ◌<◌, ◌≤◌, ◌%◌, ◌^◌, ◌++◌, [], eqb, length, not};
-ghost use Rattle.tlv_head.specs.UniversalTypes.{bit_string, boolean};
+ghost use Rattle.std.specs.Prelude.{◌≡◌, ◌<◌, ◌≤◌, ◌%◌, ◌^◌, ◌++◌, ◌∷◌, [], eqb, length, not};
+ghost use Rattle.tlv_head.specs.UniversalTypes.{bit_string, boolean, generalized_time, utc_time, utf8_string};
 ghost use Rattle.tlv_value.specs.Checks.{finding_if, findings_by};
 ghost use Rattle.tlv_value.specs.Private.TimeFindings.{time_findings};
-ghost use Rattle.tlv_value.specs.Types.{character_types, is_number_of};
-ghost use Rattle.tlv_value.specs.ValueCheckState.{findings_in, kept_conditions};
+ghost use Rattle.tlv_value.specs.Types.{is_number_of, tested_string_types};
+ghost use Rattle.tlv_value.specs.ValueCheckState.{findings_in, is_allowed, is_kept_date, is_kept_iri};
+ghost use Rattle.tlv_value.specs.ValueCheckState.{kept_conditions};
 
-use super::ValueCheck;
+use super::{ValueCheck, both, is_utf8};
 use crate::Finding;
+use crate::dates::{is_date_or_time, month_has_day, month_has_day_in_some_century};
 use crate::time::{general_canonical, general_ok, utc_canonical, utc_ok};
 use arrayvec::ArrayVec;
 use tlv_head::universal;
@@ -34,25 +36,60 @@ impl ValueCheck {
             universal::RELATIVE_OID => {
                 add_if(self.is_padded, Finding::B11, &mut found);
                 add_if(self.last >= 128, Finding::B12, &mut found);
+                add_if(self.size == 0, Finding::B24, &mut found);
             }
-            universal::UTC_TIME => {
-                if self.size <= 64 {
-                    let time = self.time.as_slice();
-                    add_time_findings(utc_ok(time), utc_canonical(time), &mut found);
-                }
+            universal::UTC_TIME => self.add_utc_time_findings(&mut found),
+            universal::GENERALIZED_TIME => self.add_generalized_time_findings(&mut found),
+            universal::DATE | universal::TIME_OF_DAY | universal::DATE_TIME => {
+                add_if(!self.is_date_or_time(), Finding::B21, &mut found);
             }
-            universal::GENERALIZED_TIME => {
-                if self.size <= 64 {
-                    let time = self.time.as_slice();
-                    add_time_findings(general_ok(time), general_canonical(time), &mut found);
-                }
+            universal::OID_IRI | universal::RELATIVE_OID_IRI => {
+                add_if(!self.is_iri(), Finding::B23, &mut found);
             }
-            number if is_character_type(number) => {
+            universal::UNIVERSAL_STRING | universal::BMP_STRING => {
+                add_if(!self.is_allowed(), Finding::B18, &mut found);
+                add_if(!self.are_characters, Finding::B25, &mut found);
+            }
+            number if is_tested_string_type(number) => {
                 add_if(!self.is_allowed(), Finding::B18, &mut found);
             }
             _ => {}
         }
         found
+    }
+
+    /// Whether the type allows the characters of the contents.
+    #[inline(always)]
+    fn is_allowed(&self) -> bool
+        ensures { result ≡ is_allowed self.now }
+    {
+        let all = match self.number {
+            universal::UTF8_STRING => both(self.are_full_rows_utf8, is_utf8(self.row.as_slice())),
+            universal::BMP_STRING => self.size % 2 == 0,
+            universal::UNIVERSAL_STRING => self.size % 4 == 0,
+            _ => true,
+        };
+        both(all, self.are_octets_allowed)
+    }
+
+    /// Whether the contents of an OID-IRI or RELATIVE-OID-IRI are UTF-8, and begin as they have to (8.21, 8.22).
+    fn is_iri(&self) -> bool
+        ensures { result ≡ is_kept_iri self.now.number self.now }
+    {
+        let begins = if self.number == universal::OID_IRI {
+            self.known != 0 && self.first == b'/'
+        } else {
+            self.size != 0
+        };
+        let is_utf8 = both(self.are_full_rows_utf8, is_utf8(self.row.as_slice()));
+        both(is_utf8, begins)
+    }
+
+    /// Whether the contents are those of a DATE, TIME-OF-DAY or DATE-TIME, the type that the check is of (8.26).
+    fn is_date_or_time(&self) -> bool
+        ensures { result ≡ is_kept_date self.now.number self.now }
+    {
+        self.size <= 64 && is_date_or_time(self.number, self.time.as_slice())
     }
 
     /// Adds the findings on the contents of a BOOLEAN.
@@ -67,6 +104,30 @@ impl ValueCheck {
             Finding::S02,
             found,
         );
+    }
+
+    /// Adds the findings on the contents of a UTCTime.
+    fn add_utc_time_findings(&self, found: &mut ArrayVec<Finding, 16>)
+        requires { found.old.items ≡ [] }
+        ensures { found.new.items ≡ findings_by (kept_conditions utc_time self.now) }
+    {
+        if self.size <= 64 {
+            let time = self.time.as_slice();
+            let has_day = month_has_day_in_some_century(time);
+            add_time_findings(utc_ok(time), has_day, utc_canonical(time), found);
+        }
+    }
+
+    /// Adds the findings on the contents of a GeneralizedTime.
+    fn add_generalized_time_findings(&self, found: &mut ArrayVec<Finding, 16>)
+        requires { found.old.items ≡ [] }
+        ensures { found.new.items ≡ findings_by (kept_conditions generalized_time self.now) }
+    {
+        if self.size <= 64 {
+            let time = self.time.as_slice();
+            let has_day = month_has_day(time);
+            add_time_findings(general_ok(time), has_day, general_canonical(time), found);
+        }
     }
 
     /// Adds the findings on the contents of a BIT STRING.
@@ -90,9 +151,9 @@ impl ValueCheck {
     }
 }
 
-/// Whether the type with this number is a string whose characters are checked.
-fn is_character_type(number: u64) -> bool
-    ensures { result ≡ is_number_of character_types number }
+/// Whether the type with this number is a string of characters of one octet, or UTF8String.
+fn is_tested_string_type(number: u64) -> bool
+    ensures { result ≡ is_number_of (utf8_string ∷ tested_string_types) number }
 {
     matches!(
         number,
@@ -101,8 +162,6 @@ fn is_character_type(number: u64) -> bool
             | universal::PRINTABLE_STRING
             | universal::IA5_STRING
             | universal::VISIBLE_STRING
-            | universal::UNIVERSAL_STRING
-            | universal::BMP_STRING
     )
 }
 
@@ -117,11 +176,17 @@ fn add_if(there: bool, finding: Finding, found: &mut ArrayVec<Finding, 16>)
 }
 
 /// Adds the findings on a time.
-fn add_time_findings(of_grammar: bool, is_canonical: bool, found: &mut ArrayVec<Finding, 16>)
-    requires { length found.old.items < 16 }
-    ensures { found.new.items ≡ found.old.items ++ time_findings of_grammar is_canonical }
+fn add_time_findings(
+    of_grammar: bool,
+    has_day: bool,
+    is_canonical: bool,
+    found: &mut ArrayVec<Finding, 16>,
+)
+    requires { length found.old.items < 15 }
+    ensures { found.new.items ≡ found.old.items ++ time_findings of_grammar has_day is_canonical }
 {
     if of_grammar {
+        add_if(!has_day, Finding::B26, found);
         add_if(!is_canonical, Finding::S04, found);
     } else {
         found.push(Finding::B19);

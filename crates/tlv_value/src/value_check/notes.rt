@@ -1,7 +1,7 @@
 //! What is noted of contents octets while they come.
 ghost use Rattle.std.specs.Prelude.{◌≡◌, ◌++◌, take};
 ghost use Rattle.tlv_value.specs.ValueCheckState.{is_padded_after, is_padded_with, last_octet_after, notes_each};
-ghost use Rattle.tlv_value.specs.ValueCheckState.{notes_first, notes_time};
+ghost use Rattle.tlv_value.specs.ValueCheckState.{notes_first, notes_iri, notes_time, notes_units};
 
 use arrayvec::ArrayVec;
 use tlv_head::universal;
@@ -35,12 +35,35 @@ pub(super) fn notes_each(number: u64) -> bool
     )
 }
 
-/// Whether the type with this universal number is one of the two times.
+/// Whether the type with this universal number is one of the two times, or DATE, TIME-OF-DAY or DATE-TIME.
 #[inline(always)]
 pub(super) fn notes_time(number: u64) -> bool
     ensures { result ≡ notes_time number }
 {
-    matches!(number, universal::UTC_TIME | universal::GENERALIZED_TIME)
+    matches!(
+        number,
+        universal::UTC_TIME
+            | universal::GENERALIZED_TIME
+            | universal::DATE
+            | universal::TIME_OF_DAY
+            | universal::DATE_TIME
+    )
+}
+
+/// Whether the type with this universal number is BMPString or UniversalString.
+#[inline(always)]
+pub(super) fn notes_units(number: u64) -> bool
+    ensures { result ≡ notes_units number }
+{
+    matches!(number, universal::UNIVERSAL_STRING | universal::BMP_STRING)
+}
+
+/// Whether the type with this universal number is OID-IRI or RELATIVE-OID-IRI.
+#[inline(always)]
+pub(super) fn notes_iri(number: u64) -> bool
+    ensures { result ≡ notes_iri number }
+{
+    matches!(number, universal::OID_IRI | universal::RELATIVE_OID_IRI)
 }
 
 /// The last of the octets, or `previous` if there are none.
@@ -78,7 +101,7 @@ pub(crate) fn is_padded_after(previous: u8, octets: &[u8]) -> bool
     false
 }
 
-/// Keeps the first octets of a time.
+/// Keeps the first octets of a time or date.
 #[inline(never)]
 pub(super) fn note_time(time: &mut ArrayVec<u8, 64>, octets: &[u8])
     ensures { time.new.items ≡ take 64 (time.old.items ++ octets.now) }

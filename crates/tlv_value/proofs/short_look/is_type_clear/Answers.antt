@@ -6,8 +6,12 @@ pub returns-in-12-clause-contents : goal.returns-in-12-clause-contents
 returns-in-12-clause-contents c =
     λ h. rw c.in-12.is (utf8-clear c.args.contents.now (sym c.is_utf8.ensures ∙ h))
 
-pub returns-in-28-clause-contents : goal.returns-in-28-clause-contents
-returns-in-28-clause-contents c = λ h. rw c.in-28.is (fours-clear c.args.contents.now h)
+pub returns-then-contents-eq0-clause-contents : goal.returns-then-contents-eq0-clause-contents
+returns-then-contents-eq0-clause-contents c =
+    λ h. rw c.in-28.is
+    (fours-clear c.args.contents.now c.if-contents-eq0.true (sym c.are_characters_of_four.ensures ∙ h))
 
-pub returns-in-30-clause-contents : goal.returns-in-30-clause-contents
-returns-in-30-clause-contents c = λ h. rw c.in-30.is (twos-clear c.args.contents.now h)
+pub returns-then-contents-eq0-2-clause-contents : goal.returns-then-contents-eq0-2-clause-contents
+returns-then-contents-eq0-2-clause-contents c =
+    λ h. rw c.in-30.is
+    (twos-clear c.args.contents.now c.if-contents-eq0-2.true (sym c.are_characters_of_two.ensures ∙ h))

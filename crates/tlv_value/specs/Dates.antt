@@ -1,0 +1,54 @@
+-- Dates: which days a month has, and the forms of DATE, TIME-OF-DAY and DATE-TIME (X.690 8.26, X.680 38).
+use Rattle.std.specs.Prelude.{ℕ, ◌+◌, ◌*◌, ◌%◌, Bool, false, ◌&&◌, ◌||◌, not, ◌==◌, nat_le}
+use Rattle.std.specs.Prelude.{if◌then◌else◌, List, [], ◌∷◌}
+use Rattle.std.specs.List.{list_any}
+use Rattle.tlv_head.specs.UniversalTypes as universal
+use Rattle.tlv_value.specs.Times.{Form, has_form, minute, month_and_day, two_digit_number, two_digits, ◌then◌}
+
+-- the Gregorian calendar: 4 divides a leap year, and 100 does not, or 400 does
+abbrev pub is_leap_year : ℕ → Bool
+is_leap_year year = year % 4 == 0 && (not (year % 100 == 0) || year % 400 == 0)
+
+-- April, June, September, November
+abbrev pub has_thirty_days : ℕ → Bool
+has_thirty_days month = month == 4 || month == 6 || month == 9 || month == 11
+
+-- the last day of a month, in a leap year or in another year
+abbrev pub last_day : Bool → ℕ → ℕ
+last_day is_leap month =
+    if month == 2 then (if is_leap then 29 else 28) else if has_thirty_days month then 30 else 31
+
+-- in a text that begins with YYYYMMDD: the month has the day
+abbrev pub month_has_day : List ℕ → Bool
+month_has_day (a ∷ b ∷ c ∷ d ∷ e ∷ f ∷ g ∷ h ∷ text) =
+    nat_le (two_digit_number g h)
+    (last_day (is_leap_year (100 * two_digit_number a b + two_digit_number c d)) (two_digit_number e f))
+month_has_day text = false
+
+-- in a text that begins with YYMMDD: the month has the day in some century. If 4 divides YY, it divides the year, and
+-- there is a century in which the year is a leap year
+abbrev pub month_has_day_in_some_century : List ℕ → Bool
+month_has_day_in_some_century (c ∷ d ∷ e ∷ f ∷ g ∷ h ∷ text) =
+    nat_le (two_digit_number g h) (last_day (two_digit_number c d % 4 == 0) (two_digit_number e f))
+month_has_day_in_some_century text = false
+
+-- ---- 8.26
+
+-- hhmmss
+abbrev pub time_of_day_form : Form
+time_of_day_form = two_digits 0 23 then minute then two_digits 0 59
+
+-- YYYYMMDD
+abbrev pub date_form : Form
+date_form = two_digits 0 99 then two_digits 0 99 then month_and_day
+
+-- YYYYMMDDhhmmss
+abbrev pub date_time_form : Form
+date_time_form = date_form then time_of_day_form
+
+-- 8.26: the contents of a DATE, TIME-OF-DAY or DATE-TIME, the type with this number, are such a date or time
+abbrev pub is_date_or_time : ℕ → List ℕ → Bool
+is_date_or_time number contents =
+    if number == universal.time_of_day then has_form time_of_day_form contents
+    else has_form (if number == universal.date then date_form else date_time_form) contents
+    && month_has_day contents
