@@ -1,7 +1,8 @@
 """Runs tlvdump-show on the rows of tests/show_rows and tests/rows.
 
 Each row is run on a pipe, on a file as standard input, and on FILE. Rows of tests/rows are run with --closed and
---no-text, which gives what the row says, and without these options, which gives what the second opinion expects.
+--no-text, which gives what the row says, unless tlvdump-show has more findings in it, and without these options, which
+gives what the second opinion expects.
 Further tests have strings of each size, and strings within strings.
 """
 import os
@@ -11,7 +12,8 @@ import subprocess
 from parts.harness import Done, message
 from parts.row_files import files
 from parts.show_program import Program
-from second_opinion.findings import shortest
+from second_opinion.commands import Options, Values, answer
+from second_opinion.findings import LETTERS, shortest
 from second_opinion.opened import Strings
 
 NULL = b"\x05\x00"
@@ -54,6 +56,15 @@ def words_of(row):
     return {"dump": [*rest, "--no-text", "--closed"], "check": ["--check", *rest, "--closed"]}.get(command)
 
 
+def has_more_findings(row):
+    """Returns whether the lines of a row lack findings that tlvdump-show alone looks for."""
+    rules = [word for word in row.words if word in LETTERS] or [word[8:] for word in row.words if word.startswith("--rules=")]
+    values = Values(rules[0] if rules else "ber" if row.words[0] == "dump" else "der", 0, 0, [])
+    one, other = (answer(Options("check", padding="--padding" in row.words, all_findings=more), values, {}, row.given)
+                  for more in (False, True))
+    return one.out != other.out
+
+
 def octets_of(text):
     """Returns the octets that a cell of a table of docs/FORMAT.md describes: `30 80` 127 times, `05 00`."""
     found = re.findall(r"`([0-9a-f ]+)`(?: (\d+) times)?", text)
@@ -80,6 +91,8 @@ def rows_of_tlvdump(part, program):
             if row.names is not None:
                 part.write("names", row.names)
             words = words_of(row)
+            if words and has_more_findings(row):
+                words = None
             if words:
                 said = program.with_reasons(row.message, row.given, *words)
                 wanted = Done(row.status, row.out, message(said))

@@ -7,7 +7,7 @@ from contextlib import ExitStack
 from unittest.mock import patch
 
 from parts.row_files import files
-from second_opinion import opened, showing
+from second_opinion import opened, show_findings, showing
 from second_opinion.names import read_names
 from second_opinion.reading import BIT_STRING, Reading
 
@@ -56,6 +56,12 @@ def is_clean_by_rules(element):
     """Returns whether an element of any class has no finding of BER."""
     found = opened.findings
     return not found.of_header(element, None, None, "ber") + found.of_end(element, "ber")
+
+
+def is_clean_by_all_findings(element):
+    """Returns whether an element has none of all the findings of BER that tlvdump-show looks for."""
+    found = show_findings.of_header(element, None, None, "ber") + show_findings.of_end(b"", element, None, None, "ber")
+    return element.tag_class == 0 and not found
 
 
 def all_inner_octets(string):
@@ -116,6 +122,7 @@ WRONG = [
     ("opens segments of many", [(opened, "is_segment", lambda parent: False)]),
     ("opens no segment", [(opened, "is_only_segment", lambda parent: False)]),
     ("opens 80 12 ..", [(opened, "is_clean", is_clean_by_rules)]),
+    ("opens nothing that has a finding of tlvdump-show alone", [(opened, "is_clean", is_clean_by_all_findings)]),
     ("opens what has findings", [(opened, "is_clean", lambda element: element.tag_class == 0)]),
     ("skips what is inside an opened string", [(showing, "Strings", NotInside)]),
     ("takes a BIT STRING with unused bits", [(opened, "inner_octets", all_inner_octets)]),

@@ -2,7 +2,7 @@
 import re
 from dataclasses import dataclass
 
-from second_opinion import findings, values
+from second_opinion import findings, show_findings, values
 from second_opinion.reading import Padding, Reading
 
 FAULTS = {
@@ -30,7 +30,8 @@ class Refused(Exception):
 class Options:
     """The options of a command. A value is the text in the words, or None if it is not given.
 
-    The names file and FILE can be opened, unless no file has their name or it is too long for the system.
+    The names file and FILE can be opened, unless no file has their name or it is too long for the system. With `text`
+    there is text beside pairs, and with `all_findings` the findings of tlvdump-show alone are looked for, too.
     """
 
     command: str
@@ -43,6 +44,7 @@ class Options:
     inside: str | None = None
     padding: bool = False
     text: bool = False
+    all_findings: bool = False
     names_open: bool = True
     file_opens: bool = True
 
@@ -109,7 +111,7 @@ def answer(options, given, known, octets):
         return extract(reading, given.offset, options.contents)
     if options.command == "indef":
         return ending(reading, [], 0, indef(reading, reading.items))
-    report = Report(options, given, known)
+    report = Report(options, given, known, octets)
     report.siblings(reading.items, None, 0)
     return ending(reading, given.inside, report.found, "".join(report.lines).encode())
 
@@ -142,10 +144,11 @@ def ending(reading, inside, found, out):
 class Report:
     """Collects the lines of `dump` or `check`, and counts the findings."""
 
-    def __init__(self, options, given, known):
-        """Begins a report with the options, their values, and the names."""
+    def __init__(self, options, given, known, octets):
+        """Begins a report with the options, their values, the names, and the input."""
         self.is_check, self.pure, self.text = options.command == "check", options.pure, options.text
         self.rules, self.limit, self.known = given.rules, given.limit, known
+        self.octets, self.all_findings = octets, options.all_findings
         self.lines, self.found = [], 0
 
     def line(self, level, text, offset=None, middle=""):
@@ -160,9 +163,9 @@ class Report:
         self.found += len(codes)
         for code in codes:
             if self.is_check:
-                self.lines.append(f"{element.offset} {code} {findings.TEXTS[code]}\n")
+                self.lines.append(f"{element.offset} {code} {show_findings.TEXTS[code]}\n")
             elif not self.pure:
-                self.line(level, findings.TEXTS[code], element.offset, code)
+                self.line(level, show_findings.TEXTS[code], element.offset, code)
 
     def siblings(self, items, parent, level):
         """Adds the lines of elements and padding that follow each other."""
@@ -176,12 +179,16 @@ class Report:
 
     def element(self, element, parent, previous, level):
         """Adds the findings on the header, the lines of the element, and the findings on the whole element."""
-        self.findings(element, level, findings.of_header(element, parent, previous, self.rules))
+        finder = show_findings if self.all_findings else findings
+        self.findings(element, level, finder.of_header(element, parent, previous, self.rules))
         if element.opens():
             self.opened(element, level)
         else:
             self.primitive(element, level)
-        self.findings(element, level, findings.of_end(element, self.rules))
+        if self.all_findings:
+            self.findings(element, level, show_findings.of_end(self.octets, element, parent, previous, self.rules))
+        else:
+            self.findings(element, level, findings.of_end(element, self.rules))
 
     def opened(self, element, level):
         """Adds the lines of a constructed element or a wrapper (What follows the tag)."""

@@ -62,12 +62,17 @@ def of_header(element, parent, previous, rules):
 
     `parent` is the element that directly holds this one, `previous` the one before it there.
     """
+    return codes_by(header_conditions(element, parent, previous), rules)
+
+
+def header_conditions(element, parent, previous):
+    """Returns the conditions, by code, that are known after the header."""
     is_primitive, indefinite = not element.constructed, element.length is None
     high = element.identifier[1:]
     is_segment = parent is not None and parent.constructed and is_string(parent)
     follows = is_segment and previous is not None
     in_bits = is_segment and parent.is_universal(BIT_STRING)
-    return codes_by({
+    return {
         "B01": bool(high) and element.number < 31,
         "B02": bool(high) and high[0] & 0x7F == 0,
         "B03": element.tag_class == 0 and element.number not in values.TYPES,
@@ -82,7 +87,7 @@ def of_header(element, parent, previous, rules):
         "C02": is_primitive and is_string(element) and element.length > FULL,
         "C03": is_segment and element.constructed,
         "C04": follows and (previous.constructed or previous.length != FULL),
-    }, rules)
+    }
 
 
 def shortest(length):
@@ -100,11 +105,16 @@ def has_unused_bits(element):
 
 def of_end(element, rules):
     """Returns the codes that are known after the last octet of a primitive or of a constructed string."""
+    return codes_by(end_conditions(element), rules)
+
+
+def end_conditions(element):
+    """Returns the conditions, by code, that are known after the last octet of an element."""
     if element.wraps or element.end is None:
-        return []
+        return {}
     if element.constructed:
-        return codes_by(of_segments(element), rules) if is_string(element) else []
-    return codes_by(of_contents(element), rules)
+        return of_segments(element) if is_string(element) else {}
+    return of_contents(element)
 
 
 def of_segments(element):

@@ -1,5 +1,7 @@
-"""Draws inputs for tlvdump-show at random: nested strings, segments, broken strings, extensions, and texts."""
-from second_opinion import contents, drawing
+"""Draws inputs for tlvdump-show at random: nested strings, segments, broken strings, extensions, texts, and elements
+with findings.
+"""
+from second_opinion import contents, drawing, finding_drawing
 from second_opinion.drawing import BITS, OCTETS, SEQUENCE, SET, STRING_TYPES
 from second_opinion.findings import shortest
 
@@ -154,9 +156,11 @@ def chance(rng):
 def input_octets(rng):
     """Returns an input, and whether it is to be read with `--padding`."""
     choice = rng.random()
-    if choice < 0.15:
+    if choice < 0.12:
         return drawing.input_octets(rng)
-    if choice < 0.4:
+    if choice < 0.32:
+        octets = finding_drawing.input_octets(rng)
+    elif choice < 0.45:
         octets = nest(rng)
     elif choice < 0.55:
         octets = certificate(rng)

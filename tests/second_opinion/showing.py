@@ -176,7 +176,8 @@ def written(lines):
 
 def found_by(rules, octets, padding, inside):
     """Returns how many findings a check by these rules reports, with these strings opened."""
-    return len(answer(Options("check", padding=padding), Values(rules, 0, 0, inside), {}, octets).out.splitlines())
+    options = Options("check", padding=padding, all_findings=True)
+    return len(answer(options, Values(rules, 0, 0, inside), {}, octets).out.splitlines())
 
 
 def line_of(broken, fault):
@@ -195,7 +196,7 @@ def options_of(show):
     """Returns the options with which tlvdump writes the same."""
     command = {"dump": "dump", "check": "check", "offset": "extract"}[show.job]
     text = command == "dump" and not show.no_text
-    return Options(command, pure=show.pure, contents=show.contents, padding=show.padding, text=text)
+    return Options(command, pure=show.pure, contents=show.contents, padding=show.padding, text=text, all_findings=True)
 
 
 def values_of(show, opened):
