@@ -135,9 +135,9 @@ counted-all s (e ∷ es) =
 -- ---- no count stops
 
 -- a test keeps no more findings than there are
-kept-few : (p : Finding → Bool) (found : List Finding) → length (filter p found) ≤ length found
-kept-few p [] = omega arith
-kept-few p (x ∷ found) = one-more (p x) (kept-few p found)
+filter-few : (p : Finding → Bool) (found : List Finding) → length (filter p found) ≤ length found
+filter-few p [] = omega arith
+filter-few p (x ∷ found) = let e = one-more (p x) (filter-few p found) in omega (arith, e)
   where
     one-more : (k : Bool) → length (filter p found) ≤ length found
         → length (if k then x ∷ filter p found else filter p found) ≤ length found + 1
@@ -181,7 +181,7 @@ module _ (rules : Rules) where
 
   few-contents : (h : HeaderValue) (c : List ℕ) → length (contents_findings rules h c) ≤ 15
   few-contents h c =
-      omega (arith, kept-few (is_shown rules) (all_contents_findings h c), contents-few h c)
+      omega (arith, filter-few (is_shown rules) (all_contents_findings h c), contents-few h c)
 
   few-end : (h : HeaderValue) (inside : Forest) → length (end_findings rules h (headers inside)) ≤ 2
   few-end h inside = held-few rules (end_conditions h (headers inside))
