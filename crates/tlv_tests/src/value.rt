@@ -3,7 +3,9 @@
 mod beside;
 mod checks;
 mod drains;
+mod found_dates;
 mod found_rows;
+mod found_units;
 mod functions;
 mod layouts;
 mod lines;

@@ -2,6 +2,7 @@ pub mod NotedContents
 pub mod UnitsNoted
 pub mod DatesNoted
 pub mod KeptFindings
+pub mod FewFindings
 pub mod CheckPieces
 pub mod EachNoted
 pub mod Utf8ByRow

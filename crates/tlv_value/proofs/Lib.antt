@@ -1,5 +1,6 @@
 pub mod NamesRows
 pub mod ContentsRows
+pub mod LateRows
 pub mod PairRows
 pub mod CheckLemmas
 pub mod NamesLemmas

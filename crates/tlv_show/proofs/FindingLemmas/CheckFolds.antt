@@ -7,9 +7,10 @@ use Rattle.std.proofs.lemmas.List.Elements.{filter-append}
 use Rattle.std.proofs.lemmas.List.Sums.{length-filter}
 use Rattle.std.specs.List.{filter}
 use Rattle.std.specs.Prelude.{flat_map, Option, Some, None}
-use Rattle.tlv_head.specs.Header.{HeaderValue, is_universal, octets_of}
+use Rattle.tlv_head.specs.Header.{HeaderValue, octets_of}
 use Rattle.tlv_value.specs.declared.finding.Finding.{Finding}
-use Rattle.tlv_value.specs.Checks.{findings_by, type_conditions}
+use Rattle.tlv_value.specs.Checks.{all_contents_findings, findings_by}
+use Rattle.tlv_value.proofs.CheckLemmas.FewFindings.{contents-few}
 use Rattle.tlv_walk.specs.declared.follow.Go.TheVariants as go
 use Rattle.tlv_walk.specs.declared.framing.Framing.{Framing}
 use Rattle.tlv_walk.specs.Events.{Begin, Bytes, Close, End, Enter, EventValue, Leave, Open, Pad, Unused}
@@ -133,6 +134,16 @@ counted-all s (e ∷ es) =
 
 -- ---- no count stops
 
+-- a test keeps no more findings than there are
+filter-few : (p : Finding → Bool) (found : List Finding) → length (filter p found) ≤ length found
+filter-few p [] = omega arith
+filter-few p (x ∷ found) = let e = one-more (p x) (filter-few p found) in omega (arith, e)
+  where
+    one-more : (k : Bool) → length (filter p found) ≤ length found
+        → length (if k then x ∷ filter p found else filter p found) ≤ length found + 1
+    one-more true e = omega (arith, e)
+    one-more false e = omega (arith, e)
+
 -- of each condition one finding at most
 held-few : (rules : Rules) (rows : List (Bool × Finding))
     → length (filter (is_shown rules) (findings_by rows)) ≤ length rows
@@ -169,12 +180,8 @@ module _ (rules : Rules) where
   few-header s h = held-few rules (header_conditions s h)
 
   few-contents : (h : HeaderValue) (c : List ℕ) → length (contents_findings rules h c) ≤ 15
-  few-contents h c = by-class (is_universal h.class)
-    where
-      by-class : (universal : Bool)
-          → length (shown_findings rules (if universal then type_conditions h.number c else [])) ≤ 15
-      by-class true = held-few rules (type_conditions h.number c)
-      by-class false = omega arith
+  few-contents h c =
+      omega (arith, filter-few (is_shown rules) (all_contents_findings h c), contents-few h c)
 
   few-end : (h : HeaderValue) (inside : Forest) → length (end_findings rules h (headers inside)) ≤ 2
   few-end h inside = held-few rules (end_conditions h (headers inside))

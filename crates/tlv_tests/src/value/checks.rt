@@ -1,5 +1,7 @@
 //! Tests of the findings on contents, whatever the pieces.
+use super::found_dates::{CLOCKS, DATES, DAYS};
 use super::found_rows::{BITS, Found, NUMBERS, OBJECTS, STRINGS, TIMES};
+use super::found_units::{FOURS, IRIS, TWOS};
 use crate::expect::{expect_eq, expect_of};
 use crate::inputs::element_at;
 use arrayvec::ArrayVec;
@@ -64,6 +66,20 @@ fn expect_findings(rt: &impl Abort, rows: &[Found<'_>]) {
 #[test]
 fn contents_are_checked(rt: HostRuntime) {
     for rows in [NUMBERS.as_slice(), &BITS, &OBJECTS, &TIMES, &STRINGS] {
+        expect_findings(&rt, rows);
+    }
+}
+
+#[test]
+fn dates_are_checked(rt: HostRuntime) {
+    for rows in [DATES.as_slice(), &CLOCKS, &DAYS] {
+        expect_findings(&rt, rows);
+    }
+}
+
+#[test]
+fn units_and_identifiers_are_checked(rt: HostRuntime) {
+    for rows in [TWOS.as_slice(), &FOURS, &IRIS] {
         expect_findings(&rt, rows);
     }
 }

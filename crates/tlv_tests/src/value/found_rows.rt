@@ -62,7 +62,7 @@ pub(super) static BITS: [Found<'static>; 4] = [
     },
 ];
 
-pub(super) static OBJECTS: [Found<'static>; 5] = [
+pub(super) static OBJECTS: [Found<'static>; 6] = [
     Found {
         element: b"\x06\x02\x80\x01",
         findings: &[Finding::B11],
@@ -77,6 +77,10 @@ pub(super) static OBJECTS: [Found<'static>; 5] = [
     },
     Found {
         element: b"\x0d\x00",
+        findings: &[Finding::B24],
+    },
+    Found {
+        element: b"\x0d\x01\x05",
         findings: &[],
     },
     Found {

@@ -1,6 +1,7 @@
 -- Units of BMPString and UniversalString, octet by octet and all at once.
-use Rattle.std.proofs.Common.{◌≡◌, ℕ, ◌+◌, ◌≤◌, Bool, true, false, ◌&&◌, ◌||◌, not, nat_le, List, [], ◌∷◌, ◌++◌, length}
+use Rattle.std.proofs.Common.{◌≡◌, ℕ, ◌+◌, ◌≤◌, Bool, true, false, ◌&&◌, ◌||◌, not, nat_le, eqb, ◌%◌, List, [], ◌∷◌, ◌++◌, length}
 use Rattle.std.proofs.Common.{get_or, drop, take, ◌-◌, refl, sym, ap, ◌∙◌, arith}
+use Rattle.std.proofs.lemmas.Bool.{eqb-true}
 use Rattle.std.proofs.lemmas.Bool.Decides.{nat_tests}
 use Rattle.std.proofs.lemmas.List.{take_all}
 use Rattle.std.specs.List.{list_any}
@@ -31,6 +32,33 @@ characters-join size unit (z ∷ x) y =
     (are_characters_after size (open_unit size (unit_with size unit z) x) y)
     ∙ ap (λ (b : Bool). not (is_wrong_unit size (unit ++ z ∷ [])) && b)
     (characters-join size (unit_with size unit z) x y)
+
+-- ---- whole units, of which nothing is left
+
+twos-closed : (xs : List ℕ) → length xs % 2 ≡ 0 → [] ≡ open_unit 2 [] xs
+twos-closed [] h = refl
+twos-closed (a ∷ []) h = absurd (omega (arith, h))
+twos-closed (a ∷ b ∷ xs) h = twos-closed xs (omega (arith, h))
+
+fours-closed : (xs : List ℕ) → length xs % 4 ≡ 0 → [] ≡ open_unit 4 [] xs
+fours-closed [] h = refl
+fours-closed (a ∷ []) h = absurd (omega (arith, h))
+fours-closed (a ∷ b ∷ []) h = absurd (omega (arith, h))
+fours-closed (a ∷ b ∷ c ∷ []) h = absurd (omega (arith, h))
+fours-closed (a ∷ b ∷ c ∷ d ∷ xs) h = fours-closed xs (omega (arith, h))
+
+sized-closed : (size : ℕ) (two four : Bool) (xs : List ℕ) → eqb size 2 ≡ two → eqb size 4 ≡ four
+    → (two || four) ≡ true → length xs % size ≡ 0 → [] ≡ open_unit size [] xs
+sized-closed size true four xs e f s h =
+    let two = eqb-true size 2 e in rw two (twos-closed xs (rw two at h))
+sized-closed size false true xs e f s h =
+    let four = eqb-true size 4 f in rw four (fours-closed xs (rw four at h))
+sized-closed size false false xs e f s h = absurd cc
+
+pub units-closed : (size : ℕ) (unit xs : List ℕ) → (eqb size 2 || eqb size 4) ≡ true → length unit ≡ 0
+    → length xs % size ≡ 0 → unit ≡ open_unit size unit xs
+units-closed size [] xs s e h = sized-closed size (eqb size 2) (eqb size 4) xs refl refl s h
+units-closed size (x ∷ unit) xs s e h = absurd (omega (arith, e))
 
 -- ---- all units
 

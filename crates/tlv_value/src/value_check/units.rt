@@ -28,6 +28,10 @@ pub(super) fn take_units(size: usize, unit: &mut ArrayVec<u8, 4>, octets: &[u8])
     ensures unit { unit.new.items ≡ open_unit size unit.old.items octets.now }
     ensures short { length unit.new.items < size }
 {
+    // Most contents come at once.
+    if unit.is_empty() && octets.len() % size == 0 {
+        return are_characters(size, octets);
+    }
     let mut all = true;
     for octet in octets {
         all = both(all, take_octet(size, unit, *octet));
@@ -61,6 +65,18 @@ fn is_character_unit(unit: &[u8]) -> bool
         [a, b] => is_character(number_of_two(*a, *b)),
         [a, b, c, d] => is_character(number_of_four(*a, *b, *c, *d)),
         _ => false,
+    }
+}
+
+/// Whether all units of two octets, or of four, are characters.
+fn are_characters(size: usize, octets: &[u8]) -> bool
+    requires { (size == 2 || size == 4) ≡ true }
+    ensures { result ≡ are_characters_after size [] octets.now }
+{
+    if size == 2 {
+        are_characters_of_two(octets)
+    } else {
+        are_characters_of_four(octets)
     }
 }
 

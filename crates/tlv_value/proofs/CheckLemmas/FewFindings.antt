@@ -1,0 +1,118 @@
+-- There are few findings on the contents of a primitive, since most conditions are of one type alone.
+use Rattle.std.proofs.Common.{◌≡◌, ℕ, ◌+◌, ◌≤◌, Bool, true, false, ◌&&◌, ◌==◌, not, nat_le, nat_lt, eqb, List, [], ◌∷◌}
+use Rattle.std.proofs.Common.{◌++◌, ◌%◌, ◌^◌, ◌||◌, if◌then◌else◌, length, refl, arith}
+use Rattle.std.proofs.lemmas.Bool.Decides.{nat_tests}
+use Rattle.tlv_head.specs.Header.{HeaderValue, is_universal}
+use Rattle.tlv_head.specs.UniversalTypes as universal
+use Rattle.tlv_value.specs.declared.finding.Finding.{Finding}
+use Rattle.tlv_value.specs.Characters.{has_wrong_unit}
+use Rattle.tlv_value.specs.Checks.{all_contents_findings, allows, canonical_form, findings_by, first_octet}
+use Rattle.tlv_value.specs.Checks.{has_padded_part, is_iri, is_padded_integer, is_short_time, last_octet, time_form}
+use Rattle.tlv_value.specs.Checks.{time_has_day, type_conditions, unused_bits_value}
+use Rattle.tlv_value.specs.Dates.{is_date_or_time}
+use Rattle.tlv_value.specs.Times.{has_form}
+use Rattle.tlv_value.specs.Types.{character_types, date_types, integer_types, iri_types, is_number_of, object_types}
+use Rattle.tlv_value.specs.Types.{wide_string_types}
+
+-- 1, if the condition holds
+abbrev one_if : Bool → ℕ
+one_if true = 1
+one_if false = 0
+
+-- how many conditions hold
+abbrev count : List (Bool × Finding) → ℕ
+count [] = 0
+count (row ∷ rows) = one_if row.0 + count rows
+
+found-few : (rows : List (Bool × Finding)) → length (findings_by rows) ≤ count rows
+found-few [] = omega arith
+found-few (row ∷ rows) = one-more row.0 (found-few rows)
+  where
+    one-more : (b : Bool) → length (findings_by rows) ≤ count rows
+        → length ((if b then row.1 ∷ [] else []) ++ findings_by rows) ≤ one_if b + count rows
+    one-more true e = omega (arith, e)
+    one-more false e = omega (arith, e)
+
+one-few : (b : Bool) → one_if b ≤ 1
+one-few true = omega arith
+one-few false = omega arith
+
+-- of two types that exclude each other
+either-few : (a b x y : Bool) → (a ≡ true → b ≡ false) → one_if (a && x) + one_if (b && y) ≤ 1
+either-few true b x y e = rw (e refl) (omega (arith, one-few x))
+either-few false b x y e = omega (arith, one-few (b && y))
+
+-- a further condition
+fewer : (a x : Bool) → one_if (a && x) ≤ one_if a
+fewer true x = one-few x
+fewer false x = omega arith
+
+type-few : (n : ℕ) (c : List ℕ) → length (findings_by (type_conditions n c)) ≤ 15
+type-few n c =
+    let l = found-few (type_conditions n c) in
+    let boolean-null =
+    either-few (n == universal.boolean) (n == universal.null) (not (length c == 1)) (not (length c == 0))
+    (λ e. grind (arith, nat_tests, e)) in
+    let boolean-integer =
+    either-few (n == universal.boolean) (is_number_of integer_types n) (length c == 1) (length c == 0)
+    (λ e. grind (arith, nat_tests, e)) in
+    let boolean =
+    fewer (n == universal.boolean && length c == 1) (not (first_octet c == 0 || first_octet c == 0xff)) in
+    let integer-characters =
+    either-few (is_number_of integer_types n) (is_number_of character_types n) (is_padded_integer c) (not (allows n c))
+    (λ e. grind (arith, nat_tests, e)) in
+    let object-bits =
+    either-few (n == universal.object_identifier) (n == universal.bit_string) (length c == 0) (length c == 0)
+    (λ e. grind (arith, nat_tests, e)) in
+    let padded-bits =
+    either-few (is_number_of object_types n) (n == universal.bit_string) (has_padded_part c) (nat_lt 7 (first_octet c))
+    (λ e. grind (arith, nat_tests, e)) in
+    let last-bits =
+    either-few (is_number_of object_types n) (n == universal.bit_string) (nat_le 128 (last_octet c))
+    (length c == 1) (λ e. grind (arith, nat_tests, e)) in
+    let unused = fewer (n == universal.bit_string && length c == 1) (nat_le 1 (first_octet c)) in
+    let unused-most =
+    fewer (n == universal.bit_string && length c == 1 && nat_le 1 (first_octet c)) (nat_le (first_octet c) 7) in
+    let relative-bits =
+    either-few (n == universal.relative_oid) (n == universal.bit_string) (length c == 0)
+    (nat_le 2 (length c)) (λ e. grind (arith, nat_tests, e)) in
+    let bits = fewer (n == universal.bit_string && nat_le 2 (length c)) (nat_le (first_octet c) 7) in
+    let bits-set =
+    fewer (n == universal.bit_string && nat_le 2 (length c) && nat_le (first_octet c) 7)
+    (not (unused_bits_value c == 0)) in
+    let b19 = one-few (is_short_time n c && not (has_form (time_form n) c)) in
+    let b21 = one-few (is_number_of date_types n && not (is_date_or_time n c)) in
+    let b23 = one-few (is_number_of iri_types n && not (is_iri n c)) in
+    let b25 = one-few (is_number_of wide_string_types n && has_wrong_unit n c) in
+    let b26 = one-few (is_short_time n c && has_form (time_form n) c && not (time_has_day n c)) in
+    let s04 = one-few (is_short_time n c && has_form (time_form n) c && not (has_form (canonical_form n) c)) in
+    omega (
+      arith,
+      l,
+      boolean-null,
+      boolean-integer,
+      integer-characters,
+      object-bits,
+      padded-bits,
+      last-bits,
+      relative-bits,
+      boolean,
+      unused,
+      unused-most,
+      bits,
+      bits-set,
+      b19,
+      b21,
+      b23,
+      b25,
+      b26,
+      s04,
+    )
+
+few-by : (universal : Bool) (n : ℕ) (c : List ℕ)
+    → length (findings_by (if universal then type_conditions n c else [])) ≤ 15
+few-by true n c = type-few n c
+few-by false n c = omega arith
+
+pub contents-few : (h : HeaderValue) (c : List ℕ) → length (all_contents_findings h c) ≤ 15
+contents-few h c = few-by (is_universal h.class) h.number c
