@@ -1,12 +1,13 @@
 """Tests the findings of tlvdump-show alone, the second table of docs/FINDINGS.md.
 
-The rows of tests/finding_rows say what is found, and tlvdump finds the same without the codes of this table. Changes of the
-second opinion that are wrong differ from some row. Names, attributes and certificates from openssl and Debian have none of
-these findings, until elements of a SET are exchanged.
+The rows of tests/finding_rows say what is found, and tlvdump finds the same without the codes of this table. On drawn
+inputs, too, the programs differ in these codes alone. Changes of the second opinion that are wrong differ from some row.
+Names, attributes and certificates from openssl and Debian have none of these findings, until elements of a SET are exchanged.
 """
 import glob
 import itertools
 import os
+import random
 import re
 from unittest.mock import patch
 
@@ -15,11 +16,12 @@ from parts.harness import Done, message
 from parts.show_made import ANCHORS, command, octets_of
 from parts.show_program import Program
 from second_opinion import findings, show_findings
+from second_opinion.finding_drawing import input_octets
 from second_opinion.opened import Strings
 from second_opinion.reading import Reading
 from second_opinion.showing import File, Show, run
 
-SET = 17
+SET, MOST_NAMED, DRAWN = 17, 16, 300
 CODES = tuple(show_findings.MORE)
 
 
@@ -188,6 +190,24 @@ def check_sound(part, program):
         part.expect(f"{os.path.basename(path)} by der", got.status in (0, 1) and not found, *found)
 
 
+def check_drawn(part, program):
+    """On drawn inputs with the same strings opened, tlvdump has the findings of tlvdump-show without those of its own."""
+    for seed in range(1, DRAWN + 1):
+        octets = input_octets(random.Random(f"findings {seed}"))
+        opened = Strings(octets).opened
+        if not opened or len(opened) > MOST_NAMED:
+            opened, words = [], ["--closed"]
+        else:
+            words = []
+        inside = ["--inside", ",".join(map(str, opened))] if opened else []
+        for rules in RULES:
+            got = program.run(["--check", "--rules", rules, *words], octets)
+            of_both = [line for line in got.out.decode().splitlines() if not is_new(line)]
+            one = part.run(["check", "--rules", rules, *inside], octets)
+            fine = one.out.decode().splitlines() == of_both and (got.status == 2) == (one.status == 2)
+            part.expect(f"drawn input {seed} by {rules}: {octets[:100].hex()}", fine, *one.lines(), *got.lines())
+
+
 def check_texts(part):
     """The second table of docs/FINDINGS.md has the codes and texts of the second opinion."""
     with open(os.path.join(part.root, "docs", "FINDINGS.md"), encoding="utf-8") as file:
@@ -202,6 +222,7 @@ def test(part):
     check_rows(part, program, rows)
     check_counts(part, program)
     check_wrong(part, rows)
+    check_drawn(part, program)
     check_sound(part, program)
     if part.has("openssl"):
         check_made(part, program)
