@@ -6,6 +6,7 @@
    For a whole input without findings it writes the text of "tlvdump dump" (docs/FORMAT.md). It shows differently: contents
    of RELATIVE-OID, BMPString and UniversalString (as pairs), rows of a UTF8String that is not ASCII, arcs of 2^128 and more.
    There are no findings, no names of object identifiers, no options. Each read and write is of at most 4096 octets.
+   fast_yardstick.c includes this file, and has a main of its own.
    Status: 0 if the input is whole, 2 if it is damaged or ends too early, 3 if a read or a write fails. */
 #include <stdint.h>
 #include <stdlib.h>
@@ -15,7 +16,10 @@
 typedef unsigned char octet;
 typedef uint64_t number;
 typedef unsigned __int128 wide;
-enum { PIECE = 4096, HELD = 64, LINE = 1024, DEEPEST = 128, TYPES = 37 };
+#ifndef PIECE
+#define PIECE 4096 /* the most octets of a read or a write */
+#endif
+enum { HELD = 64, LINE = 1024, DEEPEST = 128, TYPES = 37 };
 
 /* How contents are shown. Contents of more octets than MOST are shown in rows. */
 enum kind { PAIRS, TRUTH, INTEGER, BITS, ARCS, TEXT, UTF8 };
@@ -171,17 +175,22 @@ static char *add_value(char *to) {
     return add_pairs(to);
 }
 
-/* Adds the beginning of the line of an element, up to the tag. */
-static char *add_front(char *to) {
+/* Adds the offset and the length: the first columns of the line of an element. */
+static char *add_columns(char *to) {
+    to = stpcpy(add_number(to, 8, start), " ");
+    return stpcpy(is_indefinite ? stpcpy(to, " indef") : add_number(to, 6, length), ": ");
+}
+
+static char *add_tag(char *to) {
     static const char CLASS[4][14] = {"[UNIVERSAL ", "[APPLICATION ", "[", "[PRIVATE "};
     static const octet CLASS_SIZE[] = {11, 13, 1, 9};
-    to = stpcpy(add_number(to, 8, start), " ");
-    to = is_indefinite ? stpcpy(to, " indef") : add_number(to, 6, length);
-    to = add_spaces(stpcpy(to, ": "), 2 * depth);
     if (NAME_SIZE[type]) return (char *)memcpy(to, NAME[type], 20) + NAME_SIZE[type];
     memcpy(to, CLASS[tag_class], 14);
     return stpcpy(add_number(to + CLASS_SIZE[tag_class], 1, tag), "]");
 }
+
+/* Adds the beginning of the line of an element, up to the tag. */
+static char *add_front(char *to) { return add_tag(add_spaces(add_columns(to), 2 * depth)); }
 
 /* Writes the octets in `held`: a value with the line of its element, or a row of a long value. */
 static void put_held(int is_long) {
@@ -278,12 +287,18 @@ static int take_piece(const octet *at, const octet *end, int writes) {
     return 1;
 }
 
-int main(int count, char **words) {
-    const int writes = count < 2 || words[1][0] != 'w';
+/* Reads the input, and has TAKE take each piece of it. Returns the status. */
+static int take_input(int (*take)(const octet *, const octet *, int), int writes) {
     int is_sound = 1;
     ssize_t got = 0;
-    fill_tables();
-    while (is_sound && (got = read(0, piece, PIECE)) > 0) is_sound = take_piece(piece, piece + got, writes);
+    while (is_sound && (got = read(0, piece, PIECE)) > 0) is_sound = take(piece, piece + got, writes);
     write_output();
     return got < 0 ? 3 : is_sound && stage == IDENTIFIER && depth == 0 && offset ? 0 : 2;
 }
+
+#ifndef FAST
+int main(int count, char **words) {
+    fill_tables();
+    return take_input(take_piece, count < 2 || words[1][0] != 'w');
+}
+#endif
