@@ -23,9 +23,11 @@ mod nesting;
 mod options;
 mod outcome;
 mod rules;
+mod scope;
+mod wanted;
 
 pub use basic_findings::has_basic_findings;
-pub use check_call::check;
+pub use check_call::{check, check_with};
 pub use check_follower::Check;
 pub use dump_call::{dump, dump_with};
 pub use dump_follower::Dump;
@@ -33,3 +35,5 @@ pub use finite_names::FiniteNames;
 pub use options::Options;
 pub use outcome::Outcome;
 pub use rules::Rules;
+pub use scope::Scope;
+pub use wanted::Wanted;
