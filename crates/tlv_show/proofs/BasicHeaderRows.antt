@@ -75,6 +75,7 @@ b03-absent = refl
 
 -- 1f 24 00
 b03-absent-2 : check plain_framing Ber (31 ∷ 36 ∷ 0 ∷ []) ≡ lines 0 []
+unfolding is_utf8 chars
 b03-absent-2 = refl
 
 -- 8f 00
