@@ -1,7 +1,7 @@
 -- The findings on the contents of a primitive: X.690 8 and 11. The conditions are at the end, and the terms that they
 -- use before them.
 use Rattle.std.specs.Prelude.{ℕ, ◌%◌, ◌^◌, Bool, true, false, ◌&&◌, ◌||◌, not, ◌==◌, eqb, nat_le, nat_lt}
-use Rattle.std.specs.Prelude.{if◌then◌else◌, List, [], ◌∷◌, flat_map, length, slice_index, Option, Some, None}
+use Rattle.std.specs.Prelude.{if◌then◌else◌, List, [], ◌∷◌, flat_map, length, Option, Some, None}
 use Rattle.std.specs.Prelude.{codes}
 use Rattle.std.specs.Char.{is_ascii_alphabetic, is_ascii_digit}
 use Rattle.std.specs.List.{list_all, list_any}
@@ -11,34 +11,21 @@ use Rattle.tlv_head.specs.Header.{HeaderValue, is_universal}
 use Rattle.tlv_head.specs.UniversalTypes as universal
 use Rattle.tlv_value.specs.declared.finding.Finding.{Finding}
 use Rattle.tlv_value.specs.declared.finding.Finding.TheVariants.{B06, B07, B08, B09, B10, B11, B12, B13, B14}
-use Rattle.tlv_value.specs.declared.finding.Finding.TheVariants.{B15, B18, B19, B21, B23, B24, B25, B26, S02}
-use Rattle.tlv_value.specs.declared.finding.Finding.TheVariants.{S03, S04}
+use Rattle.tlv_value.specs.declared.finding.Finding.TheVariants.{B15, B18, B19, B20, B21, B23, B24, B25, B26}
+use Rattle.tlv_value.specs.declared.finding.Finding.TheVariants.{S02, S03, S04, S06}
 use Rattle.tlv_value.specs.Arcs.{parts_of}
 use Rattle.tlv_value.specs.Characters.{has_wrong_unit}
 use Rattle.tlv_value.specs.Dates.{is_date_or_time, month_has_day, month_has_day_in_some_century}
+pub use Rattle.tlv_value.specs.ContentsOctets.{first_octet, is_padded_integer, last_octet}
+use Rattle.tlv_value.specs.Real.{is_canonical_real, is_real_form}
 use Rattle.tlv_value.specs.Times as times
 use Rattle.tlv_value.specs.Types.{character_types, date_types, integer_types, iri_types, is_number_of}
 use Rattle.tlv_value.specs.Types.{object_types, time_types, wide_string_types}
 use Rattle.tlv_value.specs.Units.{is_printable}
 
--- the first octet, or 0 if there is none. In a BIT STRING it is the number of unused bits
-abbrev pub first_octet : List ℕ → ℕ
-first_octet contents = slice_index contents 0
-
--- the last octet, or 0 if there is none
-abbrev pub last_octet : List ℕ → ℕ
-last_octet [] = 0
-last_octet (x ∷ []) = x
-last_octet (x ∷ y ∷ ys) = last_octet (y ∷ ys)
-
 -- 8.6.2.2: the number that the unused bits of the last octet make
 abbrev pub unused_bits_value : List ℕ → ℕ
 unused_bits_value contents = last_octet contents % 2 ^ first_octet contents
-
--- 8.3.2: the first nine bits are all equal
-abbrev pub is_padded_integer : List ℕ → Bool
-is_padded_integer (x ∷ y ∷ ys) = (eqb x 0 && nat_lt y 128) || (eqb x 255 && nat_le 128 y)
-is_padded_integer octets = false
 
 -- the first octet is this one
 abbrev pub begins_with : ℕ → List ℕ → Bool
@@ -150,6 +137,8 @@ type_conditions number contents =
     ∷ (is_number_of character_types number && not (allows number contents), B18)
     -- X.680 46, 47: a time of at most 64 octets follows the grammar of its type, as `Times` has it
     ∷ (is_short_time number contents && not (times.has_form (time_form number) contents), B19)
+    -- 8.5: a REAL is of a form, as `Real` has it
+    ∷ (number == universal.real && not (is_real_form contents), B20)
     -- 8.26: a DATE, TIME-OF-DAY or DATE-TIME is one, as `Dates` has it
     ∷ (is_number_of date_types number && not (is_date_or_time number contents), B21)
     -- 8.21: an OID-IRI is UTF-8 and begins with /. 8.22: a RELATIVE-OID-IRI is UTF-8, and is not empty
@@ -183,6 +172,8 @@ type_conditions number contents =
           && not (times.has_form (canonical_form number) contents),
       S04,
     )
+    -- 11.3: a REAL of a form is canonical, as `Real` has it
+    ∷ (number == universal.real && is_real_form contents && not (is_canonical_real contents), S06)
     ∷ []
 
 -- the possible findings on these contents of a primitive with this header, beside their conditions. There are none if

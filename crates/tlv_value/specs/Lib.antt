@@ -2,7 +2,11 @@ pub mod Finding
 pub mod Bits
 pub mod Number
 pub mod Arcs
+pub mod TextForms
 pub mod Times
+pub mod ContentsOctets
+pub mod Real
+pub mod RealState
 pub mod RowSizes
 pub mod Rows
 pub mod RowsSoFar
