@@ -1,7 +1,6 @@
--- Dates: which days a month has, and the forms of DATE, TIME-OF-DAY and DATE-TIME (X.690 8.26, X.680 38).
+-- Dates: which days a month has, and the forms of DATE, TIME-OF-DAY and DATE-TIME (X.690 8.26).
 use Rattle.std.specs.Prelude.{ℕ, ◌+◌, ◌*◌, ◌%◌, Bool, false, ◌&&◌, ◌||◌, not, ◌==◌, nat_le}
 use Rattle.std.specs.Prelude.{if◌then◌else◌, List, [], ◌∷◌}
-use Rattle.std.specs.List.{list_any}
 use Rattle.tlv_head.specs.UniversalTypes as universal
 use Rattle.tlv_value.specs.Times.{Form, has_form, minute, month_and_day, two_digit_number, two_digits, ◌then◌}
 
@@ -50,5 +49,5 @@ date_time_form = date_form then time_of_day_form
 abbrev pub is_date_or_time : ℕ → List ℕ → Bool
 is_date_or_time number contents =
     if number == universal.time_of_day then has_form time_of_day_form contents
-    else has_form (if number == universal.date then date_form else date_time_form) contents
-    && month_has_day contents
+    else if number == universal.date then has_form date_form contents && month_has_day contents
+    else has_form date_time_form contents && month_has_day contents

@@ -43,22 +43,16 @@ long-date_time xs h =
     (λ ys g. then-assoc (two_digits 0 99) month_and_day time_of_day_form ys ∙ long-then 0 99 10 _ long-rest ys g) xs h
 
 none-by : (time date : Bool) (a b c d : Bool) → a ≡ false → b ≡ false → c ≡ false
-    → (if time then a else (if date then b else c) && d) ≡ false
+    → (if time then a else if date then b && d else c && d) ≡ false
 none-by true date a b c d e f g = e
 none-by false true a b c d e f g = rw f refl
 none-by false false a b c d e f g = rw g refl
 
-form-if : (date : Bool) (f g : Form) (xs : List ℕ)
-    → has_form (if date then f else g) xs ≡ (if date then has_form f xs else has_form g xs)
-form-if true f g xs = refl
-form-if false f g xs = refl
-
 long-none : (number : ℕ) (xs : List ℕ) → 14 < length xs → is_date_or_time number xs ≡ false
 long-none number xs h =
-    rw (form-if (eqb number 31) date_form date_time_form xs)
-    (none-by (eqb number 32) (eqb number 31) (has_form time_of_day_form xs) (has_form date_form xs)
+    none-by (eqb number 32) (eqb number 31) (has_form time_of_day_form xs) (has_form date_form xs)
     (has_form date_time_form xs) (month_has_day xs) (long-time xs (omega (arith, h))) (long-date xs (omega (arith, h)))
-    (long-date_time xs h))
+    (long-date_time xs h)
 
 kept-by : (number : ℕ) (c : List ℕ) (short : Bool) → nat_le (length c) 64 ≡ short
     → is_date_or_time number c ≡ (short && is_date_or_time number (take 64 c))
