@@ -5,7 +5,7 @@
 #include <immintrin.h>
 
 #define ALWAYS_INLINE static inline __attribute__((always_inline))
-#define SELDOM static __attribute__((noinline, cold))
+#define RARE static __attribute__((noinline, cold))
 typedef __m128i octets_16;
 typedef __m256i octets_32;
 
@@ -68,7 +68,7 @@ static char high_digits[4];
 static number high_offset = UINT64_MAX / 2;
 
 /* Adds an offset that has other high digits than the last one. */
-SELDOM char *add_new_offset(char *to, number it) {
+RARE char *add_new_offset(char *to, number it) {
     char *const end = add_number(to, 8, it);
     const int has_high_digits = it >= LOW && end == to + 8;
     high_offset = has_high_digits ? it - it % LOW : UINT64_MAX / 2;
@@ -116,7 +116,7 @@ ALWAYS_INLINE char *add_decimal(char *to, number it) {
     return to + 16 - zeros;
 }
 
-SELDOM char *add_large(char *to, wide it) {
+RARE char *add_large(char *to, wide it) {
     const number part = 10000000000000000;
     if (it < part) return add_decimal(to, (number)it);
     to = add_large(to, it / part);
@@ -146,7 +146,7 @@ ALWAYS_INLINE char *add_pairs_16(char *to, const octet *at, size_t count) {
 /* Values. Each of these functions adds a space, the text of COUNT octets, and a line feed. */
 
 /* Adds a value in the way of yardstick.c. */
-SELDOM char *add_seldom_value(char *to, const octet *at, size_t count, enum kind of) {
+RARE char *add_rare_value(char *to, const octet *at, size_t count, enum kind of) {
     memcpy(held, at, HELD);
     held_count = count;
     kind = of;
@@ -155,7 +155,7 @@ SELDOM char *add_seldom_value(char *to, const octet *at, size_t count, enum kind
     return to;
 }
 
-SELDOM char *add_large_integer(char *to, const octet *at, size_t count) {
+RARE char *add_large_integer(char *to, const octet *at, size_t count) {
     const int is_negative = at[0] >> 7;
     wide it = is_negative ? ~(wide)0 : 0;
     for (size_t each = 0; each < count; each++) it = it << 8 | at[each];
@@ -186,10 +186,10 @@ ALWAYS_INLINE char *add_arc(char *to, number it) {
 ALWAYS_INLINE char *add_usual_arcs(char *to, const octet *at, size_t count) {
     char *const start_of_value = to;
     number arc = 0;
-    if (count == 0 || at[count - 1] > 127) return add_seldom_value(to, at, count, ARCS);
+    if (count == 0 || at[count - 1] > 127) return add_rare_value(to, at, count, ARCS);
     *to++ = ' ';
     for (size_t it = 0; it < count; it++) {
-        if (arc >> 42) return add_seldom_value(start_of_value, at, count, ARCS);
+        if (arc >> 42) return add_rare_value(start_of_value, at, count, ARCS);
         arc = arc << 7 | (at[it] & 127);
         if (at[it] > 127) continue;
         if (to == start_of_value + 1) { /* it encodes two arcs */
@@ -216,7 +216,7 @@ ALWAYS_INLINE number not_plain(octets_32 it) {
 ALWAYS_INLINE char *add_usual_text(char *to, const octet *at, size_t count, enum kind of) {
     const octets_32 first = load_32(at), second = load_32(at + 32);
     const number all = not_plain(first) | not_plain(second) << 32;
-    if (_bzhi_u64(all, (unsigned)count)) return add_seldom_value(to, at, count, of);
+    if (_bzhi_u64(all, (unsigned)count)) return add_rare_value(to, at, count, of);
     memcpy(to, " \"", 2);
     store_32(to + 2, first);
     store_32(to + 34, second);

@@ -97,7 +97,7 @@ ALWAYS_INLINE char *add_contents(char *to, const octet *at, number count, enum k
     case ARCS: return add_usual_arcs(to, at, count);
     case TEXT:
     case UTF8: return add_usual_text(to, at, count, of);
-    default: return add_seldom_value(to, at, count, of);
+    default: return add_rare_value(to, at, count, of);
     }
 }
 
