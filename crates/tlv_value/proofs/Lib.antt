@@ -3,6 +3,8 @@ pub mod ContentsRows
 pub mod LateRows
 pub mod PairRows
 pub mod CheckLemmas
+pub mod RealLemmas
+pub mod RealRows
 pub mod NamesLemmas
 pub mod RowLemmas
 pub mod TextLemmas

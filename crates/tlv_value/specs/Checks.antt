@@ -16,29 +16,15 @@ use Rattle.tlv_value.specs.declared.finding.Finding.TheVariants.{S03, S04}
 use Rattle.tlv_value.specs.Arcs.{parts_of}
 use Rattle.tlv_value.specs.Characters.{has_wrong_unit}
 use Rattle.tlv_value.specs.Dates.{is_date_or_time, month_has_day, month_has_day_in_some_century}
+pub use Rattle.tlv_value.specs.ContentsOctets.{first_octet, is_padded_integer, last_octet}
 use Rattle.tlv_value.specs.Times as times
 use Rattle.tlv_value.specs.Types.{character_types, date_types, integer_types, iri_types, is_number_of}
 use Rattle.tlv_value.specs.Types.{object_types, time_types, wide_string_types}
 use Rattle.tlv_value.specs.Units.{is_printable}
 
--- the first octet, or 0 if there is none. In a BIT STRING it is the number of unused bits
-abbrev pub first_octet : List ℕ → ℕ
-first_octet contents = slice_index contents 0
-
--- the last octet, or 0 if there is none
-abbrev pub last_octet : List ℕ → ℕ
-last_octet [] = 0
-last_octet (x ∷ []) = x
-last_octet (x ∷ y ∷ ys) = last_octet (y ∷ ys)
-
 -- 8.6.2.2: the number that the unused bits of the last octet make
 abbrev pub unused_bits_value : List ℕ → ℕ
 unused_bits_value contents = last_octet contents % 2 ^ first_octet contents
-
--- 8.3.2: the first nine bits are all equal
-abbrev pub is_padded_integer : List ℕ → Bool
-is_padded_integer (x ∷ y ∷ ys) = (eqb x 0 && nat_lt y 128) || (eqb x 255 && nat_le 128 y)
-is_padded_integer octets = false
 
 -- the first octet is this one
 abbrev pub begins_with : ℕ → List ℕ → Bool

@@ -3,6 +3,9 @@ pub mod Bits
 pub mod Number
 pub mod Arcs
 pub mod Times
+pub mod ContentsOctets
+pub mod Real
+pub mod RealState
 pub mod RowSizes
 pub mod Rows
 pub mod RowsSoFar

@@ -14,6 +14,7 @@ mod names;
 mod pairs;
 mod primitive;
 mod quick_kind;
+mod real;
 mod row_form;
 mod row_sizes;
 mod short_look;

@@ -1,0 +1,4 @@
+pub mod RealPieces
+pub mod NumberForms
+pub mod CanonicalForms
+pub mod RealContents
