@@ -13,6 +13,7 @@ mod long_value;
 mod names;
 mod number_rows;
 mod object_rows;
+mod real_rows;
 mod rows;
 mod text_rows;
 mod type_checks;

@@ -11,12 +11,13 @@ use Rattle.tlv_head.specs.Header.{HeaderValue, is_universal}
 use Rattle.tlv_head.specs.UniversalTypes as universal
 use Rattle.tlv_value.specs.declared.finding.Finding.{Finding}
 use Rattle.tlv_value.specs.declared.finding.Finding.TheVariants.{B06, B07, B08, B09, B10, B11, B12, B13, B14}
-use Rattle.tlv_value.specs.declared.finding.Finding.TheVariants.{B15, B18, B19, B21, B23, B24, B25, B26, S02}
-use Rattle.tlv_value.specs.declared.finding.Finding.TheVariants.{S03, S04}
+use Rattle.tlv_value.specs.declared.finding.Finding.TheVariants.{B15, B18, B19, B20, B21, B23, B24, B25, B26}
+use Rattle.tlv_value.specs.declared.finding.Finding.TheVariants.{S02, S03, S04, S06}
 use Rattle.tlv_value.specs.Arcs.{parts_of}
 use Rattle.tlv_value.specs.Characters.{has_wrong_unit}
 use Rattle.tlv_value.specs.Dates.{is_date_or_time, month_has_day, month_has_day_in_some_century}
 pub use Rattle.tlv_value.specs.ContentsOctets.{first_octet, is_padded_integer, last_octet}
+use Rattle.tlv_value.specs.Real.{is_canonical_real, is_real_form}
 use Rattle.tlv_value.specs.Times as times
 use Rattle.tlv_value.specs.Types.{character_types, date_types, integer_types, iri_types, is_number_of}
 use Rattle.tlv_value.specs.Types.{object_types, time_types, wide_string_types}
@@ -136,6 +137,8 @@ type_conditions number contents =
     ∷ (is_number_of character_types number && not (allows number contents), B18)
     -- X.680 46, 47: a time of at most 64 octets follows the grammar of its type, as `Times` has it
     ∷ (is_short_time number contents && not (times.has_form (time_form number) contents), B19)
+    -- 8.5: a REAL is of a form, as `Real` has it
+    ∷ (number == universal.real && not (is_real_form contents), B20)
     -- 8.26: a DATE, TIME-OF-DAY or DATE-TIME is one, as `Dates` has it
     ∷ (is_number_of date_types number && not (is_date_or_time number contents), B21)
     -- 8.21: an OID-IRI is UTF-8 and begins with /. 8.22: a RELATIVE-OID-IRI is UTF-8, and is not empty
@@ -169,6 +172,8 @@ type_conditions number contents =
           && not (times.has_form (canonical_form number) contents),
       S04,
     )
+    -- 11.3: a REAL of a form is canonical, as `Real` has it
+    ∷ (number == universal.real && is_real_form contents && not (is_canonical_real contents), S06)
     ∷ []
 
 -- the possible findings on these contents of a primitive with this header, beside their conditions. There are none if

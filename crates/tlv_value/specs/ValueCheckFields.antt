@@ -20,6 +20,7 @@ value_check_state_of t = record {
   time = t.time.items;
   are_characters = t.are_characters;
   unit = t.unit.items;
+  real = t.real;
 }
 
 -- the row that is kept is an open row of UTF-8, at most two first octets are known, the last one is below 256, and the

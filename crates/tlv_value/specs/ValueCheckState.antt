@@ -8,11 +8,13 @@ use Rattle.tlv_head.specs.Header.{HeaderValue, announced_length, is_universal}
 use Rattle.tlv_head.specs.declared.kind.Kind.TheVariants.{Utf8}
 use Rattle.tlv_value.specs.declared.finding.Finding.{Finding}
 use Rattle.tlv_value.specs.declared.finding.Finding.TheVariants.{B06, B07, B08, B09, B10, B11, B12, B13, B14}
-use Rattle.tlv_value.specs.declared.finding.Finding.TheVariants.{B15, B18, B19, B21, B23, B24, B25, B26, S02}
-use Rattle.tlv_value.specs.declared.finding.Finding.TheVariants.{S03, S04}
+use Rattle.tlv_value.specs.declared.finding.Finding.TheVariants.{B15, B18, B19, B20, B21, B23, B24, B25, B26}
+use Rattle.tlv_value.specs.declared.finding.Finding.TheVariants.{S02, S03, S04, S06}
 use Rattle.tlv_value.specs.Checks.{allows_octet, are_whole_characters, begins_with, canonical_form, findings_by}
 use Rattle.tlv_value.specs.Checks.{first_octet, is_padded_integer, time_form, time_has_day}
 use Rattle.tlv_value.specs.Dates.{is_date_or_time}
+use Rattle.tlv_value.specs.RealState.{is_canonical, is_of_form, new_real_check, real_check_after}
+use Rattle.tlv_value.specs.declared.real.RealCheck.{RealCheck}
 use Rattle.tlv_value.specs.RowsSoFar.{full_rows, open_row}
 use Rattle.tlv_value.specs.Times as times
 use Rattle.tlv_value.specs.Types.{character_types, date_types, integer_types, iri_types, is_number_of}
@@ -41,6 +43,8 @@ pub record ValueCheckState : Type 0 where
   -- for a BMPString or UniversalString, whether the units that were whole are characters, and the unit that has begun
   pub are_characters : Bool
   pub unit : List ℕ
+  -- for a REAL, what `RealState` keeps of it
+  pub real : RealCheck
 
 -- the state before any octet, for a primitive of the universal type with this number and with this many contents octets
 abbrev pub new_value_check_of : ℕ → ℕ → ValueCheckState
@@ -57,6 +61,7 @@ new_value_check_of number size = record {
   time = [];
   are_characters = true;
   unit = [];
+  real = new_real_check;
 }
 
 -- the universal number of the type; for another class, the number of OCTET STRING, whose contents have no findings
@@ -92,6 +97,10 @@ notes_units number = is_number_of wide_string_types number
 -- the first octet and each row are checked: OID-IRI, RELATIVE-OID-IRI
 abbrev pub notes_iri : ℕ → Bool
 notes_iri number = is_number_of iri_types number
+
+-- a REAL
+abbrev pub notes_real : ℕ → Bool
+notes_real number = eqb number universal.real
 
 -- the last of these octets, or `previous` if there are none
 abbrev pub last_octet_after : ℕ → List ℕ → ℕ
@@ -145,6 +154,9 @@ with_iri_noted s octets = record s {
   row = open_row Utf8 s.row octets;
 }
 
+abbrev pub with_real_noted : ValueCheckState → List ℕ → ValueCheckState
+with_real_noted s octets = record s { real = real_check_after s.real octets }
+
 -- the same, as the type needs it
 abbrev pub with_octets_noted : ValueCheckState → List ℕ → ValueCheckState
 with_octets_noted s octets =
@@ -153,6 +165,7 @@ with_octets_noted s octets =
     else if notes_time s.number then with_time_noted s octets
     else if notes_units s.number then with_units_noted s octets
     else if notes_iri s.number then with_iri_noted s octets
+    else if notes_real s.number then with_real_noted s octets
     else s
 
 -- the state after more octets
@@ -214,6 +227,7 @@ kept_conditions number s =
     )
     ∷ (is_number_of character_types number && not (is_allowed s), B18)
     ∷ (is_kept_time number s && not (times.has_form (time_form number) s.time), B19)
+    ∷ (number == universal.real && not (is_of_form s.real), B20)
     ∷ (is_number_of date_types number && not (is_kept_date number s), B21)
     ∷ (is_number_of iri_types number && not (is_kept_iri number s), B23)
     ∷ (number == universal.relative_oid && s.size == 0, B24)
@@ -237,6 +251,7 @@ kept_conditions number s =
           && not (times.has_form (canonical_form number) s.time),
       S04,
     )
+    ∷ (number == universal.real && is_of_form s.real && not (is_canonical s.real), S06)
     ∷ []
 
 -- the findings on the contents, at their end

@@ -123,6 +123,7 @@ impl RealCheck {
 }
 
 /// Whether all contents of a REAL are of a form (8.5), and canonical (11.3).
+#[inline(never)]
 pub(crate) fn is_canonical_real(contents: &[u8]) -> bool
     ensures { result ≡ (is_real_form contents.now && is_canonical_real contents.now) }
 {

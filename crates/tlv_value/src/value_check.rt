@@ -14,6 +14,7 @@ mod units;
 mod utf8_rows;
 
 use crate::Finding;
+use crate::real::RealCheck;
 use arrayvec::ArrayVec;
 pub(crate) use characters::are_allowed;
 pub(crate) use findings::is_any_set;
@@ -56,6 +57,8 @@ pub struct ValueCheck {
     time: ArrayVec<u8, 64>,
     /// The octets of the unit that has begun.
     unit: ArrayVec<u8, 4>,
+    /// What is known of a REAL.
+    real: RealCheck,
 }
 
 impl Model for ValueCheck {
@@ -97,6 +100,7 @@ impl ValueCheck {
             row: ArrayVec::new(),
             time: ArrayVec::new(),
             unit: ArrayVec::new(),
+            real: RealCheck::new(),
         }
     }
 
@@ -115,6 +119,7 @@ impl ValueCheck {
         self.is_padded = false;
         self.are_full_rows_utf8 = true;
         self.are_characters = true;
+        self.real = RealCheck::new();
         if !self.unit.is_empty() {
             self.unit.clear();
         }
@@ -165,6 +170,8 @@ impl ValueCheck {
             self.note_units(octets);
         } else if notes_iri(self.number) {
             self.note_iri(octets);
+        } else if self.number == universal::REAL {
+            self.real = self.real.after(octets);
         }
     }
 

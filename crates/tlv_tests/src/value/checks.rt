@@ -2,10 +2,12 @@
 use super::found_dates::{CLOCKS, DATES, DAYS};
 use super::found_rows::{BITS, Found, NUMBERS, OBJECTS, STRINGS, TIMES};
 use super::found_units::{FOURS, IRIS, TWOS};
+use super::real_rows::{BINARIES, DECIMALS, SPECIALS};
 use crate::expect::{expect_eq, expect_of};
 use crate::inputs::element_at;
 use arrayvec::ArrayVec;
 use std::process::Abort;
+use tlv_head::universal;
 use tlv_value::{Finding, ValueCheck, is_clear};
 
 /// Returns the findings on the contents of an element, which come in two pieces. Returns `None` if `is_clear` disagrees
@@ -36,6 +38,15 @@ fn check_octets(element: &[u8]) -> Option<ArrayVec<Finding, 16>> {
         return None;
     }
     Some(found)
+}
+
+/// Returns the number of findings on the contents of a REAL, which come in pieces of 100 octets.
+fn count_of_real(contents: &[u8; 1000]) -> usize {
+    let mut check = ValueCheck::of_type(universal::REAL, 1000);
+    for i in 0..10 {
+        check.bytes(&contents[100 * i..100 * i + 100]);
+    }
+    check.end().len()
 }
 
 /// Returns whether these are the findings.
@@ -82,6 +93,24 @@ fn units_and_identifiers_are_checked(rt: HostRuntime) {
     for rows in [TWOS.as_slice(), &FOURS, &IRIS] {
         expect_findings(&rt, rows);
     }
+}
+
+#[test]
+fn reals_are_checked(rt: HostRuntime) {
+    for rows in [SPECIALS.as_slice(), &BINARIES, &DECIMALS] {
+        expect_findings(&rt, rows);
+    }
+}
+
+/// The last octet of a mantissa decides, also of a long one.
+#[test]
+fn a_long_mantissa_is_checked(rt: HostRuntime) {
+    let mut contents = [0xff; 1000];
+    contents[0] = 0x80;
+    contents[1] = 0;
+    expect_eq(&rt, count_of_real(&contents), 0);
+    contents[999] = 0xfe;
+    expect_eq(&rt, count_of_real(&contents), 1);
 }
 
 #[test]

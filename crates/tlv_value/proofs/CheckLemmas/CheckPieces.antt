@@ -10,15 +10,18 @@ use Rattle.tlv_head.specs.declared.kind.Kind.TheVariants.{Utf8}
 use Rattle.tlv_value.specs.CheckLaws.{ChecksJoin, FindingsEnd}
 use Rattle.tlv_value.specs.ValueCheckState.{ValueCheckState, is_padded_after, last_octet_after, new_value_check}
 use Rattle.tlv_value.specs.ValueCheckState.{kept_conditions, new_value_check_of, notes_each, notes_first, notes_iri}
-use Rattle.tlv_value.specs.ValueCheckState.{notes_time, notes_units, type_number, value_check_for}
+use Rattle.tlv_value.specs.ValueCheckState.{notes_real, notes_time, notes_units, type_number, value_check_for}
 use Rattle.tlv_value.specs.ValueCheckState.{with_each_noted, with_first_noted, with_iri_noted, with_octets_noted}
-use Rattle.tlv_value.specs.ValueCheckState.{with_time_noted, with_units_noted}
+use Rattle.tlv_value.specs.ValueCheckState.{with_real_noted, with_time_noted, with_units_noted}
 use Rattle.tlv_value.specs.UnitsSoFar.{are_characters_after, character_size, open_unit}
 use Rattle.tlv_value.specs.Checks.{allows_octet, findings_by}
 use Rattle.tlv_value.specs.Types.{is_number_of, object_types}
 use Rattle.tlv_value.specs.RowsSoFar.{full_rows, open_row}
 use Rattle.tlv_value.proofs.CheckLemmas.NotedContents.{class-same, noted-same}
 use Rattle.tlv_value.proofs.CheckLemmas.UnitsNoted.{characters-join, open_unit-join}
+use Rattle.tlv_value.proofs.RealLemmas.RealPieces.{real-join}
+use Rattle.tlv_value.specs.RealState.{real_check_after}
+use Rattle.tlv_value.specs.declared.real.RealCheck.{RealCheck}
 use Rattle.tlv_value.proofs.RowLemmas.OneCut.{rows-join}
 
 last-join : (previous : ℕ) (x y : List ℕ)
@@ -102,6 +105,7 @@ state_with s left first_octets last are_octets_allowed is_padded are_full_rows_u
   time = time;
   are_characters = s.are_characters;
   unit = s.unit;
+  real = s.real;
 }
 
 state_with-eq : (s : ValueCheckState) (l l' : ℕ) (f f' : List ℕ) (t t' : ℕ) (a a' p p' m m' : Bool) (r r' i i' : List ℕ)
@@ -114,23 +118,28 @@ units-eq : (s : ValueCheckState) (l l' : ℕ) (a a' : Bool) (u u' : List ℕ) �
     → record s { left = l; are_characters = a; unit = u } ≡ record s { left = l'; are_characters = a'; unit = u' }
 units-eq s l l' a a' u u' e1 e2 e3 = rw (e1, e2, e3) refl
 
+real-eq : (s : ValueCheckState) (l l' : ℕ) (r r' : RealCheck) → l ≡ l' → r ≡ r'
+    → record s { left = l; real = r } ≡ record s { left = l'; real = r' }
+real-eq s l l' r r' e1 e2 = rw (e1, e2) refl
+
 -- what is noted, by what the type asks for
-abbrev noted_state : Bool → Bool → Bool → Bool → Bool → ValueCheckState → List ℕ → ValueCheckState
-noted_state first each time units iri s octets =
+abbrev noted_state : Bool → Bool → Bool → Bool → Bool → Bool → ValueCheckState → List ℕ → ValueCheckState
+noted_state first each time units iri real s octets =
     if first then with_first_noted s octets
     else if each then with_each_noted s octets
     else if time then with_time_noted s octets
     else if units then with_units_noted s octets
     else if iri then with_iri_noted s octets
+    else if real then with_real_noted s octets
     else s
 
-abbrev by_kind : Bool → Bool → Bool → Bool → Bool → ValueCheckState → List ℕ → ValueCheckState
-by_kind f e t u i s octets =
-    record (noted_state f e t u i s octets) { number = s.number; size = s.size; left = s.left - length octets }
+abbrev by_kind : Bool → Bool → Bool → Bool → Bool → Bool → ValueCheckState → List ℕ → ValueCheckState
+by_kind f e t u i r s octets =
+    record (noted_state f e t u i r s octets) { number = s.number; size = s.size; left = s.left - length octets }
 
-join-by : (f e t u i : Bool) (s : ValueCheckState) (x y : List ℕ)
-    → by_kind f e t u i (by_kind f e t u i s x) y ≡ by_kind f e t u i s (x ++ y)
-join-by true e t u i s x y =
+join-by : (f e t u i r : Bool) (s : ValueCheckState) (x y : List ℕ)
+    → by_kind f e t u i r (by_kind f e t u i r s x) y ≡ by_kind f e t u i r s (x ++ y)
+join-by true e t u i r s x y =
     let l : s.left - length x - length y ≡ s.left - length (x ++ y) = omega (arith, length-append x y) in
     state_with-eq s (s.left - length x - length y) (s.left - length (x ++ y))
     (take 2 (take 2 (s.first_octets ++ x) ++ y))
@@ -139,7 +148,7 @@ join-by true e t u i s x y =
     s.are_octets_allowed s.are_octets_allowed s.is_padded s.is_padded s.are_full_rows_utf8 s.are_full_rows_utf8
     s.row s.row s.time s.time
     l (take-join 2 s.first_octets x y) (last-join s.last x y) refl refl refl refl refl
-join-by false true t u i s x y =
+join-by false true t u i r s x y =
     let l : s.left - length x - length y ≡ s.left - length (x ++ y) = omega (arith, length-append x y) in
     state_with-eq s (s.left - length x - length y) (s.left - length (x ++ y)) s.first_octets s.first_octets
     (last_octet_after (last_octet_after s.last x) y) (last_octet_after s.last (x ++ y))
@@ -152,7 +161,7 @@ join-by false true t u i s x y =
     ∙ ap (λ (b : Bool). s.are_octets_allowed && b) (sym (list_all-append (allows_octet s.number) x y)))
     (padded-at (is_number_of object_types s.number) s.is_padded s.last x y)
     (formed-at (eqb s.number 12) s.are_full_rows_utf8 s.row x y) (row-at (eqb s.number 12) s.row x y) refl
-join-by false false true u i s x y =
+join-by false false true u i r s x y =
     let l : s.left - length x - length y ≡ s.left - length (x ++ y) = omega (arith, length-append x y) in
     state_with-eq s (s.left - length x - length y) (s.left - length (x ++ y)) s.first_octets s.first_octets s.last
     s.last
@@ -161,7 +170,7 @@ join-by false false true u i s x y =
     (take 64 (take 64 (s.time ++ x) ++ y))
     (take 64 (s.time ++ (x ++ y)))
     l refl refl refl refl refl refl (take-join 64 s.time x y)
-join-by false false false true i s x y =
+join-by false false false true i r s x y =
     let size : ℕ = character_size s.number in
     let l : s.left - length x - length y ≡ s.left - length (x ++ y) = omega (arith, length-append x y) in
     units-eq s (s.left - length x - length y) (s.left - length (x ++ y))
@@ -174,7 +183,7 @@ join-by false false false true i s x y =
     (are_characters_after size (open_unit size s.unit x) y)
     ∙ ap (λ (b : Bool). s.are_characters && b) (characters-join size s.unit x y))
     (open_unit-join size s.unit x y)
-join-by false false false false true s x y =
+join-by false false false false true r s x y =
     let l : s.left - length x - length y ≡ s.left - length (x ++ y) = omega (arith, length-append x y) in
     state_with-eq s (s.left - length x - length y) (s.left - length (x ++ y))
     (take 2 (take 2 (s.first_octets ++ x) ++ y))
@@ -185,31 +194,38 @@ join-by false false false false true s x y =
     (with_iri_noted (with_iri_noted s x) y).row (with_iri_noted s (x ++ y)).row s.time s.time
     l (take-join 2 s.first_octets x y) (last-join s.last x y) refl refl
     (formed-at true s.are_full_rows_utf8 s.row x y) (row-at true s.row x y) refl
-join-by false false false false false s x y =
+join-by false false false false false true s x y =
+    let l : s.left - length x - length y ≡ s.left - length (x ++ y) = omega (arith, length-append x y) in
+    real-eq s (s.left - length x - length y) (s.left - length (x ++ y))
+    (real_check_after (real_check_after s.real x) y) (real_check_after s.real (x ++ y))
+    l (real-join s.real x y)
+join-by false false false false false false s x y =
     let l : s.left - length x - length y ≡ s.left - length (x ++ y) = omega (arith, length-append x y) in
     ap (λ (n : ℕ). record s { left = n }) l
 
 pub checks-join : ChecksJoin
 checks-join s x y =
     join-by (notes_first s.number) (notes_each s.number) (notes_time s.number) (notes_units s.number)
-    (notes_iri s.number) s x y
+    (notes_iri s.number) (notes_real s.number) s x y
 
 -- what is noted at the end
 
-noted-left : (n : ℕ) (f e t u i : Bool) (s : ValueCheckState) (c : List ℕ)
-    → findings_by (kept_conditions n (by_kind f e t u i s c))
-    ≡ findings_by (kept_conditions n (noted_state f e t u i s c))
-noted-left n true e t u i s c = refl
-noted-left n false true t u i s c = refl
-noted-left n false false true u i s c = refl
-noted-left n false false false true i s c = refl
-noted-left n false false false false true s c = refl
-noted-left n false false false false false s c = refl
+noted-left : (n : ℕ) (f e t u i r : Bool) (s : ValueCheckState) (c : List ℕ)
+    → findings_by (kept_conditions n (by_kind f e t u i r s c))
+    ≡ findings_by (kept_conditions n (noted_state f e t u i r s c))
+noted-left n true e t u i r s c = refl
+noted-left n false true t u i r s c = refl
+noted-left n false false true u i r s c = refl
+noted-left n false false false true i r s c = refl
+noted-left n false false false false true r s c = refl
+noted-left n false false false false false true s c = refl
+noted-left n false false false false false false s c = refl
 
 pub findings-end : FindingsEnd
 findings-end h octets e =
     let n = type_number h in
-    noted-left n (notes_first n) (notes_each n) (notes_time n) (notes_units n) (notes_iri n) (new_value_check h) octets
+    noted-left n (notes_first n) (notes_each n) (notes_time n) (notes_units n) (notes_iri n) (notes_real n)
+    (new_value_check h) octets
     ∙ ap (λ (z : ℕ). findings_by (kept_conditions n (with_octets_noted (new_value_check_of n z) octets))) e
     ∙ sym (noted-same n octets) ∙ sym (class-same h octets)
 
@@ -218,23 +234,26 @@ same-in-both : {A : Type 0} (b : Bool) (x : A) → (if b then x else x) ≡ x
 same-in-both true x = refl
 same-in-both false x = refl
 
-none-by : (f e t u i : Bool) (n size : ℕ)
-    → by_kind f e t u i (new_value_check_of n size) [] ≡ new_value_check_of n size
-none-by true e t u i n size = ap (λ (l : ℕ). record (new_value_check_of n size) { left = l }) (omega arith)
-none-by false true t u i n size =
+none-by : (f e t u i r : Bool) (n size : ℕ)
+    → by_kind f e t u i r (new_value_check_of n size) [] ≡ new_value_check_of n size
+none-by true e t u i r n size = ap (λ (l : ℕ). record (new_value_check_of n size) { left = l }) (omega arith)
+none-by false true t u i r n size =
     state_with-eq (new_value_check_of n size) (size - 0) size [] [] 0 0 true true
     (if is_number_of object_types n then false else false) false (if eqb n 12 then true else true) true
     (if eqb n 12 then [] else []) [] [] []
     (omega arith) refl refl refl (same-in-both (is_number_of object_types n) false) (same-in-both (eqb n 12) true)
     (same-in-both (eqb n 12) []) refl
-none-by false false true u i n size = ap (λ (l : ℕ). record (new_value_check_of n size) { left = l }) (omega arith)
-none-by false false false true i n size = ap (λ (l : ℕ). record (new_value_check_of n size) { left = l }) (omega arith)
-none-by false false false false true n size =
+none-by false false true u i r n size = ap (λ (l : ℕ). record (new_value_check_of n size) { left = l }) (omega arith)
+none-by false false false true i r n size = ap (λ (l : ℕ). record (new_value_check_of n size) { left = l }) (omega arith)
+none-by false false false false true r n size =
     ap (λ (l : ℕ). record (new_value_check_of n size) { left = l }) (omega arith)
-none-by false false false false false n size =
+none-by false false false false false true n size =
+    ap (λ (l : ℕ). record (new_value_check_of n size) { left = l }) (omega arith)
+none-by false false false false false false n size =
     ap (λ (l : ℕ). record (new_value_check_of n size) { left = l }) (omega arith)
 
 pub checked-none : (h : HeaderValue) → value_check_for h [] ≡ new_value_check h
 checked-none h =
     let n = type_number h in
-    none-by (notes_first n) (notes_each n) (notes_time n) (notes_units n) (notes_iri n) n (announced_length h.size)
+    none-by (notes_first n) (notes_each n) (notes_time n) (notes_units n) (notes_iri n) (notes_real n) n
+    (announced_length h.size)

@@ -1,9 +1,10 @@
 -- What is found on some types, by what is kept of their contents.
-use Rattle.std.proofs.Common.{◌≡◌, ℕ, Bool, true, false, ◌&&◌, not, eqb, [], ◌∷◌, ◌++◌, refl, ap, ◌∙◌, append-nil}
+use Rattle.std.proofs.Common.{◌≡◌, sym, ℕ, Bool, true, false, ◌&&◌, not, eqb, List, [], ◌∷◌, ◌++◌, refl, ap, ◌∙◌, append-nil}
 use Rattle.std.proofs.lemmas.Bool.{eqb-true}
 use Rattle.std.specs.Prelude.{◌||◌}
 use Rattle.tlv_value.specs.declared.finding.Finding.TheVariants.{B18, B21, B23}
-use Rattle.tlv_value.specs.Checks.{finding_if, findings_by}
+use Rattle.tlv_value.specs.Checks.{finding_if, findings_by, type_findings}
+use Rattle.tlv_value.specs.Dates.{is_date_or_time}
 use Rattle.tlv_value.specs.Types.{character_types, date_types, iri_types, is_number_of, tested_string_types}
 use Rattle.tlv_value.specs.ValueCheckState.{ValueCheckState, is_allowed, is_kept_date, is_kept_iri, kept_conditions}
 use Rattle.tlv_value.proofs.CheckLemmas.NotedContents.{IsOther, other-by}
@@ -31,6 +32,27 @@ iri-at n s false false e f h = absurd cc
 pub iri-found : (n : ℕ) (s : ValueCheckState) → is_number_of iri_types n ≡ true
     → findings_by (kept_conditions n s) ≡ finding_if (not (is_kept_iri n s)) B23
 iri-found n s h = iri-at n s (eqb n 35) (eqb n 36) refl refl h
+
+date-clear_at : (n k : ℕ) (c : List ℕ) → eqb n k ≡ true → is_date_or_time n c ≡ true
+    → type_findings k c ≡ finding_if (not (is_date_or_time k c)) B21 → type_findings n c ≡ []
+date-clear_at n k c e h same =
+    let is_one : is_date_or_time k c ≡ true = ap (λ (m : ℕ). is_date_or_time m c) (sym (eqb-true n k e)) ∙ h in
+    rw (eqb-true n k e) (same ∙ ap (λ (b : Bool). finding_if (not b) B21) is_one)
+
+date-clear_by : (n : ℕ) (c : List ℕ) (a b d : Bool) → eqb n 31 ≡ a → eqb n 32 ≡ b → eqb n 33 ≡ d
+    → (a || (b || (d || false))) ≡ true → is_date_or_time n c ≡ true → type_findings n c ≡ []
+date-clear_by n c true b d e f g h k =
+    date-clear_at n 31 c e k (append-nil (finding_if (not (is_date_or_time 31 c)) B21))
+date-clear_by n c false true d e f g h k =
+    date-clear_at n 32 c f k (append-nil (finding_if (not (is_date_or_time 32 c)) B21))
+date-clear_by n c false false true e f g h k =
+    date-clear_at n 33 c g k (append-nil (finding_if (not (is_date_or_time 33 c)) B21))
+date-clear_by n c false false false e f g h k = absurd cc
+
+-- nothing is found on a DATE, TIME-OF-DAY or DATE-TIME that is one
+pub date-clear : (n : ℕ) (c : List ℕ) → is_number_of date_types n ≡ true → is_date_or_time n c ≡ true
+    → type_findings n c ≡ []
+date-clear n c h k = date-clear_by n c (eqb n 31) (eqb n 32) (eqb n 33) refl refl refl h k
 
 -- a type with no findings
 pub none-found : (n : ℕ) (s : ValueCheckState) → IsOther n → is_number_of (12 ∷ tested_string_types) n ≡ false

@@ -7,7 +7,7 @@ use Rattle.std.specs.List.{list_all}
 use Rattle.std.specs.Prelude.{slice_index}
 use Rattle.tlv_value.specs.declared.finding.Finding.{Finding}
 use Rattle.tlv_value.specs.declared.finding.Finding.TheVariants.{B06, B07, B08, B10, B11, B12, B13, B14, B15, B18, B19}
-use Rattle.tlv_value.specs.declared.finding.Finding.TheVariants.{B21, B23, B24, B25, B26, S02, S03, S04}
+use Rattle.tlv_value.specs.declared.finding.Finding.TheVariants.{B20, B21, B23, B24, B25, B26, S02, S03, S04, S06}
 use Rattle.tlv_value.specs.Characters.{has_wrong_unit}
 use Rattle.tlv_value.specs.Dates.{month_has_day, month_has_day_in_some_century}
 use Rattle.tlv_value.specs.UnitsSoFar.{are_characters_after}
@@ -25,6 +25,7 @@ use Rattle.tlv_value.proofs.CheckLemmas.ClearStrings.{all-allowed, fours-kept, t
 use Rattle.tlv_value.proofs.CheckLemmas.DatesNoted.{date-kept}
 use Rattle.tlv_value.proofs.CheckLemmas.EachNoted.{nothing-noted}
 use Rattle.tlv_value.proofs.CheckLemmas.LastAndPadded.{last_of_all, padded_of_all}
+use Rattle.tlv_value.proofs.RealLemmas.RealContents.{real-canonical, real-of_form}
 use Rattle.tlv_value.proofs.CheckLemmas.Utf8ByRow.{rows-formed_at}
 use Rattle.tlv_value.specs.Times.{Form, canonical_generalized_time_form, canonical_utc_time_form, generalized_time_form}
 use Rattle.tlv_value.specs.Times.{has_form, utc_time_form}
@@ -145,6 +146,13 @@ relative_iri-same : (c : List ℕ) → Same 36 c
 relative_iri-same c =
     ap (λ (text : Bool). finding_if (not (text && not (length c == 0))) B23 ++ []) (sym (rows-formed_at c))
 
+-- REAL
+real-same : (c : List ℕ) → Same 9 c
+real-same c =
+    ap₂ (λ (of_form is_canonical : Bool). finding_if (not of_form) B20
+    ++ (finding_if (of_form && not is_canonical) S06 ++ []))
+    (sym (real-of_form c)) (sym (real-canonical c))
+
 -- any other type
 allowed-each : (n : ℕ) (c : List ℕ) (text : Bool)
     → ((if text
@@ -163,6 +171,7 @@ pub record IsOther (n : ℕ) : Type 0 where
   pub e3 : eqb n 3 ≡ false
   pub e5 : eqb n 5 ≡ false
   pub e6 : eqb n 6 ≡ false
+  pub e9 : eqb n 9 ≡ false
   pub e10 : eqb n 10 ≡ false
   pub e13 : eqb n 13 ≡ false
   pub e23 : eqb n 23 ≡ false
@@ -182,7 +191,7 @@ each-noted n c each =
 
 other-noted : (n : ℕ) (c : List ℕ) → IsOther n → all_noted n c ≡ each-noted n c (notes_each n)
 other-noted n c o =
-    rw (o.e1, o.e2, o.e3, o.e10, o.e23, o.e24, o.e28, o.e30, o.e31, o.e32, o.e33, o.e35, o.e36) refl
+    rw (o.e1, o.e2, o.e3, o.e9, o.e10, o.e23, o.e24, o.e28, o.e30, o.e31, o.e32, o.e33, o.e35, o.e36) refl
 
 other-allowed : (n : ℕ) (c : List ℕ) → IsOther n → is_allowed (all_noted n c) ≡ allows n c
 other-allowed n c o = ap is_allowed (other-noted n c o) ∙ by (notes_each n) refl
@@ -205,6 +214,7 @@ other-by n c s o =
       o.e3,
       o.e5,
       o.e6,
+      o.e9,
       o.e10,
       o.e13,
       o.e23,
@@ -241,6 +251,7 @@ noted-same n c =
     type-by n 3 c (eqb n 3) refl (bits-same c) (λ e3.
     type-by n 5 c (eqb n 5) refl refl (λ e5.
     type-by n 6 c (eqb n 6) refl (identifier-same c) (λ e6.
+    type-by n 9 c (eqb n 9) refl (real-same c) (λ e9.
     type-by n 10 c (eqb n 10) refl (integer-by c) (λ e10.
     type-by n 13 c (eqb n 13) refl (relative-same c) (λ e13.
     type-by n 23 c (eqb n 23) refl (utc-same c) (λ e23.
@@ -258,6 +269,7 @@ noted-same n c =
       e3 = e3;
       e5 = e5;
       e6 = e6;
+      e9 = e9;
       e10 = e10;
       e13 = e13;
       e23 = e23;
@@ -269,7 +281,7 @@ noted-same n c =
       e33 = e33;
       e35 = e35;
       e36 = e36;
-    })))))))))))))))))
+    }))))))))))))))))))
 
 -- ---- another class
 

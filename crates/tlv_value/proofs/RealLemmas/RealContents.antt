@@ -2,6 +2,8 @@
 use Rattle.std.proofs.Common.{◌≡◌, ℕ, zero, suc, ◌+◌, ◌-◌, ◌%◌, Bool, true, false, ◌&&◌, ◌||◌, not, ◌==◌, nat_le}
 use Rattle.std.proofs.Common.{if◌then◌else◌, List, [], ◌∷◌, length, take, drop, refl, sym, ap, ap₂, ◌∙◌, arith}
 use Rattle.std.proofs.lemmas.Bool.Decides.{nat_tests}
+use Rattle.std.proofs.lemmas.Bool.{and_parts}
+use Rattle.tlv_value.specs.Checks.{type_findings}
 use Rattle.tlv_value.specs.Times.{maybe, sign}
 use Rattle.tlv_value.specs.ContentsOctets.{first_octet, is_padded_integer, last_octet}
 use Rattle.tlv_value.specs.Real.{base_bits, canonical_nr3_form, has_size_octet, is_binary_form, is_canonical_binary}
@@ -326,3 +328,7 @@ canonical-after s (x ∷ xs) =
 
 pub real-canonical : (c : List ℕ) → is_canonical (real_check_after new_real_check c) ≡ is_canonical_real c
 real-canonical c = canonical-after new_real_check c
+
+-- nothing is found on canonical contents
+pub real-clear : (c : List ℕ) → (is_real_form c && is_canonical_real c) ≡ true → type_findings 9 c ≡ []
+real-clear c h = let parts = and_parts (is_real_form c) (is_canonical_real c) h in rw (parts.0, parts.1) refl

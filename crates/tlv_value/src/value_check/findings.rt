@@ -1,6 +1,6 @@
 //! The findings on contents, from what was noted of them.
 ghost use Rattle.std.specs.Prelude.{◌≡◌, ◌<◌, ◌≤◌, ◌%◌, ◌^◌, ◌++◌, ◌∷◌, [], eqb, length, not};
-ghost use Rattle.tlv_head.specs.UniversalTypes.{bit_string, boolean, generalized_time, utc_time, utf8_string};
+ghost use Rattle.tlv_head.specs.UniversalTypes.{bit_string, boolean, generalized_time, real, utc_time, utf8_string};
 ghost use Rattle.tlv_value.specs.Checks.{finding_if, findings_by};
 ghost use Rattle.tlv_value.specs.Private.TimeFindings.{time_findings};
 ghost use Rattle.tlv_value.specs.Types.{is_number_of, tested_string_types};
@@ -38,6 +38,7 @@ impl ValueCheck {
                 add_if(self.last >= 128, Finding::B12, &mut found);
                 add_if(self.size == 0, Finding::B24, &mut found);
             }
+            universal::REAL => self.add_real_findings(&mut found),
             universal::UTC_TIME => self.add_utc_time_findings(&mut found),
             universal::GENERALIZED_TIME => self.add_generalized_time_findings(&mut found),
             universal::DATE | universal::TIME_OF_DAY | universal::DATE_TIME => {
@@ -104,6 +105,17 @@ impl ValueCheck {
             Finding::S02,
             found,
         );
+    }
+
+    /// Adds the findings on the contents of a REAL.
+    fn add_real_findings(&self, found: &mut ArrayVec<Finding, 16>)
+        requires { found.old.items ≡ [] }
+        ensures { found.new.items ≡ findings_by (kept_conditions real self.now) }
+    {
+        let is_of_form = self.real.is_of_form();
+        let is_canonical = self.real.is_canonical();
+        add_if(!is_of_form, Finding::B20, found);
+        add_if(is_of_form && !is_canonical, Finding::S06, found);
     }
 
     /// Adds the findings on the contents of a UTCTime.

@@ -1,6 +1,13 @@
-use Rattle.std.proofs.Common.{sym, ◌∙◌}
+use Rattle.std.proofs.Common.{sym, ◌∙◌, arith}
+use Rattle.std.proofs.lemmas.Bool.Decides.{nat_tests}
 use Rattle.tlv_value.proofs.CheckLemmas.ClearStrings.{fours-clear, twos-clear, utf8-clear}
+use Rattle.tlv_value.proofs.CheckLemmas.KeptFindings.{date-clear}
+use Rattle.tlv_value.proofs.RealLemmas.RealContents.{real-clear}
 use Rattle.tlv_value.proofs.short_look.is_type_clear.Goals as goal
+
+pub returns-in-9-clause-contents : goal.returns-in-9-clause-contents
+returns-in-9-clause-contents c =
+    λ h. rw c.in-9.is (real-clear c.args.contents.now (sym c.is_canonical_real.ensures ∙ h))
 
 pub returns-in-12-clause-contents : goal.returns-in-12-clause-contents
 returns-in-12-clause-contents c =
@@ -15,3 +22,7 @@ pub returns-then-contents-eq0-2-clause-contents : goal.returns-then-contents-eq0
 returns-then-contents-eq0-2-clause-contents c =
     λ h. rw c.in-30.is
     (twos-clear c.args.contents.now c.if-contents-eq0-2.true (sym c.are_characters_of_two.ensures ∙ h))
+
+pub returns-in-31-clause-contents : goal.returns-in-31-clause-contents
+returns-in-31-clause-contents c =
+    λ h. date-clear c.args.number c.args.contents.now (grind (arith, nat_tests)) (sym c.is_date_or_time.ensures ∙ h)

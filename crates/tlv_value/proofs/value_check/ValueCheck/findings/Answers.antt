@@ -31,6 +31,7 @@ returns-else-is_tested_string_type c =
       e3 = grind (arith, nat_tests);
       e5 = grind (arith, nat_tests);
       e6 = grind (arith, nat_tests);
+      e9 = grind (arith, nat_tests);
       e10 = grind (arith, nat_tests);
       e13 = grind (arith, nat_tests);
       e23 = grind (arith, nat_tests);
