@@ -1,5 +1,5 @@
 -- The contents of a REAL, of a form and canonical, or not. A row has first whether they are of a form.
-use Rattle.std.proofs.Common.{◌≡◌, ℕ, Bool, true, false, List, [], ◌∷◌, refl}
+use Rattle.std.proofs.Common.{◌≡◌, ℕ, true, false, List, [], ◌∷◌, refl}
 use Rattle.std.specs.Prelude.{codes}
 use Rattle.tlv_value.specs.Real.{is_canonical_real, is_real_form}
 

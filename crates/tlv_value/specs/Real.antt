@@ -1,6 +1,6 @@
 -- The contents of a REAL: X.690 8.5, and 11.3 for the canonical ones. The conditions are at the end, and the terms that
 -- they use before them. The first octet of the contents is x.
-use Rattle.std.specs.Prelude.{ℕ, ◌+◌, ◌/◌, ◌%◌, Bool, true, false, ◌&&◌, ◌||◌, not, ◌==◌, nat_le}
+use Rattle.std.specs.Prelude.{ℕ, ◌+◌, ◌/◌, ◌%◌, Bool, true, ◌&&◌, not, ◌==◌, nat_le}
 use Rattle.std.specs.Prelude.{if◌then◌else◌, List, [], ◌∷◌, length, take, drop}
 use Rattle.std.specs.List.{list_all}
 use Rattle.tlv_value.specs.ContentsOctets.{first_octet, is_padded_integer, last_octet}

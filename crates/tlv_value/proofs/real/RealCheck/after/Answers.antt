@@ -3,7 +3,7 @@ use Rattle.tlv_value.specs.RealState.{real_check_after}
 use Rattle.tlv_value.specs.declared.real.RealCheck.{RealCheck}
 use Rattle.tlv_value.specs.declared.real.RealPart.{RealPart}
 use Rattle.tlv_value.specs.declared.real.RealPart.TheVariants.{Mantissa}
-use Rattle.tlv_value.proofs.RealLemmas.RealPieces.{mantissa-after, real-more, real-none}
+use Rattle.tlv_value.proofs.RealLemmas.RealPieces.{mantissa-after, real-more}
 use Rattle.tlv_value.proofs.real.RealCheck.after.Goals as goal
 
 abbrev with_part : RealCheck → RealPart → RealCheck
