@@ -2,6 +2,7 @@ pub mod Finding
 pub mod Bits
 pub mod Number
 pub mod Arcs
+pub mod TextForms
 pub mod Times
 pub mod ContentsOctets
 pub mod Real

@@ -4,7 +4,7 @@ use Rattle.std.specs.Prelude.{ℕ, ◌+◌, ◌/◌, ◌%◌, Bool, true, ◌&&�
 use Rattle.std.specs.Prelude.{if◌then◌else◌, List, [], ◌∷◌, length, take, drop}
 use Rattle.std.specs.List.{list_all}
 use Rattle.tlv_value.specs.ContentsOctets.{first_octet, is_padded_integer, last_octet}
-use Rattle.tlv_value.specs.Times.{Form, digits, has_form, mark, maybe, octet_between, sign, ◌or◌, ◌then◌}
+use Rattle.tlv_value.specs.TextForms.{Form, digits, has_form, mark, maybe, octet_between, sign, ◌or◌, ◌then◌}
 
 -- ---- Binary: 8.5.7
 

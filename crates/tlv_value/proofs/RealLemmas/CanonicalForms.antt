@@ -4,7 +4,7 @@ use Rattle.std.proofs.Common.{ap₂, ◌∙◌, arith}
 use Rattle.std.proofs.Math.Bool.{and-true}
 use Rattle.std.proofs.lemmas.Bool.Decides.{nat_tests}
 use Rattle.std.specs.Char.{is_ascii_digit}
-use Rattle.tlv_value.specs.Times.{Form, digits, mark, maybe, no_octets, ◌then◌}
+use Rattle.tlv_value.specs.TextForms.{Form, digits, mark, maybe, no_octets, ◌then◌}
 use Rattle.tlv_value.specs.Real.{canonical_exponent, canonical_mantissa, canonical_nr3_form, nonzero_digit}
 use Rattle.tlv_value.specs.RealState.{begin_exponent, begin_mantissa, is_nonzero_digit, is_whole_canonical}
 use Rattle.tlv_value.specs.RealState.{next_canonical_place}

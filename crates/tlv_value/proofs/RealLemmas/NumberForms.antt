@@ -3,7 +3,7 @@ use Rattle.std.proofs.Common.{◌≡◌, ℕ, Bool, true, false, ◌&&◌, ◌||
 use Rattle.std.proofs.Common.{ap₂, ◌∙◌, arith}
 use Rattle.std.proofs.lemmas.Bool.Decides.{nat_tests}
 use Rattle.std.specs.Char.{is_ascii_digit}
-use Rattle.tlv_value.specs.Times.{Form, digits, maybe, octet_between, sign, ◌or◌, ◌then◌}
+use Rattle.tlv_value.specs.TextForms.{Form, digits, maybe, octet_between, sign, ◌or◌, ◌then◌}
 use Rattle.tlv_value.specs.Real.{decimal_mark, exponent, marked_digits, some_digits, spaces}
 use Rattle.tlv_value.specs.RealState.{after_digits, after_fraction, begin_number, exponent_digit, is_decimal_mark}
 use Rattle.tlv_value.specs.RealState.{is_exponent_mark, is_sign, is_whole_number, next_place}

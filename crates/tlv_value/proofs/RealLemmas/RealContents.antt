@@ -4,7 +4,7 @@ use Rattle.std.proofs.Common.{if◌then◌else◌, List, [], ◌∷◌, length, 
 use Rattle.std.proofs.lemmas.Bool.Decides.{nat_tests}
 use Rattle.std.proofs.lemmas.Bool.{and_parts}
 use Rattle.tlv_value.specs.Checks.{type_findings}
-use Rattle.tlv_value.specs.Times.{maybe, sign}
+use Rattle.tlv_value.specs.TextForms.{maybe, sign}
 use Rattle.tlv_value.specs.ContentsOctets.{first_octet, is_padded_integer}
 use Rattle.tlv_value.specs.Real.{base_bits, canonical_nr3_form, has_size_octet, is_binary_form, is_canonical_binary}
 use Rattle.tlv_value.specs.Real.{is_canonical_mantissa}
