@@ -1,6 +1,7 @@
 -- There are few findings on the contents of a primitive, since most conditions are of one type alone.
 use Rattle.std.proofs.Common.{◌≡◌, ℕ, ◌+◌, ◌≤◌, Bool, true, false, ◌&&◌, ◌==◌, not, nat_le, nat_lt, List, [], ◌∷◌}
 use Rattle.std.proofs.Common.{◌++◌, ◌||◌, if◌then◌else◌, length, refl, arith}
+use Rattle.std.proofs.lemmas.Bool.{and_parts}
 use Rattle.std.proofs.lemmas.Bool.Decides.{nat_tests}
 use Rattle.tlv_head.specs.Header.{HeaderValue, is_universal}
 use Rattle.tlv_head.specs.UniversalTypes as universal
@@ -10,6 +11,7 @@ use Rattle.tlv_value.specs.Checks.{all_contents_findings, allows, canonical_form
 use Rattle.tlv_value.specs.Checks.{has_padded_part, is_iri, is_padded_integer, is_short_time, last_octet, time_form}
 use Rattle.tlv_value.specs.Checks.{time_has_day, type_conditions, unused_bits_value}
 use Rattle.tlv_value.specs.Dates.{is_date_or_time}
+use Rattle.tlv_value.specs.Real.{is_canonical_real, is_real_form}
 use Rattle.tlv_value.specs.Times.{has_form}
 use Rattle.tlv_value.specs.Types.{character_types, date_types, integer_types, iri_types, is_number_of, object_types}
 use Rattle.tlv_value.specs.Types.{wide_string_types}
@@ -47,6 +49,9 @@ fewer : (a x : Bool) → one_if (a && x) ≤ one_if a
 fewer true x = one-few x
 fewer false x = omega arith
 
+real-no_iri : (n : ℕ) → (n == universal.real) ≡ true → is_number_of iri_types n ≡ false
+real-no_iri n e = grind (arith, nat_tests)
+
 type-few : (n : ℕ) (c : List ℕ) → length (findings_by (type_conditions n c)) ≤ 15
 type-few n c =
     let l = found-few (type_conditions n c) in
@@ -81,8 +86,13 @@ type-few n c =
     fewer (n == universal.bit_string && nat_le 2 (length c) && nat_le (first_octet c) 7)
     (not (unused_bits_value c == 0)) in
     let b19 = one-few (is_short_time n c && not (has_form (time_form n) c)) in
-    let b21 = one-few (is_number_of date_types n && not (is_date_or_time n c)) in
-    let b23 = one-few (is_number_of iri_types n && not (is_iri n c)) in
+    let real-date =
+    either-few (n == universal.real) (is_number_of date_types n) (not (is_real_form c)) (not (is_date_or_time n c))
+    (λ e. grind (arith, nat_tests, e)) in
+    let real-iri =
+    either-few (n == universal.real && is_real_form c) (is_number_of iri_types n) (not (is_canonical_real c))
+    (not (is_iri n c))
+    (λ e. real-no_iri n ((and_parts (n == universal.real) (is_real_form c) e).0)) in
     let b25 = one-few (is_number_of wide_string_types n && has_wrong_unit n c) in
     let b26 = one-few (is_short_time n c && has_form (time_form n) c && not (time_has_day n c)) in
     let s04 = one-few (is_short_time n c && has_form (time_form n) c && not (has_form (canonical_form n) c)) in
@@ -102,8 +112,8 @@ type-few n c =
       bits,
       bits-set,
       b19,
-      b21,
-      b23,
+      real-date,
+      real-iri,
       b25,
       b26,
       s04,
