@@ -1,18 +1,14 @@
 -- The contents of a REAL, octet by octet: what is kept of them says whether they are of a form.
-use Rattle.std.proofs.Common.{◌≡◌, ℕ, zero, suc, ◌+◌, ◌-◌, ◌%◌, Bool, true, false, ◌&&◌, ◌||◌, not, ◌==◌, nat_le}
+use Rattle.std.proofs.Common.{◌≡◌, ℕ, zero, suc, ◌+◌, ◌-◌, ◌%◌, Bool, true, false, ◌&&◌, not, ◌==◌, nat_le}
 use Rattle.std.proofs.Common.{if◌then◌else◌, List, [], ◌∷◌, length, take, drop, refl, sym, ap, ◌∙◌, arith}
 use Rattle.std.proofs.lemmas.Bool.Decides.{nat_tests}
-use Rattle.std.proofs.lemmas.Bool.{and_parts}
-use Rattle.tlv_value.specs.Checks.{type_findings}
 use Rattle.tlv_value.specs.TextForms.{maybe, sign}
 use Rattle.tlv_value.specs.ContentsOctets.{first_octet, is_padded_integer}
-use Rattle.tlv_value.specs.Real.{base_bits, canonical_nr3_form, has_size_octet, is_binary_form, is_canonical_binary}
-use Rattle.tlv_value.specs.Real.{is_canonical_mantissa}
-use Rattle.tlv_value.specs.Real.{is_canonical_real, is_decimal_form, is_real_form, is_special_form, scale_bits, spaces}
-use Rattle.tlv_value.specs.RealState.{begin_binary, begin_decimal, ends_canonical, ends_form, is_canonical}
-use Rattle.tlv_value.specs.RealState.{is_of_form, may_be_canonical, new_real_check, next_part, real_check_after}
+use Rattle.tlv_value.specs.Real.{base_bits, has_size_octet, is_binary_form}
+use Rattle.tlv_value.specs.Real.{is_decimal_form, is_real_form, is_special_form, spaces}
+use Rattle.tlv_value.specs.RealState.{begin_binary, begin_decimal, ends_form}
+use Rattle.tlv_value.specs.RealState.{is_of_form, new_real_check, next_part, real_check_after}
 use Rattle.tlv_value.specs.RealState.{real_check_next}
-use Rattle.tlv_value.specs.ValueCheckState.{last_octet_after}
 use Rattle.tlv_value.specs.declared.real.RealCheck.{RealCheck}
 use Rattle.tlv_value.specs.declared.real.RealPart.{RealPart}
 use Rattle.tlv_value.specs.declared.real.RealPart.TheVariants.{Nothing, Special, ExponentSize, Exponent, SecondExponent}
@@ -21,8 +17,6 @@ use Rattle.tlv_value.specs.declared.real.decimal_place.NumberForm.TheVariants.{N
 use Rattle.tlv_value.specs.declared.real.decimal_place.DecimalPlace.TheVariants.{Spaces}
 use Rattle.tlv_value.specs.declared.real.canonical_place.CanonicalPlace.TheVariants.{Begin, Other}
 use Rattle.tlv_value.proofs.CheckLemmas.Forms.{and-false, then-assoc}
-use Rattle.tlv_value.proofs.CheckLemmas.LastAndPadded.{last_of_all}
-use Rattle.tlv_value.proofs.RealLemmas.CanonicalForms.{canonical-end, canonical-step, canonical_tail}
 use Rattle.tlv_value.proofs.RealLemmas.NumberForms.{number_tail, place-end, place-step, place_tail}
 
 -- ---- What the octets after each part must be
