@@ -2,3 +2,4 @@ pub mod RealPieces
 pub mod NumberForms
 pub mod CanonicalForms
 pub mod RealContents
+pub mod CanonicalContents

@@ -1,9 +1,8 @@
 -- The characters of BMPString and UniversalString: X.690 8.23, ISO/IEC 10646.
-use Rattle.std.specs.Prelude.{ℕ, Bool, ◌&&◌, ◌||◌, not, ◌==◌, nat_le, nat_lt, if◌then◌else◌, List, length}
+use Rattle.std.specs.Prelude.{ℕ, Bool, ◌&&◌, ◌||◌, ◌==◌, nat_le, nat_lt, if◌then◌else◌, List, length}
 use Rattle.std.specs.List.{list_any}
 use Rattle.tlv_head.specs.Header.{value_of}
 use Rattle.tlv_head.specs.UniversalTypes as universal
-use Rattle.tlv_head.specs.declared.kind.Kind.{Kind}
 use Rattle.tlv_head.specs.declared.kind.Kind.TheVariants.{Ucs2, Ucs4}
 use Rattle.tlv_value.specs.Units.{units}
 

@@ -1,6 +1,6 @@
 -- Dates: which days a month has, and the forms of DATE, TIME-OF-DAY and DATE-TIME (X.690 8.26).
 use Rattle.std.specs.Prelude.{ℕ, ◌+◌, ◌*◌, ◌%◌, Bool, false, ◌&&◌, ◌||◌, not, ◌==◌, nat_le}
-use Rattle.std.specs.Prelude.{if◌then◌else◌, List, [], ◌∷◌}
+use Rattle.std.specs.Prelude.{if◌then◌else◌, List, ◌∷◌}
 use Rattle.tlv_head.specs.UniversalTypes as universal
 use Rattle.tlv_value.specs.Times.{Form, has_form, minute, month_and_day, two_digit_number, two_digits, ◌then◌}
 

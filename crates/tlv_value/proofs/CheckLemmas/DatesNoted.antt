@@ -5,7 +5,7 @@ use Rattle.std.proofs.lemmas.Bool.{leb-true}
 use Rattle.std.proofs.lemmas.Bool.Decides.{nat_tests}
 use Rattle.std.proofs.lemmas.List.{take_all}
 use Rattle.tlv_value.specs.Dates.{date_form, date_time_form, is_date_or_time, month_has_day, time_of_day_form}
-use Rattle.tlv_value.specs.Times.{Form, has_form, minute, month_and_day, two_digits, ◌then◌}
+use Rattle.tlv_value.specs.Times.{Form, has_form, month_and_day, two_digits, ◌then◌}
 use Rattle.tlv_value.proofs.CheckLemmas.Forms.{and-false, are_two_digits, then-assoc, two-then}
 
 -- a longer text has none of the forms

@@ -1,6 +1,6 @@
 -- There are few findings on the contents of a primitive, since most conditions are of one type alone.
-use Rattle.std.proofs.Common.{◌≡◌, ℕ, ◌+◌, ◌≤◌, Bool, true, false, ◌&&◌, ◌==◌, not, nat_le, nat_lt, eqb, List, [], ◌∷◌}
-use Rattle.std.proofs.Common.{◌++◌, ◌%◌, ◌^◌, ◌||◌, if◌then◌else◌, length, refl, arith}
+use Rattle.std.proofs.Common.{◌≡◌, ℕ, ◌+◌, ◌≤◌, Bool, true, false, ◌&&◌, ◌==◌, not, nat_le, nat_lt, List, [], ◌∷◌}
+use Rattle.std.proofs.Common.{◌++◌, ◌||◌, if◌then◌else◌, length, refl, arith}
 use Rattle.std.proofs.lemmas.Bool.{and_parts}
 use Rattle.std.proofs.lemmas.Bool.Decides.{nat_tests}
 use Rattle.tlv_head.specs.Header.{HeaderValue, is_universal}

@@ -25,7 +25,8 @@ use Rattle.tlv_value.proofs.CheckLemmas.ClearStrings.{all-allowed, fours-kept, t
 use Rattle.tlv_value.proofs.CheckLemmas.DatesNoted.{date-kept}
 use Rattle.tlv_value.proofs.CheckLemmas.EachNoted.{nothing-noted}
 use Rattle.tlv_value.proofs.CheckLemmas.LastAndPadded.{last_of_all, padded_of_all}
-use Rattle.tlv_value.proofs.RealLemmas.RealContents.{real-canonical, real-of_form}
+use Rattle.tlv_value.proofs.RealLemmas.CanonicalContents.{real-canonical}
+use Rattle.tlv_value.proofs.RealLemmas.RealContents.{real-of_form}
 use Rattle.tlv_value.proofs.CheckLemmas.Utf8ByRow.{rows-formed_at}
 use Rattle.tlv_value.specs.Times.{Form, canonical_generalized_time_form, canonical_utc_time_form, generalized_time_form}
 use Rattle.tlv_value.specs.Times.{has_form, utc_time_form}

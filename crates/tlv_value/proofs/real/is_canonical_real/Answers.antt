@@ -2,7 +2,8 @@ use Rattle.std.proofs.Common.{◌≡◌, true, false, List, ℕ, ap, ◌∙◌}
 use Rattle.tlv_value.specs.Real.{is_real_form}
 use Rattle.tlv_value.specs.RealState.{is_canonical, is_of_form, new_real_check, real_check_after}
 use Rattle.tlv_value.specs.declared.real.RealCheck.{RealCheck}
-use Rattle.tlv_value.proofs.RealLemmas.RealContents.{real-canonical, real-of_form}
+use Rattle.tlv_value.proofs.RealLemmas.CanonicalContents.{real-canonical}
+use Rattle.tlv_value.proofs.RealLemmas.RealContents.{real-of_form}
 use Rattle.tlv_value.proofs.real.is_canonical_real.Goals as goal
 
 pub returns-then-is_of_form : goal.returns-then-is_of_form

@@ -2,7 +2,7 @@ use Rattle.std.proofs.Common.{sym, ◌∙◌, arith}
 use Rattle.std.proofs.lemmas.Bool.Decides.{nat_tests}
 use Rattle.tlv_value.proofs.CheckLemmas.ClearStrings.{fours-clear, twos-clear, utf8-clear}
 use Rattle.tlv_value.proofs.CheckLemmas.KeptFindings.{date-clear}
-use Rattle.tlv_value.proofs.RealLemmas.RealContents.{real-clear}
+use Rattle.tlv_value.proofs.RealLemmas.CanonicalContents.{real-clear}
 use Rattle.tlv_value.proofs.short_look.is_type_clear.Goals as goal
 
 pub returns-in-9-clause-contents : goal.returns-in-9-clause-contents
