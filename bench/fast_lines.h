@@ -168,10 +168,10 @@ ALWAYS_INLINE char *add_usual_integer(char *to, const octet *at, size_t count) {
     if (count == 0 || count > 8) return count == 0 ? stpcpy(to, "\n") : add_large_integer(to, at, count);
     memcpy(&it, at, 8);
     it = (int64_t)__builtin_bswap64((number)it) >> (64 - 8 * count);
-    const number size = it < 0 ? -(number)it : (number)it;
+    const number sign = (number)(it >> 63), size = ((number)it ^ sign) - sign; /* all bits of the sign are 1 or 0 */
     if (__builtin_expect(size >= 10000000000000000, 0)) return add_large_integer(to, at, count);
     memcpy(to, " -", 2);
-    to = add_decimal(to + 1 + (it < 0), size);
+    to = add_decimal(to + 1 + (sign & 1), size);
     *to = '\n';
     return to + 1;
 }

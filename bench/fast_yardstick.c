@@ -71,17 +71,16 @@ ALWAYS_INLINE char *add_high_tag(char *to, const struct header *it) {
 }
 
 /* Returns the column of a length below 65536. */
-ALWAYS_INLINE const char *length_column(const struct header *it) {
+ALWAYS_INLINE const char *length_column(number it) {
     static char column[16];
-    if (it->is_indefinite) return LENGTH_COLUMN[INDEFINITE];
-    if (it->length < SHORT) return LENGTH_COLUMN[it->length];
-    stpcpy(add_number(column, 6, it->length), ": ");
+    if (it < SHORT) return LENGTH_COLUMN[it];
+    stpcpy(add_number(column, 6, it), ": ");
     return column;
 }
 
 /* Adds the line of an element up to the tag, and all of it if the element is constructed. */
-ALWAYS_INLINE char *add_usual_front(char *to, const struct place *now, const struct header *it) {
-    to = add_offset(to, now->offset, length_column(it));
+ALWAYS_INLINE char *add_usual_front(char *to, const struct place *now, const struct header *it, const char *column) {
+    to = add_offset(to, now->offset, column);
     to = add_blanks(to, 2 * now->depth);
     if ((it->first & 31) == 31) return add_high_tag(to, it);
     memcpy(to, TAG[it->first], 32);
@@ -116,7 +115,8 @@ ALWAYS_INLINE int take_element(struct place *now, const octet *end, const int wr
     if (size > now->bound - now->offset) return 0;
     if (it.first & 32) {
         if (it.size > (number)(end - now->at) || now->depth == DEEPEST) return 0;
-        if (writes) now->to = add_usual_front(now->to, now, &it);
+        const char *const column = it.is_indefinite ? LENGTH_COLUMN[INDEFINITE] : length_column(it.length);
+        if (writes) now->to = add_usual_front(now->to, now, &it, column);
         if (!it.is_indefinite) now->bound = now->offset + size;
         now->depth++;
         bound[now->depth] = now->bound;
@@ -129,7 +129,7 @@ ALWAYS_INLINE int take_element(struct place *now, const octet *end, const int wr
     if (writes) {
         const enum kind of = (it.first & 31) == 31 ? PAIRS : TAG_KIND[it.first];
         if (of >= TEXT && it.length > HELD) return 0;
-        char *const to = add_usual_front(now->to, now, &it);
+        char *const to = add_usual_front(now->to, now, &it, length_column(it.length));
         now->to = add_contents(to, contents, it.length, of, 19 + 2 * now->depth);
     }
     now->at += size;
