@@ -2,6 +2,8 @@
 -- rules.
 use Rattle.std.proofs.Common.{◌≡◌, [], ◌∷◌, codes, refl}
 use Rattle.std.specs.Fmt.{digits}
+use Rattle.std.specs.Str.{chars, is_utf8}
+use lib.Utf8.{encode}
 use Rattle.tlv_show.specs.declared.rules.Rules.TheVariants.{Ber, Der, Cer}
 use Rattle.tlv_walk.specs.Framing.{plain_framing}
 use Rattle.tlv_show.proofs.RowWords.{check, check_all, lines}
@@ -83,11 +85,13 @@ a_constructed_relative_oid_iri_der = refl
 -- 1f 24 01 61: a primitive RELATIVE-OID-IRI
 a_primitive_relative_oid_iri_ber : check_all plain_framing Ber (31 ∷ 36 ∷ 1 ∷ 97 ∷ [])
     ≡ lines 0 []
+unfolding is_utf8 chars encode
 a_primitive_relative_oid_iri_ber = refl
 
 -- 1f 24 01 61: a primitive RELATIVE-OID-IRI
 a_primitive_relative_oid_iri_der : check_all plain_framing Der (31 ∷ 36 ∷ 1 ∷ 97 ∷ [])
     ≡ lines 0 []
+unfolding is_utf8 chars encode
 a_primitive_relative_oid_iri_der = refl
 
 -- 3f 25 80 00 00: a constructed element of a number above
