@@ -11,3 +11,4 @@ pub mod SpellingRows
 pub mod SaturatingSums
 pub mod FindingLemmas
 pub mod DumpLemmas
+pub mod SetOrderLemmas

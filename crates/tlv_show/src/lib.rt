@@ -23,6 +23,8 @@ mod nesting;
 mod options;
 mod outcome;
 mod rules;
+mod set_frame;
+mod set_order;
 
 pub use basic_findings::has_basic_findings;
 pub use check_call::check;

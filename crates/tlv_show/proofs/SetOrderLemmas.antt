@@ -1,0 +1,4 @@
+pub mod Compared
+pub mod KeptFrames
+pub mod OneElement
+pub mod Passing
