@@ -1,4 +1,6 @@
 pub mod Compared
+pub mod Events
+pub mod Forests
 pub mod KeptFrames
 pub mod OneElement
 pub mod Passing

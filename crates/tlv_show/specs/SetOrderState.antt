@@ -1,14 +1,19 @@
 -- What is kept of the open SETs so that elements out of order are found event by event. No contract of `dump` or
 -- `check` names this: `SetOrder` says which elements are out of order.
-use Rattle.std.specs.Prelude.{ℕ, ◌+◌, ◌-◌, Bool, true, false, ◌&&◌, ◌||◌, not, ◌==◌, nat_lt, if◌then◌else◌, List, []}
-use Rattle.std.specs.Prelude.{◌∷◌, ◌++◌, length, map, min, set, slice_index}
+use Rattle.std.specs.Prelude.{◌≡◌, ℕ, ◌+◌, ◌-◌, Bool, true, false, ◌&&◌, ◌||◌, not, ◌==◌, nat_lt, if◌then◌else◌, List, []}
+use Rattle.std.specs.Prelude.{◌∷◌, ◌++◌, length, map, min, set, slice_index, None}
 use Rattle.tlv_head.specs.Limits.{depth_limit}
 use Rattle.tlv_head.specs.Header.{HeaderValue, octets_of}
 use Rattle.tlv_head.specs.declared.header.Class.TheVariants.{Universal}
 use Rattle.tlv_walk.specs.Events.{Begin, Bytes, Close, End, Enter, EventValue, Leave, Open, Pad, Unused, event_octets}
+use Rattle.tlv_walk.specs.Events.{events}
+use Rattle.tlv_walk.specs.Forest.{Forest}
+use Rattle.tlv_walk.specs.Place.{ObeysGrammar, top_place}
+use Rattle.tlv_walk.specs.declared.framing.Framing.{Framing}
 use Rattle.tlv_show.specs.declared.rules.Rules.{Rules}
 use Rattle.tlv_show.specs.declared.set_frame.SetFrame.{SetFrame}
-use Rattle.tlv_show.specs.SetOrder.{compared_count, do_octets_decide, is_set, offset_if, zeros}
+use Rattle.tlv_show.specs.SetOrder.{compared_count, do_octets_decide, is_set, offset_if, out_of_order_offsets}
+use Rattle.tlv_show.specs.SetOrder.{zeros}
 
 -- ---- One frame
 
@@ -157,3 +162,15 @@ set_order_found End s = offset_if (is_last_out_of_order s.frame) s.frame.offset
 set_order_found (Close offset) s = offset_if (is_last_out_of_order s.frame) s.frame.offset
 set_order_found Leave s = offset_if (is_last_out_of_order s.frame) s.frame.offset
 set_order_found event s = []
+
+-- what is found of events one after another
+abbrev pub set_order_offsets : Rules → SetOrderState → List EventValue → List ℕ
+set_order_offsets rules s [] = []
+set_order_offsets rules s (event ∷ es) =
+    set_order_found event (set_order_step rules s event) ++ set_order_offsets rules (set_order_step rules s event) es
+
+-- of the events of a forest that obeys the grammar, exactly the elements are found that are out of order
+abbrev pub OutOfOrderIsFound : Type 0
+OutOfOrderIsFound =
+    (rules : Rules) (framing : Framing) (f : Forest) → ObeysGrammar (top_place framing) f
+    → set_order_offsets rules new_set_order (events f) ≡ out_of_order_offsets rules None None f
