@@ -7,7 +7,7 @@ use Rattle.tlv_head.specs.Header.{HeaderValue, octets_of}
 use Rattle.tlv_head.specs.declared.header.Class.TheVariants.{Universal}
 use Rattle.tlv_walk.specs.Events.{Begin, Bytes, Close, End, Enter, EventValue, Leave, Open, Pad, Unused, event_octets}
 use Rattle.tlv_walk.specs.Events.{events}
-use Rattle.tlv_walk.specs.Forest.{Forest}
+use Rattle.tlv_walk.specs.Forest.{Forest, opening}
 use Rattle.tlv_walk.specs.Place.{ObeysGrammar, top_place}
 use Rattle.tlv_walk.specs.declared.framing.Framing.{Framing}
 use Rattle.tlv_show.specs.declared.rules.Rules.{Rules}
@@ -104,6 +104,7 @@ set_order_octets_step s octets = record {
 abbrev pub set_order_started : Rules → SetOrderState → HeaderValue → SetOrderState
 set_order_started rules s h = if is_direct s.frame then record s { frame = frame_begun rules s.frame h } else s
 
+-- a primitive begins
 abbrev pub set_order_begin_step : Rules → SetOrderState → HeaderValue → SetOrderState
 set_order_begin_step rules s h = set_order_octets_step (set_order_started rules s h) (octets_of h)
 
@@ -111,15 +112,17 @@ set_order_begin_step rules s h = set_order_octets_step (set_order_started rules 
 abbrev pub frame_entered : SetFrame → SetFrame
 frame_entered w = record w { open_count = min (w.open_count + 1) 255 }
 
--- an element that holds others begins. With `depth_limit` frames outside, no frame is kept for more
+-- the elements that come next are in an element with this header. With `depth_limit` frames outside, no frame is kept
+-- for more
 abbrev pub set_order_entered : SetOrderState → HeaderValue → SetOrderState
 set_order_entered s h =
     if is_set h && nat_lt (length s.outer) depth_limit
     then record { frame = new_set_frame; outer = frame_entered s.frame ∷ s.outer }
     else record s { frame = frame_entered s.frame }
 
+-- an element that holds others begins. The octet before the elements in a BIT STRING is taken with its header
 abbrev pub set_order_open_step : Rules → SetOrderState → HeaderValue → SetOrderState
-set_order_open_step rules s h = set_order_entered (set_order_begin_step rules s h) h
+set_order_open_step rules s h = set_order_entered (set_order_octets_step (set_order_started rules s h) (opening h)) h
 
 -- an element ends
 abbrev pub set_order_end_step : SetOrderState → SetOrderState
@@ -152,7 +155,7 @@ set_order_step rules s (Bytes octets) = set_order_octets_step s octets
 set_order_step rules s End = set_order_end_step s
 set_order_step rules s (Close offset) = set_order_close_step s (event_octets (Close offset))
 set_order_step rules s (Enter h) = set_order_open_step rules s h
-set_order_step rules s Unused = set_order_octets_step s (0 ∷ [])
+set_order_step rules s Unused = s
 set_order_step rules s Leave = set_order_close_step s []
 set_order_step rules s (Pad octets) = s
 

@@ -1,6 +1,7 @@
 //! What is kept of an open SET, so that elements out of order are found.
 ghost use Rattle.std.specs.Prelude.{◌≡◌};
 ghost use Rattle.tlv_head.specs.Header.{class_bits};
+ghost use Rattle.tlv_walk.specs.Forest.{lead};
 ghost use Rattle.tlv_show.specs.SetOrder.{do_octets_decide, is_set};
 ghost use Rattle.tlv_show.specs.SetOrderState.{frame_after_octets, frame_begun, frame_ended, is_full, new_set_frame};
 ghost use Rattle.tlv_show.specs.SetOrderState.{is_last_out_of_order, outermost_frame};
@@ -88,6 +89,18 @@ pub(crate) fn is_set(header: &Header) -> bool
     header.constructed && is_universal(header) && header.number == universal::SET
 }
 
+/// The contents octets before the elements in an element that holds others: those of a BIT STRING begin with 00.
+#[inline(always)]
+pub(crate) fn lead_of(header: &Header) -> &'static [u8]
+    ensures { result.now ≡ lead header.now }
+{
+    if !header.constructed && header.number == universal::BIT_STRING {
+        b"\0"
+    } else {
+        b""
+    }
+}
+
 /// The place of a class in the order of tags (X.680 8.6).
 #[inline(always)]
 fn class_rank(class: Class) -> u8
@@ -114,7 +127,8 @@ fn do_octets_decide(
     let rank = class_rank(class);
     let other_rank = class_rank(other_class);
     match rules {
-        Rules::Ber | Rules::Der => !(other_rank < rank || (rank == other_rank && other_number < number)),
+        Rules::Ber | Rules::Der => !(other_rank < rank
+            || (rank == other_rank && other_number < number)),
         Rules::Cer => rank == other_rank && number == other_number,
     }
 }

@@ -8,8 +8,8 @@ ghost use Rattle.tlv_show.specs.SetOrderState.{set_order_left, set_order_octets_
 
 use crate::Rules;
 use crate::set_frame::{
-    SetFrame, add_octets, begin_in, end_in, is_full, is_last_out_of_order, is_set, new_set_frame,
-    outermost_frame,
+    SetFrame, add_octets, begin_in, end_in, is_full, is_last_out_of_order, is_set, lead_of,
+    new_set_frame, outermost_frame,
 };
 use arrayvec::ArrayVec;
 use std::marker::Model;
@@ -82,12 +82,13 @@ impl SetOrder {
         self.octets(header.raw());
     }
 
-    /// An element that holds others begins.
+    /// An element that holds others begins. Of a BIT STRING that holds encodings, the first contents octet is taken too.
     #[inline]
     pub fn open(&mut self, rules: Rules, header: &Header)
         ensures { self.new ≡ set_order_open_step rules self.old header.now }
     {
         self.begin(rules, header);
+        self.octets(lead_of(header));
         self.enter(header);
     }
 

@@ -83,53 +83,22 @@ module _ (rules : Rules) where
       then record { frame = new_set_frame; outer = frame_entered s.frame ∷ s.outer }
       else record s { frame = frame_entered s.frame }
 
-  no-set : (h : HeaderValue) → h.constructed ≡ false → is_set h ≡ false
-  no-set h primitive = ap (λ (k : Bool). k && is_a set h) primitive
-
-  entered-no_set : (s : SetOrderState) (h : HeaderValue) → is_set h ≡ false
-      → set_order_entered s h ≡ record s { frame = frame_entered s.frame }
-  entered-no_set s h none = ap (λ (k : Bool). entered_as (k && nat_lt (length s.outer) 128) s) none
-
   entered-after : (w : SetFrame) (octets : List ℕ)
       → frame_after_octets (frame_entered w) octets ≡ frame_entered (frame_after_octets w octets)
   entered-after w octets =
       after-open (min (w.open_count + 1) 255) w octets
       ∙ ap (λ (n : ℕ). with_open (min (n + 1) 255) (frame_after_octets w octets)) (sym (same-after w octets).open_count)
 
-  opened-lead : (s : SetOrderState) (h : HeaderValue) (octets : List ℕ) → lead h ≡ octets
-      → set_order_octets_step (set_order_octets_step (set_order_started rules s h) (octets_of h)) octets
-      ≡ begun_state s h
-  opened-lead s h octets e =
-      sym (octets_step-append (set_order_started rules s h) (octets_of h) octets)
-      ∙ ap (λ (l : List ℕ). set_order_octets_step (set_order_started rules s h) (octets_of h ++ l)) (sym e)
-
-  opened-no_lead : (s : SetOrderState) (h : HeaderValue) → lead h ≡ []
-      → set_order_octets_step (set_order_started rules s h) (octets_of h) ≡ begun_state s h
-  opened-no_lead s h e =
-      ap (set_order_octets_step (set_order_started rules s h)) (sym (append-nil (octets_of h)))
-      ∙ ap (λ (l : List ℕ). set_order_octets_step (set_order_started rules s h) (octets_of h ++ l)) (sym e)
-
-  opened-by : (s : SetOrderState) (h : HeaderValue) (es : List EventValue) (k three : Bool) → h.constructed ≡ k
-      → lead h ≡ lead_by k three
+  opened-by : (s : SetOrderState) (h : HeaderValue) (es : List EventValue) (k three : Bool)
       → run_set_order rules s (((if k then Open h else Enter h) ∷ map (λ z. Unused) (lead_by k three)) ++ es)
       ≡ run_set_order rules (opened_state s h) es
-  opened-by s h es true three constructed e =
-      ap (λ (t : SetOrderState). run_set_order rules (set_order_entered t h) es) (opened-no_lead s h e)
-  opened-by s h es false false constructed e =
-      ap (λ (t : SetOrderState). run_set_order rules (set_order_entered t h) es) (opened-no_lead s h e)
-  opened-by s h es false true constructed e =
-      let t : SetOrderState = set_order_octets_step (set_order_started rules s h) (octets_of h) in
-      let none : is_set h ≡ false = no-set h constructed in
-      ap (λ (u : SetOrderState). run_set_order rules u es)
-      (ap (λ (u : SetOrderState). set_order_octets_step u (0 ∷ [])) (entered-no_set t h none)
-      ∙ ap (λ (w : SetFrame). record { frame = w; outer = frames_after_octets (0 ∷ []) t.outer })
-      (entered-after t.frame (0 ∷ []))
-      ∙ ap (λ (u : SetOrderState). record u { frame = frame_entered u.frame }) (opened-lead s h (0 ∷ []) e)
-      ∙ sym (entered-no_set (begun_state s h) h none))
+  opened-by s h es true three = refl
+  opened-by s h es false false = refl
+  opened-by s h es false true = refl
 
   pub run-opening : (s : SetOrderState) (h : HeaderValue) (es : List EventValue)
       → run_set_order rules s (opening_events h ++ es) ≡ run_set_order rules (opened_state s h) es
-  run-opening s h es = opened-by s h es h.constructed (h.number == 3) refl refl
+  run-opening s h es = opened-by s h es h.constructed (h.number == 3)
 
   -- ---- and ends
 
