@@ -9,6 +9,7 @@ pub mod FramesAfter
 pub mod FramesAround
 pub mod HeaderFindings
 pub mod KeptFrames
+pub mod ListedFindings
 pub mod FindingLines
 pub mod LongerHeaders
 pub mod UsualHeaders

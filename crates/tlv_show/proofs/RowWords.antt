@@ -7,6 +7,7 @@ use Rattle.tlv_walk.specs.declared.framing.Framing.{Framing}
 use Rattle.tlv_walk.proofs.GrammarLemmas.Readings.{reading}
 use Rattle.tlv_show.specs.ShowJob.{check_job, show_job}
 use Rattle.tlv_show.specs.declared.rules.Rules.{Rules}
+use Rattle.tlv_show.specs.ShownFindings.{listed_by}
 use Rattle.tlv_show.specs.Texts.{finding_count, item_text}
 
 abbrev pub inside_framing : ℕ → Framing
@@ -28,14 +29,14 @@ pub record TextAndCount : Type 0 where
 
 abbrev pub dump : Framing → Layout → Rules → List ℕ → TextAndCount
 dump framing layout rules b = let f = reading framing b in record {
-  text = (show_job rules framing (item_text false no_names layout)).text f;
-  count = finding_count rules f;
+  text = (show_job (listed_by rules) framing (item_text false no_names layout)).text f;
+  count = finding_count (listed_by rules) f;
 }
 
 abbrev pub check : Framing → Rules → List ℕ → TextAndCount
 check framing rules b = let f = reading framing b in record {
   text = (check_job rules framing).text f;
-  count = finding_count rules f;
+  count = finding_count (listed_by rules) f;
 }
 
 -- so many findings, and these lines

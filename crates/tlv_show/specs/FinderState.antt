@@ -8,7 +8,7 @@ use Rattle.tlv_value.specs.declared.finding.Finding.{Finding}
 use Rattle.tlv_value.specs.ValueCheckState.{ValueCheckState, value_check_after, findings_in, has_unused_bits}
 use Rattle.tlv_value.specs.ValueCheckState.{new_value_check}
 use Rattle.tlv_show.specs.declared.holder_frame.HolderFrame.{HolderFrame}
-use Rattle.tlv_show.specs.declared.rules.Rules.{Rules}
+use Rattle.tlv_show.specs.declared.wanted.Wanted.{Wanted}
 use Rattle.tlv_show.specs.KeptConditions.{end_findings_in, header_findings_in}
 use Rattle.tlv_show.specs.ShownFindings.{is_shown}
 use Rattle.tlv_show.specs.NestingState.{NestingState, depth_in, new_nesting, nesting_open_step}
@@ -24,7 +24,7 @@ pub record OpenPrimitiveState : Type 0 where
 
 -- what a finder keeps: what contracts see of a `Check`
 pub record CheckState : Type 0 where
-  pub rules : Rules
+  pub wanted : Wanted
   -- the open elements that hold others
   pub holders : NestingState
   -- the open primitive
@@ -32,8 +32,8 @@ pub record CheckState : Type 0 where
   -- the number of findings reported; it stops at 2^64 - 1
   pub finding_count : ℕ
 
-abbrev pub new_check : Rules → CheckState
-new_check rules = record { rules = rules; holders = new_nesting; open_primitive = None; finding_count = 0 }
+abbrev pub new_check : Wanted → CheckState
+new_check wanted = record { wanted = wanted; holders = new_nesting; open_primitive = None; finding_count = 0 }
 
 -- what contracts see of a `Finder`: what it keeps, the findings of the last event that may have had some, and the
 -- element that they are in: it begins at `offset`, and `level` others hold it
@@ -61,7 +61,7 @@ without_findings s = record { kept = s; level = 0; offset = 0; findings = [] }
 abbrev pub with_header_findings : CheckState → HeaderValue → CheckState → FinderState
 with_header_findings s h after =
     with_findings after (depth_in s.holders) h.offset
-    (header_findings_in s.rules (surroundings_in s.holders.frame) h)
+    (header_findings_in s.wanted (surroundings_in s.holders.frame) h)
 
 -- an element that holds others begins
 abbrev pub finder_open_step : CheckState → HeaderValue → FinderState
@@ -88,8 +88,8 @@ finder_bytes_step s octets =
     else record s { open_primitive = open_primitive_after s.open_primitive octets }
 
 -- a primitive ends whose contents octets have all come
-abbrev pub contents_findings_in : Rules → ValueCheckState → List Finding
-contents_findings_in rules t = if t.left == 0 then filter (is_shown rules) (findings_in t) else []
+abbrev pub contents_findings_in : Wanted → ValueCheckState → List Finding
+contents_findings_in wanted t = if t.left == 0 then filter (is_shown wanted) (findings_in t) else []
 
 abbrev pub finder_after_primitive : CheckState → OpenPrimitiveState → CheckState
 finder_after_primitive s v = record s {
@@ -101,7 +101,7 @@ abbrev pub finder_primitive_end_step : CheckState → Option OpenPrimitiveState 
 finder_primitive_end_step s None = without_findings s
 finder_primitive_end_step s (Some v) =
     with_findings (finder_after_primitive s v) (depth_in s.holders) v.offset
-    (contents_findings_in s.rules v.check)
+    (contents_findings_in s.wanted v.check)
 
 abbrev pub finder_end_step : CheckState → FinderState
 finder_end_step s = finder_primitive_end_step s s.open_primitive
@@ -111,7 +111,7 @@ abbrev pub finder_frame_end_step : CheckState → List HolderFrame → FinderSta
 finder_frame_end_step s [] = without_findings s
 finder_frame_end_step s (w ∷ outer) =
     with_findings (record s { holders = nesting_close_step s.holders }) (length outer) s.holders.frame.offset
-    (end_findings_in s.rules (segments_in s.holders.frame))
+    (end_findings_in s.wanted (segments_in s.holders.frame))
 
 abbrev pub finder_close_step : CheckState → FinderState
 finder_close_step s = finder_frame_end_step s s.holders.outer

@@ -10,7 +10,7 @@ ghost use Rattle.tlv_show.specs.NestingState.{depth_in, segments_in};
 ghost use Rattle.tlv_show.specs.Private.FinderState.{PassesOrStays, ReturnsFindings};
 ghost use Rattle.tlv_show.specs.Private.FinderState.{finder_step, new_finder, with_check_state};
 
-use crate::Rules;
+use crate::Wanted;
 use crate::contents_findings::add_contents_findings;
 use crate::header_findings::{
     add_end_findings, add_header_findings, has_no_header_findings, has_no_header_findings_if_usual,
@@ -28,7 +28,7 @@ use tlv_walk::Event;
 /// and of the open primitive.
 #[derive(Drop)]
 pub(crate) struct Finder {
-    rules: Rules,
+    wanted: Wanted,
     /// What must be known of the open elements that hold others.
     holders: Nesting,
     /// The offset of the open primitive.
@@ -52,7 +52,7 @@ impl Model for Finder {
 
     ghost view = { λ f. record {
       kept = record {
-        rules = f.rules;
+        wanted = f.wanted;
         holders = f.holders;
         open_primitive = if_open f.is_open (record { offset = f.offset; check = f.check });
         finding_count = f.finding_count;
@@ -65,11 +65,11 @@ impl Model for Finder {
 
 impl Finder {
     /// A finder before its first event.
-    pub fn new(rules: Rules) -> Finder
-        ensures { result ≡ new_finder rules }
+    pub fn new(wanted: Wanted) -> Finder
+        ensures { result ≡ new_finder wanted }
     {
         Finder {
-            rules,
+            wanted,
             holders: Nesting::new(),
             offset: 0,
             is_open: false,
@@ -134,12 +134,13 @@ impl Finder {
         // The type is looked up once: `is_clear` shows that it has primitives. The caller need not know the form; the
         // check costs nothing if the compiler knows it.
         if header.constructed
-            || !has_no_header_findings_if_usual(self.rules, frame, header)
+            || !has_no_header_findings_if_usual(self.wanted.rules, frame, header)
             || !is_clear(header, contents)
         {
             return false;
         }
         self.is_open = false;
+        self.holders.note_element();
         true
     }
 
@@ -151,7 +152,7 @@ impl Finder {
         let level = self.holders.depth();
         self.last.restart(level, header.offset);
         add_header_findings(
-            self.rules,
+            self.wanted,
             self.holders.frame(),
             header,
             &mut self.last.findings,
@@ -178,7 +179,7 @@ impl Finder {
         ensures { ReturnsFindings (finder_open_step self.old.kept header.now) self.new result }
     {
         // Most such elements are not strings, and have no findings.
-        if has_no_header_findings(self.rules, self.holders.frame(), header) {
+        if has_no_header_findings(self.wanted.rules, self.holders.frame(), header) {
             self.holders.open_without_frame(header);
             return false;
         }
@@ -225,7 +226,7 @@ impl Finder {
         }
         let level = self.holders.depth();
         self.last.restart(level, self.offset);
-        add_contents_findings(self.rules, check, &mut self.last.findings);
+        add_contents_findings(self.wanted, check, &mut self.last.findings);
         self.finding_count = self
             .finding_count
             .saturating_add(self.last.findings.len() as u64);
@@ -243,16 +244,16 @@ impl Finder {
         }
     }
 
-    /// Determines the findings of the end of an element that held segments.
+    /// Determines the findings of the end of an element that held segments or lacks components.
     #[inline(never)]
     fn find_with_end(&mut self, closed: &HolderFrame) -> bool
         ensures { ReturnsFindings
             (with_findings self.old.kept (depth_in self.old.kept.holders) closed.now.offset
-            (end_findings_in self.old.kept.rules (segments_in closed.now)))
+            (end_findings_in self.old.kept.wanted (segments_in closed.now)))
             self.new result }
     {
         self.last.restart(self.holders.depth(), closed.offset);
-        add_end_findings(self.rules, closed, &mut self.last.findings);
+        add_end_findings(self.wanted, closed, &mut self.last.findings);
         self.finding_count = self
             .finding_count
             .saturating_add(self.last.findings.len() as u64);

@@ -25,9 +25,11 @@ mod outcome;
 mod rules;
 mod set_frame;
 mod set_order;
+mod scope;
+mod wanted;
 
 pub use basic_findings::has_basic_findings;
-pub use check_call::check;
+pub use check_call::{check, check_with};
 pub use check_follower::Check;
 pub use dump_call::{dump, dump_with};
 pub use dump_follower::Dump;
@@ -35,3 +37,5 @@ pub use finite_names::FiniteNames;
 pub use options::Options;
 pub use outcome::Outcome;
 pub use rules::Rules;
+pub use scope::Scope;
+pub use wanted::Wanted;

@@ -3,9 +3,10 @@ use Rattle.std.proofs.lemmas.Bool.{not-true}
 use Rattle.std.proofs.Common.{subst, rules, ◌≡◌, Bool, false, true, ℕ, List, [], ◌∷◌, length, sym, ap, ◌∙◌}
 use Rattle.std.specs.Prelude.{None, Ok, ◌&&◌, ◌||◌, not}
 use Rattle.std.specs.List.{filter}
-use Rattle.tlv_head.specs.Header.{HasAllContents, HeaderValue}
+use Rattle.tlv_head.specs.Header.{HasAllContents, HeaderValue, is_universal}
 use Rattle.tlv_value.specs.declared.finding.Finding.{Finding}
 use Rattle.tlv_value.specs.Checks.{all_contents_findings}
+use Rattle.tlv_value.specs.Types.{is_number_of}
 use Rattle.tlv_value.specs.Types.{has_primitives, is_always_constructed, is_always_primitive, is_string, is_unassigned}
 use Rattle.tlv_walk.specs.declared.follow.Go.TheVariants as go
 use Rattle.tlv_io.specs.declared.out.Out.{Out}
@@ -20,7 +21,9 @@ use Rattle.tlv_show.specs.declared.finding_lines.Style.TheVariants.{Check}
 use Rattle.tlv_show.specs.CheckStep.{check_step, findings_effect}
 use Rattle.tlv_show.specs.FindingLines.{styled_lines}
 use Rattle.tlv_show.specs.FinderState.{CheckState, FinderState, finder_begin_step, finder_bytes_step}
-use Rattle.tlv_show.specs.NestingState.{depth_in, surroundings_in}
+use Rattle.tlv_show.specs.Conditions.{component_types, is_time_or_iri}
+use Rattle.tlv_show.specs.NestingState.{NestingState, depth_in, surroundings_in, with_element}
+use Rattle.tlv_show.specs.Private.Nesting.{nesting_with_element}
 use Rattle.tlv_show.specs.Private.FinderState.{PassesOrStays, PassesPrimitive, finder_whole_step, with_check_state}
 use Rattle.tlv_show.specs.Private.UsualTypes.{IsUsual}
 use Rattle.tlv_show.specs.KeptConditions.{header_findings_in}
@@ -41,16 +44,19 @@ usual_primitive h primitive primitives =
       primitive_if_always = ap (λ (b : Bool). b && is_always_primitive h) primitive;
       constructed_if_always =
           ap (λ (b : Bool). not b && is_always_constructed h) primitive ∙ search (rules, form);
+      primitive_if_late = ap (λ (b : Bool). b && is_time_or_iri h) primitive;
       no_segments = ap (λ (b : Bool). b && is_string h) primitive;
+      no_components =
+          ap (λ (b : Bool). b && is_universal h.class && is_number_of component_types h.number) primitive;
     }
 
 -- after a primitive with which nothing is found, outside of strings
 abbrev without_primitive : CheckState → CheckState
-without_primitive s = record s { open_primitive = None }
+without_primitive s = record s { holders = nesting_with_element s.holders; open_primitive = None }
 
 pub whole_step-clear : (s : CheckState) (h : HeaderValue) (c : List ℕ) → HasAllContents h c
     → s.holders.frame.has_segments ≡ false
-    → header_findings_in s.rules (surroundings_in s.holders.frame) h ≡ [] → all_contents_findings h c ≡ []
+    → header_findings_in s.wanted (surroundings_in s.holders.frame) h ≡ [] → all_contents_findings h c ≡ []
     → finder_whole_step s h c ≡ record {
       kept = without_primitive s;
       level = depth_in s.holders;
@@ -60,24 +66,25 @@ pub whole_step-clear : (s : CheckState) (h : HeaderValue) (c : List ℕ) → Has
 whole_step-clear s h c size w header contents =
     let made : HolderFrame → ℕ → List Finding
     → FinderState = λ (f : HolderFrame) (n : ℕ) (fs : List Finding). record {
-      kept = check_between s.rules f s.holders.outer (saturating_sum n (length fs));
+      kept = check_between s.wanted f s.holders.outer (saturating_sum n (length fs));
       level = depth_in s.holders;
       offset = h.offset;
       findings = fs;
     } in
-    primitive-find s.rules s.holders.frame s.holders.outer s.finding_count h c size
-    ∙ ap (λ (fs : List Finding). made (after_primitive s.rules s.holders.frame h c)
-    (saturating_sum s.finding_count (length (header_findings_in s.rules (surroundings_in s.holders.frame) h)))
-    (filter (is_shown s.rules) fs))
+    primitive-find s.wanted s.holders.frame s.holders.outer s.finding_count h c size
+    ∙ ap (λ (fs : List Finding). made (after_primitive s.wanted s.holders.frame h c)
+    (saturating_sum s.finding_count (length (header_findings_in s.wanted (surroundings_in s.holders.frame) h)))
+    (filter (is_shown s.wanted) fs))
     contents
-    ∙ ap (λ (fs : List Finding). made (after_primitive s.rules s.holders.frame h c)
+    ∙ ap (λ (fs : List Finding). made (after_primitive s.wanted s.holders.frame h c)
     (saturating_sum s.finding_count (length fs)) [])
     header
-    ∙ ap (λ (f : HolderFrame). made f (saturating_sum s.finding_count 0) []) (outside s.holders.frame true _ _ w)
+    ∙ ap (λ (f : HolderFrame). made f (saturating_sum s.finding_count 0) [])
+    (outside (with_element s.holders.frame) true _ _ w)
     ∙ ap (λ (n : ℕ).
     record {
       kept =
-          check_between s.rules s.holders.frame s.holders.outer n;
+          check_between s.wanted (with_element s.holders.frame) s.holders.outer n;
       level =
           depth_in s.holders;
       offset = h.offset;
@@ -87,7 +94,7 @@ whole_step-clear s h c size w header contents =
 
 pub passes_primitive-clear : (old new : FinderState) (h : HeaderValue) (c : List ℕ) → HasAllContents h c
     → old.kept.holders.frame.has_segments ≡ false
-    → header_findings_in old.kept.rules (surroundings_in old.kept.holders.frame) h ≡ [] → all_contents_findings h c ≡ []
+    → header_findings_in old.kept.wanted (surroundings_in old.kept.holders.frame) h ≡ [] → all_contents_findings h c ≡ []
     → new ≡ with_check_state (without_primitive old.kept) old → PassesPrimitive old new h c
 passes_primitive-clear old new h c size w header contents e =
     let all = whole_step-clear old.kept h c size w header contents in
@@ -96,6 +103,19 @@ passes_primitive-clear old new h c size w header contents e =
       ends = ap (λ (f : FinderState). f.findings) all;
       kept = e ∙ ap (λ (f : FinderState). with_check_state f.kept old) (sym all);
     }
+
+-- an element that holds others, with whose header nothing is found
+pub opens-clear : (s : CheckState) (holders : NestingState) (fs : List Finding) → fs ≡ []
+    → (record s { holders = holders }
+    ≡ record s { holders = holders; finding_count = saturating_sum s.finding_count (length fs) })
+    × (fs ≡ [])
+opens-clear s holders fs e = (
+  ap (λ (n : ℕ). record s { holders = holders; finding_count = n }) (sym (sum-none s.finding_count))
+      ∙ ap (λ (l : List Finding).
+      record s { holders = holders; finding_count = saturating_sum s.finding_count (length l) })
+      (sym e),
+  e,
+)
 
 -- ---- a check
 

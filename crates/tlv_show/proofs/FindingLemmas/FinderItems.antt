@@ -14,9 +14,10 @@ use Rattle.tlv_walk.specs.Forest.{Forest, NoMore, PaddingOctet, Primitive, Holde
 use Rattle.tlv_walk.specs.Forest.{OpenBitString, OpenHeader, OpenEndOctets, extent, is_whole}
 use Rattle.tlv_walk.specs.Place.{ObeysGrammar, Place, place_after, place_of_children}
 use Rattle.tlv_show.specs.declared.holder_frame.HolderFrame.{HolderFrame}
-use Rattle.tlv_show.specs.declared.rules.Rules.{Rules}
+use Rattle.tlv_show.specs.declared.wanted.Wanted.{Wanted}
 use Rattle.tlv_show.specs.FinderState.{CheckState}
 use Rattle.tlv_show.specs.NestingState.{frame_after, frame_under, surroundings_in}
+use Rattle.tlv_show.specs.NestingState.{with_element}
 use Rattle.tlv_show.specs.KeptConditions.{header_findings_in}
 use Rattle.tlv_show.specs.ShownFindings.{contents_findings, header_findings, end_findings}
 use Rattle.tlv_show.specs.Items.{Item, FindingAt, OpeningLine, ClosingLine, PrimitiveLines, OpenPrimitiveLines}
@@ -49,24 +50,24 @@ only-pads : (k : Bool) (level offset : ℕ) (l : List Item)
 only-pads true level offset l = refl
 only-pads false level offset l = refl
 
-module _ (rules : Rules) where
+module _ (wanted : Wanted) where
   -- what was reported of elements: the findings of their items; and if they are whole, the frame after them
   pub record IsFoundAs (s : Site) (w : HolderFrame) (outer : List HolderFrame) (f : Forest) : Type 0 where
-    pub put : (n : ℕ) → (run_finder (check_between rules w outer n) (events f)).put ≡ only (items rules s f)
+    pub put : (n : ℕ) → (run_finder (check_between wanted w outer n) (events f)).put ≡ only (items wanted s f)
     pub after : (n : ℕ) → is_whole f ≡ true
         → (m : ℕ)
-        × ((run_finder (check_between rules w outer n) (events f)).state
-        ≡ check_between rules (frame_after_elements w f) outer m)
+        × ((run_finder (check_between wanted w outer n) (events f)).state
+        ≡ check_between wanted (frame_after_elements w f) outer m)
 
   -- findings with a header, and then other items
   header-items : (s : Site) (w : HolderFrame) (outer : List HolderFrame) (h : HeaderValue) (found rest : List Item)
       → Knows w s → length outer ≡ s.depth → found ≡ only rest
-      → finding_items (length outer) h.offset (header_findings_in rules (surroundings_in w) h) ++ found
-      ≡ only (header_items rules s h ++ rest)
+      → finding_items (length outer) h.offset (header_findings_in wanted (surroundings_in w) h) ++ found
+      ≡ only (header_items wanted s h ++ rest)
   header-items s w outer h found rest k l e =
-      ap₂ (λ (n : ℕ) (fs : List Finding). finding_items n h.offset fs ++ found) l (header-same rules w s h k)
-      ∙ ap (λ (t : List Item). header_items rules s h ++ t) e
-      ∙ sym (only-finding_items s.depth h.offset (header_findings rules s h) rest)
+      ap₂ (λ (n : ℕ) (fs : List Finding). finding_items n h.offset fs ++ found) l (header-same wanted w s h k)
+      ∙ ap (λ (t : List Item). header_items wanted s h ++ t) e
+      ∙ sym (only-finding_items s.depth h.offset (header_findings wanted s h) rest)
 
   -- other findings, and then other items
   more-items : (s : Site) (outer : List HolderFrame) (offset : ℕ) (fs : List Finding) (found rest : List Item)
@@ -87,76 +88,76 @@ module _ (rules : Rules) where
       record {
         put =
             λ n. r.put n
-            ∙ sym (only-pads (is_padding s.previous) s.depth s.offset (items rules (site_after_padding s) rest));
+            ∙ sym (only-pads (is_padding s.previous) s.depth s.offset (items wanted (site_after_padding s) rest));
         after = r.after;
       }
   finds_forest p s w outer (Primitive h c rest) v k l d free =
       let size : HasAllContents h c = ap announced_length v.0.1 in
       let form : h.constructed ≡ false = not-constructed h.constructed (wraps h) v.0.0.form in
       let u : Bool = has_unused_bits (value_check_for h c) in
-      let known : Knows (after_primitive rules w h c) (site_after_primitive s h c) =
-      subst (λ (b : Bool). Knows (frame_after w b (announced_length h.size) u) (site_after_primitive s h c))
+      let known : Knows (after_primitive wanted w h c) (site_after_primitive s h c) =
+      subst (λ (b : Bool). Knows (frame_after (with_element w) b (announced_length h.size) u) (site_after_primitive s h c))
       (ap not form)
-      (knows-after w s (site_after_primitive s h c) h (first_contents_octet c) u k refl refl (unused-of h c form)) in
+      (knows-after (with_element w) s (site_after_primitive s h c) h (first_contents_octet c) u k refl refl (unused-of h c form)) in
       let r =
       finds_forest (place_after p (length (octets_of h) + length c)) (site_after_primitive s h c)
-      (after_primitive rules w h c)
+      (after_primitive wanted w h c)
       outer rest v.1 known l d free in
       record {
         put = λ n.
-            ap (λ (t : FinderRun). t.put) (run-primitive rules w outer n h c (events rest) size)
+            ap (λ (t : FinderRun). t.put) (run-primitive wanted w outer n h c (events rest) size)
             ∙ header-items s w outer h
             _ (PrimitiveLines s.depth h c
-            ∷ (contents_items rules s h c ++ items rules (site_after_primitive s h c) rest))
+            ∷ (contents_items wanted s h c ++ items wanted (site_after_primitive s h c) rest))
             k l
-            (more-items s outer h.offset (contents_findings rules h c)
-            _ (items rules (site_after_primitive s h c) rest) l
-            (r.put (after_contents rules w h c n)));
+            (more-items s outer h.offset (contents_findings wanted h c)
+            _ (items wanted (site_after_primitive s h c) rest) l
+            (r.put (after_contents wanted w h c n)));
         after = λ n e.
-            let t = r.after (after_contents rules w h c n) e in
-            (t.0, ap (λ (x : FinderRun). x.state) (run-primitive rules w outer n h c (events rest) size) ∙ t.1);
+            let t = r.after (after_contents wanted w h c n) e in
+            (t.0, ap (λ (x : FinderRun). x.state) (run-primitive wanted w outer n h c (events rest) size) ∙ t.1);
       }
   finds_forest p s w outer (Holder h inside rest) v k l d free =
       let i =
-      finds_forest (place_of_children p h) (site_of_children s h) (frame_under w h) (w ∷ outer) inside v.1
+      finds_forest (place_of_children p h) (site_of_children s h) (frame_under w h) (with_element w ∷ outer) inside v.1
       (knows-inside w s h) (omega (arith, l)) (omega (arith, d)) (λ e. absurd (cc (e))) in
       let r =
       finds_forest (place_after p (extent h inside)) (site_after_holder s h inside)
-      (frame_after w (is_primitive h) (announced_length h.size) false) outer rest v.2
-      (knows-after w s (site_after_holder s h inside) h None false k refl refl refl) l d free in
+      (frame_after (with_element w) (is_primitive h) (announced_length h.size) false) outer rest v.2
+      (knows-after (with_element w) s (site_after_holder s h inside) h None false k refl refl refl) l d free in
       let few : length outer < 128 = omega (arith, l, d, v.0.0.shallow) in
       let es : List EventValue = closing_event h inside ∷ events rest in
-      let all : (n : ℕ) → (m : ℕ) × (run_finder (check_between rules w outer n) (events (Holder h inside rest))
-      ≡ then_found (finding_items (length outer) h.offset (header_findings_in rules (surroundings_in w) h))
-      (then_found (only (items rules (site_of_children s h) inside))
-      (then_found (finding_items (length outer) h.offset (end_findings rules h (headers inside)))
-      (run_finder (check_between rules (frame_after w (is_primitive h) (announced_length h.size) false) outer m)
+      let all : (n : ℕ) → (m : ℕ) × (run_finder (check_between wanted w outer n) (events (Holder h inside rest))
+      ≡ then_found (finding_items (length outer) h.offset (header_findings_in wanted (surroundings_in w) h))
+      (then_found (only (items wanted (site_of_children s h) inside))
+      (then_found (finding_items (length outer) h.offset (end_findings wanted h (headers inside)))
+      (run_finder (check_between wanted (frame_after (with_element w) (is_primitive h) (announced_length h.size) false) outer m)
       (events rest))))) =
       λ n.
-      let a : ℕ = later_header rules w h n in
+      let a : ℕ = later_header wanted w h n in
       let t = i.after a v.0.1 in
-      let put : List Item = finding_items (length outer) h.offset (header_findings_in rules (surroundings_in w) h) in (
-        after_end rules h inside t.0,
-        run-opening rules w outer n h (events inside ++ es) few
+      let put : List Item = finding_items (length outer) h.offset (header_findings_in wanted (surroundings_in w) h) in (
+        after_end wanted h inside t.0,
+        run-opening wanted w outer n h (events inside ++ es) few
             ∙ ap (then_found put)
-            (run-more (check_between rules (frame_under w h) (w ∷ outer) a) (events inside) es
+            (run-more (check_between wanted (frame_under w h) (with_element w ∷ outer) a) (events inside) es
             ∙ ap₂ (λ (l : List Item) (x : CheckState). then_found l (run_finder x es)) (i.put a) t.1
-            ∙ ap (then_found (only (items rules (site_of_children s h) inside)))
-            (run-closing rules (place_of_children p h) w outer t.0 h inside (events rest) v.1 v.0.1)),
+            ∙ ap (then_found (only (items wanted (site_of_children s h) inside)))
+            (run-closing wanted (place_of_children p h) w outer t.0 h inside (events rest) v.1 v.0.1)),
       ) in
       let last : List Item =
       ClosingLine s.depth (end_octets_offset h inside)
-      ∷ (end_items rules s h inside ++ items rules (site_after_holder s h inside) rest) in
+      ∷ (end_items wanted s h inside ++ items wanted (site_after_holder s h inside) rest) in
       record {
         put = λ n.
             let a = all n in
             ap (λ (t : FinderRun). t.put) a.1
-            ∙ header-items s w outer h _ (OpeningLine s.depth h ∷ (items rules (site_of_children s h) inside ++ last))
+            ∙ header-items s w outer h _ (OpeningLine s.depth h ∷ (items wanted (site_of_children s h) inside ++ last))
             k l
-            (ap (λ (t : List Item). only (items rules (site_of_children s h) inside) ++ t)
-            (more-items s outer h.offset (end_findings rules h (headers inside))
-            _ (items rules (site_after_holder s h inside) rest) l (r.put a.0))
-            ∙ sym (filter-append is_finding (items rules (site_of_children s h) inside) last));
+            (ap (λ (t : List Item). only (items wanted (site_of_children s h) inside) ++ t)
+            (more-items s outer h.offset (end_findings wanted h (headers inside))
+            _ (items wanted (site_after_holder s h inside) rest) l (r.put a.0))
+            ∙ sym (filter-append is_finding (items wanted (site_of_children s h) inside) last));
         after = λ n e.
             let a = all n in
             let t = r.after a.0 e in
@@ -168,14 +169,14 @@ module _ (rules : Rules) where
   }
   finds_forest p s w outer (OpenHolder h inside) v k l d free =
       let i =
-      finds_forest (place_of_children p h) (site_of_children s h) (frame_under w h) (w ∷ outer) inside v.1
+      finds_forest (place_of_children p h) (site_of_children s h) (frame_under w h) (with_element w ∷ outer) inside v.1
       (knows-inside w s h) (omega (arith, l)) (omega (arith, d)) (λ e. absurd (cc (e))) in
       let few : length outer < 128 = omega (arith, l, d, v.0.0.shallow) in
       record {
         put = λ n.
-            ap (λ (t : FinderRun). t.put) (run-opening rules w outer n h (events inside) few)
-            ∙ header-items s w outer h _ (OpeningLine s.depth h ∷ items rules (site_of_children s h) inside) k l
-            (i.put (later_header rules w h n));
+            ap (λ (t : FinderRun). t.put) (run-opening wanted w outer n h (events inside) few)
+            ∙ header-items s w outer h _ (OpeningLine s.depth h ∷ items wanted (site_of_children s h) inside) k l
+            (i.put (later_header wanted w h n));
         after = λ n e. absurd (cc (e));
       }
   finds_forest p s w outer (OpenBitString h) v k l d free = record {

@@ -17,10 +17,11 @@ use Rattle.tlv_walk.specs.Forest.{is_whole, opening, spelling}
 use Rattle.tlv_walk.specs.Place.{ObeysGrammar, Place}
 use Rattle.tlv_walk.proofs.GrammarLemmas.Leads.{lead_by}
 use Rattle.tlv_show.specs.declared.holder_frame.HolderFrame.{HolderFrame}
-use Rattle.tlv_show.specs.declared.rules.Rules.{Rules}
+use Rattle.tlv_show.specs.declared.wanted.Wanted.{Wanted}
 use Rattle.tlv_show.specs.FinderState.{CheckState, FinderState, contents_findings_in, finder_begin_step}
 use Rattle.tlv_show.specs.FinderState.{finder_bytes_step, finder_close_step, finder_end_step, finder_open_step}
 use Rattle.tlv_show.specs.NestingState.{depth_in, frame_after, frame_under, nesting_primitive_step, surroundings_in}
+use Rattle.tlv_show.specs.NestingState.{with_element}
 use Rattle.tlv_show.specs.Private.FinderState.{finder_step}
 use Rattle.tlv_show.specs.KeptConditions.{header_findings_in}
 use Rattle.tlv_show.specs.ShownFindings.{contents_findings, is_shown, end_findings}
@@ -74,13 +75,13 @@ bytes_step-all s offset h (x ∷ c) e =
     (take_all (announced_length h.size) (x ∷ c) e))
 
 -- what is found at their end
-pub contents_findings-at_end : (rules : Rules) (h : HeaderValue) (c : List ℕ) → HasAllContents h c
-    → contents_findings_in rules (value_check_for h c) ≡ contents_findings rules h c
-contents_findings-at_end rules h c e =
+pub contents_findings-at_end : (wanted : Wanted) (h : HeaderValue) (c : List ℕ) → HasAllContents h c
+    → contents_findings_in wanted (value_check_for h c) ≡ contents_findings wanted h c
+contents_findings-at_end wanted h c e =
     let none : (announced_length h.size - length c == 0) ≡ true = grind (arith, nat_tests) in
-    ap (λ (b : Bool). if b then filter (is_shown rules) (findings_in (value_check_for h c)) else [])
+    ap (λ (b : Bool). if b then filter (is_shown wanted) (findings_in (value_check_for h c)) else [])
     none
-    ∙ ap (filter (is_shown rules)) (findings-end h c e)
+    ∙ ap (filter (is_shown wanted)) (findings-end h c e)
 
 -- ---- a primitive at once
 
@@ -91,47 +92,47 @@ pub primitive-found : (s : CheckState) (h : HeaderValue) (c : List ℕ) → HasA
       kept = u;
       level = depth_in s.holders;
       offset = h.offset;
-      findings = contents_findings s.rules h c;
+      findings = contents_findings s.wanted h c;
     })
 primitive-found s h c e =
-    let n = saturating_sum s.finding_count (length (header_findings_in s.rules (surroundings_in s.holders.frame) h)) in
+    let n = saturating_sum s.finding_count (length (header_findings_in s.wanted (surroundings_in s.holders.frame) h)) in
     let t : ValueCheckState = value_check_for h c in
     let state_with : List Finding → CheckState = λ fs. record {
-      rules = s.rules;
+      wanted = s.wanted;
       holders = nesting_primitive_step s.holders (announced_length h.size) (has_unused_bits t);
       open_primitive = None;
       finding_count = saturating_sum n (length fs);
     } in (
-      state_with (contents_findings s.rules h c),
+      state_with (contents_findings s.wanted h c),
       refl,
       ap finder_end_step (bytes_step-all (record s { finding_count = n }) h.offset h c (omega (arith, e)))
           ∙ ap (λ (fs : List Finding).
           record { kept = state_with fs; level = depth_in s.holders; offset = h.offset; findings = fs })
-          (contents_findings-at_end s.rules h c e),
+          (contents_findings-at_end s.wanted h c e),
     )
 
-module _ (rules : Rules) where
+module _ (wanted : Wanted) where
   -- between two elements
   abbrev pub check_between : HolderFrame → List HolderFrame → ℕ → CheckState
   check_between w outer n = record {
-    rules = rules;
+    wanted = wanted;
     holders = record { frame = w; outer = outer };
     open_primitive = None;
     finding_count = n;
   }
 
   abbrev pub later_header : HolderFrame → HeaderValue → ℕ → ℕ
-  later_header w h n = saturating_sum n (length (header_findings_in rules (surroundings_in w) h))
+  later_header w h n = saturating_sum n (length (header_findings_in wanted (surroundings_in w) h))
 
   -- ---- an element that holds others begins
 
   pub opened-find : (w : HolderFrame) (outer : List HolderFrame) (n : ℕ) (h : HeaderValue) → length outer < 128
       → finder_open_step (check_between w outer n) h
       ≡ record {
-        kept = check_between (frame_under w h) (w ∷ outer) (later_header w h n);
+        kept = check_between (frame_under w h) (with_element w ∷ outer) (later_header w h n);
         level = length outer;
         offset = h.offset;
-        findings = header_findings_in rules (surroundings_in w) h;
+        findings = header_findings_in wanted (surroundings_in w) h;
       }
   opened-find w outer n h few =
       let yes : nat_lt (length outer) 128 ≡ true = grind (arith, nat_tests) in
@@ -150,8 +151,8 @@ module _ (rules : Rules) where
   pub run-opening : (w : HolderFrame) (outer : List HolderFrame) (n : ℕ) (h : HeaderValue) (es : List EventValue)
       → length outer < 128
       → run_finder (check_between w outer n) (opening_events h ++ es)
-      ≡ then_found (finding_items (length outer) h.offset (header_findings_in rules (surroundings_in w) h))
-      (run_finder (check_between (frame_under w h) (w ∷ outer) (later_header w h n)) es)
+      ≡ then_found (finding_items (length outer) h.offset (header_findings_in wanted (surroundings_in w) h))
+      (run_finder (check_between (frame_under w h) (with_element w ∷ outer) (later_header w h n)) es)
   run-opening w outer n h es few =
       opened-by (check_between w outer n) h h.constructed (h.number == 3) es
       ∙ ap (λ (f : FinderState). then_found (found_items f) (run_finder f.kept es)) (opened-find w outer n h few)
@@ -165,84 +166,84 @@ module _ (rules : Rules) where
   closed-by s offset false es = refl
 
   abbrev pub after_end : HeaderValue → Forest → ℕ → ℕ
-  after_end h inside n = saturating_sum n (length (end_findings rules h (headers inside)))
+  after_end h inside n = saturating_sum n (length (end_findings wanted h (headers inside)))
 
   pub run-closing : (p : Place) (w : HolderFrame) (outer : List HolderFrame) (n : ℕ) (h : HeaderValue) (inside : Forest)
       (es : List EventValue)
       → ObeysGrammar p inside → is_whole inside ≡ true
-      → run_finder (check_between (frame_after_elements (frame_under w h) inside) (w ∷ outer) n)
+      → run_finder (check_between (frame_after_elements (frame_under w h) inside) (with_element w ∷ outer) n)
       (closing_event h inside ∷ es)
-      ≡ then_found (finding_items (length outer) h.offset (end_findings rules h (headers inside)))
+      ≡ then_found (finding_items (length outer) h.offset (end_findings wanted h (headers inside)))
       (run_finder
-      (check_between (frame_after w (is_primitive h) (announced_length h.size) false) outer
+      (check_between (frame_after (with_element w) (is_primitive h) (announced_length h.size) false) outer
       (after_end h inside n))
       es)
   run-closing p w outer n h inside es v whole =
       let f : HolderFrame = frame_after_elements (frame_under w h) inside in
-      closed-by (check_between f (w ∷ outer) n)
+      closed-by (check_between f (with_element w ∷ outer) n)
       (end_offset h.size (h.offset + length (opening h) + length (spelling inside))) h.constructed es
       ∙ ap (λ (fs : List Finding). then_found (finding_items (length outer) f.offset fs)
       (run_finder
-      (check_between (frame_after w f.is_primitive f.announced_length false) outer (saturating_sum n (length fs)))
+      (check_between (frame_after (with_element w) f.is_primitive f.announced_length false) outer (saturating_sum n (length fs)))
       es))
-      (summed-under rules p w h inside v whole)
+      (summed-under wanted p w h inside v whole)
       ∙ ap₂
       (λ (put : List Item) (t : HolderFrame). then_found put
       (run_finder (check_between t outer (after_end h inside n)) es))
-      (offset-under rules p w h inside v whole (finding_items (length outer)) (λ offset. refl))
-      (after-under w h inside)
+      (offset-under wanted p w h inside v whole (finding_items (length outer)) (λ offset. refl))
+      (after-under (with_element w) h inside)
 
   -- ---- a primitive
 
   abbrev pub after_primitive : HolderFrame → HeaderValue → List ℕ → HolderFrame
   after_primitive w h c =
-      frame_after w true (announced_length h.size) (has_unused_bits (value_check_for h c))
+      frame_after (with_element w) true (announced_length h.size) (has_unused_bits (value_check_for h c))
 
   abbrev pub after_contents : HolderFrame → HeaderValue → List ℕ → ℕ → ℕ
-  after_contents w h c n = saturating_sum (later_header w h n) (length (contents_findings rules h c))
+  after_contents w h c n = saturating_sum (later_header w h n) (length (contents_findings wanted h c))
 
   pub run-primitive : (w : HolderFrame) (outer : List HolderFrame) (n : ℕ) (h : HeaderValue) (c : List ℕ)
       (es : List EventValue)
       → HasAllContents h c
       → run_finder (check_between w outer n) (Begin h ∷ Bytes c ∷ End ∷ es)
-      ≡ then_found (finding_items (length outer) h.offset (header_findings_in rules (surroundings_in w) h))
-      (then_found (finding_items (length outer) h.offset (contents_findings rules h c))
+      ≡ then_found (finding_items (length outer) h.offset (header_findings_in wanted (surroundings_in w) h))
+      (then_found (finding_items (length outer) h.offset (contents_findings wanted h c))
       (run_finder (check_between (after_primitive w h c) outer (after_contents w h c n)) es))
   run-primitive w outer n h c es e =
-      let put : List Item = finding_items (length outer) h.offset (header_findings_in rules (surroundings_in w) h) in
+      let put : List Item = finding_items (length outer) h.offset (header_findings_in wanted (surroundings_in w) h) in
       let s : CheckState = check_between w outer (later_header w h n) in
       ap (λ (u : CheckState). then_found put (then_found [] (run_finder u (End ∷ es))))
       (bytes_step-all s h.offset h c (omega (arith, e)))
       ∙ ap (λ (fs : List Finding). then_found put
       (then_found (finding_items (length outer) h.offset fs)
       (run_finder (check_between (after_primitive w h c) outer (saturating_sum (later_header w h n) (length fs))) es)))
-      (contents_findings-at_end rules h c e)
+      (contents_findings-at_end wanted h c e)
 
   -- ---- what a finder makes of each end by itself
 
   pub closed-find : (p : Place) (w : HolderFrame) (outer : List HolderFrame) (n : ℕ) (h : HeaderValue)
       (inside : Forest)
       → ObeysGrammar p inside → is_whole inside ≡ true
-      → finder_close_step (check_between (frame_after_elements (frame_under w h) inside) (w ∷ outer) n)
+      → finder_close_step (check_between (frame_after_elements (frame_under w h) inside) (with_element w ∷ outer) n)
       ≡ record {
         kept =
-            check_between (frame_after w (is_primitive h) (announced_length h.size) false) outer (after_end h inside n);
+            check_between (frame_after (with_element w) (is_primitive h) (announced_length h.size) false) outer (after_end h inside n);
         level = length outer;
         offset = (frame_after_elements (frame_under w h) inside).offset;
-        findings = end_findings rules h (headers inside);
+        findings = end_findings wanted h (headers inside);
       }
   closed-find p w outer n h inside v whole =
       let f : HolderFrame = frame_after_elements (frame_under w h) inside in
       ap (λ (gs : List Finding).
       record {
         kept =
-            check_between (frame_after w f.is_primitive f.announced_length false) outer (saturating_sum n (length gs));
+            check_between (frame_after (with_element w) f.is_primitive f.announced_length false) outer (saturating_sum n (length gs));
         level =
             length outer;
         offset = f.offset;
         findings = gs;
       })
-      (summed-under rules p w h inside v whole)
+      (summed-under wanted p w h inside v whole)
       ∙ ap (λ (t : HolderFrame).
       record {
         kept =
@@ -250,9 +251,9 @@ module _ (rules : Rules) where
         level =
             length outer;
         offset = f.offset;
-        findings = end_findings rules h (headers inside);
+        findings = end_findings wanted h (headers inside);
       })
-      (after-under w h inside)
+      (after-under (with_element w) h inside)
 
   pub primitive-find : (w : HolderFrame) (outer : List HolderFrame) (n : ℕ) (h : HeaderValue) (c : List ℕ)
       → HasAllContents h c
@@ -261,7 +262,7 @@ module _ (rules : Rules) where
         kept = check_between (after_primitive w h c) outer (after_contents w h c n);
         level = length outer;
         offset = h.offset;
-        findings = contents_findings rules h c;
+        findings = contents_findings wanted h c;
       }
   primitive-find w outer n h c e =
       ap finder_end_step (bytes_step-all (check_between w outer (later_header w h n)) h.offset h c (omega (arith, e)))
@@ -274,4 +275,4 @@ module _ (rules : Rules) where
         offset = h.offset;
         findings = fs;
       })
-      (contents_findings-at_end rules h c e)
+      (contents_findings-at_end wanted h c e)

@@ -10,7 +10,7 @@ use Rattle.tlv_head.specs.UniversalTypes.{bit_string, octet_string}
 use Rattle.tlv_value.specs.Types.{has_segments, is_a, is_primitive}
 use Rattle.tlv_value.proofs.CheckLemmas.CheckPieces.{checked-none}
 use Rattle.tlv_show.specs.declared.holder_frame.HolderFrame.{HolderFrame}
-use Rattle.tlv_show.specs.Conditions.{leaves_unused_bits, is_not_full}
+use Rattle.tlv_show.specs.Conditions.{has_components, leaves_unused_bits, is_not_full}
 use Rattle.tlv_show.specs.KeptConditions.{Surroundings}
 use Rattle.tlv_show.specs.NestingState.{frame_after, frame_after_segment, frame_of, frame_under, top_frame}
 use Rattle.tlv_show.specs.NestingState.{surroundings_in}
@@ -51,16 +51,17 @@ in-its-own true b = refl
 in-its-own false b = refl
 
 pub knows-inside : (w : HolderFrame) (s : Site) (h : HeaderValue) → Knows (frame_under w h) (site_of_children s h)
-knows-inside w s h = by w.has_segments (has_segments h) refl
+knows-inside w s h = by w.has_segments (has_segments h) (has_components h) refl
   where
     of-string : Knows (frame_of h) (site_of_children s h)
     of-string = in-its-own (has_segments h) (is_a bit_string h)
 
-    by : (outside inside : Bool) → has_segments h ≡ inside
-        → Knows (if outside || inside then frame_of h else top_frame) (site_of_children s h)
-    by true inside e = of-string
-    by false true e = of-string
-    by false false e = sym (no-string h Start e)
+    by : (outside string components : Bool) → has_segments h ≡ string
+        → Knows (if outside || string || components then frame_of h else top_frame) (site_of_children s h)
+    by true string components e = of-string
+    by false true components e = of-string
+    by false false true e = of-string
+    by false false false e = sym (no-string h Start e)
 
 -- after an element
 full-or-not : (k e : Bool) → not (not k && e) ≡ (k || not e)

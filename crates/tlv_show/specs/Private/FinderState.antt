@@ -2,14 +2,14 @@
 use Rattle.std.specs.Prelude.{ℕ, ◌≡◌, Bool, true, false, if◌then◌else◌, List, []}
 use Rattle.tlv_head.specs.Header.{HeaderValue}
 use Rattle.tlv_walk.specs.Events.{Begin, Bytes, Close, End, Enter, EventValue, Leave, Open, Pad, Unused}
-use Rattle.tlv_show.specs.declared.rules.Rules.{Rules}
+use Rattle.tlv_show.specs.declared.wanted.Wanted.{Wanted}
 use Rattle.tlv_show.specs.FinderState.{CheckState, FinderState, new_check, without_findings}
 use Rattle.tlv_show.specs.FinderState.{finder_open_step, finder_begin_step, finder_bytes_step}
 use Rattle.tlv_show.specs.FinderState.{finder_end_step, finder_close_step}
 
 -- a finder before its first event
-abbrev pub new_finder : Rules → FinderState
-new_finder rules = without_findings (new_check rules)
+abbrev pub new_finder : Wanted → FinderState
+new_finder wanted = without_findings (new_check wanted)
 
 -- only what is kept changes
 abbrev pub with_check_state : CheckState → FinderState → FinderState
