@@ -27,7 +27,7 @@ use Rattle.tlv_show.proofs.SetOrderLemmas.Events.{run-opening, run-primitive, ru
 use Rattle.tlv_show.proofs.SetOrderLemmas.OneElement.{IsElementTaken, Knows, element-taken, element_step}
 use Rattle.tlv_show.proofs.SetOrderLemmas.OneElement.{ended_offsets, octets_step-append}
 
-after-none : (outer : List SetFrame) → outer ≡ frames_after_octets [] outer
+pub after-none : (outer : List SetFrame) → outer ≡ frames_after_octets [] outer
 after-none [] = refl
 after-none (w ∷ outer) = ap (λ (l : List SetFrame). w ∷ l) (after-none outer)
 
@@ -40,7 +40,7 @@ module _ (rules : Rules) where
         → IsAfter rules s (spelling f) (run_set_order rules s (events f)).state
 
   -- one element, and then other whole ones
-  after-more : (s : SetOrderState) (holder : Option HeaderValue) (neighbour : Option Element) (e : Element)
+  pub after-more : (s : SetOrderState) (holder : Option HeaderValue) (neighbour : Option Element) (e : Element)
       (t : SetOrderState) (octets : List ℕ) (u : SetOrderState) → IsElementTaken rules s holder neighbour e t
       → IsAfter rules t octets u → IsAfter rules s (e.octets ++ octets) u
   after-more s holder neighbour e t octets u k a =
