@@ -1,7 +1,6 @@
 -- A primitive changes nothing if no frame needs more octets, and it is not directly in a SET.
-use Rattle.std.proofs.Common.{◌≡◌, ℕ, Bool, true, false, List, length, reverse, refl, sym, ap, ap₂, ◌∙◌}
+use Rattle.std.proofs.Common.{◌≡◌, ℕ, true, false, List, length, reverse, sym, ap, ap₂, ◌∙◌}
 use Rattle.tlv_head.specs.Header.{octets_of}
-use Rattle.tlv_show.specs.declared.rules.Rules.{Rules}
 use Rattle.tlv_show.specs.declared.set_frame.SetFrame.{SetFrame}
 use Rattle.tlv_show.specs.Private.SetOrder.{AreFull, IsUnchangedByPrimitives}
 use Rattle.tlv_show.specs.SetOrderState.{SetOrderState, is_direct, is_full, set_order_end_step, set_order_octets_step}
