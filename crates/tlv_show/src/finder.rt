@@ -21,7 +21,7 @@ use crate::last_findings::LastFindings;
 use crate::nesting::Nesting;
 use crate::order_finding::insert_order_finding;
 use crate::set_order::SetOrder;
-use crate::wanted_order::{begin_in_order, bytes_in_order, close_in_order, end_in_order, open_in_order, wants_order};
+use crate::wanted_order::{begin_in_order, bytes_in_order, close_in_order, end_in_order, open_in_order, passes_in_order};
 use arrayvec::ArrayVec;
 use std::marker::Model;
 use tlv_head::Header;
@@ -116,7 +116,8 @@ impl Finder {
             (finder_step self.old.kept (event_value_of event.now)) self.new result }
     {
         match event {
-            Event::Open(header) | Event::Enter(header) => self.open(header),
+            Event::Open(header) => self.open(header),
+            Event::Enter(header) => self.open(header),
             Event::Begin(header) => {
                 self.begin(header);
                 true
@@ -145,7 +146,7 @@ impl Finder {
         if header.constructed
             || !has_no_header_findings_if_usual(self.wanted.rules, frame, header)
             || !is_clear(header, contents)
-            || (wants_order(self.wanted) && !self.order.passes_primitives())
+            || !passes_in_order(&self.order, self.wanted)
         {
             return false;
         }
@@ -257,8 +258,10 @@ impl Finder {
     pub fn close(&mut self, has_end_octets: bool) -> bool
         ensures { ReturnsFindings (finder_close_step self.old.kept has_end_octets) self.new result }
     {
-        let is_out_of_order = self.holders.depth() != 0
-            && close_in_order(&mut self.order, self.wanted, has_end_octets);
+        if self.holders.depth() == 0 {
+            return false;
+        }
+        let is_out_of_order = close_in_order(&mut self.order, self.wanted, has_end_octets);
         match self.holders.close() {
             Some(closed) => self.find_with_end(&closed, is_out_of_order),
             None => {

@@ -1,5 +1,6 @@
 //! What is kept of the open SETs, if their order is wanted.
-ghost use Rattle.std.specs.Prelude.{◌≡◌};
+ghost use Rattle.std.specs.Prelude.{◌≡◌, true};
+ghost use Rattle.tlv_show.specs.Private.SetOrder.{IsUnchangedByPrimitives};
 ghost use Rattle.tlv_show.specs.FinderState.{end_octets_if, is_order_found, order_if};
 ghost use Rattle.tlv_show.specs.SetOrderState.{set_order_begin_step, set_order_close_step, set_order_end_step};
 ghost use Rattle.tlv_show.specs.SetOrderState.{set_order_octets_step, set_order_open_step};
@@ -15,6 +16,18 @@ pub(crate) fn wants_order(wanted: Wanted) -> bool
     ensures { result ≡ wants_order wanted }
 {
     matches!(wanted.scope, Scope::All) && !matches!(wanted.rules, Rules::Ber)
+}
+
+/// Whether primitives that are whole change nothing.
+#[inline(always)]
+pub(crate) fn passes_in_order(order: &SetOrder, wanted: Wanted) -> bool
+    ensures { result ≡ true → wants_order wanted ≡ true → IsUnchangedByPrimitives order.now }
+{
+    if wants_order(wanted) {
+        order.passes_primitives()
+    } else {
+        true
+    }
 }
 
 /// A primitive begins.

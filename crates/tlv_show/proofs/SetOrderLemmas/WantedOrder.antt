@@ -19,7 +19,12 @@ use Rattle.tlv_show.specs.SetOrderState.{SetOrderState, frame_after_octets, is_l
 use Rattle.tlv_show.specs.SetOrderState.{set_order_close_step, set_order_end_step, set_order_octets_step}
 use Rattle.tlv_show.specs.SetOrderState.{set_order_open_step}
 use Rattle.tlv_show.specs.ShownFindings.{wants_order}
-use Rattle.tlv_show.specs.Site.{Site, is_out_of_order_at, neighbour_of, site_of_children}
+use Rattle.tlv_show.specs.Private.SetOrder.{IsUnchangedByPrimitives}
+use Rattle.tlv_show.specs.Site.{Site, is_out_of_order_at, neighbour_of, site_after_padding, site_of_children, top_site}
+use Rattle.tlv_show.specs.SetOrderState.{new_set_order}
+use Rattle.tlv_show.specs.SetOrder.{is_set}
+use Rattle.tlv_show.specs.SetOrderState.{is_direct}
+use Rattle.tlv_show.proofs.FindingLemmas.SiteWords.{is_held_by}
 use Rattle.tlv_show.proofs.SetOrderLemmas.Events.{IsAfter, closed-is, opened-knows}
 use Rattle.tlv_show.proofs.SetOrderLemmas.Forests.{after-more, after-none}
 use Rattle.tlv_show.proofs.SetOrderLemmas.OneElement.{Knows, element-taken, element_step, octets_step-append}
@@ -116,6 +121,27 @@ module _ (wanted : Wanted) where
       (element-taken wanted.rules o s.holder (neighbour_of s.previous) e (k is).knows)
       (subst (λ (x : SetOrderState). IsAfter wanted.rules x octets u) (taken is) (after is))
 
+  pub after-no-element : (o : SetOrderState) → OrderedAfter o [] o
+  after-no-element o is = record { inside = λ outside. sym (no-octets o); directly = λ d. (d, after-none o.outer) }
+
+  pub top-ordered : Ordered top_site new_set_order
+  top-ordered is = record {
+    knows = record { direct = refl; before = λ d. absurd (true≢false (sym d)) };
+    open_count = omega arith;
+    few = omega arith;
+  }
+
+  -- padding is at the top alone
+  pub ordered-padding : (s : Site) (o : SetOrderState) → Ordered s o → s.holder ≡ None → Ordered (site_after_padding s) o
+  ordered-padding s o k top is =
+      let a = k is in
+      let outside : is_direct o.frame ≡ false = a.knows.direct ∙ ap (is_held_by is_set) top in
+      record {
+        knows = record { direct = a.knows.direct; before = λ d. absurd (true≢false (sym d ∙ outside)) };
+        open_count = a.open_count;
+        few = a.few;
+      }
+
   -- ---- a primitive
 
   abbrev pub order_begun : SetOrderState → HeaderValue → SetOrderState
@@ -147,6 +173,26 @@ module _ (wanted : Wanted) where
       ∙ ap (λ (t : SetOrderState). set_order_octets_step t c)
       (wanted-is (set_order_begin_step wanted.rules o h) o is)
       ∙ sym (octets_step-append _ (octets_of h) c))
+
+  -- a primitive that changes nothing, if it is none in a SET
+  pub whole-passed : (o : SetOrderState) (h : HeaderValue) (c : List ℕ)
+      → (wants_order wanted ≡ true → IsUnchangedByPrimitives o) → order_whole o h c ≡ o
+  whole-passed o h c passed = by (wants_order wanted) passed
+    where
+      by : (k : Bool) → (k ≡ true → IsUnchangedByPrimitives o)
+          → let a = if k then set_order_begin_step wanted.rules o h else o in
+          let b = if k then set_order_octets_step a c else a in
+          (if k then set_order_end_step b else b) ≡ o
+      by true p = (p refl).1 wanted.rules h c
+      by false p = refl
+
+  pub none-passed : (o : SetOrderState) → (wants_order wanted ≡ true → IsUnchangedByPrimitives o)
+      → is_order_found wanted o ≡ false
+  none-passed o passed = by (wants_order wanted) passed
+    where
+      by : (k : Bool) → (k ≡ true → IsUnchangedByPrimitives o) → (k && is_last_out_of_order o.frame) ≡ false
+      by true p = ap (λ (d : Bool). d && (o.frame.octets_decide && o.frame.is_smaller)) (p refl).0
+      by false p = refl
 
   -- ---- an element that holds others
 
