@@ -4,6 +4,7 @@ pub mod BasicHeaderRows
 pub mod BasicContentsRows
 pub mod BasicTextRows
 pub mod StrictRows
+pub mod ScopeRows
 pub mod CanonicalRows
 pub mod WholeRows
 pub mod FramingRows

@@ -1,6 +1,7 @@
 //! Tests of `tlv_show`: dumps and checks.
 mod calls;
 mod primitives;
+mod scopes;
 mod turns;
 
 use crate::expect::expect_eq;
