@@ -27,14 +27,13 @@ use Rattle.tlv_show.specs.FinderState.{CheckState, FinderState}
 use Rattle.tlv_show.specs.NestingState.{frame_under, surroundings_in, frame_after}
 use Rattle.tlv_show.specs.NestingState.{with_element}
 use Rattle.tlv_show.specs.KeptConditions.{header_findings_in}
-use Rattle.tlv_show.specs.ShownFindings.{contents_findings, end_findings}
-use Rattle.tlv_show.specs.Items.{Item, FindingAt, items, finding_items, headers}
+use Rattle.tlv_show.specs.Items.{Item, FindingAt, items, finding_items}
 use Rattle.tlv_show.specs.HolderLines.{closing_line, opening_line, opening_word}
 use Rattle.tlv_show.specs.Site.{Previous, Site, is_padding}
 use Rattle.tlv_show.specs.Texts.{item_text, layout_at}
 use Rattle.tlv_show.proofs.DumpLemmas.DumpTexts.{holder_shown, ends_in_padding, primitive_shown}
 use Rattle.tlv_show.proofs.DumpLemmas.DumpTexts.{lines_between, closer_shown}
-use Rattle.tlv_show.proofs.FindingLemmas.FinderFolds.{frame_after_elements, offset-under}
+use Rattle.tlv_show.proofs.FindingLemmas.FinderFolds.{frame_after_elements}
 use Rattle.tlv_show.proofs.FindingLemmas.FinderSteps.{after_contents, later_header, after_primitive, opened-find}
 use Rattle.tlv_show.proofs.FindingLemmas.FinderSteps.{primitive-find, check_between, after_end, closed-find}
 use Rattle.tlv_show.proofs.FindingLemmas.HeaderFindings.{Knows}

@@ -14,7 +14,7 @@ use Rattle.tlv_show.specs.FinderState.{is_order_found, order_after_holder, with_
 use Rattle.tlv_show.specs.KeptConditions.{end_findings_in}
 use Rattle.tlv_show.specs.NestingState.{NestingState, depth_in, nesting_around, nesting_close_step, segments_in}
 use Rattle.tlv_show.specs.Private.FinderState.{ReturnsFindings}
-use Rattle.tlv_show.specs.Private.Nesting.{closed_frame, closed_frame_inside, frame_if_judged}
+use Rattle.tlv_show.specs.Private.Nesting.{closed_frame, closed_frame_inside}
 use Rattle.tlv_show.specs.SetOrderState.{SetOrderState}
 use Rattle.tlv_show.specs.ShownFindings.{shown_findings, with_order_if}
 
