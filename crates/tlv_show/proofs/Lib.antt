@@ -12,3 +12,5 @@ pub mod SpellingRows
 pub mod SaturatingSums
 pub mod FindingLemmas
 pub mod DumpLemmas
+pub mod SetOrderRows
+pub mod SetOrderLemmas

@@ -68,12 +68,12 @@ is_length_padded h =
 
 -- 8.6.2.2: what is right before is a primitive BIT STRING with unused bits
 abbrev pub leaves_unused_bits : Previous → Bool
-leaves_unused_bits (Sibling h (Some x)) = is_primitive h && is_a universal.bit_string h && not (x == 0)
+leaves_unused_bits (Sibling h (Some x) octets) = is_primitive h && is_a universal.bit_string h && not (x == 0)
 leaves_unused_bits _ = false
 
 -- 9.2: what is right before is an element, but not a primitive of 1000 contents octets
 abbrev pub is_not_full : Previous → Bool
-is_not_full (Sibling h first) = h.constructed || not (announced_length h.size == 1000)
+is_not_full (Sibling h first octets) = h.constructed || not (announced_length h.size == 1000)
 is_not_full _ = false
 
 -- 8.6.4, 8.7.3: the type of segments: BIT STRING in a BIT STRING, and OCTET STRING in any other string

@@ -1,4 +1,5 @@
 -- What a dump does with events: the lines of elements, with the lines of findings in them before and after.
+use Rattle.std.specs.Option.{is_some}
 use Rattle.std.specs.Prelude.{ℕ, Bool, false, List, [], ◌∷◌, ◌++◌}
 use Rattle.tlv_value.specs.declared.layout.Layout.{Layout}
 use Rattle.tlv_value.specs.Names.{NamesValue}
@@ -62,7 +63,8 @@ dump_step s (Enter h) = findings_before s (finder_open_step s.finder h) (lines_s
 dump_step s (Begin h) = findings_before s (finder_begin_step s.finder h) (lines_step s.lines (Begin h))
 dump_step s (Bytes octets) = each_octet dump_octet_step s octets
 dump_step s End = findings_after s (finder_end_step s.finder) (lines_step s.lines End)
-dump_step s (Close offset) = findings_after s (finder_close_step s.finder) (lines_step s.lines (Close offset))
-dump_step s Leave = findings_after s (finder_close_step s.finder) (lines_step s.lines Leave)
+dump_step s (Close offset) =
+    findings_after s (finder_close_step s.finder (is_some offset)) (lines_step s.lines (Close offset))
+dump_step s Leave = findings_after s (finder_close_step s.finder false) (lines_step s.lines Leave)
 dump_step s Unused = findings_after s (without_findings s.finder) (lines_step s.lines Unused)
 dump_step s (Pad octets) = each_octet dump_padding_step s octets

@@ -1,7 +1,7 @@
 -- What is kept of elements so that their findings can be reported event by event, and what is reported. No contract
 -- of `dump` or `check` names this: `Items` says what they report. It is here for the contracts of the followers
 -- `Dump` and `Check`, which see one event at a time. Laws say that these put exactly what `Items` says.
-use Rattle.std.specs.Prelude.{ℕ, ◌==◌, if◌then◌else◌, List, [], ◌∷◌, length, take, Option, Some, None}
+use Rattle.std.specs.Prelude.{ℕ, ◌==◌, Bool, ◌&&◌, if◌then◌else◌, List, [], ◌∷◌, length, take, Option, Some, None}
 use Rattle.std.specs.List.{filter}
 use Rattle.tlv_head.specs.Header.{HeaderValue}
 use Rattle.tlv_value.specs.declared.finding.Finding.{Finding}
@@ -10,7 +10,10 @@ use Rattle.tlv_value.specs.ValueCheckState.{new_value_check}
 use Rattle.tlv_show.specs.declared.holder_frame.HolderFrame.{HolderFrame}
 use Rattle.tlv_show.specs.declared.wanted.Wanted.{Wanted}
 use Rattle.tlv_show.specs.KeptConditions.{end_findings_in, header_findings_in}
-use Rattle.tlv_show.specs.ShownFindings.{is_shown}
+use Rattle.tlv_show.specs.SetOrderState.{SetOrderState, is_last_out_of_order, new_set_order, set_order_begin_step}
+use Rattle.tlv_show.specs.SetOrderState.{set_order_close_step, set_order_end_step, set_order_octets_step}
+use Rattle.tlv_show.specs.SetOrderState.{set_order_open_step}
+use Rattle.tlv_show.specs.ShownFindings.{is_shown, wants_order, with_order_if}
 use Rattle.tlv_show.specs.NestingState.{NestingState, depth_in, new_nesting, nesting_open_step}
 use Rattle.tlv_show.specs.NestingState.{nesting_close_step, nesting_primitive_step, segments_in, surroundings_in}
 use Rattle.tlv_show.specs.SaturatingSum.{saturating_sum}
@@ -29,11 +32,19 @@ pub record CheckState : Type 0 where
   pub holders : NestingState
   -- the open primitive
   pub open_primitive : Option OpenPrimitiveState
+  -- the open SETs. Nothing is kept of them if their order is not wanted
+  pub order : SetOrderState
   -- the number of findings reported; it stops at 2^64 - 1
   pub finding_count : ℕ
 
 abbrev pub new_check : Wanted → CheckState
-new_check wanted = record { wanted = wanted; holders = new_nesting; open_primitive = None; finding_count = 0 }
+new_check wanted = record {
+  wanted = wanted;
+  holders = new_nesting;
+  open_primitive = None;
+  order = new_set_order;
+  finding_count = 0;
+}
 
 -- what contracts see of a `Finder`: what it keeps, the findings of the last event that may have had some, and the
 -- element that they are in: it begins at `offset`, and `level` others hold it
@@ -57,6 +68,14 @@ without_findings s = record { kept = s; level = 0; offset = 0; findings = [] }
 
 -- ---- What it does with an event
 
+-- what is kept of the open SETs, if their order is wanted
+abbrev pub order_if : Wanted → SetOrderState → SetOrderState → SetOrderState
+order_if wanted after before = if wants_order wanted then after else before
+
+-- the element that has just ended is out of order, and this is wanted
+abbrev pub is_order_found : Wanted → SetOrderState → Bool
+is_order_found wanted order = wants_order wanted && is_last_out_of_order order.frame
+
 -- a finder that reported the findings of a header, and keeps `after`
 abbrev pub with_header_findings : CheckState → HeaderValue → CheckState → FinderState
 with_header_findings s h after =
@@ -65,12 +84,18 @@ with_header_findings s h after =
 
 -- an element that holds others begins
 abbrev pub finder_open_step : CheckState → HeaderValue → FinderState
-finder_open_step s h = with_header_findings s h (record s { holders = nesting_open_step s.holders h })
+finder_open_step s h = with_header_findings s h (record s {
+      holders = nesting_open_step s.holders h;
+      order = order_if s.wanted (set_order_open_step s.wanted.rules s.order h) s.order;
+    })
 
 -- a primitive begins
 abbrev pub finder_in_primitive : CheckState → HeaderValue → CheckState
 finder_in_primitive s h =
-    record s { open_primitive = Some (record { offset = h.offset; check = new_value_check h }) }
+    record s {
+      open_primitive = Some (record { offset = h.offset; check = new_value_check h });
+      order = order_if s.wanted (set_order_begin_step s.wanted.rules s.order h) s.order;
+    }
 
 abbrev pub finder_begin_step : CheckState → HeaderValue → FinderState
 finder_begin_step s h = with_header_findings s h (finder_in_primitive s h)
@@ -81,11 +106,18 @@ open_primitive_after None octets = None
 open_primitive_after (Some v) octets =
     Some (record v { check = value_check_after v.check (take v.check.left octets) })
 
+abbrev pub order_after : Wanted → Option OpenPrimitiveState → SetOrderState → List ℕ → SetOrderState
+order_after wanted None order octets = order
+order_after wanted (Some v) order octets = order_if wanted (set_order_octets_step order octets) order
+
 abbrev pub finder_bytes_step : CheckState → List ℕ → CheckState
 finder_bytes_step s octets =
     if length octets == 0
     then s
-    else record s { open_primitive = open_primitive_after s.open_primitive octets }
+    else record s {
+      open_primitive = open_primitive_after s.open_primitive octets;
+      order = order_after s.wanted s.open_primitive s.order octets;
+    }
 
 -- a primitive ends whose contents octets have all come
 abbrev pub contents_findings_in : Wanted → ValueCheckState → List Finding
@@ -95,23 +127,39 @@ abbrev pub finder_after_primitive : CheckState → OpenPrimitiveState → CheckS
 finder_after_primitive s v = record s {
   holders = nesting_primitive_step s.holders v.check.size (has_unused_bits v.check);
   open_primitive = None;
+  order = order_if s.wanted (set_order_end_step s.order) s.order;
 }
 
 abbrev pub finder_primitive_end_step : CheckState → Option OpenPrimitiveState → FinderState
 finder_primitive_end_step s None = without_findings s
 finder_primitive_end_step s (Some v) =
     with_findings (finder_after_primitive s v) (depth_in s.holders) v.offset
-    (contents_findings_in s.wanted v.check)
+    (with_order_if (is_order_found s.wanted (finder_after_primitive s v).order)
+    (contents_findings_in s.wanted v.check))
 
 abbrev pub finder_end_step : CheckState → FinderState
 finder_end_step s = finder_primitive_end_step s s.open_primitive
 
 -- an element that holds others ends, inside those with these frames
-abbrev pub finder_frame_end_step : CheckState → List HolderFrame → FinderState
-finder_frame_end_step s [] = without_findings s
-finder_frame_end_step s (w ∷ outer) =
-    with_findings (record s { holders = nesting_close_step s.holders }) (length outer) s.holders.frame.offset
-    (end_findings_in s.wanted (segments_in s.holders.frame))
+abbrev pub end_octets_if : Bool → List ℕ
+end_octets_if there = if there then 0 ∷ 0 ∷ [] else []
 
-abbrev pub finder_close_step : CheckState → FinderState
-finder_close_step s = finder_frame_end_step s s.holders.outer
+abbrev pub order_after_holder : CheckState → Bool → SetOrderState
+order_after_holder s has_end_octets =
+    order_if s.wanted (set_order_close_step s.order (end_octets_if has_end_octets)) s.order
+
+-- its frame has its offset only if it may have findings by this frame
+abbrev pub end_offset : Bool → SetOrderState → HolderFrame → ℕ
+end_offset out_of_order order w = if out_of_order then order.frame.offset else w.offset
+
+abbrev pub finder_frame_end_step : CheckState → Bool → List HolderFrame → FinderState
+finder_frame_end_step s has_end_octets [] = without_findings s
+finder_frame_end_step s has_end_octets (w ∷ outer) =
+    let order = order_after_holder s has_end_octets in
+    with_findings (record s { holders = nesting_close_step s.holders; order = order }) (length outer)
+    (end_offset (is_order_found s.wanted order) order s.holders.frame)
+    (with_order_if (is_order_found s.wanted order) (end_findings_in s.wanted (segments_in s.holders.frame)))
+
+-- with end-of-contents octets, or without them
+abbrev pub finder_close_step : CheckState → Bool → FinderState
+finder_close_step s has_end_octets = finder_frame_end_step s has_end_octets s.holders.outer

@@ -7,7 +7,8 @@ use Rattle.tlv_walk.specs.Events.{end_octets_offset}
 use Rattle.tlv_walk.specs.Forest.{Forest, PaddingOctet, Primitive, Holder, OpenPrimitive, OpenHolder}
 use Rattle.tlv_walk.specs.Forest.{OpenBitString}
 use Rattle.tlv_show.specs.declared.wanted.Wanted.{Wanted}
-use Rattle.tlv_show.specs.ShownFindings.{contents_findings, end_findings, header_findings}
+use Rattle.tlv_show.specs.SetOrder.{holder_element, primitive_element}
+use Rattle.tlv_show.specs.ShownFindings.{contents_findings, end_findings, header_findings, last_findings}
 use Rattle.tlv_show.specs.Site.{Site, is_padding, site_after_holder, site_after_padding, site_after_primitive}
 use Rattle.tlv_show.specs.Site.{site_of_children}
 
@@ -42,10 +43,14 @@ module _ (wanted : Wanted) where
   header_items s h = finding_items s.depth h.offset (header_findings wanted s h)
 
   abbrev pub contents_items : Site → HeaderValue → List ℕ → List Item
-  contents_items s h c = finding_items s.depth h.offset (contents_findings wanted h c)
+  contents_items s h c =
+      finding_items s.depth h.offset
+      (last_findings wanted s (primitive_element h c) (contents_findings wanted h c))
 
   abbrev pub end_items : Site → HeaderValue → Forest → List Item
-  end_items s h children = finding_items s.depth h.offset (end_findings wanted h (headers children))
+  end_items s h children =
+      finding_items s.depth h.offset
+      (last_findings wanted s (holder_element h children) (end_findings wanted h (headers children)))
 
   -- the items of elements, the first of which is at this site. The findings of a header come before the element's
   -- first line, all other findings after its last line

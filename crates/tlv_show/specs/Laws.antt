@@ -28,9 +28,9 @@ use Rattle.tlv_walk.specs.declared.follow.Go.TheVariants.{On}
 use Rattle.tlv_show.specs.declared.finding_lines.Style.TheVariants.{Dump}
 use Rattle.tlv_show.specs.FindingLines.{styled_lines}
 use Rattle.tlv_show.specs.DumpStep.{DumpState, dump_step, finding_lines}
-use Rattle.tlv_show.specs.FinderState.{finder_begin_step}
+use Rattle.tlv_show.specs.FinderState.{CheckState, finder_begin_step, finder_bytes_step, finder_end_step, is_order_found}
 use Rattle.tlv_show.specs.NestingState.{depth_in}
-use Rattle.tlv_show.specs.ShownFindings.{all_by, contents_findings, is_by, is_listed, listed_by}
+use Rattle.tlv_show.specs.ShownFindings.{all_by, contents_findings, is_by, is_listed, listed_by, with_order_if}
 use Rattle.tlv_head.specs.Limits.{input_limit}
 
 -- the text of a longer input, of at most 2^40 octets, begins with the text of the shorter input
@@ -50,11 +50,16 @@ DumpsGoOn =
 abbrev pub ChecksGoOn : Type 0
 ChecksGoOn = (wanted : Wanted) (framing : Framing) → TextGoesOn (check_job_with wanted framing)
 
+-- what is kept after a primitive
+abbrev pub whole_primitive : CheckState → HeaderValue → List ℕ → CheckState
+whole_primitive s h c = (finder_end_step (finder_bytes_step (finder_begin_step s h).kept c)).kept
+
 -- the lines of the findings on the contents of a primitive
 abbrev pub contents_finding_lines : DumpState → HeaderValue → List ℕ → List ℕ
 contents_finding_lines s h c =
     styled_lines (Dump s.lines.layout.pure) (depth_in s.finder.holders) h.offset
-    (contents_findings s.finder.wanted h c)
+    (with_order_if (is_order_found s.finder.wanted (whole_primitive s.finder h c).order)
+    (contents_findings s.finder.wanted h c))
 
 -- a primitive with as many contents octets as its header announces has the lines of its whole contents, between the
 -- lines of findings of its header and of findings on its contents. Nothing of it is kept

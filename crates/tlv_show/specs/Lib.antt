@@ -2,6 +2,8 @@ pub mod HolderLines
 pub mod LinesStep
 pub mod ShowJob
 pub mod Site
+pub mod SetOrder
+pub mod SetOrderState
 pub mod Conditions
 pub mod ShownFindings
 pub mod KeptConditions

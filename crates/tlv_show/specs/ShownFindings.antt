@@ -1,10 +1,10 @@
 -- The findings in an element, by rules, and by which findings are wanted.
-use Rattle.std.specs.Prelude.{ℕ, Bool, true, false, ◌&&◌, List, ◌==◌, slice_index, codes}
+use Rattle.std.specs.Prelude.{ℕ, Bool, true, false, ◌&&◌, if◌then◌else◌, List, [], ◌∷◌, ◌==◌, slice_index, codes}
 use Rattle.std.specs.List.{filter, list_any}
 use Rattle.tlv_head.specs.Header.{HeaderValue}
 use Rattle.tlv_value.specs.declared.finding.Finding.{Finding}
 use Rattle.tlv_value.specs.declared.finding.Finding.TheVariants.{B20, B21, B22, B23, B24, B25, B26, B27, B28}
-use Rattle.tlv_value.specs.declared.finding.Finding.TheVariants.{S05, S06}
+use Rattle.tlv_value.specs.declared.finding.Finding.TheVariants.{S05, S06, D01, D02, C01, C02, C03, C04, C05, C06}
 use Rattle.tlv_value.specs.Checks.{contents_conditions, findings_by}
 use Rattle.tlv_value.specs.Finding.{finding_code}
 use Rattle.tlv_show.specs.declared.rules.Rules.{Rules}
@@ -13,7 +13,8 @@ use Rattle.tlv_show.specs.declared.scope.Scope.{Scope}
 use Rattle.tlv_show.specs.declared.scope.Scope.TheVariants.{Listed, All}
 use Rattle.tlv_show.specs.declared.wanted.Wanted.{Wanted}
 use Rattle.tlv_show.specs.Conditions.{end_conditions, header_conditions}
-use Rattle.tlv_show.specs.Site.{Site}
+use Rattle.tlv_show.specs.SetOrder.{Element}
+use Rattle.tlv_show.specs.Site.{Site, is_out_of_order_at}
 
 -- ---- Which findings are wanted
 
@@ -73,3 +74,35 @@ contents_findings wanted h c = shown_findings wanted (contents_conditions h c)
 
 abbrev pub end_findings : Wanted → HeaderValue → List HeaderValue → List Finding
 end_findings wanted h children = shown_findings wanted (end_conditions h children)
+
+-- ---- With the order of a SET
+
+-- the code comes after S05
+abbrev pub comes_after_order : Finding → Bool
+comes_after_order S06 = true
+comes_after_order D01 = true
+comes_after_order D02 = true
+comes_after_order C01 = true
+comes_after_order C02 = true
+comes_after_order C03 = true
+comes_after_order C04 = true
+comes_after_order C05 = true
+comes_after_order C06 = true
+comes_after_order finding = false
+
+-- S05 among these findings, in the order of the codes
+abbrev pub with_order : List Finding → List Finding
+with_order [] = S05 ∷ []
+with_order (f ∷ fs) = if comes_after_order f then S05 ∷ f ∷ fs else f ∷ with_order fs
+
+abbrev pub with_order_if : Bool → List Finding → List Finding
+with_order_if out_of_order findings = if out_of_order then with_order findings else findings
+
+-- S05 is wanted
+abbrev pub wants_order : Wanted → Bool
+wants_order wanted = is_shown wanted S05
+
+-- the findings that a whole element has with its last octet, if these are the others
+abbrev pub last_findings : Wanted → Site → Element → List Finding → List Finding
+last_findings wanted s e others =
+    with_order_if (wants_order wanted && is_out_of_order_at wanted.rules s e) others

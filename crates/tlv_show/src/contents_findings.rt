@@ -1,5 +1,5 @@
 //! The findings on contents.
-ghost use Rattle.std.specs.Prelude.{◌≡◌, []};
+ghost use Rattle.std.specs.Prelude.{◌≡◌, ◌≤◌, [], length};
 ghost use Rattle.tlv_show.specs.FinderState.{contents_findings_in};
 ghost use Rattle.tlv_show.specs.ShownFindings.{is_by, is_listed, is_shown};
 
@@ -12,11 +12,12 @@ use tlv_value::{Finding, ValueCheck};
 pub(crate) fn add_contents_findings(
     wanted: Wanted,
     check: &ValueCheck,
-    found: &mut ArrayVec<Finding, 16>,
+    found: &mut ArrayVec<Finding, 17>,
 )
     requires left { check.now.left ≡ 0 }
     requires none { found.old.items ≡ [] }
-    ensures { found.new.items ≡ contents_findings_in wanted check.now }
+    ensures found { found.new.items ≡ contents_findings_in wanted check.now }
+    ensures short { length found.new.items ≤ 16 }
 {
     for finding in check.end().as_slice() {
         if is_shown(wanted, *finding) {

@@ -232,7 +232,7 @@ impl<N: FiniteNames> Dump<'_, N> {
         ensures { HasEffect D.state (dump_step self.old (Close offset))
             out.old out.new self.new result }
     {
-        let may_have_findings = self.finder.close();
+        let may_have_findings = self.finder.close(offset.is_some());
         self.lines.close(offset, out)?;
         let style = self.lines.style();
         put_findings(may_have_findings, style, &self.finder, out)

@@ -4,7 +4,8 @@ ghost use Rattle.tlv_head.specs.Header.{HasAllContents};
 ghost use Rattle.tlv_walk.specs.Events.{event_value_of};
 ghost use Rattle.tlv_show.specs.FinderState.{finder_in_primitive, finder_begin_step, finder_bytes_step};
 ghost use Rattle.tlv_show.specs.FinderState.{finder_close_step, finder_end_step, finder_open_step};
-ghost use Rattle.tlv_show.specs.FinderState.{with_findings, with_header_findings};
+ghost use Rattle.tlv_show.specs.FinderState.{end_offset, with_findings, with_header_findings};
+ghost use Rattle.tlv_show.specs.ShownFindings.{with_order_if};
 ghost use Rattle.tlv_show.specs.KeptConditions.{end_findings_in};
 ghost use Rattle.tlv_show.specs.NestingState.{depth_in, segments_in};
 ghost use Rattle.tlv_show.specs.Private.FinderState.{PassesOrStays, ReturnsFindings};
@@ -15,9 +16,12 @@ use crate::contents_findings::add_contents_findings;
 use crate::header_findings::{
     add_end_findings, add_header_findings, has_no_header_findings, has_no_header_findings_if_usual,
 };
-use crate::holder_frame::HolderFrame;
+use crate::holder_frame::{HolderFrame, top_frame};
 use crate::last_findings::LastFindings;
 use crate::nesting::Nesting;
+use crate::order_finding::insert_order_finding;
+use crate::set_order::SetOrder;
+use crate::wanted_order::{begin_in_order, bytes_in_order, close_in_order, end_in_order, open_in_order, passes_in_order};
 use arrayvec::ArrayVec;
 use std::marker::Model;
 use tlv_head::Header;
@@ -37,6 +41,8 @@ pub(crate) struct Finder {
     /// What is kept of the open primitive, or of the last one. It is reused for the next primitive, so that its room
     /// is not filled again each time.
     check: ValueCheck,
+    /// What must be known of the open SETs, if their order is wanted.
+    order: SetOrder,
     /// The number of findings so far.
     finding_count: u64,
     /// The findings of the last event that may have had some. They are kept here so that nothing is moved if there
@@ -55,6 +61,7 @@ impl Model for Finder {
         wanted = f.wanted;
         holders = f.holders;
         open_primitive = if_open f.is_open (record { offset = f.offset; check = f.check });
+        order = f.order;
         finding_count = f.finding_count;
       };
       level = f.last.level;
@@ -74,6 +81,7 @@ impl Finder {
             offset: 0,
             is_open: false,
             check: ValueCheck::of_type(0, 0),
+            order: SetOrder::new(),
             finding_count: 0,
             last: LastFindings {
                 level: 0,
@@ -108,7 +116,8 @@ impl Finder {
             (finder_step self.old.kept (event_value_of event.now)) self.new result }
     {
         match event {
-            Event::Open(header) | Event::Enter(header) => self.open(header),
+            Event::Open(header) => self.open(header),
+            Event::Enter(header) => self.open(header),
             Event::Begin(header) => {
                 self.begin(header);
                 true
@@ -118,7 +127,8 @@ impl Finder {
                 false
             }
             Event::End => self.end(),
-            Event::Close(_) | Event::Leave => self.close(),
+            Event::Close(offset) => self.close(offset.is_some()),
+            Event::Leave => self.close(false),
             Event::Unused | Event::Pad(_) => false,
         }
     }
@@ -136,6 +146,7 @@ impl Finder {
         if header.constructed
             || !has_no_header_findings_if_usual(self.wanted.rules, frame, header)
             || !is_clear(header, contents)
+            || !passes_in_order(&self.order, self.wanted)
         {
             return false;
         }
@@ -171,6 +182,7 @@ impl Finder {
         self.offset = header.offset;
         self.is_open = true;
         self.check.restart(header);
+        begin_in_order(&mut self.order, self.wanted, header);
     }
 
     /// An element that holds others begins.
@@ -178,6 +190,7 @@ impl Finder {
     pub fn open(&mut self, header: &Header) -> bool
         ensures { ReturnsFindings (finder_open_step self.old.kept header.now) self.new result }
     {
+        open_in_order(&mut self.order, self.wanted, header);
         // Most such elements are not strings, and have no findings.
         if has_no_header_findings(self.wanted.rules, self.holders.frame(), header) {
             self.holders.open_without_frame(header);
@@ -206,6 +219,7 @@ impl Finder {
         if self.is_open && !octets.is_empty() {
             let count = self.check.left().min(octets.len() as u64) as usize;
             self.check.bytes(&octets[..count]);
+            bytes_in_order(&mut self.order, self.wanted, octets);
         }
     }
 
@@ -221,39 +235,64 @@ impl Finder {
         self.is_open = false;
         self.holders
             .primitive(check.size(), check.has_unused_bits());
-        if check.left() != 0 {
+        let is_out_of_order = end_in_order(&mut self.order, self.wanted);
+        if check.left() != 0 && !is_out_of_order {
             return false;
         }
         let level = self.holders.depth();
         self.last.restart(level, self.offset);
-        add_contents_findings(self.wanted, check, &mut self.last.findings);
+        if check.left() == 0 {
+            add_contents_findings(self.wanted, check, &mut self.last.findings);
+        }
+        if is_out_of_order {
+            insert_order_finding(&mut self.last.findings);
+        }
         self.finding_count = self
             .finding_count
             .saturating_add(self.last.findings.len() as u64);
         true
     }
 
-    /// An element that holds others ends.
+    /// An element that holds others ends, with end-of-contents octets or without them.
     #[inline(always)]
-    pub fn close(&mut self) -> bool
-        ensures { ReturnsFindings (finder_close_step self.old.kept) self.new result }
+    pub fn close(&mut self, has_end_octets: bool) -> bool
+        ensures { ReturnsFindings (finder_close_step self.old.kept has_end_octets) self.new result }
     {
+        if self.holders.depth() == 0 {
+            return false;
+        }
+        let is_out_of_order = close_in_order(&mut self.order, self.wanted, has_end_octets);
         match self.holders.close() {
-            Some(closed) => self.find_with_end(&closed),
-            None => false,
+            Some(closed) => self.find_with_end(&closed, is_out_of_order),
+            None => {
+                if is_out_of_order {
+                    self.find_with_end(&top_frame(), true)
+                } else {
+                    false
+                }
+            }
         }
     }
 
-    /// Determines the findings of the end of an element that held segments or lacks components.
+    /// Determines the findings of the end of an element that held segments or lacks components, or is out of order.
     #[inline(never)]
-    fn find_with_end(&mut self, closed: &HolderFrame) -> bool
+    fn find_with_end(&mut self, closed: &HolderFrame, is_out_of_order: bool) -> bool
         ensures { ReturnsFindings
-            (with_findings self.old.kept (depth_in self.old.kept.holders) closed.now.offset
-            (end_findings_in self.old.kept.wanted (segments_in closed.now)))
+            (with_findings self.old.kept (depth_in self.old.kept.holders)
+            (end_offset is_out_of_order self.old.kept.order closed.now)
+            (with_order_if is_out_of_order (end_findings_in self.old.kept.wanted (segments_in closed.now))))
             self.new result }
     {
-        self.last.restart(self.holders.depth(), closed.offset);
+        let offset = if is_out_of_order {
+            self.order.offset()
+        } else {
+            closed.offset
+        };
+        self.last.restart(self.holders.depth(), offset);
         add_end_findings(self.wanted, closed, &mut self.last.findings);
+        if is_out_of_order {
+            insert_order_finding(&mut self.last.findings);
+        }
         self.finding_count = self
             .finding_count
             .saturating_add(self.last.findings.len() as u64);

@@ -26,7 +26,7 @@ pub(crate) fn add_header_findings(
     wanted: Wanted,
     frame: &HolderFrame,
     header: &Header,
-    found: &mut ArrayVec<Finding, 16>,
+    found: &mut ArrayVec<Finding, 17>,
 )
     requires { found.old.items ≡ [] }
     ensures { found.new.items ≡ header_findings_in wanted (surroundings_in frame.now) header.now }
@@ -106,10 +106,11 @@ fn is_usual(header: &Header) -> bool
 pub(crate) fn add_end_findings(
     wanted: Wanted,
     frame: &HolderFrame,
-    found: &mut ArrayVec<Finding, 16>,
+    found: &mut ArrayVec<Finding, 17>,
 )
     requires { found.old.items ≡ [] }
-    ensures { found.new.items ≡ end_findings_in wanted (segments_in frame.now) }
+    ensures found { found.new.items ≡ end_findings_in wanted (segments_in frame.now) }
+    ensures short { length found.new.items ≤ 3 }
 {
     if matches!(wanted.scope, Scope::All) {
         add_if(frame.lacks_components, Finding::B27, found);
@@ -134,7 +135,7 @@ fn fits_in_primitive(frame: &HolderFrame) -> bool
 
 /// Adds a finding if `there` is set.
 #[inline(always)]
-fn add_if(there: bool, finding: Finding, found: &mut ArrayVec<Finding, 16>)
+fn add_if(there: bool, finding: Finding, found: &mut ArrayVec<Finding, 17>)
     requires { length found.old.items < 16 }
     ensures items { found.new.items ≡ found.old.items ++ finding_if there finding }
     ensures short { length found.new.items ≤ length found.old.items + 1 }
@@ -146,7 +147,7 @@ fn add_if(there: bool, finding: Finding, found: &mut ArrayVec<Finding, 16>)
 
 /// Adds what violates the rules of all encodings: the listed findings.
 #[inline(always)]
-fn add_basic_findings(frame: &HolderFrame, header: &Header, found: &mut ArrayVec<Finding, 16>)
+fn add_basic_findings(frame: &HolderFrame, header: &Header, found: &mut ArrayVec<Finding, 17>)
     requires { found.old.items ≡ [] }
     ensures items { found.new.items
         ≡ findings_by (first_basic_conditions_in (surroundings_in frame.now) header.now) }
@@ -184,7 +185,7 @@ fn add_basic_findings(frame: &HolderFrame, header: &Header, found: &mut ArrayVec
 
 /// Adds the others of them, in the scope that has them.
 #[inline(always)]
-fn add_later_basic_findings(scope: Scope, header: &Header, found: &mut ArrayVec<Finding, 16>)
+fn add_later_basic_findings(scope: Scope, header: &Header, found: &mut ArrayVec<Finding, 17>)
     requires { length found.old.items ≤ 7 }
     ensures items { found.new.items
         ≡ found.old.items ++ findings_by (later_basic_conditions_in scope header.now) }
@@ -201,7 +202,7 @@ fn add_later_basic_findings(scope: Scope, header: &Header, found: &mut ArrayVec<
 
 /// Adds a length that is not the shortest.
 #[inline(always)]
-fn add_length_findings(header: &Header, found: &mut ArrayVec<Finding, 16>)
+fn add_length_findings(header: &Header, found: &mut ArrayVec<Finding, 17>)
     requires { length found.old.items ≤ 8 }
     ensures items { found.new.items
         ≡ found.old.items ++ findings_by (length_conditions header.now) }
@@ -212,7 +213,7 @@ fn add_length_findings(header: &Header, found: &mut ArrayVec<Finding, 16>)
 
 /// Adds what violates the rules of DER alone.
 #[inline(always)]
-fn add_der_findings(header: &Header, found: &mut ArrayVec<Finding, 16>)
+fn add_der_findings(header: &Header, found: &mut ArrayVec<Finding, 17>)
     requires { length found.old.items ≤ 9 }
     ensures { found.new.items ≡ found.old.items ++ findings_by (der_conditions header.now) }
 {
@@ -222,7 +223,7 @@ fn add_der_findings(header: &Header, found: &mut ArrayVec<Finding, 16>)
 
 /// Adds what violates the rules of CER alone.
 #[inline(always)]
-fn add_cer_findings(frame: &HolderFrame, header: &Header, found: &mut ArrayVec<Finding, 16>)
+fn add_cer_findings(frame: &HolderFrame, header: &Header, found: &mut ArrayVec<Finding, 17>)
     requires { length found.old.items ≤ 9 }
     ensures { found.new.items
         ≡ found.old.items ++ findings_by (cer_conditions_in (surroundings_in frame.now) header.now) }

@@ -3,6 +3,7 @@
 ghost use Rattle.tlv_show.specs.Laws.{BasicFindingsStay, ChecksGoOn, ChecksMakeTexts, DumpsGoOn};
 ghost use Rattle.tlv_show.specs.Laws.{DumpsMakeTexts, ListedItemsStay, PrimitivesAreShown};
 ghost use Rattle.tlv_show.specs.Spellings.{LongerIdentifiersAreFound, LongerLengthsAreFound, OneSpelling, SomeSpelling};
+ghost use Rattle.tlv_show.specs.SetOrderState.{OutOfOrderIsFound};
 
 /// For the events of the reading of an input of at most 2^40 octets, a `Dump` writes the text of that reading and
 /// counts its findings. It always wants more.
@@ -72,4 +73,9 @@ pub fn longer_identifiers_are_found()
 /// size has fewer length octets.
 pub fn longer_lengths_are_found()
     ensures { LongerLengthsAreFound }
+{}
+
+/// Event by event, the whole elements are found that are out of order in a SET, and no others.
+pub fn out_of_order_is_found()
+    ensures { OutOfOrderIsFound }
 {}

@@ -21,10 +21,14 @@ pub mod laws;
 mod lines;
 mod nesting;
 mod options;
+mod order_finding;
 mod outcome;
 mod rules;
+mod set_frame;
+mod set_order;
 mod scope;
 mod wanted;
+mod wanted_order;
 
 pub use basic_findings::has_basic_findings;
 pub use check_call::{check, check_with};

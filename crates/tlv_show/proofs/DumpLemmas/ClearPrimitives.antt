@@ -1,6 +1,6 @@
 -- A primitive with which nothing is found: what a finder and a check make of it at once.
 use Rattle.std.proofs.lemmas.Bool.{not-true}
-use Rattle.std.proofs.Common.{subst, rules, ◌≡◌, Bool, false, true, ℕ, List, [], ◌∷◌, length, sym, ap, ◌∙◌}
+use Rattle.std.proofs.Common.{subst, ap₂, rules, ◌≡◌, Bool, false, true, ℕ, List, [], ◌∷◌, length, sym, ap, ◌∙◌}
 use Rattle.std.specs.Prelude.{None, Ok, ◌&&◌, ◌||◌, not}
 use Rattle.std.specs.List.{filter}
 use Rattle.tlv_head.specs.Header.{HasAllContents, HeaderValue, is_universal}
@@ -16,6 +16,11 @@ use Rattle.tlv_walk.specs.Follow.{Effect, contents_in, effect_if_more, effect_of
 use Rattle.tlv_walk.specs.Follow.{whole_events}
 use Rattle.tlv_walk.proofs.FollowerLemmas.FollowedEvents.{followed-one}
 use Rattle.tlv_io.proofs.Puts.{puts_nothing, puts_text}
+use Rattle.tlv_show.specs.FinderState.{is_order_found}
+use Rattle.tlv_show.specs.Private.SetOrder.{IsUnchangedByPrimitives}
+use Rattle.tlv_show.specs.SetOrderState.{SetOrderState}
+use Rattle.tlv_show.specs.ShownFindings.{contents_findings, wants_order, with_order_if}
+use Rattle.tlv_show.proofs.SetOrderLemmas.WantedOrder.{none-passed, order_whole, whole-passed}
 use Rattle.tlv_show.specs.declared.holder_frame.HolderFrame.{HolderFrame}
 use Rattle.tlv_show.specs.declared.finding_lines.Style.TheVariants.{Check}
 use Rattle.tlv_show.specs.CheckStep.{check_step, findings_effect}
@@ -57,21 +62,33 @@ without_primitive s = record s { holders = nesting_with_element s.holders; open_
 pub whole_step-clear : (s : CheckState) (h : HeaderValue) (c : List ℕ) → HasAllContents h c
     → s.holders.frame.has_segments ≡ false
     → header_findings_in s.wanted (surroundings_in s.holders.frame) h ≡ [] → all_contents_findings h c ≡ []
+    → (wants_order s.wanted ≡ true → IsUnchangedByPrimitives s.order)
     → finder_whole_step s h c ≡ record {
       kept = without_primitive s;
       level = depth_in s.holders;
       offset = h.offset;
       findings = [];
     }
-whole_step-clear s h c size w header contents =
-    let made : HolderFrame → ℕ → List Finding
-    → FinderState = λ (f : HolderFrame) (n : ℕ) (fs : List Finding). record {
-      kept = check_between s.wanted f s.holders.outer (saturating_sum n (length fs));
+whole_step-clear s h c size w header contents passed =
+    let made_with : SetOrderState → Bool → HolderFrame → ℕ → List Finding → FinderState =
+    λ (o : SetOrderState) (b : Bool) (f : HolderFrame) (n : ℕ) (fs : List Finding). record {
+      kept =
+          check_between s.wanted f s.holders.outer
+          (record { count = saturating_sum n (length (with_order_if b fs)); order = o });
       level = depth_in s.holders;
       offset = h.offset;
-      findings = fs;
+      findings = with_order_if b fs;
     } in
-    primitive-find s.wanted s.holders.frame s.holders.outer s.finding_count h c size
+    let made : HolderFrame → ℕ → List Finding → FinderState = made_with s.order false in
+    let o : SetOrderState = order_whole s.wanted s.order h c in
+    let same : o ≡ s.order = whole-passed s.wanted s.order h c passed in
+    let none : is_order_found s.wanted o ≡ false =
+    ap (is_order_found s.wanted) same ∙ none-passed s.wanted s.order passed in
+    primitive-find s.wanted s.holders.frame s.holders.outer (record { count = s.finding_count; order = s.order }) h c size
+    ∙ ap₂ (λ (u : SetOrderState) (b : Bool). made_with u b (after_primitive s.wanted s.holders.frame h c)
+    (saturating_sum s.finding_count (length (header_findings_in s.wanted (surroundings_in s.holders.frame) h)))
+    (contents_findings s.wanted h c))
+    same none
     ∙ ap (λ (fs : List Finding). made (after_primitive s.wanted s.holders.frame h c)
     (saturating_sum s.finding_count (length (header_findings_in s.wanted (surroundings_in s.holders.frame) h)))
     (filter (is_shown s.wanted) fs))
@@ -84,7 +101,8 @@ whole_step-clear s h c size w header contents =
     ∙ ap (λ (n : ℕ).
     record {
       kept =
-          check_between s.wanted (with_element s.holders.frame) s.holders.outer n;
+          check_between s.wanted (with_element s.holders.frame) s.holders.outer
+          (record { count = n; order = s.order });
       level =
           depth_in s.holders;
       offset = h.offset;
@@ -95,9 +113,10 @@ whole_step-clear s h c size w header contents =
 pub passes_primitive-clear : (old new : FinderState) (h : HeaderValue) (c : List ℕ) → HasAllContents h c
     → old.kept.holders.frame.has_segments ≡ false
     → header_findings_in old.kept.wanted (surroundings_in old.kept.holders.frame) h ≡ [] → all_contents_findings h c ≡ []
+    → (wants_order old.kept.wanted ≡ true → IsUnchangedByPrimitives old.kept.order)
     → new ≡ with_check_state (without_primitive old.kept) old → PassesPrimitive old new h c
-passes_primitive-clear old new h c size w header contents e =
-    let all = whole_step-clear old.kept h c size w header contents in
+passes_primitive-clear old new h c size w header contents passed e =
+    let all = whole_step-clear old.kept h c size w header contents passed in
     record {
       begins = header;
       ends = ap (λ (f : FinderState). f.findings) all;
@@ -105,14 +124,14 @@ passes_primitive-clear old new h c size w header contents e =
     }
 
 -- an element that holds others, with whose header nothing is found
-pub opens-clear : (s : CheckState) (holders : NestingState) (fs : List Finding) → fs ≡ []
-    → (record s { holders = holders }
-    ≡ record s { holders = holders; finding_count = saturating_sum s.finding_count (length fs) })
+pub opens-clear : (s : CheckState) (holders : NestingState) (order : SetOrderState) (fs : List Finding) → fs ≡ []
+    → (record s { holders = holders; order = order }
+    ≡ record s { holders = holders; order = order; finding_count = saturating_sum s.finding_count (length fs) })
     × (fs ≡ [])
-opens-clear s holders fs e = (
-  ap (λ (n : ℕ). record s { holders = holders; finding_count = n }) (sym (sum-none s.finding_count))
+opens-clear s holders order fs e = (
+  ap (λ (n : ℕ). record s { holders = holders; order = order; finding_count = n }) (sym (sum-none s.finding_count))
       ∙ ap (λ (l : List Finding).
-      record s { holders = holders; finding_count = saturating_sum s.finding_count (length l) })
+      record s { holders = holders; order = order; finding_count = saturating_sum s.finding_count (length l) })
       (sym e),
   e,
 )

@@ -4,6 +4,9 @@ use Rattle.std.proofs.Common.{◌≡◌, ℕ, ◌+◌, ◌-◌, ◌^◌, ◌<◌
 use Rattle.std.proofs.Common.{refl, sym, ap, ap₂, ◌∙◌, arith}
 use Rattle.std.proofs.lemmas.Grind.{flat_map-append}
 use Rattle.std.specs.Prelude.{flat_map, Option, None}
+use Rattle.std.proofs.Common.{◌≢◌}
+use Rattle.tlv_show.proofs.SetOrderLemmas.WantedOrder.{Ordered, OrderedAfter}
+use Rattle.tlv_show.proofs.FindingLemmas.FinderSteps.{HasItsOffset, Kept, found_at_end, found_in_contents, offset-at_end}
 use Rattle.tlv_head.specs.Header.{AllowsSize, HasAllContents, HeaderValue, announced_length, octets_of}
 use Rattle.tlv_value.specs.declared.finding.Finding.{Finding}
 use Rattle.tlv_value.specs.declared.layout.Layout.{Layout}
@@ -24,14 +27,13 @@ use Rattle.tlv_show.specs.FinderState.{CheckState, FinderState}
 use Rattle.tlv_show.specs.NestingState.{frame_under, surroundings_in, frame_after}
 use Rattle.tlv_show.specs.NestingState.{with_element}
 use Rattle.tlv_show.specs.KeptConditions.{header_findings_in}
-use Rattle.tlv_show.specs.ShownFindings.{contents_findings, end_findings}
-use Rattle.tlv_show.specs.Items.{Item, FindingAt, items, finding_items, headers}
+use Rattle.tlv_show.specs.Items.{Item, FindingAt, items, finding_items}
 use Rattle.tlv_show.specs.HolderLines.{closing_line, opening_line, opening_word}
 use Rattle.tlv_show.specs.Site.{Previous, Site, is_padding}
 use Rattle.tlv_show.specs.Texts.{item_text, layout_at}
 use Rattle.tlv_show.proofs.DumpLemmas.DumpTexts.{holder_shown, ends_in_padding, primitive_shown}
 use Rattle.tlv_show.proofs.DumpLemmas.DumpTexts.{lines_between, closer_shown}
-use Rattle.tlv_show.proofs.FindingLemmas.FinderFolds.{frame_after_elements, offset-under}
+use Rattle.tlv_show.proofs.FindingLemmas.FinderFolds.{frame_after_elements}
 use Rattle.tlv_show.proofs.FindingLemmas.FinderSteps.{after_contents, later_header, after_primitive, opened-find}
 use Rattle.tlv_show.proofs.FindingLemmas.FinderSteps.{primitive-find, check_between, after_end, closed-find}
 use Rattle.tlv_show.proofs.FindingLemmas.HeaderFindings.{Knows}
@@ -66,37 +68,39 @@ module _ (with_text : Bool) (style : Layout) (names : NamesValue) (wanted : Want
       ∙ ap₂ (λ (a b : List ℕ). a ++ b) (lines_of level offset fs) g
       ∙ sym (item_texts-append (finding_items level offset fs) rest)
 
-  abbrev pub start : Place → Bool → HolderFrame → List HolderFrame → ℕ → DumpState
+  abbrev pub start : Place → Bool → HolderFrame → List HolderFrame → Kept → DumpState
   start p padded w outer n =
       dump_state (lines_between with_text style names p.depth p.offset padded) (check_between wanted w outer n)
 
   pub record IsShown (p : Place) (holder : Option HeaderValue) (previous : Previous) (w : HolderFrame)
       (outer : List HolderFrame) (f : Forest) : Type 0 where
-    pub text : (n : ℕ)
+    pub text : (n : Kept) → Ordered wanted (site p holder previous) n.order
         → (effect_of dump_step (start p (is_padding previous) w outer n) (events f)).put
         ≡ item_texts (items wanted (site p holder previous) f)
-    pub after : (n : ℕ) → is_whole f ≡ true → (m : ℕ)
+    pub after : (n : Kept) → Ordered wanted (site p holder previous) n.order → holder ≢ None → is_whole f ≡ true
+        → (m : Kept)
         × ((effect_of dump_step (start p (is_padding previous) w outer n) (events f)).state
         ≡ dump_state
         (lines_between with_text style names p.depth (p.offset + length (spelling f))
         (ends_in_padding with_text style names (is_padding previous) f))
         (check_between wanted (frame_after_elements w f) outer m))
+        × OrderedAfter wanted n.order (spelling f) m.order
 
   -- elements after what was shown
-  pub shown-after : (p q : Place) (padded : Bool) (w : HolderFrame) (outer : List HolderFrame) (n m : ℕ)
+  pub shown-after : (p q : Place) (padded : Bool) (w : HolderFrame) (outer : List HolderFrame) (n m : Kept)
       (v : HolderFrame) (holder : Option HeaderValue) (previous : Previous) (es : List EventValue) (put : List ℕ)
       (rest : Forest)
       → q.depth ≡ p.depth
       → effect_of dump_step (start p padded w outer n) es ≡ effect_with (start q (is_padding previous) v outer m) put
-      → IsShown q holder previous v outer rest
+      → IsShown q holder previous v outer rest → Ordered wanted (site q holder previous) m.order
       → effect_of dump_step (start p padded w outer n) (es ++ events rest)
       ≡ record (effect_of dump_step (start q (is_padding previous) v outer m) (events rest))
       { put = put ++ item_texts (items wanted (site q holder previous) rest) }
-  shown-after p q padded w outer n m v holder previous es put rest d e t =
+  shown-after p q padded w outer n m v holder previous es put rest d e t o =
       then_shown (start p padded w outer n) (start q (is_padding previous) v outer m) put es (events rest) e
       ∙ ap (λ (l : List ℕ). record (effect_of dump_step (start q (is_padding previous) v outer m) (events rest))
       { put = put ++ l })
-      (t.text m)
+      (t.text m o)
 
   abbrev pub Known : Place → Option HeaderValue → Previous → HolderFrame → List HolderFrame → Type 0
   Known p holder previous w outer =
@@ -104,7 +108,7 @@ module _ (with_text : Bool) (style : Layout) (names : NamesValue) (wanted : Want
 
   -- an element that holds others begins
   pub opened-shown : (p : Place) (holder : Option HeaderValue) (previous : Previous) (w : HolderFrame)
-      (outer : List HolderFrame) (n : ℕ) (h : HeaderValue)
+      (outer : List HolderFrame) (n : Kept) (h : HeaderValue)
       → Known p holder previous w outer
       → h.offset ≡ p.offset → p.depth < 128 → p.offset + length (opening h) ≤ 2 ^ 64 - 1
       → effect_of dump_step (start p (is_padding previous) w outer n) (opening_events h)
@@ -121,7 +125,7 @@ module _ (with_text : Bool) (style : Layout) (names : NamesValue) (wanted : Want
       (opened-find wanted w outer n h (omega (arith, k.1, low)))
 
   -- a primitive
-  pub primitive-shown : (p : Place) (padded : Bool) (w : HolderFrame) (outer : List HolderFrame) (n : ℕ)
+  pub primitive-shown : (p : Place) (padded : Bool) (w : HolderFrame) (outer : List HolderFrame) (n : Kept)
       (h : HeaderValue) (c : List ℕ)
       → h.offset ≡ p.offset → HasAllContents h c
       → p.offset + (length (octets_of h) + length c) ≤ 2 ^ 64 - 1
@@ -131,7 +135,7 @@ module _ (with_text : Bool) (style : Layout) (names : NamesValue) (wanted : Want
       (after_contents wanted w h c n))
       (styled_lines (Dump style.pure) (length outer) h.offset (header_findings_in wanted (surroundings_in w) h)
       ++ (whole_lines_with with_text (finite.get names) h (layout_at style p.depth) c
-      ++ styled_lines (Dump style.pure) (length outer) h.offset (contents_findings wanted h c)))
+      ++ styled_lines (Dump style.pure) (length outer) h.offset (found_in_contents wanted h c n)))
   primitive-shown p padded w outer n h c there size far =
       primitive-by (lines_between with_text style names p.depth p.offset padded) (check_between wanted w outer n) h c
       ∙ ap₂
@@ -142,10 +146,10 @@ module _ (with_text : Bool) (style : Layout) (names : NamesValue) (wanted : Want
       (primitive-find wanted w outer n h c size)
 
   -- an element that holds others ends
-  pub closed-shown : (p : Place) (w : HolderFrame) (outer : List HolderFrame) (n : ℕ) (h : HeaderValue)
+  pub closed-shown : (p : Place) (w : HolderFrame) (outer : List HolderFrame) (n : Kept) (h : HeaderValue)
       (inside : Forest)
       → ObeysGrammar (place_of_children p h) inside → is_whole inside ≡ true → h.offset ≡ p.offset
-      → AllowsSize h.constructed h.size → p.offset + extent h inside ≤ 2 ^ 64 - 1
+      → AllowsSize h.constructed h.size → p.offset + extent h inside ≤ 2 ^ 64 - 1 → HasItsOffset wanted h inside n
       → effect_of dump_step
       (dump_state
       (lines_between with_text style names (p.depth + 1) (p.offset + length (opening h) + length (spelling inside)) false)
@@ -155,13 +159,13 @@ module _ (with_text : Bool) (style : Layout) (names : NamesValue) (wanted : Want
       (start (place_after p (extent h inside)) false
       (frame_after (with_element w) (is_primitive h) (announced_length h.size) false) outer (after_end wanted h inside n))
       (closing_line (layout_at style p.depth) (end_octets_offset h inside)
-      ++ styled_lines (Dump style.pure) (length outer) h.offset (end_findings wanted h (headers inside)))
-  closed-shown p w outer n h inside v whole there allowed far =
+      ++ styled_lines (Dump style.pure) (length outer) h.offset (found_at_end wanted h inside n))
+  closed-shown p w outer n h inside v whole there allowed far known =
       let end : ℕ = p.offset + length (opening h) + length (spelling inside) in
       let close : List ℕ =
       closing_line (layout_at style p.depth) (end_octets_offset h inside) in
       let last : List ℕ =
-      styled_lines (Dump style.pure) (length outer) h.offset (end_findings wanted h (headers inside)) in
+      styled_lines (Dump style.pure) (length outer) h.offset (found_at_end wanted h inside n) in
       let after : CheckState =
       check_between wanted (frame_after (with_element w) (is_primitive h) (announced_length h.size) false) outer
       (after_end wanted h inside n) in
@@ -175,8 +179,8 @@ module _ (with_text : Bool) (style : Layout) (names : NamesValue) (wanted : Want
       (closed-find wanted (place_of_children p h) w outer n h inside v whole)
       ∙ ap (λ (l : List ℕ). effect_with
       (dump_state (lines_between with_text style names p.depth (end + length (end_octets h.size)) false) after) (close ++ l))
-      (offset-under wanted (place_of_children p h) w h inside v whole (styled_lines (Dump style.pure) (length outer))
-      (λ offset. refl))
+      (offset-at_end wanted (place_of_children p h) w h inside n v whole known
+      (styled_lines (Dump style.pure) (length outer)) (λ offset. refl))
       ∙ ap (λ (offset : ℕ). effect_with (dump_state (lines_between with_text style names p.depth offset false) after)
       (close ++ last))
       (omega arith)

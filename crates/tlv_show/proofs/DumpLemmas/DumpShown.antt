@@ -19,6 +19,15 @@ use Rattle.tlv_walk.specs.Forest.{OpenBitString, OpenHeader, OpenEndOctets, exte
 use Rattle.tlv_walk.specs.Forest.{spelling}
 use Rattle.tlv_walk.specs.Place.{ObeysGrammar, Place, place_after, place_of_children}
 use Rattle.tlv_walk.proofs.GrammarLemmas.Spellings.{length-holder, length-primitive}
+use Rattle.tlv_walk.specs.Forest.{end_octets}
+use Rattle.tlv_walk.proofs.GrammarLemmas.Spellings.{append_assoc-3}
+use Rattle.tlv_show.specs.SetOrder.{Element, holder_element, primitive_element}
+use Rattle.tlv_show.specs.SetOrderState.{SetOrderState}
+use Rattle.tlv_show.specs.ShownFindings.{last_findings, with_order_if}
+use Rattle.tlv_show.proofs.SetOrderLemmas.WantedOrder.{IsTaken, Ordered, OrderedAfter, after-no-element, closed-taken}
+use Rattle.tlv_show.proofs.SetOrderLemmas.WantedOrder.{opened-ordered, order_closed, order_whole, ordered-padding}
+use Rattle.tlv_show.proofs.SetOrderLemmas.WantedOrder.{taken-after, taken-found, taken-offset, taken-ordered, whole-taken}
+use Rattle.tlv_show.proofs.FindingLemmas.FinderSteps.{Kept, found_in_contents}
 use Rattle.tlv_show.specs.declared.holder_frame.HolderFrame.{HolderFrame}
 use Rattle.tlv_show.specs.declared.wanted.Wanted.{Wanted}
 use Rattle.tlv_show.specs.declared.finding_lines.Style.TheVariants.{Dump}
@@ -58,14 +67,15 @@ module _ (with_text : Bool) (style : Layout) (names : NamesValue) (wanted : Want
       → Known with_text style names wanted p holder previous w outer
       → IsShown with_text style names wanted p holder previous w outer f
   shows_forest p holder previous w outer NoMore v b k = record {
-    text = λ n. refl;
+    text = λ n o. refl;
     after =
-        λ n
+        λ n o held
         e. (
           n,
           ap (λ (offset : ℕ). dump_state (lines_between with_text style names p.depth offset (is_padding previous))
               (check_between wanted w outer n))
               (omega arith),
+          after-no-element wanted n.order,
         );
   }
   shows_forest p holder previous w outer (PaddingOctet rest) v b k =
@@ -73,30 +83,22 @@ module _ (with_text : Bool) (style : Layout) (names : NamesValue) (wanted : Want
       let t =
       shows_forest (place_after p 1) holder Padding w outer rest v.1 (omega (arith, b))
       (knows-padding w s k.0 (k.2 v.0.0), k.1, k.2) in
-      let one : (n : ℕ)
+      let one : (n : Kept)
       → effect_of dump_step (start with_text style names wanted p (is_padding previous) w outer n) (Pad (0 ∷ []) ∷ [])
       ≡ effect_with (start with_text style names wanted (place_after p 1) true w outer n)
       (if is_padding previous then [] else padding_line (layout_at style p.depth) p.offset) =
       λ n. ap (λ (d : Effect LinesState). effect_with (dump_state d.state (check_between wanted w outer n)) d.put)
       (fill_shown with_text style names p.depth p.offset (is_padding previous) (omega (arith, b))) in
       let all =
-      λ (n : ℕ). shown-after with_text style names wanted p (place_after p 1) (is_padding previous) w outer n n w holder Padding
+      λ (n : Kept) (o : Ordered wanted s n.order). shown-after with_text style names wanted p (place_after p 1) (is_padding previous) w outer n n w holder Padding
       (Pad (0 ∷ []) ∷ [])
       (if is_padding previous then [] else padding_line (layout_at style p.depth) p.offset) rest refl
-      (one n) t in
+      (one n) t (ordered-padding wanted s n.order o (k.2 v.0.0)) in
       record {
         text =
-            λ n. ap (λ (x : Effect DumpState). x.put) (all n)
+            λ n o. ap (λ (x : Effect DumpState). x.put) (all n o)
             ∙ pads (is_padding previous) p.depth p.offset (items wanted (site_after_padding s) rest);
-        after = λ n e.
-            let r = t.after n e in (
-              r.0,
-              ap (λ (x : Effect DumpState). x.state) (all n) ∙ r.1
-                  ∙ ap (λ (offset : ℕ). dump_state
-                  (lines_between with_text style names p.depth offset (ends_in_padding with_text style names true rest))
-                  (check_between wanted (frame_after_elements w rest) outer r.0))
-                  (omega arith),
-            );
+        after = λ n o held e. absurd (held (k.2 v.0.0));
       }
     where
       pads : (k : Bool) (level offset : ℕ) (l : List Item)
@@ -113,42 +115,57 @@ module _ (with_text : Bool) (style : Layout) (names : NamesValue) (wanted : Want
       let known : Knows (after_primitive wanted w h c) (site_after_primitive s h c) =
       subst (λ (x : Bool). Knows (frame_after (with_element w) x (announced_length h.size) u) (site_after_primitive s h c))
       (ap not form)
-      (knows-after (with_element w) s (site_after_primitive s h c) h (first_contents_octet c) u k.0 refl refl (unused-of h c form)) in
+      (knows-after (with_element w) s (site_after_primitive s h c) h (first_contents_octet c) (primitive_element h c).octets
+      u k.0 refl refl (unused-of h c (primitive_element h c).octets form)) in
       let t =
-      shows_forest q holder (Sibling h (first_contents_octet c)) (after_primitive wanted w h c) outer rest v.1
+      shows_forest q holder (Sibling h (first_contents_octet c) (primitive_element h c).octets) (after_primitive wanted w h c) outer rest v.1
       (omega (arith, b, length-primitive h c rest)) (known, k.1, k.2) in
+      let e : Element = primitive_element h c in
+      let next : (n : Kept) → Ordered wanted s n.order
+      → Ordered wanted (site_after_primitive s h c) (order_whole wanted n.order h c) =
+      λ n o. taken-ordered wanted s (site_after_primitive s h c) n.order e (order_whole wanted n.order h c) o
+      (whole-taken wanted n.order h c) refl refl refl in
       let all =
-      λ (n : ℕ). shown-after with_text style names wanted p q (is_padding previous) w outer n (after_contents wanted w h c n)
-      (after_primitive wanted w h c) holder (Sibling h (first_contents_octet c)) (Begin h ∷ Bytes c ∷ End ∷ []) _ rest
+      λ (n : Kept) (o : Ordered wanted s n.order).
+      shown-after with_text style names wanted p q (is_padding previous) w outer n (after_contents wanted w h c n)
+      (after_primitive wanted w h c) holder (Sibling h (first_contents_octet c) (primitive_element h c).octets) (Begin h ∷ Bytes c ∷ End ∷ []) _ rest
       refl
       (primitive-shown with_text style names wanted p (is_padding previous) w outer n h c v.0.0.header.offset size
       (omega (arith, b, length-primitive h c rest)))
-      t in
+      t (next n o) in
       let others : List Item = items wanted (site_after_primitive s h c) rest in
       record {
-        text = λ n.
-            ap (λ (x : Effect DumpState). x.put) (all n)
+        text = λ n o.
+            ap (λ (x : Effect DumpState). x.put) (all n o)
             ∙ three
             (styled_lines (Dump style.pure) (length outer) h.offset (header_findings_in wanted (surroundings_in w) h))
             (whole_lines_with with_text (finite.get names) h (layout_at style p.depth) c)
-            (styled_lines (Dump style.pure) (length outer) h.offset (contents_findings wanted h c))
+            (styled_lines (Dump style.pure) (length outer) h.offset (found_in_contents wanted h c n))
             (item_texts with_text style names wanted others)
             ∙ found-first with_text style names wanted (length outer) p.depth h.offset
             (header_findings_in wanted (surroundings_in w) h)
             (header_findings wanted s h)
-            _ (PrimitiveLines p.depth h c ∷ (finding_items p.depth h.offset (contents_findings wanted h c) ++ others))
+            _ (PrimitiveLines p.depth h c ∷ (finding_items p.depth h.offset (last_findings wanted s e (contents_findings wanted h c)) ++ others))
             k.1 (header-same wanted w s h k.0)
             (ap (λ (l : List ℕ). whole_lines_with with_text (finite.get names) h (layout_at style p.depth) c ++ l)
-            (found-first with_text style names wanted (length outer) p.depth h.offset (contents_findings wanted h c)
-            (contents_findings wanted h c) (item_texts with_text style names wanted others) others k.1 refl refl));
-        after = λ n e.
-            let r = t.after (after_contents wanted w h c n) e in (
+            (found-first with_text style names wanted (length outer) p.depth h.offset (found_in_contents wanted h c n)
+            (last_findings wanted s e (contents_findings wanted h c)) (item_texts with_text style names wanted others) others
+            k.1
+            (ap (λ (b : Bool). with_order_if b (contents_findings wanted h c))
+            (taken-found wanted s n.order e (order_whole wanted n.order h c) o (whole-taken wanted n.order h c)))
+            refl));
+        after = λ n o held x.
+            let r = t.after (after_contents wanted w h c n) (next n o) held x in (
               r.0,
-              ap (λ (x : Effect DumpState). x.state) (all n) ∙ r.1
+              ap (λ (x : Effect DumpState). x.state) (all n o) ∙ r.1
                   ∙ ap (λ (offset : ℕ). dump_state
                   (lines_between with_text style names p.depth offset (ends_in_padding with_text style names false rest))
                   (check_between wanted (frame_after_elements (after_primitive wanted w h c) rest) outer r.0))
                   (omega (arith, length-primitive h c rest)),
+              subst (λ (l : List ℕ). OrderedAfter wanted n.order l r.0.order)
+                  (append_assoc (octets_of h) c (spelling rest))
+                  (taken-after wanted s n.order e (order_whole wanted n.order h c) (spelling rest) r.0.order o
+                  (whole-taken wanted n.order h c) r.2),
             );
       }
     where
@@ -163,9 +180,9 @@ module _ (with_text : Bool) (style : Layout) (names : NamesValue) (wanted : Want
       shows_forest i_place (Some h) Start (frame_under w h) (with_element w ∷ outer) inside v.1 (omega (arith, b, size))
       (knows-inside w s h, omega (arith, k.1), λ e. absurd (cc (e))) in
       let t =
-      shows_forest q holder (Sibling h None) (frame_after (with_element w) (is_primitive h) (announced_length h.size) false)
+      shows_forest q holder (Sibling h None (holder_element h inside).octets) (frame_after (with_element w) (is_primitive h) (announced_length h.size) false)
       outer rest v.2 (omega (arith, b, size))
-      (knows-after (with_element w) s (site_after_holder s h inside) h None false k.0 refl refl refl, k.1, k.2) in
+      (knows-after (with_element w) s (site_after_holder s h inside) h None (holder_element h inside).octets false k.0 refl refl refl, k.1, k.2) in
       let end : ℕ = p.offset + length (opening h) + length (spelling inside) in
       let line : List ℕ = opening_line (layout_at style p.depth) h (opening_word h.constructed) in
       let close : List ℕ =
@@ -174,36 +191,43 @@ module _ (with_text : Bool) (style : Layout) (names : NamesValue) (wanted : Want
       styled_lines (Dump style.pure) (length outer) h.offset (header_findings_in wanted (surroundings_in w) h) in
       let last : List ℕ =
       styled_lines (Dump style.pure) (length outer) h.offset
-      (end_findings wanted h (headers inside)) in
+      (last_findings wanted s (holder_element h inside) (end_findings wanted h (headers inside))) in
+      let e : Element = holder_element h inside in
       let held : List ℕ = item_texts with_text style names wanted (items wanted (site_of_children s h) inside) in
-      let held-shown : (m : ℕ)
-      → (r : ℕ)
+      let held-shown : (m : Kept) → Ordered wanted (site_of_children s h) m.order
+      → (r : Kept)
       × (effect_of dump_step (start with_text style names wanted i_place false (frame_under w h) (with_element w ∷ outer) m) (events inside)
       ≡ effect_with
       (dump_state (lines_between with_text style names (p.depth + 1) end false)
       (check_between wanted (frame_after_elements (frame_under w h) inside) (with_element w ∷ outer) r))
-      held) =
-      λ m.
-      let r = i.after m v.0.1 in (
+      held)
+      × OrderedAfter wanted m.order (spelling inside) r.order =
+      λ m o.
+      let r = i.after m o (λ x. absurd (cc (x))) v.0.1 in (
         r.0,
         as_shows (start with_text style names wanted i_place false (frame_under w h) (with_element w ∷ outer) m) _ (events inside) held
             (r.1
             ∙ ap (λ (x : Bool). dump_state (lines_between with_text style names (p.depth + 1) end x)
             (check_between wanted (frame_after_elements (frame_under w h) inside) (with_element w ∷ outer) r.0))
             (no_padding with_text style names i_place inside refl v.1))
-            (i.text m),
+            (i.text m o),
+        r.2,
       ) in
-      let element : (n : ℕ)
-      → (m : ℕ)
+      let element : (n : Kept) → Ordered wanted s n.order
+      → (m : Kept)
+      × IsTaken wanted n.order e m.order
       × (effect_of dump_step (start with_text style names wanted p (is_padding previous) w outer n)
       (opening_events h ++ (events inside ++ closing_event h inside ∷ []))
       ≡ effect_with
       (start with_text style names wanted q false (frame_after (with_element w) (is_primitive h) (announced_length h.size) false) outer m)
       ((first ++ line) ++ (held ++ (close ++ last)))) =
-      λ n.
-      let a : ℕ = later_header wanted w h n in
-      let r = held-shown a in (
+      λ n o.
+      let a : Kept = later_header wanted w h n in
+      let r = held-shown a (opened-ordered wanted s n.order h o v.0.0.shallow) in
+      let taken = closed-taken wanted s n.order h inside r.0.order o v.0.0.shallow v.0.0.header.valid.allowed r.2 in
+      let closed : SetOrderState = order_closed wanted r.0.order h inside in (
         after_end wanted h inside r.0,
+        taken,
         then_shown (start with_text style names wanted p (is_padding previous) w outer n)
             (start with_text style names wanted i_place false (frame_under w h) (with_element w ∷ outer) a)
             (first ++ line) (opening_events h) (events inside ++ closing_event h inside ∷ [])
@@ -216,25 +240,37 @@ module _ (with_text : Bool) (style : Layout) (names : NamesValue) (wanted : Want
             held (events inside) (closing_event h inside ∷ []) r.1
             ∙ ap (λ (x : Effect DumpState). record x { put = held ++ x.put })
             (closed-shown with_text style names wanted p w outer r.0 h inside v.1 v.0.1 v.0.0.header.offset
-            v.0.0.header.valid.allowed (omega (arith, b, size)))),
+            v.0.0.header.valid.allowed (omega (arith, b, size)) (taken-offset wanted s n.order e closed o taken)
+            ∙ ap (λ (x : Bool). effect_with
+            (start with_text style names wanted q false
+            (frame_after (with_element w) (is_primitive h) (announced_length h.size) false) outer
+            (after_end wanted h inside r.0))
+            (close
+            ++ styled_lines (Dump style.pure) (length outer) h.offset
+            (with_order_if x (end_findings wanted h (headers inside)))))
+            (taken-found wanted s n.order e closed o taken))),
       ) in
       let es : List EventValue = opening_events h ++ (events inside ++ closing_event h inside ∷ []) in
       let joined : es ++ events rest ≡ opening_events h ++ (events inside ++ closing_event h inside ∷ events rest) =
       append_assoc (opening_events h) (events inside ++ closing_event h inside ∷ []) (events rest)
       ∙ ap (λ (l : List EventValue). opening_events h ++ l)
       (append_assoc (events inside) (closing_event h inside ∷ []) (events rest)) in
-      let all = λ (n : ℕ).
+      let next : (n : Kept) (o : Ordered wanted s n.order)
+      → Ordered wanted (site_after_holder s h inside) (element n o).0.order =
+      λ n o. taken-ordered wanted s (site_after_holder s h inside) n.order e (element n o).0.order o (element n o).1 refl
+      refl refl in
+      let all = λ (n : Kept) (o : Ordered wanted s n.order).
       ap (effect_of dump_step (start with_text style names wanted p (is_padding previous) w outer n)) (sym joined)
-      ∙ shown-after with_text style names wanted p q (is_padding previous) w outer n (element n).0
-      (frame_after (with_element w) (is_primitive h) (announced_length h.size) false) holder (Sibling h None) es
-      ((first ++ line) ++ (held ++ (close ++ last))) rest refl (element n).1 t in
+      ∙ shown-after with_text style names wanted p q (is_padding previous) w outer n (element n o).0
+      (frame_after (with_element w) (is_primitive h) (announced_length h.size) false) holder (Sibling h None (holder_element h inside).octets) es
+      ((first ++ line) ++ (held ++ (close ++ last))) rest refl (element n o).2 t (next n o) in
       let others : List Item = items wanted (site_after_holder s h inside) rest in
       let closing : List Item =
       ClosingLine p.depth (end_octets_offset h inside)
-      ∷ (finding_items p.depth h.offset (end_findings wanted h (headers inside)) ++ others) in
+      ∷ (finding_items p.depth h.offset (last_findings wanted s e (end_findings wanted h (headers inside))) ++ others) in
       record {
-        text = λ n.
-            ap (λ (x : Effect DumpState). x.put) (all n)
+        text = λ n o.
+            ap (λ (x : Effect DumpState). x.put) (all n o)
             ∙ six first line held close last (item_texts with_text style names wanted others)
             ∙ found-first with_text style names wanted (length outer) p.depth h.offset
             (header_findings_in wanted (surroundings_in w) h)
@@ -244,20 +280,23 @@ module _ (with_text : Bool) (style : Layout) (names : NamesValue) (wanted : Want
             (ap (λ (l : List ℕ). line ++ l)
             (ap (λ (l : List ℕ). held ++ (close ++ l))
             (found-first with_text style names wanted (length outer) p.depth h.offset
-            (end_findings wanted h (headers inside))
-            (end_findings wanted h (headers inside)) (item_texts with_text style names wanted others) others k.1
+            (last_findings wanted s e (end_findings wanted h (headers inside)))
+            (last_findings wanted s e (end_findings wanted h (headers inside))) (item_texts with_text style names wanted others) others k.1
             refl refl)
             ∙ sym (item_texts-append with_text style names wanted (items wanted (site_of_children s h) inside) closing)));
-        after = λ n e.
-            let r = t.after (element n).0 e in (
+        after = λ n o held x.
+            let r = t.after (element n o).0 (next n o) held x in (
               r.0,
-              ap (λ (x : Effect DumpState). x.state) (all n) ∙ r.1
+              ap (λ (x : Effect DumpState). x.state) (all n o) ∙ r.1
                   ∙ ap (λ (offset : ℕ). dump_state
                   (lines_between with_text style names p.depth offset (ends_in_padding with_text style names false rest))
                   (check_between wanted
                   (frame_after_elements (frame_after (with_element w) (is_primitive h) (announced_length h.size) false) rest) outer
                   r.0))
                   (omega (arith, size)),
+              subst (λ (l : List ℕ). OrderedAfter wanted n.order l r.0.order)
+                  (append_assoc-3 (opening h) (spelling inside) (end_octets h.size) (spelling rest))
+                  (taken-after wanted s n.order e (element n o).0.order (spelling rest) r.0.order o (element n o).1 r.2),
             );
       }
     where
@@ -272,7 +311,7 @@ module _ (with_text : Bool) (style : Layout) (names : NamesValue) (wanted : Want
           (all_on s es)
           ∙ ap₂ (λ (u : DumpState) (l : List ℕ). effect_with u l) e f
   shows_forest p holder previous w outer (OpenPrimitive h c) v b k = record {
-    text = λ n.
+    text = λ n o.
         part-by (lines_between with_text style names p.depth p.offset (is_padding previous)) (check_between wanted w outer n) h c
         ∙ found-first with_text style names wanted (length outer) p.depth h.offset
         (header_findings_in wanted (surroundings_in w) h)
@@ -281,7 +320,7 @@ module _ (with_text : Bool) (style : Layout) (names : NamesValue) (wanted : Want
         (header-same wanted w (site with_text style names wanted p holder previous) h k.0)
         (part_shown with_text style names p.depth p.offset (is_padding previous) h c (omega (arith, v.1))
         ∙ sym (append-nil (incomplete_lines_with with_text h (layout_at style p.depth) c)));
-    after = λ n e. absurd (cc (e));
+    after = λ n o held e. absurd (cc (e));
   }
   shows_forest p holder previous w outer (OpenHolder h inside) v b k =
       let s : Site = site with_text style names wanted p holder previous in
@@ -293,7 +332,7 @@ module _ (with_text : Bool) (style : Layout) (names : NamesValue) (wanted : Want
       styled_lines (Dump style.pure) (length outer) h.offset (header_findings_in wanted (surroundings_in w) h) in
       let line : List ℕ = opening_line (layout_at style p.depth) h (opening_word h.constructed) in
       record {
-        text = λ n.
+        text = λ n o.
             ap (λ (x : Effect DumpState). x.put)
             (then_shown (start with_text style names wanted p (is_padding previous) w outer n)
             (start with_text style names wanted (place_of_children p h) false (frame_under w h) (with_element w ∷ outer)
@@ -301,17 +340,17 @@ module _ (with_text : Bool) (style : Layout) (names : NamesValue) (wanted : Want
             (first ++ line) (opening_events h) (events inside)
             (opened-shown with_text style names wanted p holder previous w outer n h k v.0.0.header.offset v.0.0.shallow
             (omega (arith, b, size))))
-            ∙ ap (λ (l : List ℕ). (first ++ line) ++ l) (i.text (later_header wanted w h n))
+            ∙ ap (λ (l : List ℕ). (first ++ line) ++ l) (i.text (later_header wanted w h n) (opened-ordered wanted s n.order h o v.0.0.shallow))
             ∙ append_assoc first line (item_texts with_text style names wanted (items wanted (site_of_children s h) inside))
             ∙ found-first with_text style names wanted (length outer) p.depth h.offset
             (header_findings_in wanted (surroundings_in w) h)
             (header_findings wanted s h)
             _ (OpeningLine p.depth h ∷ items wanted (site_of_children s h) inside) k.1
             (header-same wanted w s h k.0) refl;
-        after = λ n e. absurd (cc (e));
+        after = λ n o held e. absurd (cc (e));
       }
   shows_forest p holder previous w outer (OpenBitString h) v b k = record {
-    text = λ n.
+    text = λ n o.
         append_assoc
         (styled_lines (Dump style.pure) (length outer) h.offset (header_findings_in wanted (surroundings_in w) h))
         (opening_line (layout_at style p.depth) h (opening_word false)) []
@@ -321,7 +360,7 @@ module _ (with_text : Bool) (style : Layout) (names : NamesValue) (wanted : Want
         _ (OpeningLine p.depth h ∷ []) k.1
         (header-same wanted w (site with_text style names wanted p holder previous) h k.0)
         (ap (λ (l : List ℕ). l ++ []) (sym (awaiting p.depth h h.constructed v.1)));
-    after = λ n e. absurd (cc (e));
+    after = λ n o held e. absurd (cc (e));
   }
     where
       awaiting : (level : ℕ) (h : HeaderValue) (k : Bool)
@@ -331,10 +370,10 @@ module _ (with_text : Bool) (style : Layout) (names : NamesValue) (wanted : Want
       awaiting level h true e = absurd (cc (e))
       awaiting level h false e = refl
   shows_forest p holder previous w outer (OpenHeader octets) v b k = record {
-    text = λ n. refl;
-    after = λ n e. absurd (cc (e));
+    text = λ n o. refl;
+    after = λ n o held e. absurd (cc (e));
   }
   shows_forest p holder previous w outer OpenEndOctets v b k = record {
-    text = λ n. refl;
-    after = λ n e. absurd (cc (e));
+    text = λ n o. refl;
+    after = λ n o held e. absurd (cc (e));
   }

@@ -8,6 +8,10 @@ use Rattle.tlv_value.specs.Checks.{findings_by, all_contents_findings}
 use Rattle.tlv_walk.specs.Events.{end_octets_offset}
 use Rattle.tlv_walk.specs.Forest.{Forest, NoMore, PaddingOctet, Primitive, Holder, OpenPrimitive, OpenHolder}
 use Rattle.tlv_walk.specs.Forest.{OpenBitString, OpenHeader, OpenEndOctets}
+use Rattle.tlv_show.specs.SetOrder.{Element, holder_element, primitive_element}
+use Rattle.tlv_show.specs.ShownFindings.{last_findings, wants_order}
+use Rattle.tlv_show.specs.Site.{is_out_of_order_at}
+use Rattle.tlv_show.proofs.FindingLemmas.OrderFindings.{none-listed, without-order_if}
 use Rattle.tlv_show.specs.declared.rules.Rules.{Rules}
 use Rattle.tlv_show.specs.declared.scope.Scope.{Scope}
 use Rattle.tlv_show.specs.declared.wanted.Wanted.{Wanted}
@@ -94,6 +98,15 @@ module _ (scope : Scope) (rules : Rules) where
       ∙ sym (some-found few many (is_by Ber) is_basic (λ level offset x. refl)
       (λ x. both-tests (is_by Ber x) (is_by rules x) (is_within scope x) (still-by rules x)) level offset fs ys)
 
+  -- the same with the order of a SET, which BER does not have
+  same-last : (level offset : ℕ) (s : Site) (e : Element) (fs : List Finding) (xs ys : List Item) → only xs ≡ basic ys
+      → only (finding_items level offset (last_findings few s e (filter (is_shown few) fs)) ++ xs)
+      ≡ basic (finding_items level offset (last_findings many s e (filter (is_shown many) fs)) ++ ys)
+  same-last level offset s e fs xs ys same =
+      same-found level offset fs xs ys same
+      ∙ sym (without-order_if is_basic (λ level offset. refl) level offset
+      (wants_order many && is_out_of_order_at rules s e) (filter (is_shown many) fs) ys)
+
   same-pads : (k : Bool) (level offset : ℕ) (xs ys : List Item) → only xs ≡ basic ys
       → only ((if k then [] else PaddingLine level offset ∷ []) ++ xs)
       ≡ basic ((if k then [] else PaddingLine level offset ∷ []) ++ ys)
@@ -110,7 +123,7 @@ module _ (scope : Scope) (rules : Rules) where
       ∷ (contents_items few s h c ++ items few (site_after_primitive s h c) rest))
       (PrimitiveLines s.depth h c
       ∷ (contents_items many s h c ++ items many (site_after_primitive s h c) rest))
-      (same-found s.depth h.offset (all_contents_findings h c) _ _ (basic_items-same (site_after_primitive s h c) rest))
+      (same-last s.depth h.offset s (primitive_element h c) (all_contents_findings h c) _ _ (basic_items-same (site_after_primitive s h c) rest))
   basic_items-same s (Holder h inside rest) =
       let last : Wanted
       → List Item =
@@ -121,7 +134,7 @@ module _ (scope : Scope) (rules : Rules) where
       (OpeningLine s.depth h ∷ (items many (site_of_children s h) inside ++ last many))
       (filter-append _ (items few (site_of_children s h) inside) (last few)
       ∙ ap₂ (λ (a b : List Item). a ++ b) (basic_items-same (site_of_children s h) inside)
-      (same-found s.depth h.offset (findings_by (end_conditions h (headers inside)))
+      (same-last s.depth h.offset s (holder_element h inside) (findings_by (end_conditions h (headers inside)))
       _ _ (basic_items-same (site_after_holder s h inside) rest))
       ∙ sym (filter-append is_basic (items many (site_of_children s h) inside) (last many)))
   basic_items-same s (OpenPrimitive h c) =
@@ -161,6 +174,18 @@ module _ (rules : Rules) where
       ∙ sym (some-found (listed_by rules) (all_by rules) is_listed is_listed_item (λ level offset x. refl)
       (λ x. and-one (is_by rules x) (is_listed x)) level offset fs ys)
 
+  -- the same with the order of a SET, which is not listed
+  listed-last : (level offset : ℕ) (s : Site) (e : Element) (fs : List Finding) (xs ys : List Item) → xs ≡ listed ys
+      → finding_items level offset (last_findings (listed_by rules) s e (filter (is_shown (listed_by rules)) fs)) ++ xs
+      ≡ listed
+      (finding_items level offset (last_findings (all_by rules) s e (filter (is_shown (all_by rules)) fs)) ++ ys)
+  listed-last level offset s e fs xs ys same =
+      ap (λ (gs : List Finding). finding_items level offset gs ++ xs)
+      (none-listed rules s e (filter (is_shown (listed_by rules)) fs))
+      ∙ listed-then level offset fs xs ys same
+      ∙ sym (without-order_if is_listed_item (λ level offset. refl) level offset
+      (wants_order (all_by rules) && is_out_of_order_at rules s e) (filter (is_shown (all_by rules)) fs) ys)
+
   listed-pads : (k : Bool) (level offset : ℕ) (xs ys : List Item) → xs ≡ listed ys
       → (if k then [] else PaddingLine level offset ∷ []) ++ xs
       ≡ listed ((if k then [] else PaddingLine level offset ∷ []) ++ ys)
@@ -174,7 +199,7 @@ module _ (rules : Rules) where
   listed_items-same s (Primitive h c rest) =
       listed-then s.depth h.offset (findings_by (header_conditions s h)) _ _
       (ap (λ (l : List Item). PrimitiveLines s.depth h c ∷ l)
-      (listed-then s.depth h.offset (all_contents_findings h c) _ _
+      (listed-last s.depth h.offset s (primitive_element h c) (all_contents_findings h c) _ _
       (listed_items-same (site_after_primitive s h c) rest)))
   listed_items-same s (Holder h inside rest) =
       let last : Wanted → List Item = λ r. ClosingLine s.depth (end_octets_offset h inside)
@@ -182,7 +207,7 @@ module _ (rules : Rules) where
       let held : Wanted → List Item = λ r. items r (site_of_children s h) inside in
       let ends : last (listed_by rules) ≡ listed (last (all_by rules)) =
       ap (λ (l : List Item). ClosingLine s.depth (end_octets_offset h inside) ∷ l)
-      (listed-then s.depth h.offset (findings_by (end_conditions h (headers inside)))
+      (listed-last s.depth h.offset s (holder_element h inside) (findings_by (end_conditions h (headers inside)))
       _ _ (listed_items-same (site_after_holder s h inside) rest)) in
       listed-then s.depth h.offset (findings_by (header_conditions s h)) _ _
       (ap (λ (l : List Item). OpeningLine s.depth h ∷ l)

@@ -41,6 +41,15 @@ use Rattle.tlv_show.specs.Items.{contents_items, end_items, finding_items}
 use Rattle.tlv_show.specs.Site.{Site, is_padding, site_of_children, top_site}
 use Rattle.tlv_show.specs.Site.{site_after_primitive, site_after_holder, site_after_padding}
 use Rattle.tlv_show.specs.Texts.{check_line, finding_count, is_finding}
+use Rattle.std.proofs.Common.{◌&&◌}
+use Rattle.std.specs.Option.{is_some}
+use Rattle.tlv_show.proofs.SetOrderLemmas.WantedOrder.{top-ordered}
+use Rattle.tlv_value.specs.declared.finding.Finding.TheVariants.{S05}
+use Rattle.tlv_show.specs.FinderState.{order_after}
+use Rattle.tlv_show.specs.SetOrder.{Element, holder_element, primitive_element}
+use Rattle.tlv_show.specs.SetOrderState.{new_set_order}
+use Rattle.tlv_show.specs.ShownFindings.{comes_after_order, last_findings, wants_order, with_order, with_order_if}
+use Rattle.tlv_show.specs.Site.{is_out_of_order_at}
 use Rattle.tlv_show.proofs.FindingLemmas.CheckLaws.{step-is}
 use Rattle.tlv_show.proofs.FindingLemmas.FinderItems.{finds_forest, only}
 use Rattle.tlv_show.proofs.FindingLemmas.FinderSteps.{FinderRun, found_items, run_finder}
@@ -95,11 +104,11 @@ by-primitive : (s : CheckState) (v : Option OpenPrimitiveState)
 by-primitive s None = sym (sum-none s.finding_count)
 by-primitive s (Some v) = refl
 
-by-frames : (s : CheckState) (outer : List HolderFrame)
-    → (finder_frame_end_step s outer).kept.finding_count
-    ≡ saturating_sum s.finding_count (length (finder_frame_end_step s outer).findings)
-by-frames s [] = sym (sum-none s.finding_count)
-by-frames s (w ∷ outer) = refl
+by-frames : (s : CheckState) (has_end_octets : Bool) (outer : List HolderFrame)
+    → (finder_frame_end_step s has_end_octets outer).kept.finding_count
+    ≡ saturating_sum s.finding_count (length (finder_frame_end_step s has_end_octets outer).findings)
+by-frames s has_end_octets [] = sym (sum-none s.finding_count)
+by-frames s has_end_octets (w ∷ outer) = refl
 
 -- an event's findings are counted
 counted-one : (s : CheckState) (e : EventValue)
@@ -107,14 +116,19 @@ counted-one : (s : CheckState) (e : EventValue)
 counted-one s (Open h) = refl
 counted-one s (Begin h) = refl
 counted-one s (Bytes octets) =
-    either-count (record s { open_primitive = open_primitive_after s.open_primitive octets }) s (length octets == 0)
+    either-count
+    (record s {
+      open_primitive = open_primitive_after s.open_primitive octets;
+      order = order_after s.wanted s.open_primitive s.order octets;
+    })
+    s (length octets == 0)
     refl
     ∙ sym (sum-none s.finding_count)
 counted-one s End = by-primitive s s.open_primitive
-counted-one s (Close offset) = by-frames s s.holders.outer
+counted-one s (Close offset) = by-frames s (is_some offset) s.holders.outer
 counted-one s (Enter h) = refl
 counted-one s Unused = sym (sum-none s.finding_count)
-counted-one s Leave = by-frames s s.holders.outer
+counted-one s Leave = by-frames s false s.holders.outer
 counted-one s (Pad octets) = sym (sum-none s.finding_count)
 
 pub counted-all : (s : CheckState) (es : List EventValue)
@@ -150,6 +164,15 @@ held-few wanted (row ∷ rows) = let e = one-few row.0 (held-few wanted rows) in
     one-few true e = kept-few (is_shown wanted row.1) row.1 (filter (is_shown wanted) (findings_by rows)) (length rows) e
     one-few false e = omega (arith, e)
 
+one-more : (gs : List Finding) → length (with_order gs) ≡ length gs + 1
+one-more [] = refl
+one-more (g ∷ gs) = by-code (comes_after_order g) (one-more gs)
+  where
+    by-code : (k : Bool) → length (with_order gs) ≡ length gs + 1
+        → length (if k then S05 ∷ g ∷ gs else g ∷ with_order gs) ≡ length (g ∷ gs) + 1
+    by-code true r = omega arith
+    by-code false r = omega (arith, r)
+
 module _ (wanted : Wanted) where
   few-at : (level offset : ℕ) (fs : List Finding) (rest : List Item) (n m : ℕ) → length fs ≤ n
       → length (only rest) ≤ m → length (only (finding_items level offset fs ++ rest)) ≤ n + m
@@ -181,6 +204,14 @@ module _ (wanted : Wanted) where
       by-class true = few-rows (type_conditions h.number c) 40 refl
       by-class false = omega arith
 
+  few-last : (s : Site) (e : Element) (fs : List Finding) (n : ℕ) → length fs ≤ n
+      → length (last_findings wanted s e fs) ≤ n + 1
+  few-last s e fs n few = by (wants_order wanted && is_out_of_order_at wanted.rules s e)
+    where
+      by : (k : Bool) → length (with_order_if k fs) ≤ n + 1
+      by true = let r = one-more fs in omega (arith, r, few)
+      by false = omega (arith, few)
+
   few-end : (h : HeaderValue) (inside : Forest) → length (end_findings wanted h (headers inside)) ≤ 10
   few-end h inside = few-rows (end_conditions h (headers inside)) 10 refl
 
@@ -199,8 +230,9 @@ module _ (wanted : Wanted) where
       let inner : List Item =
       contents_items wanted s h c ++ items wanted (site_after_primitive s h c) rest in
       let b =
-      few-at s.depth h.offset (contents_findings wanted h c) (items wanted (site_after_primitive s h c) rest) 40
-      _ (few-contents h c) r in
+      few-at s.depth h.offset (last_findings wanted s (primitive_element h c) (contents_findings wanted h c))
+      (items wanted (site_after_primitive s h c) rest) 41
+      _ (few-last s (primitive_element h c) (contents_findings wanted h c) 40 (few-contents h c)) r in
       let a =
       few-at s.depth h.offset (header_findings wanted s h) (PrimitiveLines s.depth h c ∷ inner)
       20 _ (few-header s h) b in
@@ -211,8 +243,9 @@ module _ (wanted : Wanted) where
       let last : List Item =
       end_items wanted s h inside ++ items wanted (site_after_holder s h inside) rest in
       let b =
-      few-at s.depth h.offset (end_findings wanted h (headers inside))
-      (items wanted (site_after_holder s h inside) rest) 10 _ (few-end h inside) r in
+      few-at s.depth h.offset (last_findings wanted s (holder_element h inside) (end_findings wanted h (headers inside)))
+      (items wanted (site_after_holder s h inside) rest) 11
+      _ (few-last s (holder_element h inside) (end_findings wanted h (headers inside)) 10 (few-end h inside)) r in
       let m =
       few-both (items wanted (site_of_children s h) inside)
       (ClosingLine s.depth (end_octets_offset h inside) ∷ last) _ _ i b in
@@ -258,7 +291,8 @@ module _ (wanted : Wanted) where
     put-is : (run_finder start (events f)).put ≡ only (items wanted top_site f)
     put-is =
         (finds_forest wanted (top_place framing) top_site top_frame [] f r.obeys_grammar refl refl refl
-        (λ e. refl)).put 0
+        (λ e. refl)).put (record { count = 0; order = new_set_order })
+        (top-ordered wanted)
 
     pub text-made : (effect_of check_step start (events f)).put ≡ (check_job_with wanted framing).text f
     text-made =

@@ -25,6 +25,16 @@ use Rattle.tlv_show.specs.Items.{PaddingLine, headers, items}
 use Rattle.tlv_show.specs.Items.{contents_items, end_items, finding_items, header_items}
 use Rattle.tlv_show.specs.Site.{Site, is_padding, site_of_children}
 use Rattle.tlv_show.specs.Site.{site_after_primitive, site_after_holder, site_after_padding}
+use Rattle.std.proofs.Common.{◌≢◌, append_assoc}
+use Rattle.tlv_walk.specs.Forest.{end_octets, opening, spelling}
+use Rattle.tlv_walk.proofs.GrammarLemmas.Spellings.{append_assoc-3}
+use Rattle.tlv_show.specs.SetOrder.{Element, holder_element, primitive_element}
+use Rattle.tlv_show.specs.SetOrderState.{SetOrderState}
+use Rattle.tlv_show.specs.ShownFindings.{last_findings, with_order_if}
+use Rattle.tlv_show.proofs.SetOrderLemmas.WantedOrder.{IsTaken, Ordered, OrderedAfter, after-no-element, closed-taken}
+use Rattle.tlv_show.proofs.SetOrderLemmas.WantedOrder.{opened-ordered, order_closed, order_whole, ordered-padding}
+use Rattle.tlv_show.proofs.SetOrderLemmas.WantedOrder.{taken-after, taken-found, taken-offset, taken-ordered, whole-taken}
+use Rattle.tlv_show.proofs.FindingLemmas.FinderSteps.{Kept}
 use Rattle.tlv_show.proofs.FindingLemmas.SiteWords.{first_contents_octet}
 use Rattle.tlv_show.specs.Texts.{is_finding}
 use Rattle.tlv_show.proofs.FindingLemmas.FinderFolds.{not-constructed, frame_after_elements}
@@ -53,11 +63,13 @@ only-pads false level offset l = refl
 module _ (wanted : Wanted) where
   -- what was reported of elements: the findings of their items; and if they are whole, the frame after them
   pub record IsFoundAs (s : Site) (w : HolderFrame) (outer : List HolderFrame) (f : Forest) : Type 0 where
-    pub put : (n : ℕ) → (run_finder (check_between wanted w outer n) (events f)).put ≡ only (items wanted s f)
-    pub after : (n : ℕ) → is_whole f ≡ true
-        → (m : ℕ)
+    pub put : (n : Kept) → Ordered wanted s n.order
+        → (run_finder (check_between wanted w outer n) (events f)).put ≡ only (items wanted s f)
+    pub after : (n : Kept) → Ordered wanted s n.order → s.holder ≢ None → is_whole f ≡ true
+        → (m : Kept)
         × ((run_finder (check_between wanted w outer n) (events f)).state
         ≡ check_between wanted (frame_after_elements w f) outer m)
+        × OrderedAfter wanted n.order (spelling f) m.order
 
   -- findings with a header, and then other items
   header-items : (s : Site) (w : HolderFrame) (outer : List HolderFrame) (h : HeaderValue) (found rest : List Item)
@@ -80,16 +92,17 @@ module _ (wanted : Wanted) where
   pub finds_forest : (p : Place) (s : Site) (w : HolderFrame) (outer : List HolderFrame) (f : Forest) → ObeysGrammar p f
       → Knows w s → length outer ≡ s.depth → s.depth ≡ p.depth → (p.padding ≡ true → s.holder ≡ None)
       → IsFoundAs s w outer f
-  finds_forest p s w outer NoMore v k l d free = record { put = λ n. refl; after = λ n e. (n, refl) }
+  finds_forest p s w outer NoMore v k l d free =
+      record { put = λ n o. refl; after = λ n o held e. (n, refl, after-no-element wanted n.order) }
   finds_forest p s w outer (PaddingOctet rest) v k l d free =
       let r =
       finds_forest (place_after p 1) (site_after_padding s) w outer rest v.1 (knows-padding w s k (free v.0.0)) l
       d free in
       record {
         put =
-            λ n. r.put n
+            λ n o. r.put n (ordered-padding wanted s n.order o (free v.0.0))
             ∙ sym (only-pads (is_padding s.previous) s.depth s.offset (items wanted (site_after_padding s) rest));
-        after = r.after;
+        after = λ n o held e. absurd (held (free v.0.0));
       }
   finds_forest p s w outer (Primitive h c rest) v k l d free =
       let size : HasAllContents h c = ap announced_length v.0.1 in
@@ -98,24 +111,40 @@ module _ (wanted : Wanted) where
       let known : Knows (after_primitive wanted w h c) (site_after_primitive s h c) =
       subst (λ (b : Bool). Knows (frame_after (with_element w) b (announced_length h.size) u) (site_after_primitive s h c))
       (ap not form)
-      (knows-after (with_element w) s (site_after_primitive s h c) h (first_contents_octet c) u k refl refl (unused-of h c form)) in
+      (knows-after (with_element w) s (site_after_primitive s h c) h (first_contents_octet c) (primitive_element h c).octets
+      u k refl refl (unused-of h c (primitive_element h c).octets form)) in
       let r =
       finds_forest (place_after p (length (octets_of h) + length c)) (site_after_primitive s h c)
       (after_primitive wanted w h c)
       outer rest v.1 known l d free in
+      let e : Element = primitive_element h c in
+      let next : (n : Kept) → Ordered wanted s n.order
+      → Ordered wanted (site_after_primitive s h c) (order_whole wanted n.order h c) =
+      λ n o. taken-ordered wanted s (site_after_primitive s h c) n.order e (order_whole wanted n.order h c) o
+      (whole-taken wanted n.order h c) refl refl refl in
       record {
-        put = λ n.
+        put = λ n o.
             ap (λ (t : FinderRun). t.put) (run-primitive wanted w outer n h c (events rest) size)
             ∙ header-items s w outer h
             _ (PrimitiveLines s.depth h c
             ∷ (contents_items wanted s h c ++ items wanted (site_after_primitive s h c) rest))
             k l
-            (more-items s outer h.offset (contents_findings wanted h c)
+            (ap (λ (b : Bool). finding_items (length outer) h.offset (with_order_if b (contents_findings wanted h c))
+            ++ (run_finder (check_between wanted (after_primitive wanted w h c) outer (after_contents wanted w h c n))
+            (events rest)).put)
+            (taken-found wanted s n.order e (order_whole wanted n.order h c) o (whole-taken wanted n.order h c))
+            ∙ more-items s outer h.offset (last_findings wanted s e (contents_findings wanted h c))
             _ (items wanted (site_after_primitive s h c) rest) l
-            (r.put (after_contents wanted w h c n)));
-        after = λ n e.
-            let t = r.after (after_contents wanted w h c n) e in
-            (t.0, ap (λ (x : FinderRun). x.state) (run-primitive wanted w outer n h c (events rest) size) ∙ t.1);
+            (r.put (after_contents wanted w h c n) (next n o)));
+        after = λ n o held x.
+            let t = r.after (after_contents wanted w h c n) (next n o) held x in (
+              t.0,
+              ap (λ (x : FinderRun). x.state) (run-primitive wanted w outer n h c (events rest) size) ∙ t.1,
+              subst (λ (l : List ℕ). OrderedAfter wanted n.order l t.0.order)
+                  (append_assoc (octets_of h) c (spelling rest))
+                  (taken-after wanted s n.order e (order_whole wanted n.order h c) (spelling rest) t.0.order o
+                  (whole-taken wanted n.order h c) t.2),
+            );
       }
   finds_forest p s w outer (Holder h inside rest) v k l d free =
       let i =
@@ -124,48 +153,73 @@ module _ (wanted : Wanted) where
       let r =
       finds_forest (place_after p (extent h inside)) (site_after_holder s h inside)
       (frame_after (with_element w) (is_primitive h) (announced_length h.size) false) outer rest v.2
-      (knows-after (with_element w) s (site_after_holder s h inside) h None false k refl refl refl) l d free in
+      (knows-after (with_element w) s (site_after_holder s h inside) h None (holder_element h inside).octets false k refl refl refl)
+      l d free in
       let few : length outer < 128 = omega (arith, l, d, v.0.0.shallow) in
       let es : List EventValue = closing_event h inside ∷ events rest in
-      let all : (n : ℕ) → (m : ℕ) × (run_finder (check_between wanted w outer n) (events (Holder h inside rest))
+      let e : Element = holder_element h inside in
+      let low : s.depth < 128 = omega (arith, d, v.0.0.shallow) in
+      let all : (n : Kept) → Ordered wanted s n.order → (m : Kept) × IsTaken wanted n.order e m.order
+      × (run_finder (check_between wanted w outer n) (events (Holder h inside rest))
       ≡ then_found (finding_items (length outer) h.offset (header_findings_in wanted (surroundings_in w) h))
       (then_found (only (items wanted (site_of_children s h) inside))
-      (then_found (finding_items (length outer) h.offset (end_findings wanted h (headers inside)))
+      (then_found (finding_items (length outer) h.offset (last_findings wanted s e (end_findings wanted h (headers inside))))
       (run_finder (check_between wanted (frame_after (with_element w) (is_primitive h) (announced_length h.size) false) outer m)
       (events rest))))) =
-      λ n.
-      let a : ℕ = later_header wanted w h n in
-      let t = i.after a v.0.1 in
+      λ n o.
+      let a : Kept = later_header wanted w h n in
+      let opened = opened-ordered wanted s n.order h o low in
+      let t = i.after a opened (λ x. absurd (cc (x))) v.0.1 in
+      let taken = closed-taken wanted s n.order h inside t.0.order o low v.0.0.header.valid.allowed t.2 in
+      let closed : SetOrderState = order_closed wanted t.0.order h inside in
       let put : List Item = finding_items (length outer) h.offset (header_findings_in wanted (surroundings_in w) h) in (
         after_end wanted h inside t.0,
+        taken,
         run-opening wanted w outer n h (events inside ++ es) few
             ∙ ap (then_found put)
             (run-more (check_between wanted (frame_under w h) (with_element w ∷ outer) a) (events inside) es
-            ∙ ap₂ (λ (l : List Item) (x : CheckState). then_found l (run_finder x es)) (i.put a) t.1
+            ∙ ap₂ (λ (l : List Item) (x : CheckState). then_found l (run_finder x es)) (i.put a opened) t.1
             ∙ ap (then_found (only (items wanted (site_of_children s h) inside)))
-            (run-closing wanted (place_of_children p h) w outer t.0 h inside (events rest) v.1 v.0.1)),
+            (run-closing wanted (place_of_children p h) w outer t.0 h inside (events rest) v.1 v.0.1
+            (taken-offset wanted s n.order e closed o taken)
+            ∙ ap (λ (b : Bool). then_found
+            (finding_items (length outer) h.offset (with_order_if b (end_findings wanted h (headers inside))))
+            (run_finder
+            (check_between wanted (frame_after (with_element w) (is_primitive h) (announced_length h.size) false) outer
+            (after_end wanted h inside t.0))
+            (events rest)))
+            (taken-found wanted s n.order e closed o taken))),
       ) in
       let last : List Item =
       ClosingLine s.depth (end_octets_offset h inside)
       ∷ (end_items wanted s h inside ++ items wanted (site_after_holder s h inside) rest) in
+      let next : (n : Kept) (o : Ordered wanted s n.order)
+      → Ordered wanted (site_after_holder s h inside) (all n o).0.order =
+      λ n o. taken-ordered wanted s (site_after_holder s h inside) n.order e (all n o).0.order o (all n o).1 refl refl
+      refl in
       record {
-        put = λ n.
-            let a = all n in
-            ap (λ (t : FinderRun). t.put) a.1
+        put = λ n o.
+            let a = all n o in
+            ap (λ (t : FinderRun). t.put) a.2
             ∙ header-items s w outer h _ (OpeningLine s.depth h ∷ (items wanted (site_of_children s h) inside ++ last))
             k l
             (ap (λ (t : List Item). only (items wanted (site_of_children s h) inside) ++ t)
-            (more-items s outer h.offset (end_findings wanted h (headers inside))
-            _ (items wanted (site_after_holder s h inside) rest) l (r.put a.0))
+            (more-items s outer h.offset (last_findings wanted s e (end_findings wanted h (headers inside)))
+            _ (items wanted (site_after_holder s h inside) rest) l (r.put a.0 (next n o)))
             ∙ sym (filter-append is_finding (items wanted (site_of_children s h) inside) last));
-        after = λ n e.
-            let a = all n in
-            let t = r.after a.0 e in
-            (t.0, ap (λ (x : FinderRun). x.state) a.1 ∙ t.1);
+        after = λ n o held x.
+            let a = all n o in
+            let t = r.after a.0 (next n o) held x in (
+              t.0,
+              ap (λ (x : FinderRun). x.state) a.2 ∙ t.1,
+              subst (λ (l : List ℕ). OrderedAfter wanted n.order l t.0.order)
+                  (append_assoc-3 (opening h) (spelling inside) (end_octets h.size) (spelling rest))
+                  (taken-after wanted s n.order e a.0.order (spelling rest) t.0.order o a.1 t.2),
+            );
       }
   finds_forest p s w outer (OpenPrimitive h c) v k l d free = record {
-    put = λ n. header-items s w outer h [] (OpenPrimitiveLines s.depth h c ∷ []) k l refl;
-    after = λ n e. absurd (cc (e));
+    put = λ n o. header-items s w outer h [] (OpenPrimitiveLines s.depth h c ∷ []) k l refl;
+    after = λ n o held e. absurd (cc (e));
   }
   finds_forest p s w outer (OpenHolder h inside) v k l d free =
       let i =
@@ -173,15 +227,16 @@ module _ (wanted : Wanted) where
       (knows-inside w s h) (omega (arith, l)) (omega (arith, d)) (λ e. absurd (cc (e))) in
       let few : length outer < 128 = omega (arith, l, d, v.0.0.shallow) in
       record {
-        put = λ n.
+        put = λ n o.
             ap (λ (t : FinderRun). t.put) (run-opening wanted w outer n h (events inside) few)
             ∙ header-items s w outer h _ (OpeningLine s.depth h ∷ items wanted (site_of_children s h) inside) k l
-            (i.put (later_header wanted w h n));
-        after = λ n e. absurd (cc (e));
+            (i.put (later_header wanted w h n)
+            (opened-ordered wanted s n.order h o (omega (arith, d, v.0.0.shallow))));
+        after = λ n o held e. absurd (cc (e));
       }
   finds_forest p s w outer (OpenBitString h) v k l d free = record {
-    put = λ n. header-items s w outer h [] (OpeningLine s.depth h ∷ []) k l refl;
-    after = λ n e. absurd (cc (e));
+    put = λ n o. header-items s w outer h [] (OpeningLine s.depth h ∷ []) k l refl;
+    after = λ n o held e. absurd (cc (e));
   }
-  finds_forest p s w outer (OpenHeader octets) v k l d free = record { put = λ n. refl; after = λ n e. absurd (cc (e)) }
-  finds_forest p s w outer OpenEndOctets v k l d free = record { put = λ n. refl; after = λ n e. absurd (cc (e)) }
+  finds_forest p s w outer (OpenHeader octets) v k l d free = record { put = λ n o. refl; after = λ n o held e. absurd (cc (e)) }
+  finds_forest p s w outer OpenEndOctets v k l d free = record { put = λ n o. refl; after = λ n o held e. absurd (cc (e)) }

@@ -81,15 +81,15 @@ type-is : (universal : Bool) (n : ℕ)
 type-is true n = refl
 type-is false n = refl
 
-pub unused-of : (h : HeaderValue) (c : List ℕ) → h.constructed ≡ false
+pub unused-of : (h : HeaderValue) (c octets : List ℕ) → h.constructed ≡ false
     → has_unused_bits (value_check_for h c)
-    ≡ leaves_unused_bits (Sibling h (first_contents_octet c))
-unused-of h [] e = ap has_unused_bits (checked-none h) ∙ by-none (eqb (type_number h) bit_string)
+    ≡ leaves_unused_bits (Sibling h (first_contents_octet c) octets)
+unused-of h [] octets e = ap has_unused_bits (checked-none h) ∙ by-none (eqb (type_number h) bit_string)
   where
     by-none : (a : Bool) → (a && false) ≡ false
     by-none true = refl
     by-none false = refl
-unused-of h (x ∷ c) e =
+unused-of h (x ∷ c) octets e =
     let t : eqb (type_number h) bit_string ≡ is_a bit_string h = type-is (is_universal h.class) h.number in
     unused-at (is_a bit_string h) (type_number h) (announced_length h.size) x c t
     ∙ ap (λ (k : Bool). not k && is_a bit_string h && not (x == 0)) (sym e)
@@ -98,11 +98,11 @@ surroundings_with-eq : (a a' b b' c c' d d' : Bool) → a ≡ a' → b ≡ b' �
     → surroundings_with a b c d ≡ surroundings_with a' b' c' d'
 surroundings_with-eq a a' b b' c c' d d' e f g h = rw (e, f, g, h) refl
 
-pub knows-after : (w : HolderFrame) (s t : Site) (h : HeaderValue) (first : Option ℕ) (unused_bits : Bool) → Knows w s
-    → t.holder ≡ s.holder → t.previous ≡ Sibling h first
-    → unused_bits ≡ leaves_unused_bits (Sibling h first)
+pub knows-after : (w : HolderFrame) (s t : Site) (h : HeaderValue) (first : Option ℕ) (octets : List ℕ) (unused_bits : Bool)
+    → Knows w s → t.holder ≡ s.holder → t.previous ≡ Sibling h first octets
+    → unused_bits ≡ leaves_unused_bits (Sibling h first octets)
     → Knows (frame_after w (is_primitive h) (announced_length h.size) unused_bits) t
-knows-after w s t h first unused_bits k e b u = by-segments w.has_segments refl
+knows-after w s t h first octets unused_bits k e b u = by-segments w.has_segments refl
   where
     same : surroundings_in w ≡ around t.holder s.previous
     same = k ∙ ap (λ (o : Option HeaderValue). around o s.previous) (sym e)

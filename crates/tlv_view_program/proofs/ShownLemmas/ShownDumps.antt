@@ -31,7 +31,8 @@ use Rattle.tlv_show.specs.HolderLines.{closing_line, opening_line, opening_word,
 use Rattle.tlv_show.specs.Items.{ClosingLine, FindingAt, Item, OpenPrimitiveLines, OpeningLine, PaddingLine}
 use Rattle.tlv_show.specs.Items.{PrimitiveLines, contents_items, end_items, finding_items, header_items, headers}
 use Rattle.tlv_show.specs.Items.{items}
-use Rattle.tlv_show.specs.ShownFindings.{all_by, contents_findings, end_findings, header_findings}
+use Rattle.tlv_show.specs.SetOrder.{holder_element, primitive_element}
+use Rattle.tlv_show.specs.ShownFindings.{all_by, contents_findings, end_findings, header_findings, last_findings}
 use Rattle.tlv_show.specs.Site.{Site, is_padding, site_after_holder, site_after_padding, site_after_primitive}
 use Rattle.tlv_show.specs.Site.{site_of_children, top_site}
 use Rattle.tlv_show.specs.Texts.{dump_finding_line, item_text, layout_at}
@@ -197,7 +198,7 @@ module _ (wanted : Wanted) where
       header-of s h _
       (All-cons IsOfOctets (PrimitiveLines s.depth h c) _ (left-octets c (spelling rest) after)
       (All-append IsOfOctets (contents_items wanted s h c) _
-      (findings-of s.depth h.offset (contents_findings wanted h c))
+      (findings-of s.depth h.offset (last_findings wanted s (primitive_element h c) (contents_findings wanted h c)))
       (items-of (site_after_primitive s h c) rest (right-octets c (spelling rest) after))))
   items-of s (Holder h children rest) o =
       let after : AreOctets (spelling children ++ (end_octets h.size ++ spelling rest)) =
@@ -210,7 +211,8 @@ module _ (wanted : Wanted) where
       (All-cons IsOfOctets
       (ClosingLine s.depth (end_octets_offset h children)) _ tt
       (All-append IsOfOctets (end_items wanted s h children) _
-      (findings-of s.depth h.offset (end_findings wanted h (headers children)))
+      (findings-of s.depth h.offset
+      (last_findings wanted s (holder_element h children) (end_findings wanted h (headers children))))
       (items-of (site_after_holder s h children) rest
       (right-octets (end_octets h.size) (spelling rest)
       (right-octets (spelling children) (end_octets h.size ++ spelling rest) after)))))))

@@ -40,7 +40,7 @@ returns c =
     ∙ empty-nil c.add_header_findings.new.found.items c.is_empty.result c.is_empty.ensures c.if-not-is_empty.false in
     let found :
     c.add_contents_findings.new.found.items ≡ contents_findings (listed_by Ber) c.args.header.now c.args.contents.now =
-    c.add_contents_findings.ensures ∙
+    c.add_contents_findings.ensures.found ∙
     (ap₂ contents_findings_in c.listed-wanted.ensures
     (c.bytes.ensures.state
     ∙ ap (λ (s : ValueCheckState). value_check_after s c.args.contents.now) c.new-check.ensures)
