@@ -85,9 +85,9 @@ with_header_findings s h after =
 -- an element that holds others begins
 abbrev pub finder_open_step : CheckState → HeaderValue → FinderState
 finder_open_step s h = with_header_findings s h (record s {
-      holders = nesting_open_step s.holders h;
-      order = order_if s.wanted (set_order_open_step s.wanted.rules s.order h) s.order;
-    })
+  holders = nesting_open_step s.holders h;
+  order = order_if s.wanted (set_order_open_step s.wanted.rules s.order h) s.order;
+})
 
 -- a primitive begins
 abbrev pub finder_in_primitive : CheckState → HeaderValue → CheckState

@@ -21,7 +21,9 @@ use crate::last_findings::LastFindings;
 use crate::nesting::Nesting;
 use crate::order_finding::insert_order_finding;
 use crate::set_order::SetOrder;
-use crate::wanted_order::{begin_in_order, bytes_in_order, close_in_order, end_in_order, open_in_order, passes_in_order};
+use crate::wanted_order::{
+    begin_in_order, bytes_in_order, close_in_order, end_in_order, open_in_order, passes_in_order,
+};
 use arrayvec::ArrayVec;
 use std::marker::Model;
 use tlv_head::Header;

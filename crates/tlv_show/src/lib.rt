@@ -24,9 +24,9 @@ mod options;
 mod order_finding;
 mod outcome;
 mod rules;
+mod scope;
 mod set_frame;
 mod set_order;
-mod scope;
 mod wanted;
 mod wanted_order;
 

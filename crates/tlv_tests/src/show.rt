@@ -2,6 +2,7 @@
 mod calls;
 mod primitives;
 mod scopes;
+mod set_order;
 mod turns;
 
 use crate::expect::expect_eq;

@@ -19,10 +19,13 @@ module _ (w : SetFrame) (outer : List SetFrame) (direct : is_direct w ≡ false)
       (sym (reverse_after octets outer) ∙ ap reverse (after_all_full octets outer all))
 
   pub primitives-pass : IsUnchangedByPrimitives kept
-  primitives-pass = (direct, λ rules h c.
-      ap
-      (λ (s : SetOrderState). set_order_end_step (set_order_octets_step (set_order_octets_step s (octets_of h)) c))
-      (started-inside rules kept h direct)
-      ∙ ap (λ (s : SetOrderState). set_order_end_step (set_order_octets_step s c)) (octets-pass (octets_of h))
-      ∙ ap set_order_end_step (octets-pass c)
-      ∙ ended-inside rules kept direct)
+  primitives-pass = (
+    direct,
+    λ rules h c.
+        ap
+        (λ (s : SetOrderState). set_order_end_step (set_order_octets_step (set_order_octets_step s (octets_of h)) c))
+        (started-inside rules kept h direct)
+        ∙ ap (λ (s : SetOrderState). set_order_end_step (set_order_octets_step s c)) (octets-pass (octets_of h))
+        ∙ ap set_order_end_step (octets-pass c)
+        ∙ ended-inside rules kept direct,
+  )

@@ -7,7 +7,7 @@ use tlv_value::Names;
 use tlv_walk::{Ending, Framing, MemDrain, MemSource, drive};
 
 /// Checks what is listed of the octets, which come at once and octet by octet.
-fn expect_listed(rt: &impl Abort, octets: &[u8], wanted: Wanted, listed: &[u8]) {
+pub(super) fn expect_listed(rt: &impl Abort, octets: &[u8], wanted: Wanted, listed: &[u8]) {
     for cuts in [[].as_slice(), &[1; 16]] {
         let mut room = [0; 200];
         let mut source = MemSource::new(octets, cuts, None);
