@@ -11,4 +11,5 @@ pub mod SpellingRows
 pub mod SaturatingSums
 pub mod FindingLemmas
 pub mod DumpLemmas
+pub mod SegmentLemmas
 pub mod SetOrderLemmas

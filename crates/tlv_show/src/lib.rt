@@ -23,6 +23,8 @@ mod nesting;
 mod options;
 mod outcome;
 mod rules;
+mod segment_characters;
+mod segment_frame;
 mod set_frame;
 mod set_order;
 

@@ -13,7 +13,7 @@ mod utf8_rows;
 
 use crate::Finding;
 use arrayvec::ArrayVec;
-pub(crate) use characters::are_allowed;
+pub use characters::are_allowed;
 pub(crate) use findings::is_any_set;
 use notes::{is_padded_with, note_time, notes_each, notes_first, notes_time};
 pub(crate) use notes::{is_padded_after, last_octet};

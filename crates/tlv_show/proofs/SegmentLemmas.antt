@@ -1,0 +1,4 @@
+pub mod Events
+pub mod Forests
+pub mod Frames
+pub mod KeptFrames
