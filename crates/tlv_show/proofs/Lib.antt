@@ -12,4 +12,5 @@ pub mod SaturatingSums
 pub mod FindingLemmas
 pub mod DumpLemmas
 pub mod SegmentLemmas
+pub mod SegmentRows
 pub mod SetOrderLemmas
