@@ -1,7 +1,7 @@
 //! The run of each command by itself. It takes what the command says, without the names of files.
 ghost use Rattle.tlv_cut.specs.Extract.{extract_job};
 ghost use Rattle.tlv_cut.specs.Indef.{indef_job};
-ghost use Rattle.tlv_show.specs.ShowJob.{check_job, dump_job, dump_job_with};
+ghost use Rattle.tlv_show.specs.ShowJob.{check_job, check_job_with, dump_job, dump_job_with};
 ghost use Rattle.tlv_walk.specs.Job.{device_states};
 ghost use Rattle.tlv_run.specs.Report.{cut_report, indef_report, outcome_report, report_value_of};
 ghost use Rattle.tlv_run.specs.Results.{job_with_report};
@@ -9,7 +9,7 @@ ghost use Rattle.tlv_run.specs.RunsAndReports.{RunsAndReports};
 
 use crate::report::{Report, cut_report, device_report, indef_report, outcome_report};
 use tlv_cut::{extract, indef};
-use tlv_show::{FiniteNames, Options, Rules, check, dump_with};
+use tlv_show::{FiniteNames, Options, Rules, Scope, Wanted, check_with, dump_with};
 use tlv_walk::{Drain, Framing, Source};
 
 /// Runs `dump` as [`run`](crate::run) does, with any table of names.
@@ -24,24 +24,25 @@ pub fn run_dump<N: FiniteNames, S: Source, D: Drain>(
         (device_states (S.state source.old) (D.state drain.old))
         (device_states (S.state source.new) (D.state drain.new)) (report_value_of result) }
 {
-    run_dump_with(options, false, names, source, drain)
+    run_dump_with(options, Scope::Listed, false, names, source, drain)
 }
 
-/// The same as [`run_dump`]; `with_text` asks for text beside pairs of digits, as in
+/// The same as [`run_dump`] with the findings of this scope; `with_text` asks for text beside pairs of digits, as in
 /// [`dump_with`](tlv_show::dump_with).
 pub fn run_dump_with<N: FiniteNames, S: Source, D: Drain>(
     options: &Options<'_>,
+    scope: Scope,
     with_text: bool,
     names: &N,
     source: &mut S,
     drain: &mut D,
 ) -> Report
     ensures { RunsAndReports
-        (job_with_report outcome_report (dump_job_with with_text options.now (N.table names.now)))
+        (job_with_report outcome_report (dump_job_with scope with_text options.now (N.table names.now)))
         (device_states (S.state source.old) (D.state drain.old))
         (device_states (S.state source.new) (D.state drain.new)) (report_value_of result) }
 {
-    match dump_with(source, drain, options, with_text, names) {
+    match dump_with(source, drain, options, scope, with_text, names) {
         Ok(outcome) => outcome_report(outcome),
         Err(fault) => device_report(fault),
     }
@@ -58,7 +59,21 @@ pub fn run_check<S: Source, D: Drain>(
         (device_states (S.state source.old) (D.state drain.old))
         (device_states (S.state source.new) (D.state drain.new)) (report_value_of result) }
 {
-    match check(source, drain, rules, framing) {
+    run_check_with(Wanted::listed(rules), framing, source, drain)
+}
+
+/// The same as [`run_check`] with the findings that are wanted.
+pub fn run_check_with<S: Source, D: Drain>(
+    wanted: Wanted,
+    framing: &Framing<'_>,
+    source: &mut S,
+    drain: &mut D,
+) -> Report
+    ensures { RunsAndReports (job_with_report outcome_report (check_job_with wanted framing.now))
+        (device_states (S.state source.old) (D.state drain.old))
+        (device_states (S.state source.new) (D.state drain.new)) (report_value_of result) }
+{
+    match check_with(source, drain, wanted, framing) {
         Ok(outcome) => outcome_report(outcome),
         Err(fault) => device_report(fault),
     }

@@ -13,7 +13,9 @@ mod text;
 mod unfailing_source;
 
 pub use command::Command;
-pub use command_runs::{run_check, run_dump, run_dump_with, run_extract, run_indef};
+pub use command_runs::{
+    run_check, run_check_with, run_dump, run_dump_with, run_extract, run_indef,
+};
 pub use message::write_message;
 pub use report::{Report, device_report, indef_report, names_report, unopened_report};
 pub use run_call::run;

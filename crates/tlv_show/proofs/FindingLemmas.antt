@@ -1,6 +1,7 @@
 pub mod BasicFindings
 pub mod CheckFolds
 pub mod CheckLaws
+pub mod FinderEnds
 pub mod FinderFolds
 pub mod FinderItems
 pub mod FinderSteps
@@ -9,8 +10,10 @@ pub mod FramesAfter
 pub mod FramesAround
 pub mod HeaderFindings
 pub mod KeptFrames
+pub mod ListedFindings
 pub mod FindingLines
 pub mod LongerHeaders
+pub mod OrderFindings
 pub mod UsualHeaders
 pub mod SiteWords
 pub mod SomeSpelling

@@ -4,6 +4,7 @@ pub mod BasicHeaderRows
 pub mod BasicContentsRows
 pub mod BasicTextRows
 pub mod StrictRows
+pub mod ScopeRows
 pub mod CanonicalRows
 pub mod WholeRows
 pub mod FramingRows
@@ -13,4 +14,5 @@ pub mod FindingLemmas
 pub mod DumpLemmas
 pub mod SegmentLemmas
 pub mod SegmentRows
+pub mod SetOrderRows
 pub mod SetOrderLemmas

@@ -2,3 +2,4 @@ pub mod Events
 pub mod Forests
 pub mod Frames
 pub mod KeptFrames
+pub mod Seen

@@ -1,10 +1,13 @@
 -- Strings whose segments have characters that are not of their type: short inputs, each shown by computing. The offsets
 -- are written by hand, from the rules.
-use Rattle.std.proofs.Common.{◌≡◌, ℕ, List, [], ◌∷◌, refl}
+use Rattle.std.proofs.Common.{◌≡◌, ℕ, List, [], ◌∷◌, codes, refl}
+use Rattle.std.specs.Fmt.{digits}
 use Rattle.tlv_walk.specs.Framing.{plain_framing}
 use Rattle.tlv_walk.proofs.GrammarLemmas.Readings.{reading}
+use Rattle.tlv_show.specs.declared.rules.Rules.TheVariants.{Ber, Cer, Der}
 use Rattle.tlv_show.specs.SegmentCharacters.{wrong_character_offsets}
-use Rattle.tlv_show.proofs.RowWords.{inside_framing}
+use Rattle.tlv_show.specs.SetOrder.{zeros}
+use Rattle.tlv_show.proofs.RowWords.{check, check_all, inside_framing, lines}
 
 abbrev wrong_characters : List ℕ → List ℕ
 wrong_characters b = wrong_character_offsets (reading plain_framing b)
@@ -112,3 +115,45 @@ string-in-wrapper = refl
 -- 36 07 04 05 36 03 04 01 80: both
 string-in-wrapper-too : wrong_characters_inside (54 ∷ 7 ∷ 4 ∷ 5 ∷ 54 ∷ 3 ∷ 4 ∷ 1 ∷ 128 ∷ []) ≡ 4 ∷ 0 ∷ []
 string-in-wrapper-too = refl
+
+-- ---- what a check lists
+
+-- 33 03 04 01 5f
+listed-ber : check_all plain_framing Ber (51 ∷ 3 ∷ 4 ∷ 1 ∷ 95 ∷ [])
+    ≡ lines 1 (codes "0 B28 segments have characters not of the type" ∷ [])
+unfolding digits zeros
+listed-ber = refl
+
+-- the same by DER
+listed-der : check_all plain_framing Der (51 ∷ 3 ∷ 4 ∷ 1 ∷ 95 ∷ [])
+    ≡ lines 2
+    (codes "0 D02 constructed string" ∷ codes "0 B28 segments have characters not of the type" ∷ [])
+unfolding digits zeros
+listed-der = refl
+
+-- the same of the listed findings
+not-listed : check plain_framing Der (51 ∷ 3 ∷ 4 ∷ 1 ∷ 95 ∷ []) ≡ lines 1 (codes "0 D02 constructed string" ∷ [])
+unfolding digits zeros
+not-listed = refl
+
+-- 33 80 04 01 5f 00 00, by CER
+listed-cer : check_all plain_framing Cer (51 ∷ 128 ∷ 4 ∷ 1 ∷ 95 ∷ 0 ∷ 0 ∷ [])
+    ≡ lines 2
+    (codes "0 B28 segments have characters not of the type"
+    ∷ codes "0 C05 constructed string fits in 1000 octets"
+    ∷ [])
+unfolding digits zeros
+listed-cer = refl
+
+-- 31 80 33 80 04 01 60 00 00 33 80 04 01 5f 00 00 00 00: B28 comes before S05, and S05 before C05
+before-order : check_all plain_framing Cer
+    (49 ∷ 128 ∷ 51 ∷ 128 ∷ 4 ∷ 1 ∷ 96 ∷ 0 ∷ 0 ∷ 51 ∷ 128 ∷ 4 ∷ 1 ∷ 95 ∷ 0 ∷ 0 ∷ 0 ∷ 0 ∷ [])
+    ≡ lines 5
+    (codes "2 B28 segments have characters not of the type"
+    ∷ codes "2 C05 constructed string fits in 1000 octets"
+    ∷ codes "9 B28 segments have characters not of the type"
+    ∷ codes "9 S05 element of a SET is out of order"
+    ∷ codes "9 C05 constructed string fits in 1000 octets"
+    ∷ [])
+unfolding digits zeros
+before-order = refl

@@ -4,3 +4,4 @@ pub mod Forests
 pub mod KeptFrames
 pub mod OneElement
 pub mod Passing
+pub mod WantedOrder

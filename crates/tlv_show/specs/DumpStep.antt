@@ -1,16 +1,19 @@
 -- What a dump does with events: the lines of elements, with the lines of findings in them before and after.
+use Rattle.std.specs.Option.{is_some}
 use Rattle.std.specs.Prelude.{ℕ, Bool, false, List, [], ◌∷◌, ◌++◌}
 use Rattle.tlv_value.specs.declared.layout.Layout.{Layout}
 use Rattle.tlv_value.specs.Names.{NamesValue}
 use Rattle.tlv_walk.specs.Events.{Begin, Bytes, Close, End, Enter, EventValue, Leave, Open, Pad, Unused}
 use Rattle.tlv_walk.specs.Follow.{Effect, each_octet, effect_with}
 use Rattle.tlv_show.specs.declared.rules.Rules.{Rules}
+use Rattle.tlv_show.specs.declared.wanted.Wanted.{Wanted}
 use Rattle.tlv_show.specs.declared.finding_lines.Style.TheVariants.{Dump}
 use Rattle.tlv_show.specs.FindingLines.{last_finding_lines}
 use Rattle.tlv_show.specs.LinesStep.{LinesState, lines_octet_step, lines_padding_step, lines_step, new_lines}
 use Rattle.tlv_show.specs.FinderState.{CheckState, FinderState, finder_begin_step, finder_bytes_step}
 use Rattle.tlv_show.specs.FinderState.{finder_close_step, finder_end_step, finder_open_step, new_check}
 use Rattle.tlv_show.specs.FinderState.{without_findings}
+use Rattle.tlv_show.specs.ShownFindings.{listed_by}
 
 -- what contracts see of a `Dump`
 pub record DumpState : Type 0 where
@@ -18,15 +21,16 @@ pub record DumpState : Type 0 where
   -- what its finder keeps
   pub finder : CheckState
 
--- a dump that has written nothing yet, with text beside pairs of digits or without it; and one without it
-abbrev pub new_dump_with : Bool → Rules → Layout → NamesValue → DumpState
-new_dump_with with_text rules layout names = record {
+-- a dump that has written nothing yet, with text beside pairs of digits or without it; and one of the listed findings,
+-- without text
+abbrev pub new_dump_with : Bool → Wanted → Layout → NamesValue → DumpState
+new_dump_with with_text wanted layout names = record {
   lines = new_lines with_text layout names;
-  finder = new_check rules;
+  finder = new_check wanted;
 }
 
 abbrev pub new_dump : Rules → Layout → NamesValue → DumpState
-new_dump rules layout names = new_dump_with false rules layout names
+new_dump rules layout names = new_dump_with false (listed_by rules) layout names
 
 -- the lines of the findings
 abbrev pub finding_lines : DumpState → FinderState → List ℕ
@@ -59,7 +63,8 @@ dump_step s (Enter h) = findings_before s (finder_open_step s.finder h) (lines_s
 dump_step s (Begin h) = findings_before s (finder_begin_step s.finder h) (lines_step s.lines (Begin h))
 dump_step s (Bytes octets) = each_octet dump_octet_step s octets
 dump_step s End = findings_after s (finder_end_step s.finder) (lines_step s.lines End)
-dump_step s (Close offset) = findings_after s (finder_close_step s.finder) (lines_step s.lines (Close offset))
-dump_step s Leave = findings_after s (finder_close_step s.finder) (lines_step s.lines Leave)
+dump_step s (Close offset) =
+    findings_after s (finder_close_step s.finder (is_some offset)) (lines_step s.lines (Close offset))
+dump_step s Leave = findings_after s (finder_close_step s.finder false) (lines_step s.lines Leave)
 dump_step s Unused = findings_after s (without_findings s.finder) (lines_step s.lines Unused)
 dump_step s (Pad octets) = each_octet dump_padding_step s octets

@@ -4,11 +4,11 @@
 use Rattle.std.specs.Prelude.{ℕ, Bool, ◌&&◌, not, nat_le, List, [], ◌∷◌, ◌++◌}
 use Rattle.tlv_head.specs.Header.{HeaderValue}
 use Rattle.tlv_value.specs.declared.finding.Finding.{Finding}
-use Rattle.tlv_value.specs.declared.finding.Finding.TheVariants.{B16, B17, C03, C04, C05, C06}
+use Rattle.tlv_value.specs.declared.finding.Finding.TheVariants.{B16, B17, B27, C03, C04, C05, C06}
 use Rattle.tlv_value.specs.Types.{is_a}
-use Rattle.tlv_show.specs.declared.rules.Rules.{Rules}
+use Rattle.tlv_show.specs.declared.wanted.Wanted.{Wanted}
 use Rattle.tlv_show.specs.Conditions.{basic_conditions_of_header, cer_conditions_of_header, der_conditions}
-use Rattle.tlv_show.specs.Conditions.{length_conditions, segment_type}
+use Rattle.tlv_show.specs.Conditions.{later_basic_conditions, length_conditions, segment_type}
 use Rattle.tlv_show.specs.ShownFindings.{shown_findings}
 
 -- ---- With the header
@@ -23,12 +23,15 @@ pub record Surroundings : Type 0 where
   -- right before this segment is one that is not a primitive of 1000 contents octets
   pub after_not_full : Bool
 
-abbrev pub basic_conditions_in : Surroundings → HeaderValue → List (Bool × Finding)
-basic_conditions_in s h =
+abbrev pub first_basic_conditions_in : Surroundings → HeaderValue → List (Bool × Finding)
+first_basic_conditions_in s h =
     basic_conditions_of_header h
     ++ (s.after_unused_bits, B16)
     ∷ (s.in_string && not (is_a (segment_type s.in_bit_string) h), B17)
     ∷ []
+
+abbrev pub basic_conditions_in : Surroundings → HeaderValue → List (Bool × Finding)
+basic_conditions_in s h = first_basic_conditions_in s h ++ later_basic_conditions h
 
 abbrev pub cer_conditions_in : Surroundings → HeaderValue → List (Bool × Finding)
 cer_conditions_in s h =
@@ -41,13 +44,15 @@ abbrev pub header_conditions_in : Surroundings → HeaderValue → List (Bool ×
 header_conditions_in s h =
     basic_conditions_in s h ++ length_conditions h ++ der_conditions h ++ cer_conditions_in s h
 
-abbrev pub header_findings_in : Rules → Surroundings → HeaderValue → List Finding
-header_findings_in rules s h = shown_findings rules (header_conditions_in s h)
+abbrev pub header_findings_in : Wanted → Surroundings → HeaderValue → List Finding
+header_findings_in wanted s h = shown_findings wanted (header_conditions_in s h)
 
 -- ---- With the end of an element that holds others
 
 -- what is kept of what an element held
 pub record Segments : Type 0 where
+  -- it is of a type that has components, and held nothing
+  pub lacks_components : Bool
   -- a constructed string held it: these are segments
   pub in_string : Bool
   -- all of them are primitive
@@ -59,9 +64,10 @@ pub record Segments : Type 0 where
 
 abbrev pub end_conditions_in : Segments → List (Bool × Finding)
 end_conditions_in s =
-    (s.in_string && s.all_primitive && nat_le s.length_as_primitive 1000, C05)
+    (s.lacks_components, B27)
+    ∷ (s.in_string && s.all_primitive && nat_le s.length_as_primitive 1000, C05)
     ∷ (s.in_string && s.ends_empty, C06)
     ∷ []
 
-abbrev pub end_findings_in : Rules → Segments → List Finding
-end_findings_in rules s = shown_findings rules (end_conditions_in s)
+abbrev pub end_findings_in : Wanted → Segments → List Finding
+end_findings_in wanted s = shown_findings wanted (end_conditions_in s)

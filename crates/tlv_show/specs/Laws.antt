@@ -1,12 +1,12 @@
 -- Laws of the texts of a dump and of a check.
-use Rattle.std.specs.Prelude.{◌≡◌, ℕ, ◌≤◌, List, [], ◌∷◌, ◌++◌, length, None, Bool, false, flat_map}
+use Rattle.std.specs.Prelude.{◌≡◌, ℕ, ◌≤◌, List, [], ◌∷◌, ◌++◌, length, None, Bool, true, false, flat_map}
 use Rattle.std.specs.FinMap as finite
 use Rattle.std.specs.List.{filter}
 use Rattle.tlv_show.specs.Items.{Item, FindingAt, OpeningLine, ClosingLine, PrimitiveLines}
 use Rattle.tlv_show.specs.Items.{OpenPrimitiveLines, PaddingLine, items}
-use Rattle.tlv_show.specs.Site.{top_site}
+use Rattle.tlv_show.specs.Site.{Site, top_site}
 use Rattle.tlv_show.specs.declared.rules.Rules.TheVariants.{Ber}
-use Rattle.tlv_show.specs.ShowJob.{check_job, dump_job_with, top_layout}
+use Rattle.tlv_show.specs.ShowJob.{check_job_with, dump_job_with, top_layout, wanted_in}
 use Rattle.tlv_show.specs.FinderState.{new_check}
 use Rattle.tlv_show.specs.Texts.{check_line, finding_count}
 use Rattle.tlv_show.specs.CheckStep.{check_step}
@@ -22,13 +22,15 @@ use Rattle.tlv_walk.specs.Reading.{IsPrefixOf, IsReading}
 use Rattle.tlv_walk.specs.declared.framing.Framing.{Framing}
 use Rattle.tlv_show.specs.declared.options.Options.{Options}
 use Rattle.tlv_show.specs.declared.rules.Rules.{Rules}
+use Rattle.tlv_show.specs.declared.scope.Scope.{Scope}
+use Rattle.tlv_show.specs.declared.wanted.Wanted.{Wanted}
 use Rattle.tlv_walk.specs.declared.follow.Go.TheVariants.{On}
 use Rattle.tlv_show.specs.declared.finding_lines.Style.TheVariants.{Dump}
 use Rattle.tlv_show.specs.FindingLines.{styled_lines}
 use Rattle.tlv_show.specs.DumpStep.{DumpState, dump_step, finding_lines}
-use Rattle.tlv_show.specs.FinderState.{finder_begin_step}
+use Rattle.tlv_show.specs.FinderState.{CheckState, finder_begin_step, finder_bytes_step, finder_end_step, is_misplaced}
 use Rattle.tlv_show.specs.NestingState.{depth_in}
-use Rattle.tlv_show.specs.ShownFindings.{contents_findings, is_shown}
+use Rattle.tlv_show.specs.ShownFindings.{all_by, contents_findings, is_by, is_listed, listed_by, with_order_if}
 use Rattle.tlv_head.specs.Limits.{input_limit}
 
 -- the text of a longer input, of at most 2^40 octets, begins with the text of the shorter input
@@ -41,17 +43,23 @@ TextGoesOn job =
 -- the text of a dump goes on, with text beside pairs of digits and without it
 abbrev pub DumpsGoOn : Type 0
 DumpsGoOn =
-    (with_text : Bool) (options : Options) (names : NamesValue) → TextGoesOn (dump_job_with with_text options names)
+    (scope : Scope) (with_text : Bool) (options : Options) (names : NamesValue)
+    → TextGoesOn (dump_job_with scope with_text options names)
 
 -- the text of a check goes on
 abbrev pub ChecksGoOn : Type 0
-ChecksGoOn = (rules : Rules) (framing : Framing) → TextGoesOn (check_job rules framing)
+ChecksGoOn = (wanted : Wanted) (framing : Framing) → TextGoesOn (check_job_with wanted framing)
+
+-- what is kept after a primitive
+abbrev pub whole_primitive : CheckState → HeaderValue → List ℕ → CheckState
+whole_primitive s h c = (finder_end_step (finder_bytes_step (finder_begin_step s h).kept c)).kept
 
 -- the lines of the findings on the contents of a primitive
 abbrev pub contents_finding_lines : DumpState → HeaderValue → List ℕ → List ℕ
 contents_finding_lines s h c =
     styled_lines (Dump s.lines.layout.pure) (depth_in s.finder.holders) h.offset
-    (contents_findings s.finder.rules h c)
+    (with_order_if (is_misplaced s.finder.wanted (whole_primitive s.finder h c).seen)
+    (contents_findings s.finder.wanted h c))
 
 -- a primitive with as many contents octets as its header announces has the lines of its whole contents, between the
 -- lines of findings of its header and of findings on its contents. Nothing of it is kept
@@ -70,26 +78,26 @@ PrimitivesAreShown =
 -- a `Dump` puts the text of the reading of an input of at most 2^40 octets, counts its findings, and always wants more
 abbrev pub DumpsMakeTexts : Type 0
 DumpsMakeTexts =
-    (with_text : Bool) (options : Options) (names : NamesValue) (b : List ℕ) (f : Forest)
+    (scope : Scope) (with_text : Bool) (options : Options) (names : NamesValue) (b : List ℕ) (f : Forest)
     → length b ≤ input_limit → IsReading options.framing b f
     → let made =
-    effect_of dump_step (new_dump_with with_text options.rules (top_layout options) names) (events f) in
-    (made.put ≡ (dump_job_with with_text options names).text f)
-    × (made.state.finder.finding_count ≡ finding_count options.rules f)
+    effect_of dump_step (new_dump_with with_text (wanted_in scope options) (top_layout options) names) (events f) in
+    (made.put ≡ (dump_job_with scope with_text options names).text f)
+    × (made.state.finder.finding_count ≡ finding_count (wanted_in scope options) f)
     × (made.goes ≡ On)
 
 -- a `Check` puts the text of the check of such a reading, counts its findings, and always wants more
 abbrev pub ChecksMakeTexts : Type 0
 ChecksMakeTexts =
-    (rules : Rules) (framing : Framing) (b : List ℕ) (f : Forest) → length b ≤ input_limit → IsReading framing b f
-    → let made = effect_of check_step (new_check rules) (events f) in
-    (made.put ≡ (check_job rules framing).text f)
-    × (made.state.finding_count ≡ finding_count rules f)
+    (wanted : Wanted) (framing : Framing) (b : List ℕ) (f : Forest) → length b ≤ input_limit → IsReading framing b f
+    → let made = effect_of check_step (new_check wanted) (events f) in
+    (made.put ≡ (check_job_with wanted framing).text f)
+    × (made.state.finding_count ≡ finding_count wanted f)
     × (made.goes ≡ On)
 
 -- a finding of BER
 abbrev pub is_basic : Item → Bool
-is_basic (FindingAt depth offset finding) = is_shown Ber finding
+is_basic (FindingAt depth offset finding) = is_by Ber finding
 is_basic (OpeningLine depth h) = false
 is_basic (ClosingLine depth offset) = false
 is_basic (PrimitiveLines depth h c) = false
@@ -99,5 +107,21 @@ is_basic (PaddingLine depth offset) = false
 -- what a check lists under BER is what it lists under other rules, without the findings that these rules add
 abbrev pub BasicFindingsStay : Type 0
 BasicFindingsStay =
-    (rules : Rules) (framing : Framing) (f : Forest)
-    → (check_job Ber framing).text f ≡ flat_map check_line (filter is_basic (items rules top_site f))
+    (scope : Scope) (rules : Rules) (framing : Framing) (f : Forest)
+    → (check_job_with (record { rules = Ber; scope = scope }) framing).text f
+    ≡ flat_map check_line (filter is_basic (items (record { rules = rules; scope = scope }) top_site f))
+
+-- a listed finding, or no finding
+abbrev pub is_listed_item : Item → Bool
+is_listed_item (FindingAt depth offset finding) = is_listed finding
+is_listed_item (OpeningLine depth h) = true
+is_listed_item (ClosingLine depth offset) = true
+is_listed_item (PrimitiveLines depth h c) = true
+is_listed_item (OpenPrimitiveLines depth h c) = true
+is_listed_item (PaddingLine depth offset) = true
+
+-- if the listed findings are wanted, what is reported is what is reported if all are wanted, without the other findings
+abbrev pub ListedItemsStay : Type 0
+ListedItemsStay =
+    (rules : Rules) (s : Site) (f : Forest)
+    → items (listed_by rules) s f ≡ filter is_listed_item (items (all_by rules) s f)

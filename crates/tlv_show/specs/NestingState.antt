@@ -6,7 +6,7 @@ use Rattle.tlv_head.specs.Header.{HeaderValue, announced_length}
 use Rattle.tlv_head.specs.UniversalTypes as universal
 use Rattle.tlv_value.specs.Types.{has_segments, is_a, is_primitive}
 use Rattle.tlv_show.specs.declared.holder_frame.HolderFrame.{HolderFrame}
-use Rattle.tlv_show.specs.Conditions.{bits_octet_count}
+use Rattle.tlv_show.specs.Conditions.{bits_octet_count, has_components}
 use Rattle.tlv_show.specs.KeptConditions.{Segments, Surroundings}
 
 -- ---- One frame
@@ -19,6 +19,7 @@ top_frame = record {
   is_primitive = false;
   has_segments = false;
   is_bit_string = false;
+  lacks_components = false;
   last_has_unused_bits = false;
   last_is_not_full = false;
   all_primitive = true;
@@ -34,16 +35,21 @@ frame_of h = record top_frame {
   is_primitive = is_primitive h;
   has_segments = has_segments h;
   is_bit_string = has_segments h && is_a universal.bit_string h;
+  lacks_components = has_components h;
 }
 
--- whether an element inside another, or at the top, has a frame of its own. An element that is not a string and is not
--- in one needs none
+-- whether an element inside another, or at the top, has a frame of its own. An element that is not a string, is not in
+-- one, and is not of a type with components needs none
 abbrev pub has_frame : HolderFrame → HeaderValue → Bool
-has_frame w h = w.has_segments || has_segments h
+has_frame w h = w.has_segments || has_segments h || has_components h
 
 -- the frame inside an element, by the frame around it
 abbrev pub frame_under : HolderFrame → HeaderValue → HolderFrame
 frame_under w h = if has_frame w h then frame_of h else top_frame
+
+-- an element in it has begun
+abbrev pub with_element : HolderFrame → HolderFrame
+with_element w = record w { lacks_components = false }
 
 -- after one more segment: whether it is primitive, how many contents octets it announces, and whether it has unused
 -- bits
@@ -56,7 +62,7 @@ frame_after_segment w primitive announced unused_bits = record w {
   ends_empty = primitive && announced == 0;
 }
 
--- after one more element: outside of strings nothing is kept of it
+-- after one more element: outside of strings nothing more is kept of it
 abbrev pub frame_after : HolderFrame → Bool → ℕ → Bool → HolderFrame
 frame_after w primitive announced unused_bits =
     if w.has_segments then frame_after_segment w primitive announced unused_bits else w
@@ -75,6 +81,7 @@ surroundings_in w = record {
 -- of the end of the element with this frame. The length of its value stops at 1001
 abbrev pub segments_in : HolderFrame → Segments
 segments_in w = record {
+  lacks_components = w.lacks_components;
   in_string = w.has_segments;
   all_primitive = w.all_primitive;
   length_as_primitive = bits_octet_count w.is_bit_string + w.value_length;
@@ -100,13 +107,13 @@ new_nesting = record { frame = top_frame; outer = [] }
 abbrev pub nesting_open_step : NestingState → HeaderValue → NestingState
 nesting_open_step n h =
     if nat_lt (depth_in n) depth_limit
-    then record { frame = frame_under n.frame h; outer = n.frame ∷ n.outer }
+    then record { frame = frame_under n.frame h; outer = with_element n.frame ∷ n.outer }
     else n
 
 -- a primitive ends: how many contents octets it announces, and whether it has unused bits
 abbrev pub nesting_primitive_step : NestingState → ℕ → Bool → NestingState
 nesting_primitive_step n announced unused_bits =
-    record n { frame = frame_after n.frame true announced unused_bits }
+    record n { frame = frame_after (with_element n.frame) true announced unused_bits }
 
 -- an element that holds others ends, inside the frames around it
 abbrev pub nesting_around : HolderFrame → List HolderFrame → NestingState

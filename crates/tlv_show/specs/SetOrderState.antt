@@ -1,6 +1,6 @@
 -- What is kept of the open SETs so that elements out of order are found event by event. No contract of `dump` or
 -- `check` names this: `SetOrder` says which elements are out of order.
-use Rattle.std.specs.Prelude.{◌≡◌, ℕ, ◌+◌, ◌-◌, Bool, true, false, ◌&&◌, ◌||◌, not, ◌==◌, nat_lt, if◌then◌else◌, List, []}
+use Rattle.std.specs.Prelude.{◌≡◌, ℕ, ◌+◌, ◌-◌, Bool, false, ◌&&◌, ◌||◌, not, ◌==◌, nat_lt, if◌then◌else◌, List, []}
 use Rattle.std.specs.Prelude.{◌∷◌, ◌++◌, length, map, min, set, slice_index, None}
 use Rattle.tlv_head.specs.Limits.{depth_limit}
 use Rattle.tlv_head.specs.Header.{HeaderValue, octets_of}

@@ -6,7 +6,11 @@ use Rattle.tlv_walk.specs.Job.{Job}
 use Rattle.tlv_walk.specs.Wrappers.{first_without_wrapper}
 use Rattle.tlv_show.specs.declared.outcome.Outcome.{Outcome}
 use Rattle.tlv_show.specs.declared.rules.Rules.{Rules}
+use Rattle.tlv_show.specs.declared.scope.Scope.{Scope}
+use Rattle.tlv_show.specs.declared.scope.Scope.TheVariants.{Listed}
+use Rattle.tlv_show.specs.declared.wanted.Wanted.{Wanted}
 use Rattle.tlv_show.specs.Items.{Item, items}
+use Rattle.tlv_show.specs.ShownFindings.{listed_by}
 use Rattle.tlv_show.specs.Site.{top_site}
 use Rattle.tlv_show.specs.Texts.{check_line, finding_count, item_text}
 use Rattle.tlv_value.specs.declared.layout.Layout.{Layout}
@@ -15,14 +19,14 @@ use Rattle.tlv_show.specs.declared.options.Options.{Options}
 
 -- the items of all elements are written, each with this text, and the findings are counted, whether they are written
 -- or not
-abbrev pub show_job : Rules → Framing → (Item → List ℕ) → Job Outcome
-show_job rules framing text_of = record {
+abbrev pub show_job : Wanted → Framing → (Item → List ℕ) → Job Outcome
+show_job wanted framing text_of = record {
   framing = framing;
-  text = λ f. flat_map text_of (items rules top_site f);
+  text = λ f. flat_map text_of (items wanted top_site f);
   is_enough = λ f. false;
   returns = λ f e. record {
     ending = e;
-    findings = finding_count rules f;
+    findings = finding_count wanted f;
     unused = first_without_wrapper framing.inside f;
   };
 }
@@ -31,15 +35,25 @@ show_job rules framing text_of = record {
 abbrev pub top_layout : Options → Layout
 top_layout options = record { level = 0; limit = options.limit; pure = options.pure }
 
--- all elements, as lines, with the lines of findings. The first argument says whether text is beside pairs of digits
-abbrev pub dump_job_with : Bool → Options → NamesValue → Job Outcome
-dump_job_with with_text options names =
-    show_job options.rules options.framing (item_text with_text (finite.get names) (top_layout options))
+-- the findings that the options ask for, in this scope
+abbrev pub wanted_in : Scope → Options → Wanted
+wanted_in scope options = record { rules = options.rules; scope = scope }
 
--- the same without text
+-- all elements, as lines, with the lines of the findings in this scope. The second argument says whether text is beside
+-- pairs of digits
+abbrev pub dump_job_with : Scope → Bool → Options → NamesValue → Job Outcome
+dump_job_with scope with_text options names =
+    show_job (wanted_in scope options) options.framing
+    (item_text with_text (finite.get names) (top_layout options))
+
+-- the same with the listed findings, without text
 abbrev pub dump_job : Options → NamesValue → Job Outcome
-dump_job options names = dump_job_with false options names
+dump_job options names = dump_job_with Listed false options names
 
--- the findings of all elements, listed
+-- the findings that are wanted of all elements, listed
+abbrev pub check_job_with : Wanted → Framing → Job Outcome
+check_job_with wanted framing = show_job wanted framing check_line
+
+-- the same with the listed findings
 abbrev pub check_job : Rules → Framing → Job Outcome
-check_job rules framing = show_job rules framing check_line
+check_job rules framing = check_job_with (listed_by rules) framing

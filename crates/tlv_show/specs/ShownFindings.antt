@@ -1,14 +1,22 @@
--- The findings in an element, by rules.
-use Rattle.std.specs.Prelude.{ℕ, Bool, List, ◌==◌, slice_index, codes}
+-- The findings in an element, by rules, and by which findings are wanted.
+use Rattle.std.specs.Prelude.{ℕ, Bool, true, false, ◌&&◌, if◌then◌else◌, List, [], ◌∷◌, ◌==◌, slice_index, codes}
 use Rattle.std.specs.List.{filter, list_any}
 use Rattle.tlv_head.specs.Header.{HeaderValue}
 use Rattle.tlv_value.specs.declared.finding.Finding.{Finding}
+use Rattle.tlv_value.specs.declared.finding.Finding.TheVariants.{B20, B21, B22, B23, B24, B25, B26, B27, B28}
+use Rattle.tlv_value.specs.declared.finding.Finding.TheVariants.{S05, S06, D01, D02, C01, C02, C03, C04, C05, C06}
 use Rattle.tlv_value.specs.Checks.{contents_conditions, findings_by}
 use Rattle.tlv_value.specs.Finding.{finding_code}
 use Rattle.tlv_show.specs.declared.rules.Rules.{Rules}
 use Rattle.tlv_show.specs.declared.rules.Rules.TheVariants.{Ber, Der, Cer}
+use Rattle.tlv_show.specs.declared.scope.Scope.{Scope}
+use Rattle.tlv_show.specs.declared.scope.Scope.TheVariants.{Listed, All}
+use Rattle.tlv_show.specs.declared.wanted.Wanted.{Wanted}
 use Rattle.tlv_show.specs.Conditions.{end_conditions, header_conditions}
-use Rattle.tlv_show.specs.Site.{Site}
+use Rattle.tlv_show.specs.SetOrder.{Element}
+use Rattle.tlv_show.specs.Site.{Site, is_out_of_order_at}
+
+-- ---- Which findings are wanted
 
 -- the letters of the codes: B is for all encodings, S for DER and for CER, D for DER alone, C for CER alone
 abbrev pub letters : Rules → List ℕ
@@ -16,20 +24,95 @@ letters Ber = codes "B"
 letters Der = codes "BSD"
 letters Cer = codes "BSC"
 
-abbrev pub is_shown : Rules → Finding → Bool
-is_shown rules finding = list_any (λ letter. slice_index (finding_code finding) 0 == letter) (letters rules)
+-- the rules have the finding
+abbrev pub is_by : Rules → Finding → Bool
+is_by rules finding = list_any (λ letter. slice_index (finding_code finding) 0 == letter) (letters rules)
 
--- of the findings by these conditions, the findings that the rules show
-abbrev pub shown_findings : Rules → List (Bool × Finding) → List Finding
-shown_findings rules conditions = filter (is_shown rules) (findings_by conditions)
+-- whether a finding is listed: all are but these
+abbrev pub is_listed : Finding → Bool
+is_listed B20 = false
+is_listed B21 = false
+is_listed B22 = false
+is_listed B23 = false
+is_listed B24 = false
+is_listed B25 = false
+is_listed B26 = false
+is_listed B27 = false
+is_listed B28 = false
+is_listed S05 = false
+is_listed S06 = false
+is_listed finding = true
+
+-- the scope has the finding
+abbrev pub is_within : Scope → Finding → Bool
+is_within Listed finding = is_listed finding
+is_within All finding = true
+
+abbrev pub is_shown : Wanted → Finding → Bool
+is_shown wanted finding = is_by wanted.rules finding && is_within wanted.scope finding
+
+-- the listed findings by these rules, and all
+abbrev pub listed_by : Rules → Wanted
+listed_by rules = record { rules = rules; scope = Listed }
+
+abbrev pub all_by : Rules → Wanted
+all_by rules = record { rules = rules; scope = All }
+
+-- ---- What is found
+
+-- of the findings by these conditions, the findings that are wanted
+abbrev pub shown_findings : Wanted → List (Bool × Finding) → List Finding
+shown_findings wanted conditions = filter (is_shown wanted) (findings_by conditions)
 
 -- the findings of a header, on the contents of a primitive, and of the end of an element that held others, from its
 -- header and the headers of what it held
-abbrev pub header_findings : Rules → Site → HeaderValue → List Finding
-header_findings rules s h = shown_findings rules (header_conditions s h)
+abbrev pub header_findings : Wanted → Site → HeaderValue → List Finding
+header_findings wanted s h = shown_findings wanted (header_conditions s h)
 
-abbrev pub contents_findings : Rules → HeaderValue → List ℕ → List Finding
-contents_findings rules h c = shown_findings rules (contents_conditions h c)
+abbrev pub contents_findings : Wanted → HeaderValue → List ℕ → List Finding
+contents_findings wanted h c = shown_findings wanted (contents_conditions h c)
 
-abbrev pub end_findings : Rules → HeaderValue → List HeaderValue → List Finding
-end_findings rules h children = shown_findings rules (end_conditions h children)
+abbrev pub end_findings : Wanted → HeaderValue → List HeaderValue → List Finding
+end_findings wanted h children = shown_findings wanted (end_conditions h children)
+
+-- ---- With the characters of segments
+
+-- B28 is wanted
+abbrev pub wants_characters : Wanted → Bool
+wants_characters wanted = is_shown wanted B28
+
+-- B28 and other findings of the end of a string. A string has no B27, so that B28 comes first
+abbrev pub with_characters_if : Bool → List Finding → List Finding
+with_characters_if wrong findings = if wrong then B28 ∷ findings else findings
+
+-- ---- With the order of a SET
+
+-- the code comes after S05
+abbrev pub comes_after_order : Finding → Bool
+comes_after_order S06 = true
+comes_after_order D01 = true
+comes_after_order D02 = true
+comes_after_order C01 = true
+comes_after_order C02 = true
+comes_after_order C03 = true
+comes_after_order C04 = true
+comes_after_order C05 = true
+comes_after_order C06 = true
+comes_after_order finding = false
+
+-- S05 among these findings, in the order of the codes
+abbrev pub with_order : List Finding → List Finding
+with_order [] = S05 ∷ []
+with_order (f ∷ fs) = if comes_after_order f then S05 ∷ f ∷ fs else f ∷ with_order fs
+
+abbrev pub with_order_if : Bool → List Finding → List Finding
+with_order_if out_of_order findings = if out_of_order then with_order findings else findings
+
+-- S05 is wanted
+abbrev pub wants_order : Wanted → Bool
+wants_order wanted = is_shown wanted S05
+
+-- the findings that a whole element has with its last octet, if these are the others
+abbrev pub last_findings : Wanted → Site → Element → List Finding → List Finding
+last_findings wanted s e others =
+    with_order_if (wants_order wanted && is_out_of_order_at wanted.rules s e) others

@@ -5,6 +5,8 @@ use Rattle.tlv_head.specs.Header.{HeaderValue}
 use Rattle.tlv_head.specs.UniversalTypes as universal
 use Rattle.tlv_value.specs.Types.{has_segments, is_a}
 use Rattle.tlv_walk.specs.Forest.{Forest, extent, opening, primitive_extent}
+use Rattle.tlv_show.specs.declared.rules.Rules.{Rules}
+use Rattle.tlv_show.specs.SetOrder.{Element, holder_element, is_out_of_order_after, primitive_element}
 
 -- what is right before an element, in what holds it
 pub data Previous : Type 0 where
@@ -12,8 +14,8 @@ pub data Previous : Type 0 where
   Start : Previous
   -- octets 00 between encodings
   Padding : Previous
-  -- an element. For a primitive that holds no encodings, the first contents octet is kept, if there is one
-  Sibling : (header : HeaderValue) (first : Option ℕ) → Previous
+  -- an element, with its octets. For a primitive that holds no encodings, also the first contents octet, if there is one
+  Sibling : (header : HeaderValue) (first : Option ℕ) (octets : List ℕ) → Previous
 
 pub record Site : Type 0 where
   -- the offset of its first octet
@@ -43,13 +45,26 @@ site_of_children s h = record {
 
 -- after a primitive, after an element that holds others, and after an octet of padding
 abbrev pub site_after_primitive : Site → HeaderValue → List ℕ → Site
-site_after_primitive s h c = later_site s (primitive_extent h c) (Sibling h (slice_get c 0))
+site_after_primitive s h c =
+    later_site s (primitive_extent h c)
+    (Sibling h (slice_get c 0) (primitive_element h c).octets)
 
 abbrev pub site_after_holder : Site → HeaderValue → Forest → Site
-site_after_holder s h children = later_site s (extent h children) (Sibling h None)
+site_after_holder s h children =
+    later_site s (extent h children) (Sibling h None (holder_element h children).octets)
 
 abbrev pub site_after_padding : Site → Site
 site_after_padding s = later_site s 1 Padding
+
+-- an element right before, in what holds it
+abbrev pub neighbour_of : Previous → Option Element
+neighbour_of Start = None
+neighbour_of Padding = None
+neighbour_of (Sibling h first octets) = Some (record { header = h; octets = octets })
+
+-- 9.3, 10.3, 11.6: the element is in a SET, and out of order
+abbrev pub is_out_of_order_at : Rules → Site → Element → Bool
+is_out_of_order_at rules s e = is_out_of_order_after rules s.holder (neighbour_of s.previous) e
 
 abbrev pub is_padding : Previous → Bool
 is_padding Padding = true

@@ -1,13 +1,13 @@
 //! `check`, over a source and a drain.
 ghost use Rattle.tlv_walk.specs.Job.{Runs, device_states};
-ghost use Rattle.tlv_show.specs.ShowJob.{check_job};
+ghost use Rattle.tlv_show.specs.ShowJob.{check_job, check_job_with};
 
 use crate::outcome::Outcome;
-use crate::{Check, Rules};
+use crate::{Check, Rules, Wanted};
 use tlv_walk::{DeviceFault, Drain, Framing, Source, drive};
 
 /// Lists what violates the rules in the encodings that the source gives, up to its end or the first octet that is
-/// refused. The lines go to the drain, one for each finding: the offset of the element, the code, and the text.
+/// refused: the listed findings. The lines go to the drain, one for each finding: the offset of the element, the code, and the text.
 /// Returns the ending of the input, the number of findings, and the first named offset at which no string that holds
 /// encodings was found.
 ///
@@ -25,7 +25,25 @@ pub fn check<S: Source, D: Drain>(
         (device_states (S.state source.old) (D.state drain.old))
         (device_states (S.state source.new) (D.state drain.new)) result }
 {
-    let mut follower = Check::new(rules);
+    check_with(source, drain, Wanted::listed(rules), framing)
+}
+
+/// Like [`check`], with the findings that are wanted.
+///
+/// # Errors
+///
+/// As [`check`].
+pub fn check_with<S: Source, D: Drain>(
+    source: &mut S,
+    drain: &mut D,
+    wanted: Wanted,
+    framing: &Framing<'_>,
+) -> Result<Outcome, DeviceFault>
+    ensures { Runs (check_job_with wanted framing.now)
+        (device_states (S.state source.old) (D.state drain.old))
+        (device_states (S.state source.new) (D.state drain.new)) result }
+{
+    let mut follower = Check::new_with(wanted);
     let run = drive(source, &mut follower, drain, framing)?;
     Ok(Outcome {
         ending: run.ending,

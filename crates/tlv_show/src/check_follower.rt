@@ -3,11 +3,12 @@ ghost use Rattle.std.specs.Prelude.{◌≡◌, refl};
 ghost use Rattle.tlv_walk.proofs.FollowerLemmas.FollowedEvents.{each_octet-goes_on, each_octet-joins};
 ghost use Rattle.tlv_show.specs.CheckStep.{check_octet_step, check_step};
 ghost use Rattle.tlv_show.specs.FinderState.{new_check};
+ghost use Rattle.tlv_show.specs.ShownFindings.{listed_by};
 
-use crate::Rules;
 use crate::contents::contents_in;
 use crate::finder::Finder;
 use crate::finding_lines::{Style, put_findings};
+use crate::{Rules, Wanted};
 use std::marker::Model;
 use tlv_head::Header;
 use tlv_walk::{Drain, Event, Follow, Go, Out, WriteFault};
@@ -29,12 +30,19 @@ impl Model for Check {
 }
 
 impl Check {
-    /// A check by these rules, before the first event.
+    /// A check of the listed findings by these rules, before the first event.
     pub fn new(rules: Rules) -> Check
-        ensures { result ≡ new_check rules }
+        ensures { result ≡ new_check (listed_by rules) }
+    {
+        Check::new_with(Wanted::listed(rules))
+    }
+
+    /// A check of the findings that are wanted, before the first event.
+    pub fn new_with(wanted: Wanted) -> Check
+        ensures { result ≡ new_check wanted }
     {
         Check {
-            finder: Finder::new(rules),
+            finder: Finder::new(wanted),
         }
     }
 

@@ -1,33 +1,65 @@
 //! The findings on contents.
-ghost use Rattle.std.specs.Prelude.{◌≡◌, []};
+ghost use Rattle.std.specs.Prelude.{◌≡◌, ◌≤◌, [], length};
 ghost use Rattle.tlv_show.specs.FinderState.{contents_findings_in};
-ghost use Rattle.tlv_show.specs.ShownFindings.{is_shown};
+ghost use Rattle.tlv_show.specs.ShownFindings.{is_by, is_listed, is_shown};
 
-use crate::Rules;
+use crate::{Rules, Scope, Wanted};
 use arrayvec::ArrayVec;
 use tlv_value::{Finding, ValueCheck};
 
 /// Adds the findings on the contents of a primitive, after all its contents octets.
 #[inline(never)]
 pub(crate) fn add_contents_findings(
-    rules: Rules,
+    wanted: Wanted,
     check: &ValueCheck,
-    found: &mut ArrayVec<Finding, 16>,
+    found: &mut ArrayVec<Finding, 17>,
 )
     requires left { check.now.left ≡ 0 }
     requires none { found.old.items ≡ [] }
-    ensures { found.new.items ≡ contents_findings_in rules check.now }
+    ensures found { found.new.items ≡ contents_findings_in wanted check.now }
+    ensures short { length found.new.items ≤ 16 }
 {
     for finding in check.end().as_slice() {
-        if is_shown(rules, *finding) {
+        if is_shown(wanted, *finding) {
             found.push(*finding);
         }
     }
 }
 
-/// Whether the rules show the finding, by the letter of its code.
-fn is_shown(rules: Rules, finding: Finding) -> bool
-    ensures { result ≡ is_shown rules finding }
+/// Whether the finding is wanted.
+fn is_shown(wanted: Wanted, finding: Finding) -> bool
+    ensures { result ≡ is_shown wanted finding }
+{
+    is_by(wanted.rules, finding)
+        && match wanted.scope {
+            Scope::Listed => is_listed(finding),
+            Scope::All => true,
+        }
+}
+
+/// Whether a finding is listed.
+fn is_listed(finding: Finding) -> bool
+    ensures { result ≡ is_listed finding }
+{
+    !matches!(
+        finding,
+        Finding::B20
+            | Finding::B21
+            | Finding::B22
+            | Finding::B23
+            | Finding::B24
+            | Finding::B25
+            | Finding::B26
+            | Finding::B27
+            | Finding::B28
+            | Finding::S05
+            | Finding::S06
+    )
+}
+
+/// Whether the rules have the finding, by the letter of its code.
+fn is_by(rules: Rules, finding: Finding) -> bool
+    ensures { result ≡ is_by rules finding }
 {
     match finding.code() {
         [letter, ..] => match rules {

@@ -2,11 +2,11 @@
 ghost use Rattle.tlv_walk.specs.Job.{Runs, device_states};
 ghost use Rattle.tlv_show.specs.ShowJob.{dump_job, dump_job_with};
 
-use crate::{Dump, FiniteNames, Options, Outcome};
+use crate::{Dump, FiniteNames, Options, Outcome, Scope};
 use tlv_walk::{DeviceFault, Drain, Source, drive};
 
 /// Writes the lines of the encodings that the source gives, up to its end or the first octet that is refused. Object
-/// identifiers that the table has are shown with their names, and findings with lines of their own. The lines go to
+/// identifiers that the table has are shown with their names, and the listed findings with lines of their own. The lines go to
 /// the drain. Returns the ending of the input, the number of findings, and the first named offset at which no string
 /// that holds encodings was found.
 ///
@@ -24,10 +24,10 @@ pub fn dump<N: FiniteNames, S: Source, D: Drain>(
         (device_states (S.state source.old) (D.state drain.old))
         (device_states (S.state source.new) (D.state drain.new)) result }
 {
-    dump_with(source, drain, options, false, names)
+    dump_with(source, drain, options, Scope::Listed, false, names)
 }
 
-/// Like [`dump`], but with text beside pairs of digits if `with_text` is set: if a value on its line, or a row, is
+/// Like [`dump`], with the findings of this scope. If `with_text` is set, text is beside pairs of digits: if a value on its line, or a row, is
 /// shown as pairs and has three or more octets, all printable ASCII (20 to 7e), two spaces and these octets between
 /// bars follow it.
 ///
@@ -38,14 +38,15 @@ pub fn dump_with<N: FiniteNames, S: Source, D: Drain>(
     source: &mut S,
     drain: &mut D,
     options: &Options<'_>,
+    scope: Scope,
     with_text: bool,
     names: &N,
 ) -> Result<Outcome, DeviceFault>
-    ensures { Runs (dump_job_with with_text options.now (N.table names.now))
+    ensures { Runs (dump_job_with scope with_text options.now (N.table names.now))
         (device_states (S.state source.old) (D.state drain.old))
         (device_states (S.state source.new) (D.state drain.new)) result }
 {
-    let mut follower = Dump::new_with(options, with_text, names);
+    let mut follower = Dump::new_with(options, scope, with_text, names);
     let run = drive(source, &mut follower, drain, &options.framing)?;
     Ok(Outcome {
         ending: run.ending,

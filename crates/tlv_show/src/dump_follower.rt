@@ -7,13 +7,13 @@ ghost use Rattle.tlv_show.specs.DumpStep.{dump_octet_step, dump_padding_step, du
 ghost use Rattle.tlv_show.specs.DumpStep.{new_dump, new_dump_with};
 ghost use Rattle.tlv_show.specs.FinderState.{finder_open_step};
 ghost use Rattle.tlv_show.specs.LinesStep.{lines_open_step};
-ghost use Rattle.tlv_show.specs.ShowJob.{top_layout};
+ghost use Rattle.tlv_show.specs.ShowJob.{top_layout, wanted_in};
 
 use crate::contents::contents_in;
 use crate::finder::Finder;
 use crate::finding_lines::put_findings;
 use crate::lines::Lines;
-use crate::{FiniteNames, Options};
+use crate::{FiniteNames, Options, Scope, Wanted};
 use std::marker::Model;
 use tlv_head::{Header, HeaderFields};
 use tlv_value::{Layout, Names};
@@ -41,18 +41,23 @@ impl<'n, N: FiniteNames> Model for Dump<'n, N> {
 }
 
 impl<'n, N: FiniteNames> Dump<'n, N> {
-    /// A dump that has written nothing yet.
+    /// A dump that has written nothing yet. It reports the listed findings.
     pub fn new(options: &Options<'_>, names: &'n N) -> Dump<'n, N>
         ensures { result ≡ new_dump options.now.rules (top_layout options.now) (N.table names.now) }
     {
-        Dump::new_with(options, false, names)
+        Dump::new_with(options, Scope::Listed, false, names)
     }
 
-    /// Like `new`, but with text beside pairs of digits if `with_text` is set, as in
+    /// Like `new`, with the findings of this scope, and with text beside pairs of digits if `with_text` is set, as in
     /// [`ValueText::new_with`](tlv_value::ValueText::new_with).
-    pub fn new_with(options: &Options<'_>, with_text: bool, names: &'n N) -> Dump<'n, N>
+    pub fn new_with(
+        options: &Options<'_>,
+        scope: Scope,
+        with_text: bool,
+        names: &'n N,
+    ) -> Dump<'n, N>
         ensures { result ≡ new_dump_with with_text
-            options.now.rules (top_layout options.now) (N.table names.now) }
+            (wanted_in scope options.now) (top_layout options.now) (N.table names.now) }
     {
         let layout = Layout {
             level: 0,
@@ -61,7 +66,10 @@ impl<'n, N: FiniteNames> Dump<'n, N> {
         };
         Dump {
             lines: Lines::new(layout, with_text, names),
-            finder: Finder::new(options.rules),
+            finder: Finder::new(Wanted {
+                rules: options.rules,
+                scope,
+            }),
         }
     }
 
@@ -224,7 +232,7 @@ impl<N: FiniteNames> Dump<'_, N> {
         ensures { HasEffect D.state (dump_step self.old (Close offset))
             out.old out.new self.new result }
     {
-        let may_have_findings = self.finder.close();
+        let may_have_findings = self.finder.close(offset.is_some());
         self.lines.close(offset, out)?;
         let style = self.lines.style();
         put_findings(may_have_findings, style, &self.finder, out)

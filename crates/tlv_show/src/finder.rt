@@ -1,23 +1,33 @@
 //! The findings in elements, event by event.
-ghost use Rattle.std.specs.Prelude.{◌≡◌};
+ghost use Rattle.std.specs.Option.{is_some};
+ghost use Rattle.std.specs.Prelude.{◌≡◌, ◌||◌};
 ghost use Rattle.tlv_head.specs.Header.{HasAllContents};
 ghost use Rattle.tlv_walk.specs.Events.{event_value_of};
 ghost use Rattle.tlv_show.specs.FinderState.{finder_in_primitive, finder_begin_step, finder_bytes_step};
 ghost use Rattle.tlv_show.specs.FinderState.{finder_close_step, finder_end_step, finder_open_step};
-ghost use Rattle.tlv_show.specs.FinderState.{with_findings, with_header_findings};
-ghost use Rattle.tlv_show.specs.KeptConditions.{end_findings_in};
-ghost use Rattle.tlv_show.specs.NestingState.{depth_in, segments_in};
+ghost use Rattle.tlv_show.specs.FinderState.{end_findings_with, end_offset, with_findings, with_header_findings};
+ghost use Rattle.tlv_show.specs.NestingState.{depth_in};
 ghost use Rattle.tlv_show.specs.Private.FinderState.{PassesOrStays, ReturnsFindings};
 ghost use Rattle.tlv_show.specs.Private.FinderState.{finder_step, new_finder, with_check_state};
 
-use crate::Rules;
+use crate::Wanted;
 use crate::contents_findings::add_contents_findings;
 use crate::header_findings::{
     add_end_findings, add_header_findings, has_no_header_findings, has_no_header_findings_if_usual,
 };
-use crate::holder_frame::HolderFrame;
+use crate::holder_frame::{HolderFrame, top_frame};
 use crate::last_findings::LastFindings;
 use crate::nesting::Nesting;
+use crate::order_finding::{insert_character_finding, insert_order_finding};
+use crate::segment_characters::SegmentCharacters;
+use crate::set_order::SetOrder;
+use crate::wanted_order::{
+    begin_in_order, bytes_in_order, close_in_order, end_in_order, open_in_order, passes_in_order,
+};
+use crate::wanted_strings::{
+    begin_in_strings, bytes_in_strings, close_in_strings, end_in_strings, open_in_strings,
+    passes_in_strings,
+};
 use arrayvec::ArrayVec;
 use std::marker::Model;
 use tlv_head::Header;
@@ -28,7 +38,7 @@ use tlv_walk::Event;
 /// and of the open primitive.
 #[derive(Drop)]
 pub(crate) struct Finder {
-    rules: Rules,
+    wanted: Wanted,
     /// What must be known of the open elements that hold others.
     holders: Nesting,
     /// The offset of the open primitive.
@@ -37,6 +47,10 @@ pub(crate) struct Finder {
     /// What is kept of the open primitive, or of the last one. It is reused for the next primitive, so that its room
     /// is not filled again each time.
     check: ValueCheck,
+    /// What must be known of the open SETs, if their order is wanted.
+    order: SetOrder,
+    /// What must be known of the open strings, if the characters of their segments are wanted.
+    strings: SegmentCharacters,
     /// The number of findings so far.
     finding_count: u64,
     /// The findings of the last event that may have had some. They are kept here so that nothing is moved if there
@@ -52,9 +66,10 @@ impl Model for Finder {
 
     ghost view = { λ f. record {
       kept = record {
-        rules = f.rules;
+        wanted = f.wanted;
         holders = f.holders;
         open_primitive = if_open f.is_open (record { offset = f.offset; check = f.check });
+        seen = record { order = f.order; strings = f.strings };
         finding_count = f.finding_count;
       };
       level = f.last.level;
@@ -65,15 +80,17 @@ impl Model for Finder {
 
 impl Finder {
     /// A finder before its first event.
-    pub fn new(rules: Rules) -> Finder
-        ensures { result ≡ new_finder rules }
+    pub fn new(wanted: Wanted) -> Finder
+        ensures { result ≡ new_finder wanted }
     {
         Finder {
-            rules,
+            wanted,
             holders: Nesting::new(),
             offset: 0,
             is_open: false,
             check: ValueCheck::of_type(0, 0),
+            order: SetOrder::new(),
+            strings: SegmentCharacters::new(),
             finding_count: 0,
             last: LastFindings {
                 level: 0,
@@ -108,7 +125,8 @@ impl Finder {
             (finder_step self.old.kept (event_value_of event.now)) self.new result }
     {
         match event {
-            Event::Open(header) | Event::Enter(header) => self.open(header),
+            Event::Open(header) => self.open(header),
+            Event::Enter(header) => self.open(header),
             Event::Begin(header) => {
                 self.begin(header);
                 true
@@ -118,7 +136,8 @@ impl Finder {
                 false
             }
             Event::End => self.end(),
-            Event::Close(_) | Event::Leave => self.close(),
+            Event::Close(offset) => self.close(offset.is_some()),
+            Event::Leave => self.close(false),
             Event::Unused | Event::Pad(_) => false,
         }
     }
@@ -134,12 +153,15 @@ impl Finder {
         // The type is looked up once: `is_clear` shows that it has primitives. The caller need not know the form; the
         // check costs nothing if the compiler knows it.
         if header.constructed
-            || !has_no_header_findings_if_usual(self.rules, frame, header)
+            || !has_no_header_findings_if_usual(self.wanted.rules, frame, header)
             || !is_clear(header, contents)
+            || !passes_in_order(&self.order, self.wanted)
+            || !passes_in_strings(&self.strings, self.wanted)
         {
             return false;
         }
         self.is_open = false;
+        self.holders.note_element();
         true
     }
 
@@ -151,7 +173,7 @@ impl Finder {
         let level = self.holders.depth();
         self.last.restart(level, header.offset);
         add_header_findings(
-            self.rules,
+            self.wanted,
             self.holders.frame(),
             header,
             &mut self.last.findings,
@@ -170,6 +192,8 @@ impl Finder {
         self.offset = header.offset;
         self.is_open = true;
         self.check.restart(header);
+        begin_in_order(&mut self.order, self.wanted, header);
+        begin_in_strings(&mut self.strings, self.wanted, header);
     }
 
     /// An element that holds others begins.
@@ -177,8 +201,10 @@ impl Finder {
     pub fn open(&mut self, header: &Header) -> bool
         ensures { ReturnsFindings (finder_open_step self.old.kept header.now) self.new result }
     {
+        open_in_order(&mut self.order, self.wanted, header);
+        open_in_strings(&mut self.strings, self.wanted, header);
         // Most such elements are not strings, and have no findings.
-        if has_no_header_findings(self.rules, self.holders.frame(), header) {
+        if has_no_header_findings(self.wanted.rules, self.holders.frame(), header) {
             self.holders.open_without_frame(header);
             return false;
         }
@@ -205,6 +231,8 @@ impl Finder {
         if self.is_open && !octets.is_empty() {
             let count = self.check.left().min(octets.len() as u64) as usize;
             self.check.bytes(&octets[..count]);
+            bytes_in_order(&mut self.order, self.wanted, octets);
+            bytes_in_strings(&mut self.strings, self.wanted, octets);
         }
     }
 
@@ -220,42 +248,86 @@ impl Finder {
         self.is_open = false;
         self.holders
             .primitive(check.size(), check.has_unused_bits());
-        if check.left() != 0 {
+        let is_out_of_order = end_in_order(&mut self.order, self.wanted);
+        end_in_strings(&mut self.strings, self.wanted);
+        if check.left() != 0 && !is_out_of_order {
             return false;
         }
         let level = self.holders.depth();
         self.last.restart(level, self.offset);
-        add_contents_findings(self.rules, check, &mut self.last.findings);
+        if check.left() == 0 {
+            add_contents_findings(self.wanted, check, &mut self.last.findings);
+        }
+        if is_out_of_order {
+            insert_order_finding(&mut self.last.findings);
+        }
         self.finding_count = self
             .finding_count
             .saturating_add(self.last.findings.len() as u64);
         true
     }
 
-    /// An element that holds others ends.
+    /// An element that holds others ends, with end-of-contents octets or without them.
     #[inline(always)]
-    pub fn close(&mut self) -> bool
-        ensures { ReturnsFindings (finder_close_step self.old.kept) self.new result }
+    pub fn close(&mut self, has_end_octets: bool) -> bool
+        ensures { ReturnsFindings (finder_close_step self.old.kept has_end_octets) self.new result }
     {
+        if self.holders.depth() == 0 {
+            return false;
+        }
+        let is_out_of_order = close_in_order(&mut self.order, self.wanted, has_end_octets);
+        let string = close_in_strings(&mut self.strings, self.wanted, has_end_octets);
         match self.holders.close() {
-            Some(closed) => self.find_with_end(&closed),
-            None => false,
+            Some(closed) => self.find_with_end(&closed, is_out_of_order, string),
+            None => {
+                if has_finding(is_out_of_order, string) {
+                    self.find_with_end(&top_frame(), is_out_of_order, string)
+                } else {
+                    false
+                }
+            }
         }
     }
 
-    /// Determines the findings of the end of an element that held segments.
+    /// Determines the findings of the end of an element that held segments or lacks components, or is out of order.
+    /// Takes the offset of a string with wrong characters.
     #[inline(never)]
-    fn find_with_end(&mut self, closed: &HolderFrame) -> bool
+    fn find_with_end(
+        &mut self,
+        closed: &HolderFrame,
+        is_out_of_order: bool,
+        string: Option<u64>,
+    ) -> bool
         ensures { ReturnsFindings
-            (with_findings self.old.kept (depth_in self.old.kept.holders) closed.now.offset
-            (end_findings_in self.old.kept.rules (segments_in closed.now)))
+            (with_findings self.old.kept (depth_in self.old.kept.holders)
+            (end_offset is_out_of_order self.old.kept.seen.order string closed.now)
+            (end_findings_with self.old.kept.wanted is_out_of_order string closed.now))
             self.new result }
     {
-        self.last.restart(self.holders.depth(), closed.offset);
-        add_end_findings(self.rules, closed, &mut self.last.findings);
+        let offset = if is_out_of_order {
+            self.order.offset()
+        } else {
+            string.unwrap_or(closed.offset)
+        };
+        self.last.restart(self.holders.depth(), offset);
+        add_end_findings(self.wanted, closed, &mut self.last.findings);
+        if string.is_some() {
+            insert_character_finding(&mut self.last.findings);
+        }
+        if is_out_of_order {
+            insert_order_finding(&mut self.last.findings);
+        }
         self.finding_count = self
             .finding_count
             .saturating_add(self.last.findings.len() as u64);
         true
     }
+}
+
+/// Whether an element is out of order at its end, or a string with wrong characters, which begins at this offset.
+#[inline(always)]
+fn has_finding(is_out_of_order: bool, string: Option<u64>) -> bool
+    ensures { result ≡ (is_out_of_order || is_some string) }
+{
+    is_out_of_order || string.is_some()
 }

@@ -4,17 +4,18 @@ ghost use Rattle.std.specs.Prelude.{length, []};
 ghost use Rattle.tlv_value.specs.Checks.{finding_if, findings_by};
 ghost use Rattle.tlv_show.specs.Conditions.{begins_with_zero_bits, der_conditions, is_high_form_needless};
 ghost use Rattle.tlv_show.specs.Conditions.{length_conditions};
-ghost use Rattle.tlv_show.specs.KeptConditions.{basic_conditions_in, cer_conditions_in, end_findings_in};
+ghost use Rattle.tlv_show.specs.KeptConditions.{cer_conditions_in, end_findings_in, first_basic_conditions_in};
 ghost use Rattle.tlv_show.specs.KeptConditions.{header_findings_in};
 ghost use Rattle.tlv_show.specs.NestingState.{has_frame, segments_in, surroundings_in};
-ghost use Rattle.tlv_show.specs.Private.UsualTypes.{IsUsual};
+ghost use Rattle.tlv_show.specs.Private.UsualTypes.{IsUsual, later_basic_conditions_in};
 
-use crate::Rules;
 use crate::headers::{
     announced_length, has_high_form, has_segments, is_always_constructed, is_always_primitive,
-    is_indefinite, is_length_padded, is_segment, is_string, is_unassigned, is_universal,
+    is_indefinite, is_length_padded, is_segment, is_sequence_or_set, is_string, is_time_or_iri,
+    is_unassigned, is_universal,
 };
 use crate::holder_frame::HolderFrame;
+use crate::{Rules, Scope, Wanted};
 use arrayvec::ArrayVec;
 use tlv_head::Header;
 use tlv_value::Finding;
@@ -22,16 +23,17 @@ use tlv_value::Finding;
 /// Adds the findings of a header, in order, from the frame of the element that holds it.
 #[inline(always)]
 pub(crate) fn add_header_findings(
-    rules: Rules,
+    wanted: Wanted,
     frame: &HolderFrame,
     header: &Header,
-    found: &mut ArrayVec<Finding, 16>,
+    found: &mut ArrayVec<Finding, 17>,
 )
     requires { found.old.items ≡ [] }
-    ensures { found.new.items ≡ header_findings_in rules (surroundings_in frame.now) header.now }
+    ensures { found.new.items ≡ header_findings_in wanted (surroundings_in frame.now) header.now }
 {
     add_basic_findings(frame, header, found);
-    match rules {
+    add_later_basic_findings(wanted.scope, header, found);
+    match wanted.rules {
         Rules::Ber => {}
         Rules::Der => {
             add_length_findings(header, found);
@@ -44,26 +46,26 @@ pub(crate) fn add_header_findings(
     }
 }
 
-/// Whether a short look shows that a header has no findings.
+/// Whether a short look shows that a header has no findings by these rules, in any scope.
 #[inline(always)]
 pub(crate) fn has_no_header_findings(rules: Rules, frame: &HolderFrame, header: &Header) -> bool
-    ensures no_findings { IsTrue result
-        → header_findings_in rules (surroundings_in frame.now) header.now ≡ [] }
+    ensures no_findings { IsTrue result → (scope : Scope)
+        → header_findings_in (record { rules = rules; scope = scope }) (surroundings_in frame.now) header.now ≡ [] }
     ensures no_frame { IsTrue result → has_frame frame.now header.now ≡ false }
 {
     is_usual(header) && has_no_header_findings_if_usual(rules, frame, header)
 }
 
-/// Whether a short look shows that the header of a usual element has no findings. It does not check the type: callers
-/// check it first, or with the contents.
+/// Whether a short look shows that the header of a usual element has no findings by these rules, in any scope. It does
+/// not check the type: callers check it first, or with the contents.
 #[inline(always)]
 pub(crate) fn has_no_header_findings_if_usual(
     rules: Rules,
     frame: &HolderFrame,
     header: &Header,
 ) -> bool
-    ensures no_findings { IsTrue result → IsUsual header.now
-        → header_findings_in rules (surroundings_in frame.now) header.now ≡ [] }
+    ensures no_findings { IsTrue result → IsUsual header.now → (scope : Scope)
+        → header_findings_in (record { rules = rules; scope = scope }) (surroundings_in frame.now) header.now ≡ [] }
     ensures no_segments { IsTrue result → frame.now.has_segments ≡ false }
 {
     if frame.has_segments || !is_tag_usual(header) {
@@ -89,22 +91,31 @@ fn is_tag_usual(header: &Header) -> bool
     !has_high_form(header) || (header.number >= 31 && header.second_identifier_octet() % 128 != 0)
 }
 
-/// Whether an element is constructed, and its class is not universal or its universal type is always constructed. All
-/// elements that hold others are so, except strings in segments and primitives that hold encodings, which are few.
+/// Whether an element is constructed, and is a SEQUENCE or a SET, or its class is not universal. Most elements that hold
+/// others are so: the rest are strings in segments, primitives that hold encodings, and the types with components, which
+/// are few.
 #[inline(always)]
 fn is_usual(header: &Header) -> bool
     ensures { IsTrue result → IsUsual header.now }
 {
-    header.constructed && (!is_universal(header) || is_always_constructed(header))
+    header.constructed && (!is_universal(header) || is_sequence_or_set(header))
 }
 
 /// Adds the findings of the end of the element with this frame.
 #[inline(always)]
-pub(crate) fn add_end_findings(rules: Rules, frame: &HolderFrame, found: &mut ArrayVec<Finding, 16>)
+pub(crate) fn add_end_findings(
+    wanted: Wanted,
+    frame: &HolderFrame,
+    found: &mut ArrayVec<Finding, 17>,
+)
     requires { found.old.items ≡ [] }
-    ensures { found.new.items ≡ end_findings_in rules (segments_in frame.now) }
+    ensures found { found.new.items ≡ end_findings_in wanted (segments_in frame.now) }
+    ensures short { length found.new.items ≤ 3 }
 {
-    if matches!(rules, Rules::Cer) {
+    if matches!(wanted.scope, Scope::All) {
+        add_if(frame.lacks_components, Finding::B27, found);
+    }
+    if matches!(wanted.rules, Rules::Cer) {
         add_if(
             frame.has_segments && frame.all_primitive && fits_in_primitive(frame),
             Finding::C05,
@@ -124,7 +135,7 @@ fn fits_in_primitive(frame: &HolderFrame) -> bool
 
 /// Adds a finding if `there` is set.
 #[inline(always)]
-fn add_if(there: bool, finding: Finding, found: &mut ArrayVec<Finding, 16>)
+fn add_if(there: bool, finding: Finding, found: &mut ArrayVec<Finding, 17>)
     requires { length found.old.items < 16 }
     ensures items { found.new.items ≡ found.old.items ++ finding_if there finding }
     ensures short { length found.new.items ≤ length found.old.items + 1 }
@@ -134,12 +145,12 @@ fn add_if(there: bool, finding: Finding, found: &mut ArrayVec<Finding, 16>)
     }
 }
 
-/// Adds what violates the rules of all encodings.
+/// Adds what violates the rules of all encodings: the listed findings.
 #[inline(always)]
-fn add_basic_findings(frame: &HolderFrame, header: &Header, found: &mut ArrayVec<Finding, 16>)
+fn add_basic_findings(frame: &HolderFrame, header: &Header, found: &mut ArrayVec<Finding, 17>)
     requires { found.old.items ≡ [] }
     ensures items { found.new.items
-        ≡ findings_by (basic_conditions_in (surroundings_in frame.now) header.now) }
+        ≡ findings_by (first_basic_conditions_in (surroundings_in frame.now) header.now) }
     ensures short { length found.new.items ≤ 7 }
 {
     let is_high = has_high_form(header);
@@ -172,21 +183,38 @@ fn add_basic_findings(frame: &HolderFrame, header: &Header, found: &mut ArrayVec
     );
 }
 
-/// Adds a length that is not the shortest.
+/// Adds the others of them, in the scope that has them.
 #[inline(always)]
-fn add_length_findings(header: &Header, found: &mut ArrayVec<Finding, 16>)
+fn add_later_basic_findings(scope: Scope, header: &Header, found: &mut ArrayVec<Finding, 17>)
     requires { length found.old.items ≤ 7 }
     ensures items { found.new.items
-        ≡ found.old.items ++ findings_by (length_conditions header.now) }
+        ≡ found.old.items ++ findings_by (later_basic_conditions_in scope header.now) }
     ensures short { length found.new.items ≤ 8 }
+{
+    if matches!(scope, Scope::All) {
+        add_if(
+            header.constructed && is_time_or_iri(header),
+            Finding::B22,
+            found,
+        );
+    }
+}
+
+/// Adds a length that is not the shortest.
+#[inline(always)]
+fn add_length_findings(header: &Header, found: &mut ArrayVec<Finding, 17>)
+    requires { length found.old.items ≤ 8 }
+    ensures items { found.new.items
+        ≡ found.old.items ++ findings_by (length_conditions header.now) }
+    ensures short { length found.new.items ≤ 9 }
 {
     add_if(is_length_padded(header), Finding::S01, found);
 }
 
 /// Adds what violates the rules of DER alone.
 #[inline(always)]
-fn add_der_findings(header: &Header, found: &mut ArrayVec<Finding, 16>)
-    requires { length found.old.items ≤ 8 }
+fn add_der_findings(header: &Header, found: &mut ArrayVec<Finding, 17>)
+    requires { length found.old.items ≤ 9 }
     ensures { found.new.items ≡ found.old.items ++ findings_by (der_conditions header.now) }
 {
     add_if(is_indefinite(header), Finding::D01, found);
@@ -195,8 +223,8 @@ fn add_der_findings(header: &Header, found: &mut ArrayVec<Finding, 16>)
 
 /// Adds what violates the rules of CER alone.
 #[inline(always)]
-fn add_cer_findings(frame: &HolderFrame, header: &Header, found: &mut ArrayVec<Finding, 16>)
-    requires { length found.old.items ≤ 8 }
+fn add_cer_findings(frame: &HolderFrame, header: &Header, found: &mut ArrayVec<Finding, 17>)
+    requires { length found.old.items ≤ 9 }
     ensures { found.new.items
         ≡ found.old.items ++ findings_by (cer_conditions_in (surroundings_in frame.now) header.now) }
 {

@@ -1,12 +1,13 @@
 //! What a header says of its element. The functions on types have lists of their own, which agree with the table of
 //! types: a look-up in the table at each use would make these functions too large to be inlined.
-ghost use Rattle.std.specs.Prelude.{◌≡◌};
+ghost use Rattle.std.specs.Prelude.{◌≡◌, ◌&&◌, ◌||◌, ◌==◌};
 ghost use Rattle.tlv_head.specs.Header.{announced_length, is_universal};
-ghost use Rattle.tlv_head.specs.UniversalTypes.{bit_string};
+ghost use Rattle.tlv_head.specs.UniversalTypes.{bit_string, sequence, set};
 ghost use Rattle.tlv_value.specs.Types.{has_segments, is_a, is_always_constructed, is_always_primitive};
 ghost use Rattle.tlv_value.specs.Types.{is_string, is_unassigned};
 ghost use Rattle.tlv_walk.specs.Place.{is_indefinite};
-ghost use Rattle.tlv_show.specs.Conditions.{has_high_form, has_long_form, is_length_padded, segment_type};
+ghost use Rattle.tlv_show.specs.Conditions.{has_components, has_high_form, has_long_form, is_length_padded};
+ghost use Rattle.tlv_show.specs.Conditions.{is_time_or_iri, segment_type};
 
 use tlv_head::{Class, Header, Size, universal};
 
@@ -99,6 +100,40 @@ pub(crate) fn is_always_constructed(header: &Header) -> bool
                 | universal::SET
                 | universal::CHARACTER_STRING
         )
+}
+
+/// Whether the encodings of the type are primitive, and it is one of the times and identifiers that were added later
+/// (8.21, 8.22, 8.26).
+#[inline(always)]
+pub(crate) fn is_time_or_iri(header: &Header) -> bool
+    ensures { result ≡ is_time_or_iri header.now }
+{
+    is_universal(header)
+        && matches!(
+            header.number,
+            universal::TIME | universal::DATE..=universal::RELATIVE_OID_IRI
+        )
+}
+
+/// Whether it is a constructed element of a type whose components have to be there (8.17, 8.18, 8.24).
+#[inline(always)]
+pub(crate) fn has_components(header: &Header) -> bool
+    ensures { result ≡ has_components header.now }
+{
+    header.constructed
+        && is_universal(header)
+        && matches!(
+            header.number,
+            universal::EXTERNAL | universal::EMBEDDED_PDV | universal::CHARACTER_STRING
+        )
+}
+
+/// Whether it is a SEQUENCE or a SET.
+#[inline(always)]
+pub(crate) fn is_sequence_or_set(header: &Header) -> bool
+    ensures { result ≡ (is_universal header.now.class && (header.now.number == sequence || header.now.number == set)) }
+{
+    is_universal(header) && matches!(header.number, universal::SEQUENCE | universal::SET)
 }
 
 /// Whether the type is a string type: the character strings and the two times are string types too.

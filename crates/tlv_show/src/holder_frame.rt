@@ -2,7 +2,7 @@
 ghost use Rattle.std.specs.Prelude.{◌≡◌};
 ghost use Rattle.tlv_show.specs.NestingState.{frame_after, frame_of, top_frame};
 
-use crate::headers::{announced_length, has_segments, is_bit_string};
+use crate::headers::{announced_length, has_components, has_segments, is_bit_string};
 use tlv_head::Header;
 
 /// What is kept of an element that holds others, and of the elements that it holds so far.
@@ -18,6 +18,8 @@ pub(crate) struct HolderFrame {
     pub has_segments: bool,
     /// Whether it is a constructed BIT STRING.
     pub is_bit_string: bool,
+    /// Whether its type has components, and it holds none so far.
+    pub lacks_components: bool,
     /// Whether the last segment so far has unused bits.
     pub last_has_unused_bits: bool,
     /// Whether the last segment so far is not a primitive of 1000 contents octets.
@@ -52,6 +54,7 @@ pub(crate) fn frame_of(header: &Header) -> HolderFrame
         is_primitive: !header.constructed,
         has_segments,
         is_bit_string: has_segments && is_bit_string(header),
+        lacks_components: has_components(header),
         all_primitive: true,
         ..HolderFrame::default()
     }

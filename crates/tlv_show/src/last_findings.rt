@@ -9,7 +9,7 @@ use tlv_value::Finding;
 pub(crate) struct LastFindings {
     pub level: u8,
     pub offset: u64,
-    pub findings: ArrayVec<Finding, 16>,
+    pub findings: ArrayVec<Finding, 17>,
 }
 
 impl LastFindings {

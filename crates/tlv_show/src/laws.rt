@@ -1,7 +1,7 @@
 //! Laws of a dump and of a check: each is the contract of a function that does nothing.
 
 ghost use Rattle.tlv_show.specs.Laws.{BasicFindingsStay, ChecksGoOn, ChecksMakeTexts, DumpsGoOn};
-ghost use Rattle.tlv_show.specs.Laws.{DumpsMakeTexts, PrimitivesAreShown};
+ghost use Rattle.tlv_show.specs.Laws.{DumpsMakeTexts, ListedItemsStay, PrimitivesAreShown};
 ghost use Rattle.tlv_show.specs.Spellings.{LongerIdentifiersAreFound, LongerLengthsAreFound, OneSpelling, SomeSpelling};
 ghost use Rattle.tlv_show.specs.SetOrderState.{OutOfOrderIsFound};
 ghost use Rattle.tlv_show.specs.SegmentCharactersState.{WrongCharactersAreFound};
@@ -39,6 +39,12 @@ pub fn primitives_are_shown()
 /// What a check lists under BER is among what it lists under DER and under CER, in the same order.
 pub fn basic_findings_stay()
     ensures { BasicFindingsStay }
+{}
+
+/// What is reported in the scope of the listed findings is what is reported in the scope of all of them, in the same
+/// order, without the findings that are not listed.
+pub fn listed_items_stay()
+    ensures { ListedItemsStay }
 {}
 
 /// Encodings by DER, and by CER, have one spelling. Two sound inputs are the same octets if their elements agree, one

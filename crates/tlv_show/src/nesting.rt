@@ -2,16 +2,16 @@
 ghost use Rattle.std.specs.Prelude.{◌≡◌, false, true};
 ghost use Rattle.tlv_show.specs.NestingState.{depth_in, has_frame, nesting_close_step, nesting_open_step};
 ghost use Rattle.tlv_show.specs.NestingState.{nesting_primitive_step, new_nesting, surroundings_in};
-ghost use Rattle.tlv_show.specs.Private.Nesting.{TakesBack, closed_string_frame};
+ghost use Rattle.tlv_show.specs.Private.Nesting.{TakesBack, closed_frame, nesting_with_element};
 
-use crate::headers::has_segments;
+use crate::headers::{has_components, has_segments};
 use crate::holder_frame::{HolderFrame, KeptFrame, frame_of, set_frame_after, top_frame};
 use std::marker::Model;
 use tlv_head::Header;
 use tlv_walk::Frames;
 
-/// The frames of the open elements that hold others; at most 128 are kept. An element that is not a string and is not
-/// in one is only counted: such elements are many, and a frame is long.
+/// The frames of the open elements that hold others; at most 128 are kept. An element that is not a string, is not in
+/// one, and is not of a type with components is only counted: such elements are many, and a frame is long.
 #[derive(Drop)]
 pub(crate) struct Nesting {
     /// The number of open elements that hold others.
@@ -29,7 +29,7 @@ impl Model for Nesting {
     ghost use Rattle.std.specs.Prelude.{◌≤◌, ◌-◌};
     ghost use Rattle.tlv_head.specs.Limits.{depth_limit};
     ghost use Rattle.tlv_show.specs.NestingState.{NestingState};
-    ghost use Rattle.tlv_show.specs.Private.Nesting.{HasFramesInStrings, HaveRisingFloors, all_frames};
+    ghost use Rattle.tlv_show.specs.Private.Nesting.{HaveRisingFloors, SaysTheSame, all_frames};
     ghost use Rattle.tlv_show.specs.Private.Nesting.{innermost_frame, outer_frames};
 
     ghost Value = { NestingState };
@@ -42,7 +42,7 @@ impl Model for Nesting {
     ghost invariant = { λ n. record {
       shallow : n.depth ≤ depth_limit;
       within : n.floor ≤ n.depth;
-      innermost : HasFramesInStrings n.frame (n.depth - n.floor);
+      innermost : SaysTheSame n.frame (n.depth - n.floor);
       rising : HaveRisingFloors n.floor n.outer;
     } };
 }
@@ -91,6 +91,7 @@ impl Nesting {
             return;
         }
         self.depth += 1;
+        self.frame.lacks_components = false;
         self.outer.push(KeptFrame {
             frame: self.frame,
             floor: self.floor,
@@ -99,7 +100,7 @@ impl Nesting {
         self.floor = self.depth;
     }
 
-    /// An element that holds others begins. It is not a string and is not in one.
+    /// An element that holds others begins. It is not a string, is not in one, and is not of a type with components.
     #[tactic(auto, using(crate::proofs::FindingLemmas::KeptFrames::one_each))]
     #[inline(always)]
     pub fn open_without_frame(&mut self, header: &Header)
@@ -108,7 +109,16 @@ impl Nesting {
     {
         if self.depth < 128 {
             self.depth += 1;
+            self.frame.lacks_components = false;
         }
+    }
+
+    /// An element begins in the innermost one.
+    #[inline(always)]
+    pub fn note_element(&mut self)
+        ensures { self.new ≡ nesting_with_element self.old }
+    {
+        self.frame.lacks_components = false;
     }
 
     /// A primitive ends: how many contents octets it announces, and whether it has unused bits.
@@ -116,14 +126,15 @@ impl Nesting {
     pub fn primitive(&mut self, announced_length: u64, has_unused_bits: bool)
         ensures { self.new ≡ nesting_primitive_step self.old announced_length has_unused_bits }
     {
+        self.frame.lacks_components = false;
         set_frame_after(&mut self.frame, true, announced_length, has_unused_bits);
     }
 
-    /// An element that holds others ends. Returns its frame, if it held segments.
+    /// An element that holds others ends. Returns its frame, if it held segments or lacks components.
     #[inline(always)]
     pub fn close(&mut self) -> Option<HolderFrame>
         ensures state { self.new ≡ nesting_close_step self.old }
-        ensures closed { result ≡ closed_string_frame self.old }
+        ensures closed { result ≡ closed_frame self.old }
     {
         if self.depth > self.floor {
             // It has no frame.
@@ -136,7 +147,7 @@ impl Nesting {
         self.depth -= 1;
         let closed = self.frame;
         take_back(&mut self.frame, &mut self.floor, &mut self.outer);
-        if closed.has_segments {
+        if closed.has_segments || closed.lacks_components {
             Some(closed)
         } else {
             None
@@ -149,7 +160,7 @@ impl Nesting {
 fn has_frame(frame: &HolderFrame, header: &Header) -> bool
     ensures { result ≡ has_frame frame.now header.now }
 {
-    frame.has_segments || has_segments(header)
+    frame.has_segments || has_segments(header) || has_components(header)
 }
 
 /// An element that has a frame ends: the frame around it is the innermost one again, and keeps what

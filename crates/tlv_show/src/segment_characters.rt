@@ -85,7 +85,8 @@ impl SegmentCharacters {
         }
     }
 
-    /// An element that holds others begins. Of a BIT STRING that holds encodings, the first contents octet is taken too.
+    /// An element that holds others begins. Of a BIT STRING that holds encodings, the first contents octet is taken
+    /// too.
     #[inline]
     pub fn open(&mut self, header: &Header)
         ensures { self.new ≡ segments_opened self.old header.now }

@@ -2,7 +2,7 @@
 use crate::expect::expect_eq_of;
 use std::process::Abort;
 use tlv_run::{Command, run, run_dump_with};
-use tlv_show::{Options, Rules};
+use tlv_show::{Options, Rules, Scope};
 use tlv_value::Names;
 use tlv_walk::{Framing, MemDrain, MemSource};
 
@@ -73,7 +73,14 @@ fn a_dump_with_text_is_run(rt: HostRuntime) {
     let mut room = [0; 128];
     let mut source = MemSource::new(b"\x04\x03abc", &[], None);
     let mut drain = MemDrain::new(&mut room, 4096);
-    let report = run_dump_with(&options, true, &Names::empty(), &mut source, &mut drain);
+    let report = run_dump_with(
+        &options,
+        Scope::Listed,
+        true,
+        &Names::empty(),
+        &mut source,
+        &mut drain,
+    );
     let want = b"       0      3: OCTET STRING 61 62 63  |abc|\n";
     expect_eq_of(&rt, "written", drain.written(), want.as_slice());
     expect_eq_of(&rt, "status", report.status, 0);

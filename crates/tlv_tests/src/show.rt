@@ -1,6 +1,9 @@
 //! Tests of `tlv_show`: dumps and checks.
 mod calls;
 mod primitives;
+mod scopes;
+mod segments;
+mod set_order;
 mod turns;
 
 use crate::expect::expect_eq;

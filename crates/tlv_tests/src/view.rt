@@ -75,6 +75,20 @@ fn strings_are_shown_opened(rt: HostRuntime) -> Result<(), Fail> {
     Ok(())
 }
 
+/// All findings are reported, not only the listed ones.
+#[test]
+fn views_report_all_findings(rt: HostRuntime) -> Result<(), Fail> {
+    let check = View::Check { rules: Rules::Ber };
+    let listed: &[u8] = b"0 B27 components are missing\n";
+    let dumped: &[u8] = b"       0      0: EXTERNAL {
+                 }
+       0    B27: components are missing
+";
+    expect_view(&rt, rt.alloc(), &check, false, b"\x28\x00", listed, 1, 0)?;
+    expect_view(&rt, rt.alloc(), &DUMP, false, b"\x28\x00", dumped, 1, 0)?;
+    Ok(())
+}
+
 /// Text is shown beside pairs of digits. Broken strings are found, unless strings are to stay closed.
 #[test]
 fn text_and_broken_strings_are_found(rt: HostRuntime) -> Result<(), Fail> {

@@ -8,9 +8,11 @@ use Rattle.tlv_open.specs.Laws.{opened_framing}
 use Rattle.tlv_open.specs.Breaks.{AreBroken}
 use Rattle.tlv_open.specs.Opens.{AreOpened}
 use Rattle.tlv_open.specs.declared.strings.BrokenString.{BrokenString}
-use Rattle.tlv_show.specs.ShowJob.{dump_job_with}
+use Rattle.tlv_show.specs.ShowJob.{check_job_with, dump_job_with}
+use Rattle.tlv_show.specs.ShownFindings.{all_by}
 use Rattle.tlv_show.specs.declared.options.Options.{Options}
 use Rattle.tlv_show.specs.declared.rules.Rules.{Rules}
+use Rattle.tlv_show.specs.declared.scope.Scope.TheVariants.{All}
 use Rattle.tlv_run.specs.Report.{ReportValue, outcome_report}
 use Rattle.tlv_run.specs.Results.{command_job, job_with_report}
 use Rattle.tlv_run.specs.RunsAndReports.{RunsAndReports}
@@ -22,12 +24,12 @@ use Rattle.tlv_view.specs.declared.view_call.View.TheVariants.{Dump, Check, Extr
 abbrev pub dump_options : Rules → Option ℕ → Bool → Framing → Options
 dump_options rules limit pure framing = record { rules = rules; limit = limit; pure = pure; framing = framing }
 
--- the job of a view of an input in which strings are named as the framing says: the job of the command, but a dump
--- may have text beside pairs of digits, which the dump of the command does not have
+-- the job of a view of an input in which strings are named as the framing says: the job of the command, but with all
+-- findings in place of the listed ones, and a dump may have text beside pairs of digits
 abbrev pub job_of_view : View → Framing → NamesValue → Job ReportValue
 job_of_view (Dump rules limit pure text) framing names =
-    job_with_report outcome_report (dump_job_with text (dump_options rules limit pure framing) names)
-job_of_view (Check rules) framing names = command_job (command.Check rules framing None) names
+    job_with_report outcome_report (dump_job_with All text (dump_options rules limit pure framing) names)
+job_of_view (Check rules) framing names = job_with_report outcome_report (check_job_with (all_by rules) framing)
 job_of_view (Extract offset contents) framing names =
     command_job (command.Extract offset contents framing None) names
 

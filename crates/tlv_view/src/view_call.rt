@@ -9,8 +9,8 @@ ghost use Rattle.tlv_view.specs.Views.{AreBrokenUnless, AreOpenedUnless, Views, 
 
 use std::alloc::{AllocError, Global};
 use tlv_open::{BrokenString, Strings, laws, strings_of};
-use tlv_run::{Report, UnfailingSource, run_check, run_dump_with, run_extract};
-use tlv_show::{FiniteNames, Options, Rules};
+use tlv_run::{Report, UnfailingSource, run_check_with, run_dump_with, run_extract};
+use tlv_show::{FiniteNames, Options, Rules, Scope, Wanted};
 use tlv_walk::{Drain, Framing, Inside, Source};
 
 /// What is shown of octets.
@@ -51,8 +51,8 @@ pub struct Viewed {
 }
 
 /// Writes a view of the octets to the drain, and returns the report and the broken strings. It writes and reports
-/// what `run` does for the same command over these octets if the strings that hold encodings are named; a dump may
-/// also have text beside pairs of digits. With `closed`, no string is named, and none is looked at. With `padding`,
+/// what `run` does for the same command over these octets if the strings that hold encodings are named, with all findings
+/// in place of the listed ones; a dump may also have text beside pairs of digits. With `closed`, no string is named, and none is looked at. With `padding`,
 /// octets `00` are allowed before, between and after the encodings.
 ///
 /// # Errors
@@ -133,9 +133,9 @@ fn run_view<N: FiniteNames, S: Source, D: Drain>(
                 pure,
                 framing,
             };
-            run_dump_with(&options, text, names, source, drain)
+            run_dump_with(&options, Scope::All, text, names, source, drain)
         }
-        View::Check { rules } => run_check(rules, &framing, source, drain),
+        View::Check { rules } => run_check_with(Wanted::all(rules), &framing, source, drain),
         View::Extract { offset, contents } => {
             run_extract(offset, contents, &framing, source, drain)
         }

@@ -1,11 +1,12 @@
 -- A primitive with which nothing is found: what a finder and a check make of it at once.
 use Rattle.std.proofs.lemmas.Bool.{not-true}
-use Rattle.std.proofs.Common.{subst, rules, ◌≡◌, Bool, false, true, ℕ, List, [], ◌∷◌, length, sym, ap, ◌∙◌}
+use Rattle.std.proofs.Common.{subst, ap₂, rules, ◌≡◌, Bool, false, true, ℕ, List, [], ◌∷◌, length, sym, ap, ◌∙◌}
 use Rattle.std.specs.Prelude.{None, Ok, ◌&&◌, ◌||◌, not}
 use Rattle.std.specs.List.{filter}
-use Rattle.tlv_head.specs.Header.{HasAllContents, HeaderValue}
+use Rattle.tlv_head.specs.Header.{HasAllContents, HeaderValue, is_universal}
 use Rattle.tlv_value.specs.declared.finding.Finding.{Finding}
 use Rattle.tlv_value.specs.Checks.{all_contents_findings}
+use Rattle.tlv_value.specs.Types.{is_number_of}
 use Rattle.tlv_value.specs.Types.{has_primitives, is_always_constructed, is_always_primitive, is_string, is_unassigned}
 use Rattle.tlv_walk.specs.declared.follow.Go.TheVariants as go
 use Rattle.tlv_io.specs.declared.out.Out.{Out}
@@ -15,12 +16,21 @@ use Rattle.tlv_walk.specs.Follow.{Effect, contents_in, effect_if_more, effect_of
 use Rattle.tlv_walk.specs.Follow.{whole_events}
 use Rattle.tlv_walk.proofs.FollowerLemmas.FollowedEvents.{followed-one}
 use Rattle.tlv_io.proofs.Puts.{puts_nothing, puts_text}
+use Rattle.tlv_show.specs.FinderState.{is_misplaced}
+use Rattle.tlv_show.specs.Private.SetOrder.{IsUnchangedByPrimitives}
+use Rattle.tlv_show.specs.FinderState.{SeenState}
+use Rattle.tlv_show.specs.ShownFindings.{contents_findings, wants_characters, wants_order, with_order_if}
+use Rattle.tlv_show.proofs.SetOrderLemmas.WantedOrder.{none-passed}
+use Rattle.tlv_show.proofs.SegmentLemmas.Seen.{seen_whole, whole-same}
+use Rattle.tlv_show.specs.Private.SegmentCharacters.{StayAtPrimitives}
 use Rattle.tlv_show.specs.declared.holder_frame.HolderFrame.{HolderFrame}
 use Rattle.tlv_show.specs.declared.finding_lines.Style.TheVariants.{Check}
 use Rattle.tlv_show.specs.CheckStep.{check_step, findings_effect}
 use Rattle.tlv_show.specs.FindingLines.{styled_lines}
 use Rattle.tlv_show.specs.FinderState.{CheckState, FinderState, finder_begin_step, finder_bytes_step}
-use Rattle.tlv_show.specs.NestingState.{depth_in, surroundings_in}
+use Rattle.tlv_show.specs.Conditions.{component_types, is_time_or_iri}
+use Rattle.tlv_show.specs.NestingState.{NestingState, depth_in, surroundings_in, with_element}
+use Rattle.tlv_show.specs.Private.Nesting.{nesting_with_element}
 use Rattle.tlv_show.specs.Private.FinderState.{PassesOrStays, PassesPrimitive, finder_whole_step, with_check_state}
 use Rattle.tlv_show.specs.Private.UsualTypes.{IsUsual}
 use Rattle.tlv_show.specs.KeptConditions.{header_findings_in}
@@ -41,43 +51,61 @@ usual_primitive h primitive primitives =
       primitive_if_always = ap (λ (b : Bool). b && is_always_primitive h) primitive;
       constructed_if_always =
           ap (λ (b : Bool). not b && is_always_constructed h) primitive ∙ search (rules, form);
+      primitive_if_late = ap (λ (b : Bool). b && is_time_or_iri h) primitive;
       no_segments = ap (λ (b : Bool). b && is_string h) primitive;
+      no_components =
+          ap (λ (b : Bool). b && is_universal h.class && is_number_of component_types h.number) primitive;
     }
 
 -- after a primitive with which nothing is found, outside of strings
 abbrev without_primitive : CheckState → CheckState
-without_primitive s = record s { open_primitive = None }
+without_primitive s = record s { holders = nesting_with_element s.holders; open_primitive = None }
 
 pub whole_step-clear : (s : CheckState) (h : HeaderValue) (c : List ℕ) → HasAllContents h c
     → s.holders.frame.has_segments ≡ false
-    → header_findings_in s.rules (surroundings_in s.holders.frame) h ≡ [] → all_contents_findings h c ≡ []
+    → header_findings_in s.wanted (surroundings_in s.holders.frame) h ≡ [] → all_contents_findings h c ≡ []
+    → (wants_order s.wanted ≡ true → IsUnchangedByPrimitives s.seen.order)
+    → (wants_characters s.wanted ≡ true → StayAtPrimitives s.seen.strings)
     → finder_whole_step s h c ≡ record {
       kept = without_primitive s;
       level = depth_in s.holders;
       offset = h.offset;
       findings = [];
     }
-whole_step-clear s h c size w header contents =
-    let made : HolderFrame → ℕ → List Finding
-    → FinderState = λ (f : HolderFrame) (n : ℕ) (fs : List Finding). record {
-      kept = check_between s.rules f s.holders.outer (saturating_sum n (length fs));
+whole_step-clear s h c size w header contents in_order in_strings =
+    let made_with : SeenState → Bool → HolderFrame → ℕ → List Finding → FinderState =
+    λ (o : SeenState) (b : Bool) (f : HolderFrame) (n : ℕ) (fs : List Finding). record {
+      kept =
+          check_between s.wanted f s.holders.outer
+          (record { count = saturating_sum n (length (with_order_if b fs)); seen = o });
       level = depth_in s.holders;
       offset = h.offset;
-      findings = fs;
+      findings = with_order_if b fs;
     } in
-    primitive-find s.rules s.holders.frame s.holders.outer s.finding_count h c size
-    ∙ ap (λ (fs : List Finding). made (after_primitive s.rules s.holders.frame h c)
-    (saturating_sum s.finding_count (length (header_findings_in s.rules (surroundings_in s.holders.frame) h)))
-    (filter (is_shown s.rules) fs))
+    let made : HolderFrame → ℕ → List Finding → FinderState = made_with s.seen false in
+    let o : SeenState = seen_whole s.wanted s.seen h c in
+    let same : o ≡ s.seen = whole-same s.wanted s.seen h c in_order in_strings in
+    let none : is_misplaced s.wanted o ≡ false =
+    ap (is_misplaced s.wanted) same ∙ none-passed s.wanted s.seen.order in_order in
+    primitive-find s.wanted s.holders.frame s.holders.outer (record { count = s.finding_count; seen = s.seen }) h c size
+    ∙ ap₂ (λ (u : SeenState) (b : Bool). made_with u b (after_primitive s.wanted s.holders.frame h c)
+    (saturating_sum s.finding_count (length (header_findings_in s.wanted (surroundings_in s.holders.frame) h)))
+    (contents_findings s.wanted h c))
+    same none
+    ∙ ap (λ (fs : List Finding). made (after_primitive s.wanted s.holders.frame h c)
+    (saturating_sum s.finding_count (length (header_findings_in s.wanted (surroundings_in s.holders.frame) h)))
+    (filter (is_shown s.wanted) fs))
     contents
-    ∙ ap (λ (fs : List Finding). made (after_primitive s.rules s.holders.frame h c)
+    ∙ ap (λ (fs : List Finding). made (after_primitive s.wanted s.holders.frame h c)
     (saturating_sum s.finding_count (length fs)) [])
     header
-    ∙ ap (λ (f : HolderFrame). made f (saturating_sum s.finding_count 0) []) (outside s.holders.frame true _ _ w)
+    ∙ ap (λ (f : HolderFrame). made f (saturating_sum s.finding_count 0) [])
+    (outside (with_element s.holders.frame) true _ _ w)
     ∙ ap (λ (n : ℕ).
     record {
       kept =
-          check_between s.rules s.holders.frame s.holders.outer n;
+          check_between s.wanted (with_element s.holders.frame) s.holders.outer
+          (record { count = n; seen = s.seen });
       level =
           depth_in s.holders;
       offset = h.offset;
@@ -87,15 +115,30 @@ whole_step-clear s h c size w header contents =
 
 pub passes_primitive-clear : (old new : FinderState) (h : HeaderValue) (c : List ℕ) → HasAllContents h c
     → old.kept.holders.frame.has_segments ≡ false
-    → header_findings_in old.kept.rules (surroundings_in old.kept.holders.frame) h ≡ [] → all_contents_findings h c ≡ []
+    → header_findings_in old.kept.wanted (surroundings_in old.kept.holders.frame) h ≡ [] → all_contents_findings h c ≡ []
+    → (wants_order old.kept.wanted ≡ true → IsUnchangedByPrimitives old.kept.seen.order)
+    → (wants_characters old.kept.wanted ≡ true → StayAtPrimitives old.kept.seen.strings)
     → new ≡ with_check_state (without_primitive old.kept) old → PassesPrimitive old new h c
-passes_primitive-clear old new h c size w header contents e =
-    let all = whole_step-clear old.kept h c size w header contents in
+passes_primitive-clear old new h c size w header contents in_order in_strings e =
+    let all = whole_step-clear old.kept h c size w header contents in_order in_strings in
     record {
       begins = header;
       ends = ap (λ (f : FinderState). f.findings) all;
       kept = e ∙ ap (λ (f : FinderState). with_check_state f.kept old) (sym all);
     }
+
+-- an element that holds others, with whose header nothing is found
+pub opens-clear : (s : CheckState) (holders : NestingState) (seen : SeenState) (fs : List Finding) → fs ≡ []
+    → (record s { holders = holders; seen = seen }
+    ≡ record s { holders = holders; seen = seen; finding_count = saturating_sum s.finding_count (length fs) })
+    × (fs ≡ [])
+opens-clear s holders seen fs e = (
+  ap (λ (n : ℕ). record s { holders = holders; seen = seen; finding_count = n }) (sym (sum-none s.finding_count))
+      ∙ ap (λ (l : List Finding).
+      record s { holders = holders; seen = seen; finding_count = saturating_sum s.finding_count (length l) })
+      (sym e),
+  e,
+)
 
 -- ---- a check
 

@@ -2,6 +2,8 @@
 use Rattle.std.proofs.Common.{◌≡◌, ℕ, Bool, true, false, if◌then◌else◌, List, [], ◌∷◌, ◌++◌, length, map, refl, sym, ap}
 use Rattle.std.proofs.Common.{ap₂, ◌∙◌, append_assoc, append-nil}
 use Rattle.std.specs.Prelude.{Option, Some, None}
+use Rattle.std.specs.Option.{is_some}
+use Rattle.std.specs.Prelude.{◌&&◌}
 use Rattle.tlv_head.specs.Header.{HeaderValue}
 use Rattle.tlv_value.specs.declared.layout.Layout.{Layout}
 use Rattle.tlv_walk.specs.Events.{Begin, Bytes, Close, End, Enter, EventValue, Leave, Open, Unused}
@@ -65,13 +67,15 @@ regroup_two a b = append-nil (a ++ b) ∙ ap (λ (x : List ℕ). x ++ b) (sym (a
 pub closes-by : (l : LinesState) (s : CheckState) (offset : Option ℕ) (k : Bool)
     → effect_of dump_step (dump_state l s) ((if k then Close offset else Leave) ∷ [])
     ≡ (let d = effect_of lines_step l ((if k then Close offset else Leave) ∷ []) in
-    effect_with (dump_state d.state (finder_close_step s).kept) (d.put ++ texts l.layout (finder_close_step s)))
+    let f = finder_close_step s (k && is_some offset) in
+    effect_with (dump_state d.state f.kept) (d.put ++ texts l.layout f))
 closes-by l s None true =
-    ap (effect_with _) (regroup_two (lines_step l (Close None)).put (texts l.layout (finder_close_step s)))
+    ap (effect_with _) (regroup_two (lines_step l (Close None)).put (texts l.layout (finder_close_step s false)))
 closes-by l s (Some offset) true =
-    ap (effect_with _) (regroup_two (lines_step l (Close (Some offset))).put (texts l.layout (finder_close_step s)))
+    ap (effect_with _) (regroup_two (lines_step l (Close (Some offset))).put
+    (texts l.layout (finder_close_step s true)))
 closes-by l s offset false =
-    ap (effect_with _) (regroup_two (lines_step l Leave).put (texts l.layout (finder_close_step s)))
+    ap (effect_with _) (regroup_two (lines_step l Leave).put (texts l.layout (finder_close_step s false)))
 
 -- ---- a primitive
 

@@ -9,8 +9,11 @@ use Rattle.tlv_walk.specs.Follow.{Effect, effect_if_more, effect_of}
 use Rattle.tlv_walk.specs.Forest.{Forest, spelling}
 use Rattle.tlv_walk.specs.Place.{top_place}
 use Rattle.tlv_walk.specs.Reading.{IsReading}
+use Rattle.tlv_show.specs.FinderState.{new_seen}
+use Rattle.tlv_show.proofs.SegmentLemmas.Seen.{top-seen}
 use Rattle.tlv_show.specs.declared.options.Options.{Options}
-use Rattle.tlv_show.specs.ShowJob.{dump_job_with, top_layout}
+use Rattle.tlv_show.specs.declared.scope.Scope.{Scope}
+use Rattle.tlv_show.specs.ShowJob.{dump_job_with, top_layout, wanted_in}
 use Rattle.tlv_show.specs.DumpStep.{DumpState, dump_step, new_dump_with}
 use Rattle.tlv_show.specs.FinderState.{CheckState}
 use Rattle.tlv_show.specs.NestingState.{top_frame}
@@ -43,28 +46,28 @@ finder-run s (e ∷ es) =
     ∙ finder-run (dump_step s e).state es
     ∙ ap (λ (u : CheckState). (run_finder u es).state) (finder-by s e)
 
-module _ (with_text : Bool) (options : Options) (names : NamesValue) (octets : List ℕ) (f : Forest) (short : length octets ≤ 2 ^ 40)
+module _ (scope : Scope) (with_text : Bool) (options : Options) (names : NamesValue) (octets : List ℕ) (f : Forest) (short : length octets ≤ 2 ^ 40)
     (r : IsReading options.framing octets f) where
-  pub text-made : (effect_of dump_step (new_dump_with with_text options.rules (top_layout options) names) (events f)).put
-      ≡ (dump_job_with with_text options names).text f
+  pub text-made : (effect_of dump_step (new_dump_with with_text (wanted_in scope options) (top_layout options) names) (events f)).put
+      ≡ (dump_job_with scope with_text options names).text f
   text-made =
-      (shows_forest with_text (top_layout options) names options.rules (top_place options.framing) None Start top_frame [] f
+      (shows_forest with_text (top_layout options) names (wanted_in scope options) (top_place options.framing) None Start top_frame [] f
       r.obeys_grammar (omega (arith, short, ap length r.is_prefix.1, length-append (spelling f) r.is_prefix.0))
-      (refl, refl, λ e. refl)).text 0
+      (refl, refl, λ e. refl)).text (record { count = 0; seen = new_seen }) (top-seen (wanted_in scope options))
 
-  pub count-made : (effect_of dump_step (new_dump_with with_text options.rules (top_layout options) names)
+  pub count-made : (effect_of dump_step (new_dump_with with_text (wanted_in scope options) (top_layout options) names)
       (events f)).state.finder.finding_count
-      ≡ finding_count options.rules f
+      ≡ finding_count (wanted_in scope options) f
   count-made =
       ap (λ (u : CheckState). u.finding_count)
-      (finder-run (new_dump_with with_text options.rules (top_layout options) names) (events f))
-      ∙ count-run options.rules options.framing octets f short r
+      (finder-run (new_dump_with with_text (wanted_in scope options) (top_layout options) names) (events f))
+      ∙ count-run (wanted_in scope options) options.framing octets f short r
 
-pub dump-shows : (with_text : Bool) (options : Options) (names : NamesValue)
-    → Shower dump_step (new_dump_with with_text options.rules (top_layout options) names) options.rules options.framing
+pub dump-shows : (scope : Scope) (with_text : Bool) (options : Options) (names : NamesValue)
+    → Shower dump_step (new_dump_with with_text (wanted_in scope options) (top_layout options) names) (wanted_in scope options) options.framing
     (item_text with_text (finite.get names) (top_layout options)) (λ (s : DumpState). s.finder.finding_count)
-dump-shows with_text options names = record {
+dump-shows scope with_text options names = record {
   goes_on = all_on;
-  put = λ octets f few r. text-made with_text options names octets f few r;
-  counts = λ octets f few r. count-made with_text options names octets f few r;
+  put = λ octets f few r. text-made scope with_text options names octets f few r;
+  counts = λ octets f few r. count-made scope with_text options names octets f few r;
 }

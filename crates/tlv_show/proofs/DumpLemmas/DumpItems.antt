@@ -4,6 +4,9 @@ use Rattle.std.proofs.Common.{◌≡◌, ℕ, ◌+◌, ◌-◌, ◌^◌, ◌<◌
 use Rattle.std.proofs.Common.{refl, sym, ap, ap₂, ◌∙◌, arith}
 use Rattle.std.proofs.lemmas.Grind.{flat_map-append}
 use Rattle.std.specs.Prelude.{flat_map, Option, None}
+use Rattle.std.proofs.Common.{◌≢◌}
+use Rattle.tlv_show.proofs.SegmentLemmas.Seen.{HasSeen, HasSeenAll}
+use Rattle.tlv_show.proofs.FindingLemmas.FinderSteps.{HasItsOffset, Kept, found_at_end, found_in_contents, offset-at_end}
 use Rattle.tlv_head.specs.Header.{AllowsSize, HasAllContents, HeaderValue, announced_length, octets_of}
 use Rattle.tlv_value.specs.declared.finding.Finding.{Finding}
 use Rattle.tlv_value.specs.declared.layout.Layout.{Layout}
@@ -15,22 +18,22 @@ use Rattle.tlv_walk.specs.Follow.{Effect, effect_of, effect_with}
 use Rattle.tlv_walk.specs.Forest.{Forest, is_whole, opening, spelling, end_octets, extent}
 use Rattle.tlv_walk.specs.Place.{Place, place_after, place_of_children, ObeysGrammar}
 use Rattle.tlv_show.specs.declared.holder_frame.HolderFrame.{HolderFrame}
-use Rattle.tlv_show.specs.declared.rules.Rules.{Rules}
+use Rattle.tlv_show.specs.declared.wanted.Wanted.{Wanted}
 use Rattle.tlv_show.specs.declared.finding_lines.Style.TheVariants.{Dump}
 use Rattle.tlv_show.specs.FindingLines.{styled_lines}
 use Rattle.tlv_show.specs.LinesStep.{LinesState}
 use Rattle.tlv_show.specs.DumpStep.{DumpState, dump_step}
 use Rattle.tlv_show.specs.FinderState.{CheckState, FinderState}
 use Rattle.tlv_show.specs.NestingState.{frame_under, surroundings_in, frame_after}
+use Rattle.tlv_show.specs.NestingState.{with_element}
 use Rattle.tlv_show.specs.KeptConditions.{header_findings_in}
-use Rattle.tlv_show.specs.ShownFindings.{contents_findings, end_findings}
-use Rattle.tlv_show.specs.Items.{Item, FindingAt, items, finding_items, headers}
+use Rattle.tlv_show.specs.Items.{Item, FindingAt, items, finding_items}
 use Rattle.tlv_show.specs.HolderLines.{closing_line, opening_line, opening_word}
 use Rattle.tlv_show.specs.Site.{Previous, Site, is_padding}
 use Rattle.tlv_show.specs.Texts.{item_text, layout_at}
 use Rattle.tlv_show.proofs.DumpLemmas.DumpTexts.{holder_shown, ends_in_padding, primitive_shown}
 use Rattle.tlv_show.proofs.DumpLemmas.DumpTexts.{lines_between, closer_shown}
-use Rattle.tlv_show.proofs.FindingLemmas.FinderFolds.{frame_after_elements, offset-under}
+use Rattle.tlv_show.proofs.FindingLemmas.FinderFolds.{frame_after_elements}
 use Rattle.tlv_show.proofs.FindingLemmas.FinderSteps.{after_contents, later_header, after_primitive, opened-find}
 use Rattle.tlv_show.proofs.FindingLemmas.FinderSteps.{primitive-find, check_between, after_end, closed-find}
 use Rattle.tlv_show.proofs.FindingLemmas.HeaderFindings.{Knows}
@@ -38,7 +41,7 @@ use Rattle.tlv_show.proofs.DumpLemmas.DumpEvents.{dump_state, then_shown, texts,
 use Rattle.tlv_value.specs.Types.{is_primitive}
 
 -- ---- elements, in this style, with these names and rules
-module _ (with_text : Bool) (style : Layout) (names : NamesValue) (rules : Rules) where
+module _ (with_text : Bool) (style : Layout) (names : NamesValue) (wanted : Wanted) where
   abbrev pub item : Item → List ℕ
   item i = item_text with_text (finite.get names) style i
 
@@ -65,37 +68,39 @@ module _ (with_text : Bool) (style : Layout) (names : NamesValue) (rules : Rules
       ∙ ap₂ (λ (a b : List ℕ). a ++ b) (lines_of level offset fs) g
       ∙ sym (item_texts-append (finding_items level offset fs) rest)
 
-  abbrev pub start : Place → Bool → HolderFrame → List HolderFrame → ℕ → DumpState
+  abbrev pub start : Place → Bool → HolderFrame → List HolderFrame → Kept → DumpState
   start p padded w outer n =
-      dump_state (lines_between with_text style names p.depth p.offset padded) (check_between rules w outer n)
+      dump_state (lines_between with_text style names p.depth p.offset padded) (check_between wanted w outer n)
 
   pub record IsShown (p : Place) (holder : Option HeaderValue) (previous : Previous) (w : HolderFrame)
       (outer : List HolderFrame) (f : Forest) : Type 0 where
-    pub text : (n : ℕ)
+    pub text : (n : Kept) → HasSeen wanted (site p holder previous) n.seen
         → (effect_of dump_step (start p (is_padding previous) w outer n) (events f)).put
-        ≡ item_texts (items rules (site p holder previous) f)
-    pub after : (n : ℕ) → is_whole f ≡ true → (m : ℕ)
+        ≡ item_texts (items wanted (site p holder previous) f)
+    pub after : (n : Kept) → HasSeen wanted (site p holder previous) n.seen → holder ≢ None → is_whole f ≡ true
+        → (m : Kept)
         × ((effect_of dump_step (start p (is_padding previous) w outer n) (events f)).state
         ≡ dump_state
         (lines_between with_text style names p.depth (p.offset + length (spelling f))
         (ends_in_padding with_text style names (is_padding previous) f))
-        (check_between rules (frame_after_elements w f) outer m))
+        (check_between wanted (frame_after_elements w f) outer m))
+        × HasSeenAll wanted n.seen f m.seen
 
   -- elements after what was shown
-  pub shown-after : (p q : Place) (padded : Bool) (w : HolderFrame) (outer : List HolderFrame) (n m : ℕ)
+  pub shown-after : (p q : Place) (padded : Bool) (w : HolderFrame) (outer : List HolderFrame) (n m : Kept)
       (v : HolderFrame) (holder : Option HeaderValue) (previous : Previous) (es : List EventValue) (put : List ℕ)
       (rest : Forest)
       → q.depth ≡ p.depth
       → effect_of dump_step (start p padded w outer n) es ≡ effect_with (start q (is_padding previous) v outer m) put
-      → IsShown q holder previous v outer rest
+      → IsShown q holder previous v outer rest → HasSeen wanted (site q holder previous) m.seen
       → effect_of dump_step (start p padded w outer n) (es ++ events rest)
       ≡ record (effect_of dump_step (start q (is_padding previous) v outer m) (events rest))
-      { put = put ++ item_texts (items rules (site q holder previous) rest) }
-  shown-after p q padded w outer n m v holder previous es put rest d e t =
+      { put = put ++ item_texts (items wanted (site q holder previous) rest) }
+  shown-after p q padded w outer n m v holder previous es put rest d e t o =
       then_shown (start p padded w outer n) (start q (is_padding previous) v outer m) put es (events rest) e
       ∙ ap (λ (l : List ℕ). record (effect_of dump_step (start q (is_padding previous) v outer m) (events rest))
       { put = put ++ l })
-      (t.text m)
+      (t.text m o)
 
   abbrev pub Known : Place → Option HeaderValue → Previous → HolderFrame → List HolderFrame → Type 0
   Known p holder previous w outer =
@@ -103,79 +108,79 @@ module _ (with_text : Bool) (style : Layout) (names : NamesValue) (rules : Rules
 
   -- an element that holds others begins
   pub opened-shown : (p : Place) (holder : Option HeaderValue) (previous : Previous) (w : HolderFrame)
-      (outer : List HolderFrame) (n : ℕ) (h : HeaderValue)
+      (outer : List HolderFrame) (n : Kept) (h : HeaderValue)
       → Known p holder previous w outer
       → h.offset ≡ p.offset → p.depth < 128 → p.offset + length (opening h) ≤ 2 ^ 64 - 1
       → effect_of dump_step (start p (is_padding previous) w outer n) (opening_events h)
-      ≡ effect_with (start (place_of_children p h) false (frame_under w h) (w ∷ outer) (later_header rules w h n))
-      (styled_lines (Dump style.pure) (length outer) h.offset (header_findings_in rules (surroundings_in w) h)
+      ≡ effect_with (start (place_of_children p h) false (frame_under w h) (with_element w ∷ outer) (later_header wanted w h n))
+      (styled_lines (Dump style.pure) (length outer) h.offset (header_findings_in wanted (surroundings_in w) h)
       ++ opening_line (layout_at style p.depth) h (opening_word h.constructed))
   opened-shown p holder previous w outer n h k there low far =
-      opens-by (lines_between with_text style names p.depth p.offset (is_padding previous)) (check_between rules w outer n) h
+      opens-by (lines_between with_text style names p.depth p.offset (is_padding previous)) (check_between wanted w outer n) h
       h.constructed (h.number == 3)
       ∙ ap₂
       (λ (d : Effect LinesState) (f : FinderState). effect_with (dump_state d.state f.kept)
       (texts style f ++ d.put))
       (holder_shown with_text style names p.depth p.offset (is_padding previous) h there (omega (arith, low)) far)
-      (opened-find rules w outer n h (omega (arith, k.1, low)))
+      (opened-find wanted w outer n h (omega (arith, k.1, low)))
 
   -- a primitive
-  pub primitive-shown : (p : Place) (padded : Bool) (w : HolderFrame) (outer : List HolderFrame) (n : ℕ)
+  pub primitive-shown : (p : Place) (padded : Bool) (w : HolderFrame) (outer : List HolderFrame) (n : Kept)
       (h : HeaderValue) (c : List ℕ)
       → h.offset ≡ p.offset → HasAllContents h c
       → p.offset + (length (octets_of h) + length c) ≤ 2 ^ 64 - 1
       → effect_of dump_step (start p padded w outer n) (Begin h ∷ Bytes c ∷ End ∷ [])
       ≡ effect_with
-      (start (place_after p (length (octets_of h) + length c)) false (after_primitive rules w h c) outer
-      (after_contents rules w h c n))
-      (styled_lines (Dump style.pure) (length outer) h.offset (header_findings_in rules (surroundings_in w) h)
+      (start (place_after p (length (octets_of h) + length c)) false (after_primitive wanted w h c) outer
+      (after_contents wanted w h c n))
+      (styled_lines (Dump style.pure) (length outer) h.offset (header_findings_in wanted (surroundings_in w) h)
       ++ (whole_lines_with with_text (finite.get names) h (layout_at style p.depth) c
-      ++ styled_lines (Dump style.pure) (length outer) h.offset (contents_findings rules h c)))
+      ++ styled_lines (Dump style.pure) (length outer) h.offset (found_in_contents wanted h c n)))
   primitive-shown p padded w outer n h c there size far =
-      primitive-by (lines_between with_text style names p.depth p.offset padded) (check_between rules w outer n) h c
+      primitive-by (lines_between with_text style names p.depth p.offset padded) (check_between wanted w outer n) h c
       ∙ ap₂
       (λ (d : Effect LinesState) (f : FinderState). effect_with (dump_state d.state f.kept)
-      (styled_lines (Dump style.pure) (length outer) h.offset (header_findings_in rules (surroundings_in w) h)
+      (styled_lines (Dump style.pure) (length outer) h.offset (header_findings_in wanted (surroundings_in w) h)
       ++ (d.put ++ texts style f)))
       (primitive_shown with_text style names p.depth p.offset padded h c there size far)
-      (primitive-find rules w outer n h c size)
+      (primitive-find wanted w outer n h c size)
 
   -- an element that holds others ends
-  pub closed-shown : (p : Place) (w : HolderFrame) (outer : List HolderFrame) (n : ℕ) (h : HeaderValue)
+  pub closed-shown : (p : Place) (w : HolderFrame) (outer : List HolderFrame) (n : Kept) (h : HeaderValue)
       (inside : Forest)
       → ObeysGrammar (place_of_children p h) inside → is_whole inside ≡ true → h.offset ≡ p.offset
-      → AllowsSize h.constructed h.size → p.offset + extent h inside ≤ 2 ^ 64 - 1
+      → AllowsSize h.constructed h.size → p.offset + extent h inside ≤ 2 ^ 64 - 1 → HasItsOffset wanted h inside n
       → effect_of dump_step
       (dump_state
       (lines_between with_text style names (p.depth + 1) (p.offset + length (opening h) + length (spelling inside)) false)
-      (check_between rules (frame_after_elements (frame_under w h) inside) (w ∷ outer) n))
+      (check_between wanted (frame_after_elements (frame_under w h) inside) (with_element w ∷ outer) n))
       (closing_event h inside ∷ [])
       ≡ effect_with
       (start (place_after p (extent h inside)) false
-      (frame_after w (is_primitive h) (announced_length h.size) false) outer (after_end rules h inside n))
+      (frame_after (with_element w) (is_primitive h) (announced_length h.size) false) outer (after_end wanted h inside n))
       (closing_line (layout_at style p.depth) (end_octets_offset h inside)
-      ++ styled_lines (Dump style.pure) (length outer) h.offset (end_findings rules h (headers inside)))
-  closed-shown p w outer n h inside v whole there allowed far =
+      ++ styled_lines (Dump style.pure) (length outer) h.offset (found_at_end wanted h inside n))
+  closed-shown p w outer n h inside v whole there allowed far known =
       let end : ℕ = p.offset + length (opening h) + length (spelling inside) in
       let close : List ℕ =
       closing_line (layout_at style p.depth) (end_octets_offset h inside) in
       let last : List ℕ =
-      styled_lines (Dump style.pure) (length outer) h.offset (end_findings rules h (headers inside)) in
+      styled_lines (Dump style.pure) (length outer) h.offset (found_at_end wanted h inside n) in
       let after : CheckState =
-      check_between rules (frame_after w (is_primitive h) (announced_length h.size) false) outer
-      (after_end rules h inside n) in
+      check_between wanted (frame_after (with_element w) (is_primitive h) (announced_length h.size) false) outer
+      (after_end wanted h inside n) in
       closes-by (lines_between with_text style names (p.depth + 1) end false)
-      (check_between rules (frame_after_elements (frame_under w h) inside) (w ∷ outer) n)
+      (check_between wanted (frame_after_elements (frame_under w h) inside) (with_element w ∷ outer) n)
       (end_offset h.size (h.offset + length (opening h) + length (spelling inside))) h.constructed
       ∙ ap₂
       (λ (d : Effect LinesState) (f : FinderState). effect_with (dump_state d.state f.kept)
       (d.put ++ texts style f))
       (closer_shown with_text style names p.depth end h inside (omega (arith, there)) allowed (omega (arith, far)))
-      (closed-find rules (place_of_children p h) w outer n h inside v whole)
+      (closed-find wanted (place_of_children p h) w outer n h inside v whole)
       ∙ ap (λ (l : List ℕ). effect_with
       (dump_state (lines_between with_text style names p.depth (end + length (end_octets h.size)) false) after) (close ++ l))
-      (offset-under rules (place_of_children p h) w h inside v whole (styled_lines (Dump style.pure) (length outer))
-      (λ offset. refl))
+      (offset-at_end wanted (place_of_children p h) w h inside n v whole known
+      (styled_lines (Dump style.pure) (length outer)) (λ offset. refl))
       ∙ ap (λ (offset : ℕ). effect_with (dump_state (lines_between with_text style names p.depth offset false) after)
       (close ++ last))
       (omega arith)

@@ -19,13 +19,26 @@ use Rattle.tlv_walk.specs.Forest.{OpenBitString, OpenHeader, OpenEndOctets, exte
 use Rattle.tlv_walk.specs.Forest.{spelling}
 use Rattle.tlv_walk.specs.Place.{ObeysGrammar, Place, place_after, place_of_children}
 use Rattle.tlv_walk.proofs.GrammarLemmas.Spellings.{length-holder, length-primitive}
+use Rattle.tlv_show.specs.SetOrder.{Element, holder_element, primitive_element}
+use Rattle.tlv_show.specs.FinderState.{SeenState}
+use Rattle.tlv_show.specs.ShownFindings.{last_findings, with_order_if}
+use Rattle.tlv_show.proofs.SegmentLemmas.Seen.{HasPassed, HasSeen, HasSeenAll, after-holder, after-primitive}
+use Rattle.tlv_show.proofs.SegmentLemmas.Seen.{has_wrong_string, holder-seen, is_wrong_held, nothing-seen, opened-seen}
+use Rattle.tlv_show.proofs.SegmentLemmas.Seen.{passed-found, passed-offset, passed-seen, primitive-seen, seen-padding}
+use Rattle.tlv_show.proofs.SegmentLemmas.Seen.{seen_held, seen_whole, some-string, string-seen}
+use Rattle.tlv_show.specs.SegmentCharacters.{has_wrong_octet}
+use Rattle.tlv_show.specs.Items.{held_findings}
+use Rattle.tlv_show.specs.ShownFindings.{with_characters_if}
+use Rattle.std.specs.Option.{is_some}
+use Rattle.tlv_show.proofs.FindingLemmas.FinderSteps.{Kept, found_in_contents}
 use Rattle.tlv_show.specs.declared.holder_frame.HolderFrame.{HolderFrame}
-use Rattle.tlv_show.specs.declared.rules.Rules.{Rules}
+use Rattle.tlv_show.specs.declared.wanted.Wanted.{Wanted}
 use Rattle.tlv_show.specs.declared.finding_lines.Style.TheVariants.{Dump}
 use Rattle.tlv_show.specs.FindingLines.{styled_lines}
 use Rattle.tlv_show.specs.LinesStep.{LinesState}
 use Rattle.tlv_show.specs.DumpStep.{DumpState, dump_step}
 use Rattle.tlv_show.specs.NestingState.{frame_after, frame_under, surroundings_in}
+use Rattle.tlv_show.specs.NestingState.{with_element}
 use Rattle.tlv_show.specs.KeptConditions.{header_findings_in}
 use Rattle.tlv_show.specs.ShownFindings.{contents_findings, header_findings, end_findings}
 use Rattle.tlv_show.specs.Items.{Item, OpeningLine, ClosingLine, PrimitiveLines, OpenPrimitiveLines}
@@ -50,213 +63,243 @@ use Rattle.tlv_show.proofs.DumpLemmas.DumpItems.{primitive-shown}
 use Rattle.tlv_show.proofs.DumpLemmas.DumpItems.{shown-after, site, item_texts-append, start}
 
 -- elements, in this style, with these names and rules
-module _ (with_text : Bool) (style : Layout) (names : NamesValue) (rules : Rules) where
+module _ (with_text : Bool) (style : Layout) (names : NamesValue) (wanted : Wanted) where
   pub shows_forest : (p : Place) (holder : Option HeaderValue) (previous : Previous) (w : HolderFrame)
       (outer : List HolderFrame) (f : Forest)
       → ObeysGrammar p f → p.offset + length (spelling f) ≤ 2 ^ 64 - 1
-      → Known with_text style names rules p holder previous w outer
-      → IsShown with_text style names rules p holder previous w outer f
+      → Known with_text style names wanted p holder previous w outer
+      → IsShown with_text style names wanted p holder previous w outer f
   shows_forest p holder previous w outer NoMore v b k = record {
-    text = λ n. refl;
+    text = λ n o. refl;
     after =
-        λ n
+        λ n o held
         e. (
           n,
           ap (λ (offset : ℕ). dump_state (lines_between with_text style names p.depth offset (is_padding previous))
-              (check_between rules w outer n))
+              (check_between wanted w outer n))
               (omega arith),
+          nothing-seen wanted n.seen,
         );
   }
   shows_forest p holder previous w outer (PaddingOctet rest) v b k =
-      let s : Site = site with_text style names rules p holder previous in
+      let s : Site = site with_text style names wanted p holder previous in
       let t =
       shows_forest (place_after p 1) holder Padding w outer rest v.1 (omega (arith, b))
       (knows-padding w s k.0 (k.2 v.0.0), k.1, k.2) in
-      let one : (n : ℕ)
-      → effect_of dump_step (start with_text style names rules p (is_padding previous) w outer n) (Pad (0 ∷ []) ∷ [])
-      ≡ effect_with (start with_text style names rules (place_after p 1) true w outer n)
+      let one : (n : Kept)
+      → effect_of dump_step (start with_text style names wanted p (is_padding previous) w outer n) (Pad (0 ∷ []) ∷ [])
+      ≡ effect_with (start with_text style names wanted (place_after p 1) true w outer n)
       (if is_padding previous then [] else padding_line (layout_at style p.depth) p.offset) =
-      λ n. ap (λ (d : Effect LinesState). effect_with (dump_state d.state (check_between rules w outer n)) d.put)
+      λ n. ap (λ (d : Effect LinesState). effect_with (dump_state d.state (check_between wanted w outer n)) d.put)
       (fill_shown with_text style names p.depth p.offset (is_padding previous) (omega (arith, b))) in
       let all =
-      λ (n : ℕ). shown-after with_text style names rules p (place_after p 1) (is_padding previous) w outer n n w holder Padding
+      λ (n : Kept) (o : HasSeen wanted s n.seen). shown-after with_text style names wanted p (place_after p 1) (is_padding previous) w outer n n w holder Padding
       (Pad (0 ∷ []) ∷ [])
       (if is_padding previous then [] else padding_line (layout_at style p.depth) p.offset) rest refl
-      (one n) t in
+      (one n) t (seen-padding wanted s n.seen o (k.2 v.0.0)) in
       record {
         text =
-            λ n. ap (λ (x : Effect DumpState). x.put) (all n)
-            ∙ pads (is_padding previous) p.depth p.offset (items rules (site_after_padding s) rest);
-        after = λ n e.
-            let r = t.after n e in (
-              r.0,
-              ap (λ (x : Effect DumpState). x.state) (all n) ∙ r.1
-                  ∙ ap (λ (offset : ℕ). dump_state
-                  (lines_between with_text style names p.depth offset (ends_in_padding with_text style names true rest))
-                  (check_between rules (frame_after_elements w rest) outer r.0))
-                  (omega arith),
-            );
+            λ n o. ap (λ (x : Effect DumpState). x.put) (all n o)
+            ∙ pads (is_padding previous) p.depth p.offset (items wanted (site_after_padding s) rest);
+        after = λ n o held e. absurd (held (k.2 v.0.0));
       }
     where
       pads : (k : Bool) (level offset : ℕ) (l : List Item)
-          → (if k then [] else padding_line (layout_at style level) offset) ++ item_texts with_text style names rules l
-          ≡ item_texts with_text style names rules ((if k then [] else PaddingLine level offset ∷ []) ++ l)
+          → (if k then [] else padding_line (layout_at style level) offset) ++ item_texts with_text style names wanted l
+          ≡ item_texts with_text style names wanted ((if k then [] else PaddingLine level offset ∷ []) ++ l)
       pads true level offset l = refl
       pads false level offset l = refl
   shows_forest p holder previous w outer (Primitive h c rest) v b k =
-      let s : Site = site with_text style names rules p holder previous in
+      let s : Site = site with_text style names wanted p holder previous in
       let q : Place = place_after p (length (octets_of h) + length c) in
       let size : HasAllContents h c = ap announced_length v.0.1 in
       let form : h.constructed ≡ false = not-constructed h.constructed (wraps h) v.0.0.form in
       let u : Bool = has_unused_bits (value_check_for h c) in
-      let known : Knows (after_primitive rules w h c) (site_after_primitive s h c) =
-      subst (λ (x : Bool). Knows (frame_after w x (announced_length h.size) u) (site_after_primitive s h c))
+      let known : Knows (after_primitive wanted w h c) (site_after_primitive s h c) =
+      subst (λ (x : Bool). Knows (frame_after (with_element w) x (announced_length h.size) u) (site_after_primitive s h c))
       (ap not form)
-      (knows-after w s (site_after_primitive s h c) h (first_contents_octet c) u k.0 refl refl (unused-of h c form)) in
+      (knows-after (with_element w) s (site_after_primitive s h c) h (first_contents_octet c) (primitive_element h c).octets
+      u k.0 refl refl (unused-of h c (primitive_element h c).octets form)) in
       let t =
-      shows_forest q holder (Sibling h (first_contents_octet c)) (after_primitive rules w h c) outer rest v.1
+      shows_forest q holder (Sibling h (first_contents_octet c) (primitive_element h c).octets) (after_primitive wanted w h c) outer rest v.1
       (omega (arith, b, length-primitive h c rest)) (known, k.1, k.2) in
+      let e : Element = primitive_element h c in
+      let wrong : ℕ → Bool = λ k. has_wrong_octet k c in
+      let next : (n : Kept) → HasSeen wanted s n.seen
+      → HasSeen wanted (site_after_primitive s h c) (seen_whole wanted n.seen h c) =
+      λ n o. passed-seen wanted s (site_after_primitive s h c) n.seen e wrong (seen_whole wanted n.seen h c) o
+      (primitive-seen wanted s n.seen h c o form) refl refl refl in
       let all =
-      λ (n : ℕ). shown-after with_text style names rules p q (is_padding previous) w outer n (after_contents rules w h c n)
-      (after_primitive rules w h c) holder (Sibling h (first_contents_octet c)) (Begin h ∷ Bytes c ∷ End ∷ []) _ rest
+      λ (n : Kept) (o : HasSeen wanted s n.seen).
+      shown-after with_text style names wanted p q (is_padding previous) w outer n (after_contents wanted w h c n)
+      (after_primitive wanted w h c) holder (Sibling h (first_contents_octet c) (primitive_element h c).octets) (Begin h ∷ Bytes c ∷ End ∷ []) _ rest
       refl
-      (primitive-shown with_text style names rules p (is_padding previous) w outer n h c v.0.0.header.offset size
+      (primitive-shown with_text style names wanted p (is_padding previous) w outer n h c v.0.0.header.offset size
       (omega (arith, b, length-primitive h c rest)))
-      t in
-      let others : List Item = items rules (site_after_primitive s h c) rest in
+      t (next n o) in
+      let others : List Item = items wanted (site_after_primitive s h c) rest in
       record {
-        text = λ n.
-            ap (λ (x : Effect DumpState). x.put) (all n)
+        text = λ n o.
+            ap (λ (x : Effect DumpState). x.put) (all n o)
             ∙ three
-            (styled_lines (Dump style.pure) (length outer) h.offset (header_findings_in rules (surroundings_in w) h))
+            (styled_lines (Dump style.pure) (length outer) h.offset (header_findings_in wanted (surroundings_in w) h))
             (whole_lines_with with_text (finite.get names) h (layout_at style p.depth) c)
-            (styled_lines (Dump style.pure) (length outer) h.offset (contents_findings rules h c))
-            (item_texts with_text style names rules others)
-            ∙ found-first with_text style names rules (length outer) p.depth h.offset
-            (header_findings_in rules (surroundings_in w) h)
-            (header_findings rules s h)
-            _ (PrimitiveLines p.depth h c ∷ (finding_items p.depth h.offset (contents_findings rules h c) ++ others))
-            k.1 (header-same rules w s h k.0)
+            (styled_lines (Dump style.pure) (length outer) h.offset (found_in_contents wanted h c n))
+            (item_texts with_text style names wanted others)
+            ∙ found-first with_text style names wanted (length outer) p.depth h.offset
+            (header_findings_in wanted (surroundings_in w) h)
+            (header_findings wanted s h)
+            _ (PrimitiveLines p.depth h c ∷ (finding_items p.depth h.offset (last_findings wanted s e (contents_findings wanted h c)) ++ others))
+            k.1 (header-same wanted w s h k.0)
             (ap (λ (l : List ℕ). whole_lines_with with_text (finite.get names) h (layout_at style p.depth) c ++ l)
-            (found-first with_text style names rules (length outer) p.depth h.offset (contents_findings rules h c)
-            (contents_findings rules h c) (item_texts with_text style names rules others) others k.1 refl refl));
-        after = λ n e.
-            let r = t.after (after_contents rules w h c n) e in (
+            (found-first with_text style names wanted (length outer) p.depth h.offset (found_in_contents wanted h c n)
+            (last_findings wanted s e (contents_findings wanted h c)) (item_texts with_text style names wanted others) others
+            k.1
+            (ap (λ (b : Bool). with_order_if b (contents_findings wanted h c))
+            (passed-found wanted s n.seen e wrong (seen_whole wanted n.seen h c) o (primitive-seen wanted s n.seen h c o form)))
+            refl));
+        after = λ n o held x.
+            let r = t.after (after_contents wanted w h c n) (next n o) held x in (
               r.0,
-              ap (λ (x : Effect DumpState). x.state) (all n) ∙ r.1
+              ap (λ (x : Effect DumpState). x.state) (all n o) ∙ r.1
                   ∙ ap (λ (offset : ℕ). dump_state
                   (lines_between with_text style names p.depth offset (ends_in_padding with_text style names false rest))
-                  (check_between rules (frame_after_elements (after_primitive rules w h c) rest) outer r.0))
+                  (check_between wanted (frame_after_elements (after_primitive wanted w h c) rest) outer r.0))
                   (omega (arith, length-primitive h c rest)),
+              after-primitive wanted s n.seen h c rest (seen_whole wanted n.seen h c) r.0.seen o
+                  (primitive-seen wanted s n.seen h c o form) r.2,
             );
       }
     where
       three : (a b c d : List ℕ) → (a ++ (b ++ c)) ++ d ≡ a ++ (b ++ (c ++ d))
       three a b c d = simp append_assoc
   shows_forest p holder previous w outer (Holder h inside rest) v b k =
-      let s : Site = site with_text style names rules p holder previous in
+      let s : Site = site with_text style names wanted p holder previous in
       let q : Place = place_after p (extent h inside) in
       let i_place : Place = place_of_children p h in
       let size = length-holder h inside rest in
       let i =
-      shows_forest i_place (Some h) Start (frame_under w h) (w ∷ outer) inside v.1 (omega (arith, b, size))
+      shows_forest i_place (Some h) Start (frame_under w h) (with_element w ∷ outer) inside v.1 (omega (arith, b, size))
       (knows-inside w s h, omega (arith, k.1), λ e. absurd (cc (e))) in
       let t =
-      shows_forest q holder (Sibling h None) (frame_after w (is_primitive h) (announced_length h.size) false)
+      shows_forest q holder (Sibling h None (holder_element h inside).octets) (frame_after (with_element w) (is_primitive h) (announced_length h.size) false)
       outer rest v.2 (omega (arith, b, size))
-      (knows-after w s (site_after_holder s h inside) h None false k.0 refl refl refl, k.1, k.2) in
+      (knows-after (with_element w) s (site_after_holder s h inside) h None (holder_element h inside).octets false k.0 refl refl refl, k.1, k.2) in
       let end : ℕ = p.offset + length (opening h) + length (spelling inside) in
       let line : List ℕ = opening_line (layout_at style p.depth) h (opening_word h.constructed) in
       let close : List ℕ =
       closing_line (layout_at style p.depth) (end_octets_offset h inside) in
       let first : List ℕ =
-      styled_lines (Dump style.pure) (length outer) h.offset (header_findings_in rules (surroundings_in w) h) in
+      styled_lines (Dump style.pure) (length outer) h.offset (header_findings_in wanted (surroundings_in w) h) in
       let last : List ℕ =
       styled_lines (Dump style.pure) (length outer) h.offset
-      (end_findings rules h (headers inside)) in
-      let held : List ℕ = item_texts with_text style names rules (items rules (site_of_children s h) inside) in
-      let held-shown : (m : ℕ)
-      → (r : ℕ)
-      × (effect_of dump_step (start with_text style names rules i_place false (frame_under w h) (w ∷ outer) m) (events inside)
+      (last_findings wanted s (holder_element h inside) (held_findings wanted h inside)) in
+      let e : Element = holder_element h inside in
+      let wrong : ℕ → Bool = is_wrong_held wanted h inside in
+      let held : List ℕ = item_texts with_text style names wanted (items wanted (site_of_children s h) inside) in
+      let held-shown : (m : Kept) → HasSeen wanted (site_of_children s h) m.seen
+      → (r : Kept)
+      × (effect_of dump_step (start with_text style names wanted i_place false (frame_under w h) (with_element w ∷ outer) m) (events inside)
       ≡ effect_with
       (dump_state (lines_between with_text style names (p.depth + 1) end false)
-      (check_between rules (frame_after_elements (frame_under w h) inside) (w ∷ outer) r))
-      held) =
-      λ m.
-      let r = i.after m v.0.1 in (
+      (check_between wanted (frame_after_elements (frame_under w h) inside) (with_element w ∷ outer) r))
+      held)
+      × HasSeenAll wanted m.seen inside r.seen =
+      λ m o.
+      let r = i.after m o (λ x. absurd (cc (x))) v.0.1 in (
         r.0,
-        as_shows (start with_text style names rules i_place false (frame_under w h) (w ∷ outer) m) _ (events inside) held
+        as_shows (start with_text style names wanted i_place false (frame_under w h) (with_element w ∷ outer) m) _ (events inside) held
             (r.1
             ∙ ap (λ (x : Bool). dump_state (lines_between with_text style names (p.depth + 1) end x)
-            (check_between rules (frame_after_elements (frame_under w h) inside) (w ∷ outer) r.0))
+            (check_between wanted (frame_after_elements (frame_under w h) inside) (with_element w ∷ outer) r.0))
             (no_padding with_text style names i_place inside refl v.1))
-            (i.text m),
+            (i.text m o),
+        r.2,
       ) in
-      let element : (n : ℕ)
-      → (m : ℕ)
-      × (effect_of dump_step (start with_text style names rules p (is_padding previous) w outer n)
+      let element : (n : Kept) → HasSeen wanted s n.seen
+      → (m : Kept)
+      × HasPassed wanted n.seen e wrong m.seen
+      × (effect_of dump_step (start with_text style names wanted p (is_padding previous) w outer n)
       (opening_events h ++ (events inside ++ closing_event h inside ∷ []))
       ≡ effect_with
-      (start with_text style names rules q false (frame_after w (is_primitive h) (announced_length h.size) false) outer m)
+      (start with_text style names wanted q false (frame_after (with_element w) (is_primitive h) (announced_length h.size) false) outer m)
       ((first ++ line) ++ (held ++ (close ++ last)))) =
-      λ n.
-      let a : ℕ = later_header rules w h n in
-      let r = held-shown a in (
-        after_end rules h inside r.0,
-        then_shown (start with_text style names rules p (is_padding previous) w outer n)
-            (start with_text style names rules i_place false (frame_under w h) (w ∷ outer) a)
+      λ n o.
+      let a : Kept = later_header wanted w h n in
+      let r = held-shown a (opened-seen wanted s n.seen h o v.0.0.shallow) in
+      let taken = holder-seen wanted s n.seen h inside r.0.seen o v.0.0.shallow v.0.0.header.valid.allowed r.2 in
+      let closed : SeenState = seen_held wanted r.0.seen h inside in
+      let string = string-seen wanted s n.seen h inside r.0.seen o v.0.0.shallow r.2 in (
+        after_end wanted h inside r.0,
+        taken,
+        then_shown (start with_text style names wanted p (is_padding previous) w outer n)
+            (start with_text style names wanted i_place false (frame_under w h) (with_element w ∷ outer) a)
             (first ++ line) (opening_events h) (events inside ++ closing_event h inside ∷ [])
-            (opened-shown with_text style names rules p holder previous w outer n h k v.0.0.header.offset v.0.0.shallow
+            (opened-shown with_text style names wanted p holder previous w outer n h k v.0.0.header.offset v.0.0.shallow
             (omega (arith, b, size)))
             ∙ ap (λ (x : Effect DumpState). record x { put = (first ++ line) ++ x.put })
-            (then_shown (start with_text style names rules i_place false (frame_under w h) (w ∷ outer) a)
+            (then_shown (start with_text style names wanted i_place false (frame_under w h) (with_element w ∷ outer) a)
             (dump_state (lines_between with_text style names (p.depth + 1) end false)
-            (check_between rules (frame_after_elements (frame_under w h) inside) (w ∷ outer) r.0))
+            (check_between wanted (frame_after_elements (frame_under w h) inside) (with_element w ∷ outer) r.0))
             held (events inside) (closing_event h inside ∷ []) r.1
             ∙ ap (λ (x : Effect DumpState). record x { put = held ++ x.put })
-            (closed-shown with_text style names rules p w outer r.0 h inside v.1 v.0.1 v.0.0.header.offset
-            v.0.0.header.valid.allowed (omega (arith, b, size)))),
+            (closed-shown with_text style names wanted p w outer r.0 h inside v.1 v.0.1 v.0.0.header.offset
+            v.0.0.header.valid.allowed (omega (arith, b, size)) (passed-offset wanted s n.seen e wrong closed o taken, has_wrong_string wanted h inside, string)
+            ∙ ap₂ (λ (x y : Bool). effect_with
+            (start with_text style names wanted q false
+            (frame_after (with_element w) (is_primitive h) (announced_length h.size) false) outer
+            (after_end wanted h inside r.0))
+            (close
+            ++ styled_lines (Dump style.pure) (length outer) h.offset
+            (with_order_if x (with_characters_if y (end_findings wanted h (headers inside))))))
+            (passed-found wanted s n.seen e wrong closed o taken)
+            (ap is_some string ∙ some-string wanted (has_wrong_string wanted h inside) h.offset))),
       ) in
       let es : List EventValue = opening_events h ++ (events inside ++ closing_event h inside ∷ []) in
       let joined : es ++ events rest ≡ opening_events h ++ (events inside ++ closing_event h inside ∷ events rest) =
       append_assoc (opening_events h) (events inside ++ closing_event h inside ∷ []) (events rest)
       ∙ ap (λ (l : List EventValue). opening_events h ++ l)
       (append_assoc (events inside) (closing_event h inside ∷ []) (events rest)) in
-      let all = λ (n : ℕ).
-      ap (effect_of dump_step (start with_text style names rules p (is_padding previous) w outer n)) (sym joined)
-      ∙ shown-after with_text style names rules p q (is_padding previous) w outer n (element n).0
-      (frame_after w (is_primitive h) (announced_length h.size) false) holder (Sibling h None) es
-      ((first ++ line) ++ (held ++ (close ++ last))) rest refl (element n).1 t in
-      let others : List Item = items rules (site_after_holder s h inside) rest in
+      let next : (n : Kept) (o : HasSeen wanted s n.seen)
+      → HasSeen wanted (site_after_holder s h inside) (element n o).0.seen =
+      λ n o. passed-seen wanted s (site_after_holder s h inside) n.seen e wrong (element n o).0.seen o (element n o).1 refl
+      refl refl in
+      let all = λ (n : Kept) (o : HasSeen wanted s n.seen).
+      ap (effect_of dump_step (start with_text style names wanted p (is_padding previous) w outer n)) (sym joined)
+      ∙ shown-after with_text style names wanted p q (is_padding previous) w outer n (element n o).0
+      (frame_after (with_element w) (is_primitive h) (announced_length h.size) false) holder (Sibling h None (holder_element h inside).octets) es
+      ((first ++ line) ++ (held ++ (close ++ last))) rest refl (element n o).2 t (next n o) in
+      let others : List Item = items wanted (site_after_holder s h inside) rest in
       let closing : List Item =
       ClosingLine p.depth (end_octets_offset h inside)
-      ∷ (finding_items p.depth h.offset (end_findings rules h (headers inside)) ++ others) in
+      ∷ (finding_items p.depth h.offset (last_findings wanted s e (held_findings wanted h inside)) ++ others) in
       record {
-        text = λ n.
-            ap (λ (x : Effect DumpState). x.put) (all n)
-            ∙ six first line held close last (item_texts with_text style names rules others)
-            ∙ found-first with_text style names rules (length outer) p.depth h.offset
-            (header_findings_in rules (surroundings_in w) h)
-            (header_findings rules s h)
-            _ (OpeningLine p.depth h ∷ (items rules (site_of_children s h) inside ++ closing)) k.1
-            (header-same rules w s h k.0)
+        text = λ n o.
+            ap (λ (x : Effect DumpState). x.put) (all n o)
+            ∙ six first line held close last (item_texts with_text style names wanted others)
+            ∙ found-first with_text style names wanted (length outer) p.depth h.offset
+            (header_findings_in wanted (surroundings_in w) h)
+            (header_findings wanted s h)
+            _ (OpeningLine p.depth h ∷ (items wanted (site_of_children s h) inside ++ closing)) k.1
+            (header-same wanted w s h k.0)
             (ap (λ (l : List ℕ). line ++ l)
             (ap (λ (l : List ℕ). held ++ (close ++ l))
-            (found-first with_text style names rules (length outer) p.depth h.offset
-            (end_findings rules h (headers inside))
-            (end_findings rules h (headers inside)) (item_texts with_text style names rules others) others k.1
+            (found-first with_text style names wanted (length outer) p.depth h.offset
+            (last_findings wanted s e (held_findings wanted h inside))
+            (last_findings wanted s e (held_findings wanted h inside)) (item_texts with_text style names wanted others) others k.1
             refl refl)
-            ∙ sym (item_texts-append with_text style names rules (items rules (site_of_children s h) inside) closing)));
-        after = λ n e.
-            let r = t.after (element n).0 e in (
+            ∙ sym (item_texts-append with_text style names wanted (items wanted (site_of_children s h) inside) closing)));
+        after = λ n o held x.
+            let r = t.after (element n o).0 (next n o) held x in (
               r.0,
-              ap (λ (x : Effect DumpState). x.state) (all n) ∙ r.1
+              ap (λ (x : Effect DumpState). x.state) (all n o) ∙ r.1
                   ∙ ap (λ (offset : ℕ). dump_state
                   (lines_between with_text style names p.depth offset (ends_in_padding with_text style names false rest))
-                  (check_between rules
-                  (frame_after_elements (frame_after w (is_primitive h) (announced_length h.size) false) rest) outer
+                  (check_between wanted
+                  (frame_after_elements (frame_after (with_element w) (is_primitive h) (announced_length h.size) false) rest) outer
                   r.0))
                   (omega (arith, size)),
+              after-holder wanted s n.seen h inside rest (element n o).0.seen r.0.seen o (element n o).1 r.2,
             );
       }
     where
@@ -271,56 +314,56 @@ module _ (with_text : Bool) (style : Layout) (names : NamesValue) (rules : Rules
           (all_on s es)
           ∙ ap₂ (λ (u : DumpState) (l : List ℕ). effect_with u l) e f
   shows_forest p holder previous w outer (OpenPrimitive h c) v b k = record {
-    text = λ n.
-        part-by (lines_between with_text style names p.depth p.offset (is_padding previous)) (check_between rules w outer n) h c
-        ∙ found-first with_text style names rules (length outer) p.depth h.offset
-        (header_findings_in rules (surroundings_in w) h)
-        (header_findings rules (site with_text style names rules p holder previous) h)
+    text = λ n o.
+        part-by (lines_between with_text style names p.depth p.offset (is_padding previous)) (check_between wanted w outer n) h c
+        ∙ found-first with_text style names wanted (length outer) p.depth h.offset
+        (header_findings_in wanted (surroundings_in w) h)
+        (header_findings wanted (site with_text style names wanted p holder previous) h)
         _ (OpenPrimitiveLines p.depth h c ∷ []) k.1
-        (header-same rules w (site with_text style names rules p holder previous) h k.0)
+        (header-same wanted w (site with_text style names wanted p holder previous) h k.0)
         (part_shown with_text style names p.depth p.offset (is_padding previous) h c (omega (arith, v.1))
         ∙ sym (append-nil (incomplete_lines_with with_text h (layout_at style p.depth) c)));
-    after = λ n e. absurd (cc (e));
+    after = λ n o held e. absurd (cc (e));
   }
   shows_forest p holder previous w outer (OpenHolder h inside) v b k =
-      let s : Site = site with_text style names rules p holder previous in
+      let s : Site = site with_text style names wanted p holder previous in
       let size = length-append (opening h) (spelling inside) in
       let i =
-      shows_forest (place_of_children p h) (Some h) Start (frame_under w h) (w ∷ outer) inside v.1
+      shows_forest (place_of_children p h) (Some h) Start (frame_under w h) (with_element w ∷ outer) inside v.1
       (omega (arith, b, size)) (knows-inside w s h, omega (arith, k.1), λ e. absurd (cc (e))) in
       let first : List ℕ =
-      styled_lines (Dump style.pure) (length outer) h.offset (header_findings_in rules (surroundings_in w) h) in
+      styled_lines (Dump style.pure) (length outer) h.offset (header_findings_in wanted (surroundings_in w) h) in
       let line : List ℕ = opening_line (layout_at style p.depth) h (opening_word h.constructed) in
       record {
-        text = λ n.
+        text = λ n o.
             ap (λ (x : Effect DumpState). x.put)
-            (then_shown (start with_text style names rules p (is_padding previous) w outer n)
-            (start with_text style names rules (place_of_children p h) false (frame_under w h) (w ∷ outer)
-            (later_header rules w h n))
+            (then_shown (start with_text style names wanted p (is_padding previous) w outer n)
+            (start with_text style names wanted (place_of_children p h) false (frame_under w h) (with_element w ∷ outer)
+            (later_header wanted w h n))
             (first ++ line) (opening_events h) (events inside)
-            (opened-shown with_text style names rules p holder previous w outer n h k v.0.0.header.offset v.0.0.shallow
+            (opened-shown with_text style names wanted p holder previous w outer n h k v.0.0.header.offset v.0.0.shallow
             (omega (arith, b, size))))
-            ∙ ap (λ (l : List ℕ). (first ++ line) ++ l) (i.text (later_header rules w h n))
-            ∙ append_assoc first line (item_texts with_text style names rules (items rules (site_of_children s h) inside))
-            ∙ found-first with_text style names rules (length outer) p.depth h.offset
-            (header_findings_in rules (surroundings_in w) h)
-            (header_findings rules s h)
-            _ (OpeningLine p.depth h ∷ items rules (site_of_children s h) inside) k.1
-            (header-same rules w s h k.0) refl;
-        after = λ n e. absurd (cc (e));
+            ∙ ap (λ (l : List ℕ). (first ++ line) ++ l) (i.text (later_header wanted w h n) (opened-seen wanted s n.seen h o v.0.0.shallow))
+            ∙ append_assoc first line (item_texts with_text style names wanted (items wanted (site_of_children s h) inside))
+            ∙ found-first with_text style names wanted (length outer) p.depth h.offset
+            (header_findings_in wanted (surroundings_in w) h)
+            (header_findings wanted s h)
+            _ (OpeningLine p.depth h ∷ items wanted (site_of_children s h) inside) k.1
+            (header-same wanted w s h k.0) refl;
+        after = λ n o held e. absurd (cc (e));
       }
   shows_forest p holder previous w outer (OpenBitString h) v b k = record {
-    text = λ n.
+    text = λ n o.
         append_assoc
-        (styled_lines (Dump style.pure) (length outer) h.offset (header_findings_in rules (surroundings_in w) h))
+        (styled_lines (Dump style.pure) (length outer) h.offset (header_findings_in wanted (surroundings_in w) h))
         (opening_line (layout_at style p.depth) h (opening_word false)) []
-        ∙ found-first with_text style names rules (length outer) p.depth h.offset
-        (header_findings_in rules (surroundings_in w) h)
-        (header_findings rules (site with_text style names rules p holder previous) h)
+        ∙ found-first with_text style names wanted (length outer) p.depth h.offset
+        (header_findings_in wanted (surroundings_in w) h)
+        (header_findings wanted (site with_text style names wanted p holder previous) h)
         _ (OpeningLine p.depth h ∷ []) k.1
-        (header-same rules w (site with_text style names rules p holder previous) h k.0)
+        (header-same wanted w (site with_text style names wanted p holder previous) h k.0)
         (ap (λ (l : List ℕ). l ++ []) (sym (awaiting p.depth h h.constructed v.1)));
-    after = λ n e. absurd (cc (e));
+    after = λ n o held e. absurd (cc (e));
   }
     where
       awaiting : (level : ℕ) (h : HeaderValue) (k : Bool)
@@ -330,10 +373,10 @@ module _ (with_text : Bool) (style : Layout) (names : NamesValue) (rules : Rules
       awaiting level h true e = absurd (cc (e))
       awaiting level h false e = refl
   shows_forest p holder previous w outer (OpenHeader octets) v b k = record {
-    text = λ n. refl;
-    after = λ n e. absurd (cc (e));
+    text = λ n o. refl;
+    after = λ n o held e. absurd (cc (e));
   }
   shows_forest p holder previous w outer OpenEndOctets v b k = record {
-    text = λ n. refl;
-    after = λ n e. absurd (cc (e));
+    text = λ n o. refl;
+    after = λ n o held e. absurd (cc (e));
   }

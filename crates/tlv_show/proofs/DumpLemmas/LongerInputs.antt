@@ -8,32 +8,32 @@ use Rattle.tlv_walk.proofs.FollowerLemmas.FollowedEvents.{each_octet-goes_on, ea
 use Rattle.tlv_walk.proofs.FollowerLemmas.FollowedEvents.{followed-more}
 use Rattle.tlv_walk.proofs.EventLemmas.LongerInputs.{events-prefix}
 use Rattle.tlv_show.specs.CheckStep.{check_octet_step, check_step}
-use Rattle.tlv_show.specs.ShowJob.{top_layout, show_job}
+use Rattle.tlv_show.specs.ShowJob.{top_layout, show_job, wanted_in}
 use Rattle.tlv_show.specs.DumpStep.{DumpState, dump_octet_step, dump_padding_step, dump_step, new_dump_with}
 use Rattle.tlv_show.specs.FinderState.{CheckState, new_check}
 use Rattle.tlv_show.specs.Items.{Item}
 use Rattle.tlv_show.specs.Texts.{check_line, item_text}
-use Rattle.tlv_show.specs.declared.rules.Rules.{Rules}
+use Rattle.tlv_show.specs.declared.wanted.Wanted.{Wanted}
 use Rattle.tlv_show.specs.Laws.{ChecksGoOn, DumpsGoOn, TextGoesOn}
 use Rattle.tlv_show.proofs.FindingLemmas.CheckFolds.{check-shows}
 use Rattle.tlv_show.proofs.DumpLemmas.DumpFolds.{dump-shows}
 use Rattle.tlv_show.proofs.DumpLemmas.ShowJob.{Shower}
 
-module _ {S : Type 0} (next : S → EventValue → Effect S) (first : S) (rules : Rules) (framing : Framing)
-    (text_of : Item → List ℕ) (count_in : S → ℕ) (w : Shower next first rules framing text_of count_in)
+module _ {S : Type 0} (next : S → EventValue → Effect S) (first : S) (wanted : Wanted) (framing : Framing)
+    (text_of : Item → List ℕ) (count_in : S → ℕ) (w : Shower next first wanted framing text_of count_in)
     (alike : (s : S) (xs ys : List EventValue) → AreEqualJoined xs ys → effect_of next s xs ≡ effect_of next s ys) where
   put_both : (s : S) (xs ys : List EventValue)
       → (effect_of next s (xs ++ ys)).put
       ≡ (effect_of next s xs).put ++ (effect_of next (effect_of next s xs).state ys).put
   put_both s xs ys = ap (λ (t : Effect S). t.put) (followed-more next s xs ys (w.goes_on s xs))
 
-  goes_on : TextGoesOn (show_job rules framing text_of)
+  goes_on : TextGoesOn (show_job wanted framing text_of)
   goes_on b c f g few r s =
       let short : length (b ++ c) ≤ 2 ^ 40 = few in
       let more : (others : List EventValue) × AreEqualJoined (events g) (events f ++ others) =
       events-prefix framing b c f g r s in
       let rest : List ℕ = (effect_of next (effect_of next first (events f)).state more.0).put in
-      let shorter : (effect_of next first (events f)).put ≡ (show_job rules framing text_of).text f =
+      let shorter : (effect_of next first (events f)).put ≡ (show_job wanted framing text_of).text f =
       w.put b f (omega (arith, short, length-append b c)) r in (
         rest,
         ap (λ (l : List ℕ). l ++ rest) (sym shorter) ∙ sym (put_both first (events f) more.0)
@@ -42,18 +42,18 @@ module _ {S : Type 0} (next : S → EventValue → Effect S) (first : S) (rules 
       )
 
 pub dumps_on : DumpsGoOn
-dumps_on with_text options names b c f g few r s =
-    goes_on dump_step (new_dump_with with_text options.rules (top_layout options) names) options.rules options.framing
+dumps_on scope with_text options names b c f g few r s =
+    goes_on dump_step (new_dump_with with_text (wanted_in scope options) (top_layout options) names) (wanted_in scope options) options.framing
     (item_text with_text (finite.get names) (top_layout options)) (λ (t : DumpState). t.finder.finding_count)
-    (dump-shows with_text options names)
+    (dump-shows scope with_text options names)
     (followed-alike dump_step (each_octet-joins dump_octet_step) (λ s. refl) (each_octet-goes_on dump_octet_step)
     (each_octet-joins dump_padding_step) (λ s. refl) (each_octet-goes_on dump_padding_step))
     b c f g few r s
 
 pub checks_on : ChecksGoOn
-checks_on rules framing b c f g few r s =
-    goes_on check_step (new_check rules) rules framing check_line (λ (t : CheckState). t.finding_count)
-    (check-shows rules framing)
+checks_on wanted framing b c f g few r s =
+    goes_on check_step (new_check wanted) wanted framing check_line (λ (t : CheckState). t.finding_count)
+    (check-shows wanted framing)
     (followed-alike check_step (each_octet-joins check_octet_step) (λ s. refl) (each_octet-goes_on check_octet_step)
     (λ s x y. refl) (λ s. refl) (λ s x. refl))
     b c f g few r s

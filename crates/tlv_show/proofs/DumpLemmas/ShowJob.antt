@@ -17,23 +17,23 @@ use Rattle.tlv_walk.specs.Reading.{IsReading}
 use Rattle.tlv_walk.specs.Wrappers.{first_without_wrapper}
 use Rattle.tlv_walk.proofs.FollowerLemmas.Jobs as jobs
 use Rattle.tlv_show.specs.declared.outcome.Outcome.{Outcome}
-use Rattle.tlv_show.specs.declared.rules.Rules.{Rules}
+use Rattle.tlv_show.specs.declared.wanted.Wanted.{Wanted}
 use Rattle.tlv_show.specs.Items.{Item}
 use Rattle.tlv_show.specs.ShowJob.{show_job}
 use Rattle.tlv_show.specs.Texts.{finding_count}
 
 -- a follower, and what it makes of readings: the text of their items, and in its state the number of findings
-pub record Shower {S : Type 0} (next : S → EventValue → Effect S) (first : S) (rules : Rules)
+pub record Shower {S : Type 0} (next : S → EventValue → Effect S) (first : S) (wanted : Wanted)
     (framing : Framing) (text_of : Item → List ℕ) (count_in : S → ℕ) : Type 0 where
   pub goes_on : (s : S) (es : List EventValue) → (effect_of next s es).goes ≡ go.On
   pub put : (octets : List ℕ) (f : Forest) → length octets ≤ 2 ^ 40 → IsReading framing octets f
-      → (effect_of next first (events f)).put ≡ (show_job rules framing text_of).text f
+      → (effect_of next first (events f)).put ≡ (show_job wanted framing text_of).text f
   pub counts : (octets : List ℕ) (f : Forest) → length octets ≤ 2 ^ 40 → IsReading framing octets f
-      → count_in (effect_of next first (events f)).state ≡ finding_count rules f
+      → count_in (effect_of next first (events f)).state ≡ finding_count wanted f
 
-module _ {S : Type 0} (next : S → EventValue → Effect S) (first : S) (rules : Rules) (framing : Framing)
+module _ {S : Type 0} (next : S → EventValue → Effect S) (first : S) (wanted : Wanted) (framing : Framing)
     (text_of : Item → List ℕ) (count_in : S → ℕ)
-    (w : Shower next first rules framing text_of count_in) (t : S) (old new : SourceState) (from to : DrainState) where
+    (w : Shower next first wanted framing text_of count_in) (t : S) (old new : SourceState) (from to : DrainState) where
   -- it never has enough
   goes_on : (octets : List ℕ) (f : Forest) → length octets ≤ 2 ^ 40 → IsReading framing octets f
       → had_enough (effect_of next first (events f)).goes ≡ false
@@ -59,10 +59,10 @@ module _ {S : Type 0} (next : S → EventValue → Effect S) (first : S) (rules 
   pub shows_ok : (run : Run) (outcome : Outcome) → outcome.ending ≡ run.ending → outcome.findings ≡ count_in t
       → outcome.unused ≡ run.unused
       → Drives next framing (2 ^ 40) (drive_states first old from) (drive_states t new to) (Ok run)
-      → Runs (show_job rules framing text_of) (device_states old from) (device_states new to) (Ok outcome)
+      → Runs (show_job wanted framing text_of) (device_states old from) (device_states new to) (Ok outcome)
   shows_ok run outcome ending findings unused x =
-      jobs.runs_ok next (show_job rules framing text_of) first w.put goes_on t old new from to run outcome x
-      (λ octets f e few r done state is. outcome_is outcome e (finding_count rules f)
+      jobs.runs_ok next (show_job wanted framing text_of) first w.put goes_on t old new from to run outcome x
+      (λ octets f e few r done state is. outcome_is outcome e (finding_count wanted f)
       (first_without_wrapper framing.inside f)
       (ending ∙ ap (λ (k : Run). k.ending) (is ∙ run_on f e))
       (findings ∙ ap count_in state ∙ w.counts octets f few r)
@@ -70,5 +70,5 @@ module _ {S : Type 0} (next : S → EventValue → Effect S) (first : S) (rules 
 
   pub shows_err : (e : DeviceFault)
       → Drives next framing (2 ^ 40) (drive_states first old from) (drive_states t new to) (Err e)
-      → Runs (show_job rules framing text_of) (device_states old from) (device_states new to) (Err e)
-  shows_err e x = jobs.runs_err next (show_job rules framing text_of) first w.put goes_on t old new from to e x
+      → Runs (show_job wanted framing text_of) (device_states old from) (device_states new to) (Err e)
+  shows_err e x = jobs.runs_err next (show_job wanted framing text_of) first w.put goes_on t old new from to e x

@@ -1,8 +1,9 @@
 -- The frame after all elements, and what is found by it with the end of what holds them.
 use Rattle.std.proofs.Common.{◌≡◌, ℕ, ◌+◌, ◌-◌, ◌&&◌, ◌||◌, ◌==◌, not, Bool, true, false, min, if◌then◌else◌, List, []}
-use Rattle.std.proofs.Common.{◌∷◌, length, refl, sym, ap, ap₂, ◌∙◌, arith, nat_le}
+use Rattle.std.proofs.Common.{suc, ◌∷◌, length, refl, sym, ap, ap₂, ◌∙◌, arith, nat_le}
 use Rattle.std.proofs.Math.Bool.{and_assoc}
 use Rattle.std.proofs.lemmas.Bool.{true≢false}
+use Rattle.std.proofs.lemmas.Bool.Decides.{nat_tests}
 use Rattle.std.specs.List.{fold, list_all}
 use Rattle.tlv_head.specs.Header.{HeaderValue, announced_length, octets_of, wraps}
 use Rattle.tlv_value.specs.declared.finding.Finding.{Finding}
@@ -13,9 +14,10 @@ use Rattle.tlv_walk.specs.Forest.{Forest, NoMore, PaddingOctet, Primitive, Holde
 use Rattle.tlv_walk.specs.Forest.{OpenBitString, OpenHeader, OpenEndOctets, extent, is_whole}
 use Rattle.tlv_walk.specs.Place.{ObeysGrammar, Place, place_after}
 use Rattle.tlv_show.specs.declared.holder_frame.HolderFrame.{HolderFrame}
-use Rattle.tlv_show.specs.declared.rules.Rules.{Rules}
-use Rattle.tlv_show.specs.Conditions.{bits_octet_count, ends_empty}
+use Rattle.tlv_show.specs.declared.wanted.Wanted.{Wanted}
+use Rattle.tlv_show.specs.Conditions.{bits_octet_count, ends_empty, has_components, length_as_primitive}
 use Rattle.tlv_show.specs.NestingState.{frame_after, frame_after_segment, frame_of, frame_under, top_frame, segments_in}
+use Rattle.tlv_show.specs.NestingState.{with_element}
 use Rattle.tlv_show.specs.Items.{headers}
 use Rattle.tlv_show.proofs.FindingLemmas.HeaderFindings.{end-by, ends_by}
 use Rattle.tlv_show.specs.KeptConditions.{end_findings_in}
@@ -28,10 +30,10 @@ frame_after_elements w NoMore = w
 frame_after_elements w (PaddingOctet rest) = frame_after_elements w rest
 frame_after_elements w (Primitive h c rest) =
     frame_after_elements
-    (frame_after w true (announced_length h.size) (has_unused_bits (value_check_for h c)))
+    (frame_after (with_element w) true (announced_length h.size) (has_unused_bits (value_check_for h c)))
     rest
 frame_after_elements w (Holder h inside rest) =
-    frame_after_elements (frame_after w (is_primitive h) (announced_length h.size) false) rest
+    frame_after_elements (frame_after (with_element w) (is_primitive h) (announced_length h.size) false) rest
 frame_after_elements w (OpenPrimitive h c) = w
 frame_after_elements w (OpenHolder h inside) = w
 frame_after_elements w (OpenBitString h) = w
@@ -44,11 +46,11 @@ frame_after_segments w NoMore = w
 frame_after_segments w (PaddingOctet rest) = frame_after_segments w rest
 frame_after_segments w (Primitive h c rest) =
     frame_after_segments
-    (frame_after_segment w true (announced_length h.size)
+    (frame_after_segment (with_element w) true (announced_length h.size)
     (has_unused_bits (value_check_for h c)))
     rest
 frame_after_segments w (Holder h inside rest) =
-    frame_after_segments (frame_after_segment w (is_primitive h) (announced_length h.size) false) rest
+    frame_after_segments (frame_after_segment (with_element w) (is_primitive h) (announced_length h.size) false) rest
 frame_after_segments w (OpenPrimitive h c) = w
 frame_after_segments w (OpenHolder h inside) = w
 frame_after_segments w (OpenBitString h) = w
@@ -61,72 +63,104 @@ all-in-string w NoMore e = refl
 all-in-string w (PaddingOctet rest) e = all-in-string w rest e
 all-in-string w (Primitive h c rest) e =
     let u : Bool = has_unused_bits (value_check_for h c) in
-    ap (λ (t : HolderFrame). frame_after_elements t rest) (in-string w true (announced_length h.size) u e)
-    ∙ all-in-string (frame_after_segment w true (announced_length h.size) u) rest e
+    ap (λ (t : HolderFrame). frame_after_elements t rest) (in-string (with_element w) true (announced_length h.size) u e)
+    ∙ all-in-string (frame_after_segment (with_element w) true (announced_length h.size) u) rest e
 all-in-string w (Holder h inside rest) e =
     ap (λ (t : HolderFrame). frame_after_elements t rest)
-    (in-string w (is_primitive h) (announced_length h.size) false e)
-    ∙ all-in-string (frame_after_segment w (is_primitive h) (announced_length h.size) false) rest e
+    (in-string (with_element w) (is_primitive h) (announced_length h.size) false e)
+    ∙ all-in-string (frame_after_segment (with_element w) (is_primitive h) (announced_length h.size) false) rest e
 all-in-string w (OpenPrimitive h c) e = refl
 all-in-string w (OpenHolder h inside) e = refl
 all-in-string w (OpenBitString h) e = refl
 all-in-string w (OpenHeader octets) e = refl
 all-in-string w OpenEndOctets e = refl
 
-all-outside : (w : HolderFrame) (f : Forest) → w.has_segments ≡ false → frame_after_elements w f ≡ w
-all-outside w NoMore e = refl
-all-outside w (PaddingOctet rest) e = all-outside w rest e
-all-outside w (Primitive h c rest) e =
-    ap (λ (t : HolderFrame). frame_after_elements t rest)
-    (outside w true (announced_length h.size) (has_unused_bits (value_check_for h c)) e)
-    ∙ all-outside w rest e
-all-outside w (Holder h inside rest) e =
-    ap (λ (t : HolderFrame). frame_after_elements t rest) (outside w (is_primitive h) (announced_length h.size) false e)
-    ∙ all-outside w rest e
-all-outside w (OpenPrimitive h c) e = refl
-all-outside w (OpenHolder h inside) e = refl
-all-outside w (OpenBitString h) e = refl
-all-outside w (OpenHeader octets) e = refl
-all-outside w OpenEndOctets e = refl
-
 -- what a frame says of the holder
 pub record SameHolder (w t : HolderFrame) : Type 0 where
   pub offset : t.offset ≡ w.offset
   pub announced_length : t.announced_length ≡ w.announced_length
   pub primitive : t.is_primitive ≡ w.is_primitive
+  pub segments : t.has_segments ≡ w.has_segments
 
 stays-after : (w : HolderFrame) (primitive : Bool) (size : ℕ) (unused_bits : Bool)
-    → SameHolder w (frame_after w primitive size unused_bits)
-stays-after w primitive size unused_bits = by w.has_segments
+    → SameHolder w (frame_after (with_element w) primitive size unused_bits)
+stays-after w primitive size unused_bits = by w.has_segments refl
   where
-    by : (k : Bool) → SameHolder w (if k then frame_after_segment w primitive size unused_bits else w)
-    by true = record { offset = refl; announced_length = refl; primitive = refl }
-    by false = record { offset = refl; announced_length = refl; primitive = refl }
+    by : (k : Bool) → w.has_segments ≡ k
+        → SameHolder w
+        (if k then frame_after_segment (with_element w) primitive size unused_bits else with_element w)
+    by true e = record { offset = refl; announced_length = refl; primitive = refl; segments = refl }
+    by false e = record { offset = refl; announced_length = refl; primitive = refl; segments = refl }
 
 stays-then : {u w t : HolderFrame} → SameHolder u w → SameHolder w t → SameHolder u t
 stays-then a b = record {
   offset = b.offset ∙ a.offset;
   announced_length = b.announced_length ∙ a.announced_length;
   primitive = b.primitive ∙ a.primitive;
+  segments = b.segments ∙ a.segments;
 }
 
 frame-stays : (w : HolderFrame) (f : Forest) → SameHolder w (frame_after_elements w f)
-frame-stays w NoMore = record { offset = refl; announced_length = refl; primitive = refl }
+frame-stays w NoMore = record { offset = refl; announced_length = refl; primitive = refl; segments = refl }
 frame-stays w (PaddingOctet rest) = frame-stays w rest
 frame-stays w (Primitive h c rest) =
     stays-then
     (stays-after w true (announced_length h.size) (has_unused_bits (value_check_for h c)))
     (frame-stays
-    (frame_after w true (announced_length h.size) (has_unused_bits (value_check_for h c)))
+    (frame_after (with_element w) true (announced_length h.size) (has_unused_bits (value_check_for h c)))
     rest)
 frame-stays w (Holder h inside rest) =
     stays-then (stays-after w (is_primitive h) (announced_length h.size) false)
-    (frame-stays (frame_after w (is_primitive h) (announced_length h.size) false) rest)
-frame-stays w (OpenPrimitive h c) = record { offset = refl; announced_length = refl; primitive = refl }
-frame-stays w (OpenHolder h inside) = record { offset = refl; announced_length = refl; primitive = refl }
-frame-stays w (OpenBitString h) = record { offset = refl; announced_length = refl; primitive = refl }
-frame-stays w (OpenHeader octets) = record { offset = refl; announced_length = refl; primitive = refl }
-frame-stays w OpenEndOctets = record { offset = refl; announced_length = refl; primitive = refl }
+    (frame-stays (frame_after (with_element w) (is_primitive h) (announced_length h.size) false) rest)
+frame-stays w (OpenPrimitive h c) = record { offset = refl; announced_length = refl; primitive = refl; segments = refl }
+frame-stays w (OpenHolder h inside) = record { offset = refl; announced_length = refl; primitive = refl; segments = refl }
+frame-stays w (OpenBitString h) = record { offset = refl; announced_length = refl; primitive = refl; segments = refl }
+frame-stays w (OpenHeader octets) = record { offset = refl; announced_length = refl; primitive = refl; segments = refl }
+frame-stays w OpenEndOctets = record { offset = refl; announced_length = refl; primitive = refl; segments = refl }
+
+-- an element in it has begun, and no later element changes this
+with-it : (w : HolderFrame) (primitive : Bool) (size : ℕ) (unused_bits : Bool)
+    → (frame_after (with_element w) primitive size unused_bits).lacks_components ≡ false
+with-it w primitive size unused_bits = by w.has_segments
+  where
+    by : (k : Bool)
+        → (if k then frame_after_segment (with_element w) primitive size unused_bits
+        else with_element w).lacks_components ≡ false
+    by true = refl
+    by false = refl
+
+none-lacking : (a : Bool) (n : ℕ) → false ≡ (a && suc n == 0)
+none-lacking a n =
+    let more : (suc n == 0) ≡ false = grind (arith, nat_tests) in
+    sym (ap (λ (k : Bool). a && k) more ∙ and-nothing a)
+  where
+    and-nothing : (b : Bool) → (b && false) ≡ false
+    and-nothing true = refl
+    and-nothing false = refl
+
+and-true : (a : Bool) → a ≡ (a && true)
+and-true true = refl
+and-true false = refl
+
+-- whether components are lacking after elements
+lacks-after : (w : HolderFrame) (f : Forest)
+    → (frame_after_elements w f).lacks_components ≡ (w.lacks_components && length (headers f) == 0)
+lacks-after w NoMore = and-true w.lacks_components
+lacks-after w (PaddingOctet rest) = lacks-after w rest
+lacks-after w (Primitive h c rest) =
+    let u : Bool = has_unused_bits (value_check_for h c) in
+    lacks-after (frame_after (with_element w) true (announced_length h.size) u) rest
+    ∙ ap (λ (k : Bool). k && length (headers rest) == 0) (with-it w true (announced_length h.size) u)
+    ∙ none-lacking w.lacks_components (length (headers rest))
+lacks-after w (Holder h inside rest) =
+    lacks-after (frame_after (with_element w) (is_primitive h) (announced_length h.size) false) rest
+    ∙ ap (λ (k : Bool). k && length (headers rest) == 0) (with-it w (is_primitive h) (announced_length h.size) false)
+    ∙ none-lacking w.lacks_components (length (headers rest))
+lacks-after w (OpenPrimitive h c) = and-true w.lacks_components
+lacks-after w (OpenHolder h inside) = and-true w.lacks_components
+lacks-after w (OpenBitString h) = and-true w.lacks_components
+lacks-after w (OpenHeader octets) = and-true w.lacks_components
+lacks-after w OpenEndOctets = and-true w.lacks_components
 
 -- a primitive that holds nothing is not constructed
 pub not-constructed : (k wraps : Bool) → (k || wraps) ≡ false → k ≡ false
@@ -158,10 +192,6 @@ record SumsUp (w : HolderFrame) (n : ℕ) (f : Forest) : Type 0 where
       ≡ min (value_length_after (bits_octet_count w.is_bit_string) n (headers f)) 1001
   pub empty : (frame_after_segments w f).ends_empty ≡ ends_empty_after w.ends_empty (headers f)
 
-and-true : (a : Bool) → a ≡ (a && true)
-and-true true = refl
-and-true false = refl
-
 more-length : (w n d : ℕ) → w ≡ min n 1001 → min (w + d) 1001 ≡ min (n + d) 1001
 more-length w n d e = omega (arith, e)
 
@@ -179,7 +209,7 @@ sums-up p w n (Primitive h c rest) v e o =
     let u : Bool = has_unused_bits (value_check_for h c) in
     let r =
     sums-up (place_after p (length (octets_of h) + length c))
-    (frame_after_segment w true (announced_length h.size) u) (n + d) rest v.1 e
+    (frame_after_segment (with_element w) true (announced_length h.size) u) (n + d) rest v.1 e
     (more-length w.value_length n d o) in
     record {
       segments = r.segments;
@@ -195,7 +225,7 @@ sums-up p w n (Holder h inside rest) v e o =
     let d : ℕ = announced_length h.size - bits_octet_count w.is_bit_string in
     let r =
     sums-up (place_after p (extent h inside))
-    (frame_after_segment w (is_primitive h) (announced_length h.size) false) (n + d) rest v.2 e
+    (frame_after_segment (with_element w) (is_primitive h) (announced_length h.size) false) (n + d) rest v.2 e
     (more-length w.value_length n d o) in
     record {
       segments = r.segments;
@@ -210,96 +240,123 @@ sums-up p w n (OpenBitString h) v e o = absurd (cc (e))
 sums-up p w n (OpenHeader octets) v e o = absurd (cc (e))
 sums-up p w n OpenEndOctets v e o = absurd (cc (e))
 
-segments-summed : (rules : Rules) (p : Place) (h : HeaderValue) (inside : Forest) → ObeysGrammar p inside
+-- what is found with an end, by what is asked of the holder and of what it held
+abbrev ended_by : Wanted → HeaderValue → List HeaderValue → Bool → List Finding
+ended_by wanted h hs lacks =
+    ends_by wanted lacks (has_segments h) (list_all is_primitive hs) (nat_le (length_as_primitive h hs) 1000)
+    (ends_empty hs)
+
+segments-summed : (wanted : Wanted) (p : Place) (h : HeaderValue) (inside : Forest) → ObeysGrammar p inside
     → is_whole inside ≡ true
-    → end_findings_in rules (segments_in (frame_after_segments (frame_of h) inside))
-    ≡ end_findings rules h (headers inside)
-segments-summed rules p h inside v e =
+    → end_findings_in wanted (segments_in (frame_after_segments (frame_of h) inside))
+    ≡ ended_by wanted h (headers inside) (frame_after_segments (frame_of h) inside).lacks_components
+segments-summed wanted p h inside v e =
     let r = sums-up p (frame_of h) 0 inside v e refl in
     let w : HolderFrame = frame_after_segments (frame_of h) inside in
+    let lacks : Bool = w.lacks_components in
     let k : Bool = has_segments h in
     let b : Bool = is_a bit_string h in
     let all : Bool = list_all is_primitive (headers inside) in
     let few : Bool → ℕ → Bool = λ bits octets. nat_le (bits_octet_count bits + octets) 1000 in
-    ap₂ (λ (x y : Bool). ends_by rules x w.all_primitive (few y w.value_length) w.ends_empty) r.segments r.bits
-    ∙ ap₂ (λ (x y : Bool). ends_by rules k x (few (k && b) w.value_length) y) r.all
+    ap₂ (λ (x y : Bool). ends_by wanted lacks x w.all_primitive (few y w.value_length) w.ends_empty) r.segments r.bits
+    ∙ ap₂ (λ (x y : Bool). ends_by wanted lacks k x (few (k && b) w.value_length) y) r.all
     (r.empty ∙ all-empty (headers inside))
-    ∙ ap (λ (n : ℕ). ends_by rules k all (few (k && b) n) (ends_empty (headers inside))) r.value_length
-    ∙ end-by rules k b all (ends_empty (headers inside)) (λ (n : ℕ). value_length_after n 0 (headers inside))
+    ∙ ap (λ (n : ℕ). ends_by wanted lacks k all (few (k && b) n) (ends_empty (headers inside))) r.value_length
+    ∙ end-by wanted lacks k b all (ends_empty (headers inside))
+    (λ (n : ℕ). value_length_after n 0 (headers inside))
 
--- outside of strings nothing is found with an end
-no-ends : (rules : Rules) (w : HolderFrame) → w.has_segments ≡ false → end_findings_in rules (segments_in w) ≡ []
-no-ends rules w e =
-    ap (λ (k : Bool). ends_by rules k w.all_primitive (nat_le (bits_octet_count w.is_bit_string + w.value_length) 1000)
-    w.ends_empty)
+-- outside of strings only components may be lacking at an end
+ends-outside : (wanted : Wanted) (w : HolderFrame) → w.has_segments ≡ false
+    → end_findings_in wanted (segments_in w) ≡ ends_by wanted w.lacks_components false false false false
+ends-outside wanted w e =
+    ap (λ (k : Bool). ends_by wanted w.lacks_components k w.all_primitive
+    (nat_le (bits_octet_count w.is_bit_string + w.value_length) 1000) w.ends_empty)
+    e
+
+asked-outside : (wanted : Wanted) (h : HeaderValue) (hs : List HeaderValue) (lacks : Bool) → has_segments h ≡ false
+    → ended_by wanted h hs lacks ≡ ends_by wanted lacks false false false false
+asked-outside wanted h hs lacks e =
+    ap (λ (k : Bool). ends_by wanted lacks k (list_all is_primitive hs) (nat_le (length_as_primitive h hs) 1000)
+    (ends_empty hs))
     e
 
 -- what is found with an end, by the frame of what was held
-end_findings-by_frame : (rules : Rules) (p : Place) (h : HeaderValue) (inside : Forest) → ObeysGrammar p inside
+end_findings-by_frame : (wanted : Wanted) (p : Place) (h : HeaderValue) (inside : Forest) → ObeysGrammar p inside
     → is_whole inside ≡ true
-    → end_findings_in rules (segments_in (frame_after_elements (frame_of h) inside))
-    ≡ end_findings rules h (headers inside)
-end_findings-by_frame rules p h inside v e = by-segments (has_segments h) refl
+    → end_findings_in wanted (segments_in (frame_after_elements (frame_of h) inside))
+    ≡ end_findings wanted h (headers inside)
+end_findings-by_frame wanted p h inside v e = by-segments (has_segments h) refl
   where
+    w : HolderFrame
+    w = frame_after_elements (frame_of h) inside
+
+    lacks : w.lacks_components ≡ (has_components h && length (headers inside) == 0)
+    lacks = lacks-after (frame_of h) inside
+
     by-segments : (k : Bool) → has_segments h ≡ k
-        → end_findings_in rules (segments_in (frame_after_elements (frame_of h) inside))
-        ≡ end_findings rules h (headers inside)
+        → end_findings_in wanted (segments_in w) ≡ end_findings wanted h (headers inside)
     by-segments true c =
-        ap (λ (t : HolderFrame). end_findings_in rules (segments_in t)) (all-in-string (frame_of h) inside c)
-        ∙ segments-summed rules p h inside v e
+        let same = all-in-string (frame_of h) inside c in
+        ap (λ (t : HolderFrame). end_findings_in wanted (segments_in t)) same
+        ∙ segments-summed wanted p h inside v e
+        ∙ ap (ended_by wanted h (headers inside)) (ap (λ (t : HolderFrame). t.lacks_components) (sym same) ∙ lacks)
     by-segments false c =
-        let r = sums-up p (frame_of h) 0 inside v e refl in
-        ap (λ (t : HolderFrame). end_findings_in rules (segments_in t)) (all-outside (frame_of h) inside c)
-        ∙ no-ends rules (frame_of h) c
-        ∙ sym (no-ends rules (frame_after_segments (frame_of h) inside) (r.segments ∙ c))
-        ∙ segments-summed rules p h inside v e
+        ends-outside wanted w ((frame-stays (frame_of h) inside).segments ∙ c)
+        ∙ sym (asked-outside wanted h (headers inside) w.lacks_components c)
+        ∙ ap (ended_by wanted h (headers inside)) lacks
 
 -- ---- the same if nothing is to be known of what was held
 
-module _ (rules : Rules) (p : Place) (w : HolderFrame) (h : HeaderValue) (inside : Forest) (v : ObeysGrammar p inside)
+module _ (wanted : Wanted) (p : Place) (w : HolderFrame) (h : HeaderValue) (inside : Forest) (v : ObeysGrammar p inside)
     (whole : is_whole inside ≡ true) where
-  -- an element that is no string: nothing is found with its end
-  nothing-ends : has_segments h ≡ false → end_findings rules h (headers inside) ≡ []
-  nothing-ends e =
-      sym (end_findings-by_frame rules p h inside v whole)
-      ∙ ap (λ (t : HolderFrame). end_findings_in rules (segments_in t)) (all-outside (frame_of h) inside e)
-      ∙ no-ends rules (frame_of h) e
+  -- an element that is no string, and has no components: nothing is found with its end
+  nothing-ends : has_segments h ≡ false → has_components h ≡ false → end_findings wanted h (headers inside) ≡ []
+  nothing-ends e f =
+      asked-outside wanted h (headers inside) (has_components h && length (headers inside) == 0) e
+      ∙ ap (λ (k : Bool). ends_by wanted (k && length (headers inside) == 0) false false false false) f
 
-  pub summed-under : end_findings_in rules (segments_in (frame_after_elements (frame_under w h) inside))
-      ≡ end_findings rules h (headers inside)
-  summed-under = by w.has_segments (has_segments h) refl
+  nothing-at_top : end_findings_in wanted (segments_in (frame_after_elements top_frame inside)) ≡ []
+  nothing-at_top =
+      ends-outside wanted (frame_after_elements top_frame inside) (frame-stays top_frame inside).segments
+      ∙ ap (λ (k : Bool). ends_by wanted k false false false false) (lacks-after top_frame inside)
+
+  pub summed-under : end_findings_in wanted (segments_in (frame_after_elements (frame_under w h) inside))
+      ≡ end_findings wanted h (headers inside)
+  summed-under = by w.has_segments (has_segments h) (has_components h) refl refl
     where
-      by : (outside inside_it : Bool) → has_segments h ≡ inside_it
-          → end_findings_in rules
-          (segments_in (frame_after_elements (if outside || inside_it then frame_of h else top_frame) inside))
-          ≡ end_findings rules h (headers inside)
-      by true inside_it e = end_findings-by_frame rules p h inside v whole
-      by false true e = end_findings-by_frame rules p h inside v whole
-      by false false e =
-          ap (λ (t : HolderFrame). end_findings_in rules (segments_in t)) (all-outside top_frame inside refl)
-          ∙ no-ends rules top_frame refl ∙ sym (nothing-ends e)
+      by : (outside string components : Bool) → has_segments h ≡ string → has_components h ≡ components
+          → end_findings_in wanted
+          (segments_in
+          (frame_after_elements (if outside || string || components then frame_of h else top_frame) inside))
+          ≡ end_findings wanted h (headers inside)
+      by true string components e f = end_findings-by_frame wanted p h inside v whole
+      by false true components e f = end_findings-by_frame wanted p h inside v whole
+      by false false true e f = end_findings-by_frame wanted p h inside v whole
+      by false false false e f = nothing-at_top ∙ sym (nothing-ends e f)
 
   -- where it begins does not matter if nothing is found
   pub offset-under : {T : Type 0} (put : ℕ → List Finding → List T) → ((offset : ℕ) → put offset [] ≡ [])
-      → put (frame_after_elements (frame_under w h) inside).offset (end_findings rules h (headers inside))
-      ≡ put h.offset (end_findings rules h (headers inside))
-  offset-under put none = by w.has_segments (has_segments h) refl
+      → put (frame_after_elements (frame_under w h) inside).offset (end_findings wanted h (headers inside))
+      ≡ put h.offset (end_findings wanted h (headers inside))
+  offset-under put none = by w.has_segments (has_segments h) (has_components h) refl refl
     where
-      kept : put (frame_after_elements (frame_of h) inside).offset (end_findings rules h (headers inside))
-          ≡ put h.offset (end_findings rules h (headers inside))
+      kept : put (frame_after_elements (frame_of h) inside).offset (end_findings wanted h (headers inside))
+          ≡ put h.offset (end_findings wanted h (headers inside))
       kept =
-          ap (λ (offset : ℕ). put offset (end_findings rules h (headers inside)))
+          ap (λ (offset : ℕ). put offset (end_findings wanted h (headers inside)))
           (frame-stays (frame_of h) inside).offset
 
-      by : (outside inside_it : Bool) → has_segments h ≡ inside_it
-          → put (frame_after_elements (if outside || inside_it then frame_of h else top_frame) inside).offset
-          (end_findings rules h (headers inside))
-          ≡ put h.offset (end_findings rules h (headers inside))
-      by true inside_it e = kept
-      by false true e = kept
-      by false false e =
+      by : (outside string components : Bool) → has_segments h ≡ string → has_components h ≡ components
+          → put (frame_after_elements (if outside || string || components then frame_of h else top_frame) inside).offset
+          (end_findings wanted h (headers inside))
+          ≡ put h.offset (end_findings wanted h (headers inside))
+      by true string components e f = kept
+      by false true components e f = kept
+      by false false true e f = kept
+      by false false false e f =
           let offset : ℕ = (frame_after_elements top_frame inside).offset in
-          ap (put offset) (nothing-ends e) ∙ none offset ∙ sym (ap (put h.offset) (nothing-ends e) ∙ none h.offset)
+          ap (put offset) (nothing-ends e f) ∙ none offset
+          ∙ sym (ap (put h.offset) (nothing-ends e f) ∙ none h.offset)
 
 -- the holder of an element asks for its form and size only if it is a string
 pub after-under : (w : HolderFrame) (h : HeaderValue) (inside : Forest)
@@ -310,14 +367,14 @@ after-under w h inside = by w.has_segments refl
   where
     by : (k : Bool) → w.has_segments ≡ k
         → frame_after w
-        (frame_after_elements (if k || has_segments h then frame_of h else top_frame) inside).is_primitive
-        (frame_after_elements (if k || has_segments h then frame_of h else top_frame) inside).announced_length false
+        (frame_after_elements (if k || has_segments h || has_components h then frame_of h else top_frame) inside).is_primitive
+        (frame_after_elements (if k || has_segments h || has_components h then frame_of h else top_frame) inside).announced_length false
         ≡ frame_after w (is_primitive h) (announced_length h.size) false
     by true e =
         let r =
         frame-stays (frame_of h) inside in ap₂ (λ (b : Bool) (size : ℕ). frame_after w b size false) r.primitive
         r.announced_length
     by false e =
-        let f : HolderFrame = frame_after_elements (if has_segments h then frame_of h else top_frame) inside in
+        let f : HolderFrame = frame_after_elements (if has_segments h || has_components h then frame_of h else top_frame) inside in
         outside w f.is_primitive f.announced_length false e
         ∙ sym (outside w (is_primitive h) (announced_length h.size) false e)

@@ -10,7 +10,7 @@ use Rattle.tlv_head.specs.UniversalTypes.{bit_string, octet_string}
 use Rattle.tlv_value.specs.Types.{has_segments, is_a, is_primitive}
 use Rattle.tlv_value.proofs.CheckLemmas.CheckPieces.{checked-none}
 use Rattle.tlv_show.specs.declared.holder_frame.HolderFrame.{HolderFrame}
-use Rattle.tlv_show.specs.Conditions.{leaves_unused_bits, is_not_full}
+use Rattle.tlv_show.specs.Conditions.{has_components, leaves_unused_bits, is_not_full}
 use Rattle.tlv_show.specs.KeptConditions.{Surroundings}
 use Rattle.tlv_show.specs.NestingState.{frame_after, frame_after_segment, frame_of, frame_under, top_frame}
 use Rattle.tlv_show.specs.NestingState.{surroundings_in}
@@ -51,16 +51,17 @@ in-its-own true b = refl
 in-its-own false b = refl
 
 pub knows-inside : (w : HolderFrame) (s : Site) (h : HeaderValue) → Knows (frame_under w h) (site_of_children s h)
-knows-inside w s h = by w.has_segments (has_segments h) refl
+knows-inside w s h = by w.has_segments (has_segments h) (has_components h) refl
   where
     of-string : Knows (frame_of h) (site_of_children s h)
     of-string = in-its-own (has_segments h) (is_a bit_string h)
 
-    by : (outside inside : Bool) → has_segments h ≡ inside
-        → Knows (if outside || inside then frame_of h else top_frame) (site_of_children s h)
-    by true inside e = of-string
-    by false true e = of-string
-    by false false e = sym (no-string h Start e)
+    by : (outside string components : Bool) → has_segments h ≡ string
+        → Knows (if outside || string || components then frame_of h else top_frame) (site_of_children s h)
+    by true string components e = of-string
+    by false true components e = of-string
+    by false false true e = of-string
+    by false false false e = sym (no-string h Start e)
 
 -- after an element
 full-or-not : (k e : Bool) → not (not k && e) ≡ (k || not e)
@@ -80,15 +81,15 @@ type-is : (universal : Bool) (n : ℕ)
 type-is true n = refl
 type-is false n = refl
 
-pub unused-of : (h : HeaderValue) (c : List ℕ) → h.constructed ≡ false
+pub unused-of : (h : HeaderValue) (c octets : List ℕ) → h.constructed ≡ false
     → has_unused_bits (value_check_for h c)
-    ≡ leaves_unused_bits (Sibling h (first_contents_octet c))
-unused-of h [] e = ap has_unused_bits (checked-none h) ∙ by-none (eqb (type_number h) bit_string)
+    ≡ leaves_unused_bits (Sibling h (first_contents_octet c) octets)
+unused-of h [] octets e = ap has_unused_bits (checked-none h) ∙ by-none (eqb (type_number h) bit_string)
   where
     by-none : (a : Bool) → (a && false) ≡ false
     by-none true = refl
     by-none false = refl
-unused-of h (x ∷ c) e =
+unused-of h (x ∷ c) octets e =
     let t : eqb (type_number h) bit_string ≡ is_a bit_string h = type-is (is_universal h.class) h.number in
     unused-at (is_a bit_string h) (type_number h) (announced_length h.size) x c t
     ∙ ap (λ (k : Bool). not k && is_a bit_string h && not (x == 0)) (sym e)
@@ -97,11 +98,11 @@ surroundings_with-eq : (a a' b b' c c' d d' : Bool) → a ≡ a' → b ≡ b' �
     → surroundings_with a b c d ≡ surroundings_with a' b' c' d'
 surroundings_with-eq a a' b b' c c' d d' e f g h = rw (e, f, g, h) refl
 
-pub knows-after : (w : HolderFrame) (s t : Site) (h : HeaderValue) (first : Option ℕ) (unused_bits : Bool) → Knows w s
-    → t.holder ≡ s.holder → t.previous ≡ Sibling h first
-    → unused_bits ≡ leaves_unused_bits (Sibling h first)
+pub knows-after : (w : HolderFrame) (s t : Site) (h : HeaderValue) (first : Option ℕ) (octets : List ℕ) (unused_bits : Bool)
+    → Knows w s → t.holder ≡ s.holder → t.previous ≡ Sibling h first octets
+    → unused_bits ≡ leaves_unused_bits (Sibling h first octets)
     → Knows (frame_after w (is_primitive h) (announced_length h.size) unused_bits) t
-knows-after w s t h first unused_bits k e b u = by-segments w.has_segments refl
+knows-after w s t h first octets unused_bits k e b u = by-segments w.has_segments refl
   where
     same : surroundings_in w ≡ around t.holder s.previous
     same = k ∙ ap (λ (o : Option HeaderValue). around o s.previous) (sym e)

@@ -26,7 +26,14 @@ use Rattle.tlv_walk.proofs.GrammarLemmas.Readings.{reading-unique}
 use Rattle.tlv_walk.proofs.GrammarLemmas.PlacedSpelling.{SpelledAt, Spelling}
 use Rattle.tlv_walk.proofs.GrammarLemmas.RespelledElements.{sound-spelling}
 use Rattle.tlv_walk.proofs.EventLemmas.Wrappers.{AreNamed, Rise, wrapper_offsets-named, wrapper_offsets-rise}
+use Rattle.tlv_value.specs.declared.finding.Finding.{Finding}
+use Rattle.tlv_show.specs.Items.{finding_items}
+use Rattle.tlv_show.specs.Items.{held_findings}
+use Rattle.tlv_show.specs.SegmentCharacters.{has_wrong_characters}
+use Rattle.tlv_show.specs.SetOrder.{holder_element, primitive_element}
+use Rattle.tlv_show.proofs.FindingLemmas.OrderFindings.{no-characters, none-listed}
 use Rattle.tlv_show.specs.declared.rules.Rules.{Rules}
+use Rattle.tlv_show.specs.ShownFindings.{listed_by}
 use Rattle.tlv_show.specs.declared.rules.Rules.TheVariants.{Ber, Der, Cer}
 use Rattle.tlv_show.specs.Conditions.{begins_with_zero_bits, is_high_form_needless, is_length_padded}
 use Rattle.tlv_show.specs.Conditions.{end_conditions, header_conditions}
@@ -56,7 +63,7 @@ constructed-absent true false e = absurd (cc (e))
 constructed-absent false indefinite e = refl
 
 header-absent : (rules : Rules) (s : Site) (h : HeaderValue) → rules ≢ Ber → IsRegular (form_by rules) h
-    → any_of is_on_spelling rules (header_conditions s h) ≡ false
+    → any_of is_on_spelling (listed_by rules) (header_conditions s h) ≡ false
 header-absent Ber s h strict r = absurd (strict refl)
 header-absent Der s h strict r =
     four-absent (is_high_form_needless h) (begins_with_zero_bits h) (is_length_padded h)
@@ -69,18 +76,18 @@ header-absent Cer s h strict r =
     (constructed-absent h.constructed (is_indefinite h.size) r.by_form)
 
 absent-by : (rules : Rules) (universal : Bool) (n : ℕ) (c : List ℕ)
-    → any_of is_on_spelling rules (if universal then type_conditions n c else []) ≡ false
+    → any_of is_on_spelling (listed_by rules) (if universal then type_conditions n c else []) ≡ false
 absent-by Ber true n c = refl
 absent-by Der true n c = refl
 absent-by Cer true n c = refl
 absent-by rules false n c = refl
 
 contents-absent : (rules : Rules) (h : HeaderValue) (c : List ℕ)
-    → any_of is_on_spelling rules (contents_conditions h c) ≡ false
+    → any_of is_on_spelling (listed_by rules) (contents_conditions h c) ≡ false
 contents-absent rules h c = absent-by rules (is_universal h.class) h.number c
 
 end-absent : (rules : Rules) (h : HeaderValue) (children : List HeaderValue)
-    → any_of is_on_spelling rules (end_conditions h children) ≡ false
+    → any_of is_on_spelling (listed_by rules) (end_conditions h children) ≡ false
 end-absent Ber h children = refl
 end-absent Der h children = refl
 end-absent Cer h children = refl
@@ -98,49 +105,54 @@ padding-none false level offset = refl
 
 module _ (rules : Rules) (strict : rules ≢ Ber) where
   header-none : (s : Site) (h : HeaderValue) → IsRegular (form_by rules) h
-      → list_any is_item_on_spelling (header_items rules s h) ≡ false
+      → list_any is_item_on_spelling (header_items (listed_by rules) s h) ≡ false
   header-none s h r =
-      items-found s.depth h.offset (header_findings rules s h)
-      ∙ found-with_header is_on_spelling rules s h ∙ header-absent rules s h strict r
+      items-found s.depth h.offset (header_findings (listed_by rules) s h)
+      ∙ found-with_header is_on_spelling (listed_by rules) s h ∙ header-absent rules s h strict r
 
   contents-none : (s : Site) (h : HeaderValue) (c : List ℕ)
-      → list_any is_item_on_spelling (contents_items rules s h c) ≡ false
+      → list_any is_item_on_spelling (contents_items (listed_by rules) s h c) ≡ false
   contents-none s h c =
-      items-found s.depth h.offset (contents_findings rules h c)
-      ∙ all-found is_on_spelling rules (contents_conditions h c)
+      ap (λ (fs : List Finding). list_any is_item_on_spelling (finding_items s.depth h.offset fs))
+      (none-listed rules s (primitive_element h c) (contents_findings (listed_by rules) h c))
+      ∙ items-found s.depth h.offset (contents_findings (listed_by rules) h c)
+      ∙ all-found is_on_spelling (listed_by rules) (contents_conditions h c)
       ∙ contents-absent rules h c
 
   end-none : (s : Site) (h : HeaderValue) (inside : Forest)
-      → list_any is_item_on_spelling (end_items rules s h inside) ≡ false
+      → list_any is_item_on_spelling (end_items (listed_by rules) s h inside) ≡ false
   end-none s h inside =
-      items-found s.depth h.offset (end_findings rules h (headers inside))
-      ∙ all-found is_on_spelling rules (end_conditions h (headers inside))
+      ap (λ (fs : List Finding). list_any is_item_on_spelling (finding_items s.depth h.offset fs))
+      (none-listed rules s (holder_element h inside) (held_findings (listed_by rules) h inside)
+      ∙ no-characters rules (has_wrong_characters h inside) (end_findings (listed_by rules) h (headers inside)))
+      ∙ items-found s.depth h.offset (end_findings (listed_by rules) h (headers inside))
+      ∙ all-found is_on_spelling (listed_by rules) (end_conditions h (headers inside))
       ∙ end-absent rules h (headers inside)
 
   none-found : (p : Place) (s : Site) (f : Forest) → IsSound p f → AreRegular (form_by rules) f
-      → list_any is_item_on_spelling (items rules s f) ≡ false
+      → list_any is_item_on_spelling (items (listed_by rules) s f) ≡ false
   none-found p s NoMore u r = refl
   none-found p s (PaddingOctet rest) u r =
       both-none (if is_padding s.previous then [] else PaddingLine s.depth s.offset ∷ [])
-      (items rules (site_after_padding s) rest)
+      (items (listed_by rules) (site_after_padding s) rest)
       (padding-none (is_padding s.previous) s.depth s.offset)
       (none-found (place_after p 1) (site_after_padding s) rest u.1 r)
   none-found p s (Primitive h c rest) u r =
-      both-none (header_items rules s h)
-      (PrimitiveLines s.depth h c ∷ (contents_items rules s h c ++ items rules (site_after_primitive s h c) rest))
+      both-none (header_items (listed_by rules) s h)
+      (PrimitiveLines s.depth h c ∷ (contents_items (listed_by rules) s h c ++ items (listed_by rules) (site_after_primitive s h c) rest))
       (header-none s h r.0)
-      (both-none (contents_items rules s h c) (items rules (site_after_primitive s h c) rest) (contents-none s h c)
+      (both-none (contents_items (listed_by rules) s h c) (items (listed_by rules) (site_after_primitive s h c) rest) (contents-none s h c)
       (none-found (place_after p (length (octets_of h) + length c)) (site_after_primitive s h c) rest u.2 r.1))
   none-found p s (Holder h inside rest) u r =
-      let last : List Item = end_items rules s h inside ++ items rules (site_after_holder s h inside) rest in
-      let held : List Item = items rules (site_of_children s h) inside in
-      both-none (header_items rules s h)
+      let last : List Item = end_items (listed_by rules) s h inside ++ items (listed_by rules) (site_after_holder s h inside) rest in
+      let held : List Item = items (listed_by rules) (site_of_children s h) inside in
+      both-none (header_items (listed_by rules) s h)
       (OpeningLine s.depth h
       ∷ (held ++ ClosingLine s.depth (end_octets_offset h inside) ∷ last))
       (header-none s h r.0)
       (both-none held (ClosingLine s.depth (end_octets_offset h inside) ∷ last)
       (none-found (place_of_children p h) (site_of_children s h) inside u.3 r.1)
-      (both-none (end_items rules s h inside) (items rules (site_after_holder s h inside) rest) (end-none s h inside)
+      (both-none (end_items (listed_by rules) s h inside) (items (listed_by rules) (site_after_holder s h inside) rest) (end-none s h inside)
       (none-found (place_after p (extent h inside)) (site_after_holder s h inside) rest u.4 r.2)))
   none-found p s (OpenPrimitive h c) u r = absurd u
   none-found p s (OpenHolder h inside) u r = absurd u

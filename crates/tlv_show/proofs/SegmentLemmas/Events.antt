@@ -16,7 +16,8 @@ use Rattle.tlv_walk.proofs.GrammarLemmas.Leads.{lead_by}
 use Rattle.tlv_show.specs.declared.segment_frame.SegmentFrame.{SegmentFrame}
 use Rattle.tlv_show.specs.SegmentCharacters.{has_wrong_characters, has_wrong_octet, has_wrong_segment, held_contents}
 use Rattle.tlv_show.specs.SegmentCharacters.{is_tested_string}
-use Rattle.tlv_show.specs.SegmentCharactersState.{at_innermost, closing_offsets, is_direct, new_segment_frame}
+use Rattle.std.specs.Prelude.{Some, None}
+use Rattle.tlv_show.specs.SegmentCharactersState.{at_innermost, closing_offsets, closing_string, is_direct, new_segment_frame}
 use Rattle.tlv_show.specs.SegmentCharactersState.{segment_after_octets, segment_begun, segment_closed, segment_ended}
 use Rattle.tlv_show.specs.SegmentCharactersState.{segment_entered, segments_after_octets, segments_begun}
 use Rattle.tlv_show.specs.SegmentCharactersState.{segments_closed, segments_found, segments_left, segments_opened}
@@ -225,6 +226,22 @@ pub closing-found : (frames : List SegmentFrame) (h : HeaderValue) (inside : For
 closing-found frames h inside room =
     ap (λ (l : List SegmentFrame). closing_offsets (held_passed inside l)) (opened-is frames h room)
     ∙ found-as (is_tested_string h) h inside (begun_frames frames h)
+
+string-as : (k : Bool) (h : HeaderValue) (inside : Forest) (frames : List SegmentFrame)
+    → closing_string (held_passed inside (entered_as k h frames))
+    ≡ (if k && has_wrong_segment h.number inside then Some h.offset else None)
+string-as true h inside frames = refl
+string-as false h inside [] = refl
+string-as false h inside (w ∷ outer) =
+    let v : SegmentFrame = frame_passed (spelling inside) (λ n. has_wrong_segment n inside) (segment_entered w) in
+    ap (λ (k : Bool). if k && v.has_wrong then Some w.offset else None) (not-direct w.open_count)
+
+pub closing-string : (frames : List SegmentFrame) (h : HeaderValue) (inside : Forest) → length frames < 128
+    → closing_string (held_passed inside (segments_opened frames h))
+    ≡ (if has_wrong_characters h inside then Some h.offset else None)
+closing-string frames h inside room =
+    ap (λ (l : List SegmentFrame). closing_string (held_passed inside l)) (opened-is frames h room)
+    ∙ string-as (is_tested_string h) h inside (begun_frames frames h)
 
 -- all of it: its header, the elements that it holds, and its end-of-contents octets
 abbrev holder_taken : List SegmentFrame → HeaderValue → List ℕ → List ℕ → List SegmentFrame

@@ -28,7 +28,7 @@ record IsRunAs (frames : List SegmentFrame) (f : Forest) : Type 0 where
   found : (run_segments frames (events f)).found ≡ wrong_character_offsets f
   after : is_whole f ≡ true → (run_segments frames (events f)).frames ≡ held_passed f frames
 
-few-more : (n m : ℕ) (frames : List SegmentFrame) → n ≤ m → AreFewOpen n frames → AreFewOpen m frames
+pub few-more : (n m : ℕ) (frames : List SegmentFrame) → n ≤ m → AreFewOpen n frames → AreFewOpen m frames
 few-more n m [] more few = tt
 few-more n m (w ∷ outer) more few = omega (arith, few, more)
 

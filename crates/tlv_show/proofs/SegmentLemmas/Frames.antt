@@ -51,7 +51,8 @@ after-append w a b =
 
 pub all-after-none : (frames : List SegmentFrame) → segments_after_octets [] frames ≡ frames
 all-after-none [] = refl
-all-after-none (w ∷ outer) = ap₂ (λ (v : SegmentFrame) (l : List SegmentFrame). v ∷ l) (after-none w) (all-after-none outer)
+all-after-none (w ∷ outer) =
+    ap₂ (λ (v : SegmentFrame) (l : List SegmentFrame). v ∷ l) (after-none w) (all-after-none outer)
 
 pub all-after-append : (a b : List ℕ) (frames : List SegmentFrame)
     → segments_after_octets b (segments_after_octets a frames) ≡ segments_after_octets (a ++ b) frames

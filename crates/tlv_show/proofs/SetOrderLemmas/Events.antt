@@ -1,30 +1,26 @@
 -- What is kept and found of the events of one element.
 use Rattle.std.proofs.Common.{◌≡◌, ℕ, ◌+◌, ◌-◌, ◌<◌, ◌≤◌, ◌&&◌, ◌==◌, Bool, true, false, min, nat_lt, if◌then◌else◌}
-use Rattle.std.proofs.Common.{List, [], ◌∷◌, ◌++◌, length, map, refl, sym, subst, ap, ap₂, ◌∙◌, arith, append_assoc}
-use Rattle.std.proofs.Common.{append-nil}
+use Rattle.std.proofs.Common.{List, [], ◌∷◌, ◌++◌, length, map, refl, sym, subst, ap, ◌∙◌, arith, append_assoc}
 use Rattle.std.proofs.lemmas.Bool.{true≢false}
 use Rattle.std.proofs.lemmas.Bool.Decides.{nat_tests}
 use Rattle.std.proofs.lemmas.List.{length-map}
-use Rattle.std.specs.Prelude.{Option, Some, None}
-use Rattle.std.specs.Option.{is_some}
+use Rattle.std.specs.Prelude.{Some, None}
 use Rattle.tlv_head.specs.declared.header.Size.{Size}
 use Rattle.tlv_head.specs.declared.header.Size.TheVariants.{Definite, Indefinite}
-use Rattle.tlv_head.specs.UniversalTypes.{set}
-use Rattle.tlv_head.specs.Header.{AllowsSize, HeaderValue, definite_length, octets_of}
-use Rattle.tlv_value.specs.Types.{is_a}
+use Rattle.tlv_head.specs.Header.{AllowsSize, HeaderValue, octets_of}
 use Rattle.tlv_walk.specs.Events.{Begin, Bytes, Close, End, Enter, EventValue, Leave, Open, Unused, closing_event}
 use Rattle.tlv_walk.specs.Events.{end_offset, event_octets, opening_events}
-use Rattle.tlv_walk.specs.Forest.{Forest, end_octets, lead, opening, spelling}
+use Rattle.tlv_walk.specs.Forest.{Forest, end_octets, opening, spelling}
 use Rattle.tlv_walk.proofs.GrammarLemmas.Leads.{lead_by}
 use Rattle.tlv_show.specs.declared.rules.Rules.{Rules}
 use Rattle.tlv_show.specs.declared.set_frame.SetFrame.{SetFrame}
-use Rattle.tlv_show.specs.SetOrder.{Element, holder_element, is_set, primitive_element}
+use Rattle.tlv_show.specs.SetOrder.{holder_element, is_set, primitive_element}
 use Rattle.tlv_show.specs.SetOrderState.{SetOrderState, frame_after_octets, frame_begun, frame_entered}
 use Rattle.tlv_show.specs.SetOrderState.{frames_after_octets, is_direct, new_set_frame, set_order_close_step}
 use Rattle.tlv_show.specs.SetOrderState.{set_order_closed, set_order_end_step, set_order_entered, set_order_found}
 use Rattle.tlv_show.specs.SetOrderState.{set_order_left, set_order_octets_step, set_order_outside, set_order_started}
 use Rattle.tlv_show.specs.SetOrderState.{set_order_step}
-use Rattle.tlv_show.proofs.SetOrderLemmas.Compared.{after-open, all-after-append, same-after, with_open}
+use Rattle.tlv_show.proofs.SetOrderLemmas.Compared.{after-open, same-after, with_open}
 use Rattle.tlv_show.proofs.SetOrderLemmas.OneElement.{Knows, element_step, ended_offsets, octets_step-append}
 
 -- ---- a list of events

@@ -1,11 +1,10 @@
 -- Over the events of a forest, exactly the elements are found that are out of order.
-use Rattle.std.proofs.Common.{◌≡◌, ℕ, ◌+◌, ◌<◌, ◌≤◌, ◌==◌, Bool, true, false, List, [], ◌∷◌, ◌++◌, length, refl, sym, ap}
+use Rattle.std.proofs.Common.{◌≡◌, ℕ, ◌+◌, ◌<◌, ◌≤◌, ◌==◌, true, false, List, [], ◌∷◌, ◌++◌, length, refl, sym, ap}
 use Rattle.std.proofs.Common.{ap₂, ◌∙◌, subst, arith, append_assoc}
 use Rattle.std.proofs.lemmas.Bool.{true≢false}
 use Rattle.std.proofs.lemmas.List.{length-map}
 use Rattle.std.specs.Prelude.{Option, Some, None}
 use Rattle.tlv_head.specs.Header.{HeaderValue, octets_of}
-use Rattle.tlv_walk.specs.declared.framing.Framing.{Framing}
 use Rattle.tlv_walk.specs.Events.{EventValue, closing_event, events}
 use Rattle.tlv_walk.specs.Forest.{Forest, Holder, NoMore, OpenBitString, OpenEndOctets, OpenHeader, OpenHolder}
 use Rattle.tlv_walk.specs.Forest.{OpenPrimitive, PaddingOctet, Primitive, end_octets, extent, is_whole, opening}
@@ -14,7 +13,7 @@ use Rattle.tlv_walk.specs.Place.{ObeysGrammar, Place, place_after, place_of_chil
 use Rattle.tlv_walk.proofs.GrammarLemmas.Spellings.{append_assoc-3}
 use Rattle.tlv_show.specs.declared.rules.Rules.{Rules}
 use Rattle.tlv_show.specs.declared.set_frame.SetFrame.{SetFrame}
-use Rattle.tlv_show.specs.SetOrder.{Element, holder_element, is_out_of_order_after, is_set, offset_if}
+use Rattle.tlv_show.specs.SetOrder.{Element, holder_element, is_set}
 use Rattle.tlv_show.specs.SetOrder.{out_of_order_offsets, primitive_element}
 use Rattle.tlv_show.specs.SetOrderState.{OutOfOrderIsFound, SetOrderState, frame_after_octets, frames_after_octets}
 use Rattle.tlv_show.specs.SetOrderState.{is_direct, new_set_order, set_order_close_step, set_order_found}
@@ -27,7 +26,7 @@ use Rattle.tlv_show.proofs.SetOrderLemmas.Events.{run-opening, run-primitive, ru
 use Rattle.tlv_show.proofs.SetOrderLemmas.OneElement.{IsElementTaken, Knows, element-taken, element_step}
 use Rattle.tlv_show.proofs.SetOrderLemmas.OneElement.{ended_offsets, octets_step-append}
 
-after-none : (outer : List SetFrame) → outer ≡ frames_after_octets [] outer
+pub after-none : (outer : List SetFrame) → outer ≡ frames_after_octets [] outer
 after-none [] = refl
 after-none (w ∷ outer) = ap (λ (l : List SetFrame). w ∷ l) (after-none outer)
 
@@ -40,7 +39,7 @@ module _ (rules : Rules) where
         → IsAfter rules s (spelling f) (run_set_order rules s (events f)).state
 
   -- one element, and then other whole ones
-  after-more : (s : SetOrderState) (holder : Option HeaderValue) (neighbour : Option Element) (e : Element)
+  pub after-more : (s : SetOrderState) (holder : Option HeaderValue) (neighbour : Option Element) (e : Element)
       (t : SetOrderState) (octets : List ℕ) (u : SetOrderState) → IsElementTaken rules s holder neighbour e t
       → IsAfter rules t octets u → IsAfter rules s (e.octets ++ octets) u
   after-more s holder neighbour e t octets u k a =

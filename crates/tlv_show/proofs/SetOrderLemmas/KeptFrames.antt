@@ -1,8 +1,7 @@
 -- The frames that are kept in an array, outermost first.
-use Rattle.std.proofs.Common.{◌≡◌, ℕ, zero, suc, ◌+◌, ◌<◌, ◌≤◌, Bool, true, false, min, List, [], ◌∷◌, ◌++◌, length}
-use Rattle.std.proofs.Common.{drop, get_or, map, reverse, set, take, refl, sym, subst, ap, ap₂, ◌∙◌, arith}
+use Rattle.std.proofs.Common.{◌≡◌, ℕ, zero, suc, ◌+◌, ◌<◌, ◌≤◌, true, min, List, [], ◌∷◌, ◌++◌, length}
+use Rattle.std.proofs.Common.{get_or, reverse, refl, sym, subst, ap, ap₂, ◌∙◌, arith}
 use Rattle.std.proofs.lemmas.List.{length-map, map-append, reverse-append}
-use Rattle.std.specs.Prelude.{⊤}
 use Rattle.tlv_show.specs.declared.set_frame.SetFrame.{SetFrame}
 use Rattle.tlv_show.specs.Private.SetOrder.{AreFull, frames_after_octets_from}
 use Rattle.tlv_show.specs.SetOrderState.{frame_after_octets, frames_after_octets, is_full}

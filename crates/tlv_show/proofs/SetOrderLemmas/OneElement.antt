@@ -1,5 +1,5 @@
 -- What is kept and found of one element, if all its octets come one after another.
-use Rattle.std.proofs.Common.{◌≡◌, ℕ, ◌+◌, ◌<◌, ◌≤◌, ◌&&◌, ◌||◌, ◌==◌, not, Bool, true, false, nat_lt, if◌then◌else◌}
+use Rattle.std.proofs.Common.{◌≡◌, ℕ, ◌&&◌, ◌||◌, ◌==◌, Bool, true, false, nat_lt, if◌then◌else◌}
 use Rattle.std.proofs.Common.{List, [], ◌∷◌, ◌++◌, length, replicate, refl, sym, subst, ap, ap₂, ◌∙◌, arith}
 use Rattle.std.proofs.lemmas.Bool.{true≢false}
 use Rattle.std.proofs.lemmas.Bool.Decides.{nat_tests}
@@ -14,7 +14,7 @@ use Rattle.tlv_show.specs.SetOrderState.{SetOrderState, frame_after_octets, fram
 use Rattle.tlv_show.specs.SetOrderState.{frames_after_octets, is_direct, is_last_out_of_order, set_order_end_step}
 use Rattle.tlv_show.specs.SetOrderState.{set_order_octets_step, set_order_started}
 use Rattle.tlv_show.proofs.FindingLemmas.SiteWords.{is_held_by}
-use Rattle.tlv_show.proofs.SetOrderLemmas.Compared.{IsCompared, SameElement, after-append, all-after-append}
+use Rattle.tlv_show.proofs.SetOrderLemmas.Compared.{after-append, all-after-append}
 use Rattle.tlv_show.proofs.SetOrderLemmas.Compared.{element-compared, length-compared, length-zeros, same-after}
 
 -- ---- all frames

@@ -1,7 +1,6 @@
 -- A primitive changes nothing if no frame needs more octets, and it is not directly in a SET.
-use Rattle.std.proofs.Common.{◌≡◌, ℕ, Bool, true, false, List, length, reverse, refl, sym, ap, ap₂, ◌∙◌}
+use Rattle.std.proofs.Common.{◌≡◌, ℕ, true, false, List, length, reverse, sym, ap, ap₂, ◌∙◌}
 use Rattle.tlv_head.specs.Header.{octets_of}
-use Rattle.tlv_show.specs.declared.rules.Rules.{Rules}
 use Rattle.tlv_show.specs.declared.set_frame.SetFrame.{SetFrame}
 use Rattle.tlv_show.specs.Private.SetOrder.{AreFull, IsUnchangedByPrimitives}
 use Rattle.tlv_show.specs.SetOrderState.{SetOrderState, is_direct, is_full, set_order_end_step, set_order_octets_step}
@@ -20,10 +19,13 @@ module _ (w : SetFrame) (outer : List SetFrame) (direct : is_direct w ≡ false)
       (sym (reverse_after octets outer) ∙ ap reverse (after_all_full octets outer all))
 
   pub primitives-pass : IsUnchangedByPrimitives kept
-  primitives-pass rules h c =
-      ap
-      (λ (s : SetOrderState). set_order_end_step (set_order_octets_step (set_order_octets_step s (octets_of h)) c))
-      (started-inside rules kept h direct)
-      ∙ ap (λ (s : SetOrderState). set_order_end_step (set_order_octets_step s c)) (octets-pass (octets_of h))
-      ∙ ap set_order_end_step (octets-pass c)
-      ∙ ended-inside rules kept direct
+  primitives-pass = (
+    direct,
+    λ rules h c.
+        ap
+        (λ (s : SetOrderState). set_order_end_step (set_order_octets_step (set_order_octets_step s (octets_of h)) c))
+        (started-inside rules kept h direct)
+        ∙ ap (λ (s : SetOrderState). set_order_end_step (set_order_octets_step s c)) (octets-pass (octets_of h))
+        ∙ ap set_order_end_step (octets-pass c)
+        ∙ ended-inside rules kept direct,
+  )

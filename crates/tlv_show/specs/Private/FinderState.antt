@@ -1,15 +1,16 @@
 -- What a `Finder` does with an event, and what it returns.
+use Rattle.std.specs.Option.{is_some}
 use Rattle.std.specs.Prelude.{ℕ, ◌≡◌, Bool, true, false, if◌then◌else◌, List, []}
 use Rattle.tlv_head.specs.Header.{HeaderValue}
 use Rattle.tlv_walk.specs.Events.{Begin, Bytes, Close, End, Enter, EventValue, Leave, Open, Pad, Unused}
-use Rattle.tlv_show.specs.declared.rules.Rules.{Rules}
+use Rattle.tlv_show.specs.declared.wanted.Wanted.{Wanted}
 use Rattle.tlv_show.specs.FinderState.{CheckState, FinderState, new_check, without_findings}
 use Rattle.tlv_show.specs.FinderState.{finder_open_step, finder_begin_step, finder_bytes_step}
 use Rattle.tlv_show.specs.FinderState.{finder_end_step, finder_close_step}
 
 -- a finder before its first event
-abbrev pub new_finder : Rules → FinderState
-new_finder rules = without_findings (new_check rules)
+abbrev pub new_finder : Wanted → FinderState
+new_finder wanted = without_findings (new_check wanted)
 
 -- only what is kept changes
 abbrev pub with_check_state : CheckState → FinderState → FinderState
@@ -30,10 +31,10 @@ finder_step s (Open h) = finder_open_step s h
 finder_step s (Begin h) = finder_begin_step s h
 finder_step s (Bytes octets) = without_findings (finder_bytes_step s octets)
 finder_step s End = finder_end_step s
-finder_step s (Close offset) = finder_close_step s
+finder_step s (Close offset) = finder_close_step s (is_some offset)
 finder_step s (Enter h) = finder_open_step s h
 finder_step s Unused = without_findings s
-finder_step s Leave = finder_close_step s
+finder_step s Leave = finder_close_step s false
 finder_step s (Pad octets) = without_findings s
 
 -- all of a primitive: its header, its contents and its end. The result has the findings of its end

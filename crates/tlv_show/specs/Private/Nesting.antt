@@ -1,22 +1,28 @@
 -- The frames that are kept of the open elements, and all frames that they represent.
-use Rattle.std.specs.Prelude.{ℕ, zero, suc, ◌≡◌, ◌-◌, ◌<◌, ⊤, if◌then◌else◌, false, List, [], ◌∷◌}
+use Rattle.std.specs.Prelude.{ℕ, zero, suc, ◌≡◌, ◌-◌, ◌<◌, ◌||◌, ⊤, if◌then◌else◌, false, List, [], ◌∷◌}
 use Rattle.std.specs.Prelude.{Option, Some, None}
 use Rattle.tlv_show.specs.declared.holder_frame.HolderFrame.{HolderFrame}
 use Rattle.tlv_show.specs.declared.holder_frame.KeptFrame.{KeptFrame}
-use Rattle.tlv_show.specs.NestingState.{NestingState, frame_after, top_frame}
+use Rattle.tlv_show.specs.NestingState.{NestingState, frame_after, top_frame, with_element}
 
 -- ---- What is left of an element that ends
 
--- its frame, if it held segments
-abbrev pub frame_if_segments : HolderFrame → Option HolderFrame
-frame_if_segments w = if w.has_segments then Some w else None
+-- its frame, if it held segments or lacks components
+abbrev pub frame_if_judged : HolderFrame → Option HolderFrame
+frame_if_judged w = if w.has_segments || w.lacks_components then Some w else None
 
-abbrev pub closed_string_frame_inside : HolderFrame → List HolderFrame → Option HolderFrame
-closed_string_frame_inside closed [] = None
-closed_string_frame_inside closed (w ∷ outer) = frame_if_segments closed
+abbrev pub closed_frame_inside : HolderFrame → List HolderFrame → Option HolderFrame
+closed_frame_inside closed [] = None
+closed_frame_inside closed (w ∷ outer) = frame_if_judged closed
 
-abbrev pub closed_string_frame : NestingState → Option HolderFrame
-closed_string_frame s = closed_string_frame_inside s.frame s.outer
+abbrev pub closed_frame : NestingState → Option HolderFrame
+closed_frame s = closed_frame_inside s.frame s.outer
+
+-- ---- What is noted of an element that begins
+
+-- in the innermost element
+abbrev pub nesting_with_element : NestingState → NestingState
+nesting_with_element n = record n { frame = with_element n.frame }
 
 -- ---- The frames that are kept
 
@@ -39,15 +45,18 @@ abbrev pub all_frames : ℕ → List KeptFrame → List HolderFrame
 all_frames floor [] = []
 all_frames floor (k ∷ outer) = frames_with k.frame (floor - 1 - k.floor) (all_frames k.floor outer)
 
--- in a string each open element has a frame of its own
-abbrev pub HasFramesInStrings : HolderFrame → ℕ → Type 0
-HasFramesInStrings w without_frame = (innermost_frame w without_frame).has_segments ≡ w.has_segments
+-- if elements without a frame are open inside `w`, it says of itself what the frame of the top says: it is no string,
+-- and lacks no components
+abbrev pub SaysTheSame : HolderFrame → ℕ → Type 0
+SaysTheSame w without_frame =
+    ((innermost_frame w without_frame).has_segments ≡ w.has_segments)
+    × ((innermost_frame w without_frame).lacks_components ≡ w.lacks_components)
 
 -- each floor is above the floor outside of it, and the floor of the top is 0
 abbrev pub HaveRisingFloors : ℕ → List KeptFrame → Type 0
 HaveRisingFloors floor [] = floor ≡ 0
 HaveRisingFloors floor (k ∷ outer) =
-    (k.floor < floor) × HasFramesInStrings k.frame (floor - 1 - k.floor) × HaveRisingFloors k.floor outer
+    (k.floor < floor) × SaysTheSame k.frame (floor - 1 - k.floor) × HaveRisingFloors k.floor outer
 
 -- what is kept after the end of the element inside the innermost of these
 pub record IsTakenBack (closed : HolderFrame) (k : KeptFrame) (outer : List KeptFrame)

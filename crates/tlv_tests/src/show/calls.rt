@@ -2,7 +2,7 @@
 use super::plain;
 use crate::expect::expect_eq;
 use std::process::Abort;
-use tlv_show::{Check, Outcome, Rules, check, dump, dump_with};
+use tlv_show::{Check, Outcome, Rules, Scope, check, dump, dump_with};
 use tlv_value::Names;
 use tlv_walk::{Ending, Framing, MemDrain, MemSource, drive};
 
@@ -42,6 +42,7 @@ fn expect_dump(rt: &impl Abort, with_text: bool, want: &[u8]) {
         &mut source,
         &mut drain,
         &plain(),
+        Scope::Listed,
         with_text,
         &Names::empty(),
     );

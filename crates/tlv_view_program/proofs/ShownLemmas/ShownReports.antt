@@ -20,7 +20,9 @@ use Rattle.tlv_open.specs.BrokenLine.{broken_line, suspicion_text}
 use Rattle.tlv_open.specs.declared.strings.BrokenString.{BrokenString}
 use Rattle.tlv_open.specs.declared.strings.Suspicion.{Suspicion}
 use Rattle.tlv_open.specs.declared.strings.Suspicion.TheVariants as suspicion
-use Rattle.tlv_show.specs.ShowJob.{check_job, dump_job_with}
+use Rattle.tlv_show.specs.ShowJob.{check_job_with, dump_job_with}
+use Rattle.tlv_show.specs.ShownFindings.{all_by}
+use Rattle.tlv_show.specs.declared.scope.Scope.TheVariants.{All}
 use Rattle.tlv_show.specs.declared.outcome.Outcome.{Outcome}
 use Rattle.tlv_text.specs.declared.text_fault.TextFault.{TextFault}
 use Rattle.tlv_text.specs.declared.text_fault.TextFault.TheVariants as text
@@ -149,9 +151,9 @@ job-shown make job all f e = all (job.returns f e)
 
 view-shown : (v : View) (framing : Framing) (names : NamesValue) → ReportsShown (job_of_view v framing names)
 view-shown (view.Dump rules limit pure text) framing names =
-    job-shown outcome_report (dump_job_with text (dump_options rules limit pure framing) names) outcome_report-shown
+    job-shown outcome_report (dump_job_with All text (dump_options rules limit pure framing) names) outcome_report-shown
 view-shown (view.Check rules) framing names =
-    job-shown outcome_report (check_job rules framing) outcome_report-shown
+    job-shown outcome_report (check_job_with (all_by rules) framing) outcome_report-shown
 view-shown (view.Extract offset contents) framing names =
     λ f e. search (ending_report-shown, found_report-shown)
 

@@ -1,13 +1,14 @@
-use Rattle.std.proofs.Common.{◌≡◌, Bool, not, eqb, true, false, List, [], ◌∷◌, length, ap, sym, refl, ◌∙◌, arith}
+use Rattle.std.proofs.Common.{◌≡◌, Bool, not, eqb, true, false, List, [], ◌∷◌, length, ap, ap₂, sym, refl, ◌∙◌, arith}
 use Rattle.std.proofs.Common.{eqb-true}
 use Rattle.tlv_value.specs.declared.finding.Finding.{Finding}
 use Rattle.tlv_value.specs.ValueCheckState.{ValueCheckState, value_check_after}
 use Rattle.tlv_show.specs.declared.rules.Rules.TheVariants.{Ber}
 use Rattle.tlv_show.specs.declared.holder_frame.HolderFrame.{HolderFrame}
+use Rattle.tlv_show.specs.declared.wanted.Wanted.{Wanted}
 use Rattle.tlv_show.specs.NestingState.{surroundings_in}
 use Rattle.tlv_show.specs.KeptConditions.{header_findings_in}
 use Rattle.tlv_show.specs.FinderState.{contents_findings_in}
-use Rattle.tlv_show.specs.ShownFindings.{contents_findings, header_findings}
+use Rattle.tlv_show.specs.ShownFindings.{contents_findings, header_findings, listed_by}
 use Rattle.tlv_show.specs.Site.{top_site}
 use Rattle.tlv_show.proofs.FindingLemmas.FinderSteps.{contents_findings-at_end}
 use Rattle.tlv_show.proofs.basic_findings.has_basic_findings.Goals as goal
@@ -32,14 +33,16 @@ both-empty b header found contents none same e =
 
 pub returns : goal.returns
 returns c =
-    let header : header_findings Ber top_site c.args.header.now ≡ [] =
-    ap (λ (w : HolderFrame). header_findings_in Ber (surroundings_in w) c.args.header.now) (sym c.top_frame.ensures)
+    let header : header_findings (listed_by Ber) top_site c.args.header.now ≡ [] =
+    ap₂ (λ (v : Wanted) (w : HolderFrame). header_findings_in v (surroundings_in w) c.args.header.now)
+    (sym c.listed-wanted.ensures) (sym c.top_frame.ensures)
     ∙ sym c.add_header_findings.ensures
     ∙ empty-nil c.add_header_findings.new.found.items c.is_empty.result c.is_empty.ensures c.if-not-is_empty.false in
-    let found : c.add_contents_findings.new.found.items ≡ contents_findings Ber c.args.header.now c.args.contents.now =
-    c.add_contents_findings.ensures ∙
-    (ap (contents_findings_in Ber)
+    let found :
+    c.add_contents_findings.new.found.items ≡ contents_findings (listed_by Ber) c.args.header.now c.args.contents.now =
+    c.add_contents_findings.ensures.found ∙
+    (ap₂ contents_findings_in c.listed-wanted.ensures
     (c.bytes.ensures.state
     ∙ ap (λ (s : ValueCheckState). value_check_after s c.args.contents.now) c.new-check.ensures)
-    ∙ contents_findings-at_end Ber c.args.header.now c.args.contents.now c.requires) in
+    ∙ contents_findings-at_end (listed_by Ber) c.args.header.now c.args.contents.now c.requires) in
     both-empty c.is_empty-2.result _ c.add_contents_findings.new.found.items _ header found c.is_empty-2.ensures

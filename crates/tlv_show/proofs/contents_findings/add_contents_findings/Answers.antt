@@ -41,7 +41,7 @@ loop-finding-preserved c =
           rw w.found-is
           (record {
             kept =
-                kept (is_shown c.args.rules) l _ c.loop-finding.finding-index _ c.loop-finding-test.true old.kept
+                kept (is_shown c.args.wanted) l _ c.loop-finding.finding-index _ c.loop-finding-test.true old.kept
                 _ (sym c.is_shown.ensures ∙ w.if-is_shown.true) w.push.ensures.items;
             short = next-within _ _ _ old.short w.push.ensures.len;
             all = old.all;
@@ -51,7 +51,7 @@ loop-finding-preserved c =
           rw w.found-is
           (record {
             kept =
-                filter-hidden (is_shown c.args.rules) l _ c.loop-finding.finding-index _ c.loop-finding-test.true
+                filter-hidden (is_shown c.args.wanted) l _ c.loop-finding.finding-index _ c.loop-finding-test.true
                 old.kept
                 (sym c.is_shown.ensures ∙ w.if-is_shown.false);
             short = stays-within _ _ old.short;

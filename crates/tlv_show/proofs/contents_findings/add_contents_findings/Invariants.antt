@@ -6,7 +6,7 @@ use Rattle.tlv_show.proofs.contents_findings.add_contents_findings.Given as goal
 
 abbrev pub invariant-loop-finding : goal.invariant-loop-finding
 invariant-loop-finding l = record {
-  kept : l.found.items ≡ filter (is_shown l.rules) (take l.finding-index l.finding-items);
+  kept : l.found.items ≡ filter (is_shown l.wanted) (take l.finding-index l.finding-items);
   short : length l.found.items ≤ l.finding-index;
   all : l.finding-items ≡ findings_in l.check;
   all_short : length l.finding-items ≤ 16;

@@ -5,5 +5,5 @@ use Rattle.tlv_show.proofs.laws.checks_make_texts.Goals as goal
 
 pub returns : goal.returns
 returns c =
-    λ rules framing b f few
-    r. (text-made rules framing b f few r, count-made rules framing b f few r, all_on (new_check rules) (events f))
+    λ wanted framing b f few
+    r. (text-made wanted framing b f few r, count-made wanted framing b f few r, all_on (new_check wanted) (events f))

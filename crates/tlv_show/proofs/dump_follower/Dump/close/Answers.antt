@@ -5,6 +5,10 @@ use Rattle.tlv_io.specs.Out.{Puts}
 use Rattle.tlv_io.proofs.Puts.{puts_failed}
 use Rattle.tlv_show.specs.declared.finding_lines.Style.TheVariants.{Dump}
 use Rattle.tlv_show.specs.LinesStep.{LinesState, lines_close_step}
+use Rattle.std.specs.Prelude.{Bool}
+use Rattle.std.specs.Option.{is_some}
+use Rattle.tlv_show.specs.FinderState.{finder_close_step}
+use Rattle.tlv_show.specs.Private.FinderState.{ReturnsFindings}
 use Rattle.tlv_show.specs.DumpStep.{DumpState, dump_step}
 use Rattle.tlv_show.proofs.DumpLemmas.DumpSteps.{found_after}
 use Rattle.tlv_show.proofs.dump_follower.Dump.close.Goals as goal
@@ -26,6 +30,12 @@ returns g c =
     let style =
     c.style-style.ensures ∙ ap (λ (l : LinesState). Dump l.layout.pure) c.in_ok-close.ensures.state
     ∙ ap Dump (same-columns c.self.inside.lines c.args.offset) in
+    let found : ReturnsFindings (finder_close_step s.finder (is_some c.args.offset)) c.close-may_have_findings.new.self
+    c.close-may_have_findings.result =
+    subst
+    (λ (b : Bool). ReturnsFindings (finder_close_step s.finder b) c.close-may_have_findings.new.self
+    c.close-may_have_findings.result)
+    c.is_some.ensures c.close-may_have_findings.ensures in
     record {
       puts =
           subst
@@ -34,6 +44,6 @@ returns g c =
           c.self.view_is
           (found_after g.D.Drain.state s _ c.close-may_have_findings.new.self c.close-may_have_findings.result
           _ _ _ _ _ _ _ style
-          c.close-may_have_findings.ensures c.in_ok-close.ensures.puts c.put_findings.ensures);
+          found c.in_ok-close.ensures.puts c.put_findings.ensures);
       state = search rules;
     }

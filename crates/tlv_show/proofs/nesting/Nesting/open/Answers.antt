@@ -1,5 +1,6 @@
-use Rattle.std.proofs.Common.{◌∙◌, ◌≤◌, ◌-◌, length, sym, arith}
-use Rattle.tlv_show.proofs.FindingLemmas.KeptFrames.{fewer-kept, one_each, open-full, opens-frame}
+use Rattle.std.proofs.Common.{◌+◌, ◌∙◌, ◌≤◌, ◌-◌, length, sym, arith}
+use Rattle.tlv_show.proofs.FindingLemmas.KeptFrames.{at-floor, fewer-kept, one_each, open-full, opens-frame}
+use Rattle.tlv_show.proofs.FindingLemmas.KeptFrames.{rises}
 use Rattle.tlv_show.specs.Private.Nesting.{all_frames, outer_frames}
 use Rattle.tlv_show.proofs.nesting.Nesting.open.Goals as goal
 
@@ -22,3 +23,15 @@ returns-then-self c =
     let full : 128 ≤ length (outer_frames n.frame (n.depth - n.floor) (all_frames n.floor n.outer)) =
     omega (arith, e, c.if-self.true) in
     rw (← c.self.view_is) (open-full _ c.args.header.now full)
+
+pub invariant_of-self : goal.invariant_of-self
+invariant_of-self c =
+    let n = c.self.inside in
+    let known = c.self.invariant in
+    rw c.push.ensures
+    (record {
+      shallow = omega (arith, c.if-self.false, known.shallow);
+      within = omega arith;
+      innermost = at-floor c.frame_of-self-inside.result (n.depth + 1);
+      rising = rises n.frame n.floor n.depth n.outer known.within known.innermost known.rising;
+    })

@@ -1,4 +1,4 @@
-use Rattle.std.proofs.Common.{List, ℕ, length, min, ap, subst, sym, ◌∙◌}
+use Rattle.std.proofs.Common.{List, ℕ, min, ap, subst, sym, ◌∙◌}
 use Rattle.tlv_show.specs.declared.set_frame.SetFrame.{SetFrame}
 use Rattle.tlv_show.specs.Private.SetOrder.{AreFull}
 use Rattle.tlv_show.proofs.SetOrderLemmas.KeptFrames.{full_taken}
