@@ -12,5 +12,7 @@ pub mod SpellingRows
 pub mod SaturatingSums
 pub mod FindingLemmas
 pub mod DumpLemmas
+pub mod SegmentLemmas
+pub mod SegmentRows
 pub mod SetOrderRows
 pub mod SetOrderLemmas

@@ -1,14 +1,16 @@
 -- What is reported of elements, item by item. A dump and a check write the lines of the items in this order, and
 -- their number of findings is the number of findings here.
-use Rattle.std.specs.Prelude.{ℕ, if◌then◌else◌, List, [], ◌∷◌, ◌++◌, map, Option}
+use Rattle.std.specs.Prelude.{ℕ, ◌&&◌, if◌then◌else◌, List, [], ◌∷◌, ◌++◌, map, Option}
 use Rattle.tlv_head.specs.Header.{HeaderValue}
 use Rattle.tlv_value.specs.declared.finding.Finding.{Finding}
 use Rattle.tlv_walk.specs.Events.{end_octets_offset}
 use Rattle.tlv_walk.specs.Forest.{Forest, PaddingOctet, Primitive, Holder, OpenPrimitive, OpenHolder}
 use Rattle.tlv_walk.specs.Forest.{OpenBitString}
 use Rattle.tlv_show.specs.declared.wanted.Wanted.{Wanted}
+use Rattle.tlv_show.specs.SegmentCharacters.{has_wrong_characters}
 use Rattle.tlv_show.specs.SetOrder.{holder_element, primitive_element}
 use Rattle.tlv_show.specs.ShownFindings.{contents_findings, end_findings, header_findings, last_findings}
+use Rattle.tlv_show.specs.ShownFindings.{wants_characters, with_characters_if}
 use Rattle.tlv_show.specs.Site.{Site, is_padding, site_after_holder, site_after_padding, site_after_primitive}
 use Rattle.tlv_show.specs.Site.{site_of_children}
 
@@ -38,7 +40,7 @@ finding_items depth offset findings = map (FindingAt depth offset) findings
 
 module _ (wanted : Wanted) where
   -- the findings of the header of an element, on the contents of a primitive, and of the end of an element that held
-  -- others
+  -- others. The last two are with the order of a SET
   abbrev pub header_items : Site → HeaderValue → List Item
   header_items s h = finding_items s.depth h.offset (header_findings wanted s h)
 
@@ -47,10 +49,15 @@ module _ (wanted : Wanted) where
       finding_items s.depth h.offset
       (last_findings wanted s (primitive_element h c) (contents_findings wanted h c))
 
+  abbrev pub held_findings : HeaderValue → Forest → List Finding
+  held_findings h children =
+      with_characters_if (wants_characters wanted && has_wrong_characters h children)
+      (end_findings wanted h (headers children))
+
   abbrev pub end_items : Site → HeaderValue → Forest → List Item
   end_items s h children =
       finding_items s.depth h.offset
-      (last_findings wanted s (holder_element h children) (end_findings wanted h (headers children)))
+      (last_findings wanted s (holder_element h children) (held_findings h children))
 
   -- the items of elements, the first of which is at this site. The findings of a header come before the element's
   -- first line, all other findings after its last line

@@ -28,7 +28,7 @@ use Rattle.tlv_walk.specs.declared.follow.Go.TheVariants.{On}
 use Rattle.tlv_show.specs.declared.finding_lines.Style.TheVariants.{Dump}
 use Rattle.tlv_show.specs.FindingLines.{styled_lines}
 use Rattle.tlv_show.specs.DumpStep.{DumpState, dump_step, finding_lines}
-use Rattle.tlv_show.specs.FinderState.{CheckState, finder_begin_step, finder_bytes_step, finder_end_step, is_order_found}
+use Rattle.tlv_show.specs.FinderState.{CheckState, finder_begin_step, finder_bytes_step, finder_end_step, is_misplaced}
 use Rattle.tlv_show.specs.NestingState.{depth_in}
 use Rattle.tlv_show.specs.ShownFindings.{all_by, contents_findings, is_by, is_listed, listed_by, with_order_if}
 use Rattle.tlv_head.specs.Limits.{input_limit}
@@ -58,7 +58,7 @@ whole_primitive s h c = (finder_end_step (finder_bytes_step (finder_begin_step s
 abbrev pub contents_finding_lines : DumpState → HeaderValue → List ℕ → List ℕ
 contents_finding_lines s h c =
     styled_lines (Dump s.lines.layout.pure) (depth_in s.finder.holders) h.offset
-    (with_order_if (is_order_found s.finder.wanted (whole_primitive s.finder h c).order)
+    (with_order_if (is_misplaced s.finder.wanted (whole_primitive s.finder h c).seen)
     (contents_findings s.finder.wanted h c))
 
 -- a primitive with as many contents octets as its header announces has the lines of its whole contents, between the

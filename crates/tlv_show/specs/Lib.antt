@@ -4,6 +4,8 @@ pub mod ShowJob
 pub mod Site
 pub mod SetOrder
 pub mod SetOrderState
+pub mod SegmentCharacters
+pub mod SegmentCharactersState
 pub mod Conditions
 pub mod ShownFindings
 pub mod KeptConditions

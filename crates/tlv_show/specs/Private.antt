@@ -2,5 +2,6 @@ pub mod IfOpen
 pub mod LinesStep
 pub mod FinderState
 pub mod Nesting
+pub mod SegmentCharacters
 pub mod SetOrder
 pub mod UsualTypes

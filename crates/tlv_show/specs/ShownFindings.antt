@@ -75,6 +75,16 @@ contents_findings wanted h c = shown_findings wanted (contents_conditions h c)
 abbrev pub end_findings : Wanted → HeaderValue → List HeaderValue → List Finding
 end_findings wanted h children = shown_findings wanted (end_conditions h children)
 
+-- ---- With the characters of segments
+
+-- B28 is wanted
+abbrev pub wants_characters : Wanted → Bool
+wants_characters wanted = is_shown wanted B28
+
+-- B28 and other findings of the end of a string. A string has no B27, so that B28 comes first
+abbrev pub with_characters_if : Bool → List Finding → List Finding
+with_characters_if wrong findings = if wrong then B28 ∷ findings else findings
+
 -- ---- With the order of a SET
 
 -- the code comes after S05

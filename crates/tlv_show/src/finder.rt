@@ -1,13 +1,12 @@
 //! The findings in elements, event by event.
-ghost use Rattle.std.specs.Prelude.{◌≡◌};
+ghost use Rattle.std.specs.Option.{is_some};
+ghost use Rattle.std.specs.Prelude.{◌≡◌, ◌||◌};
 ghost use Rattle.tlv_head.specs.Header.{HasAllContents};
 ghost use Rattle.tlv_walk.specs.Events.{event_value_of};
 ghost use Rattle.tlv_show.specs.FinderState.{finder_in_primitive, finder_begin_step, finder_bytes_step};
 ghost use Rattle.tlv_show.specs.FinderState.{finder_close_step, finder_end_step, finder_open_step};
-ghost use Rattle.tlv_show.specs.FinderState.{end_offset, with_findings, with_header_findings};
-ghost use Rattle.tlv_show.specs.ShownFindings.{with_order_if};
-ghost use Rattle.tlv_show.specs.KeptConditions.{end_findings_in};
-ghost use Rattle.tlv_show.specs.NestingState.{depth_in, segments_in};
+ghost use Rattle.tlv_show.specs.FinderState.{end_findings_with, end_offset, with_findings, with_header_findings};
+ghost use Rattle.tlv_show.specs.NestingState.{depth_in};
 ghost use Rattle.tlv_show.specs.Private.FinderState.{PassesOrStays, ReturnsFindings};
 ghost use Rattle.tlv_show.specs.Private.FinderState.{finder_step, new_finder, with_check_state};
 
@@ -19,10 +18,15 @@ use crate::header_findings::{
 use crate::holder_frame::{HolderFrame, top_frame};
 use crate::last_findings::LastFindings;
 use crate::nesting::Nesting;
-use crate::order_finding::insert_order_finding;
+use crate::order_finding::{insert_character_finding, insert_order_finding};
+use crate::segment_characters::SegmentCharacters;
 use crate::set_order::SetOrder;
 use crate::wanted_order::{
     begin_in_order, bytes_in_order, close_in_order, end_in_order, open_in_order, passes_in_order,
+};
+use crate::wanted_strings::{
+    begin_in_strings, bytes_in_strings, close_in_strings, end_in_strings, open_in_strings,
+    passes_in_strings,
 };
 use arrayvec::ArrayVec;
 use std::marker::Model;
@@ -45,6 +49,8 @@ pub(crate) struct Finder {
     check: ValueCheck,
     /// What must be known of the open SETs, if their order is wanted.
     order: SetOrder,
+    /// What must be known of the open strings, if the characters of their segments are wanted.
+    strings: SegmentCharacters,
     /// The number of findings so far.
     finding_count: u64,
     /// The findings of the last event that may have had some. They are kept here so that nothing is moved if there
@@ -63,7 +69,7 @@ impl Model for Finder {
         wanted = f.wanted;
         holders = f.holders;
         open_primitive = if_open f.is_open (record { offset = f.offset; check = f.check });
-        order = f.order;
+        seen = record { order = f.order; strings = f.strings };
         finding_count = f.finding_count;
       };
       level = f.last.level;
@@ -84,6 +90,7 @@ impl Finder {
             is_open: false,
             check: ValueCheck::of_type(0, 0),
             order: SetOrder::new(),
+            strings: SegmentCharacters::new(),
             finding_count: 0,
             last: LastFindings {
                 level: 0,
@@ -149,6 +156,7 @@ impl Finder {
             || !has_no_header_findings_if_usual(self.wanted.rules, frame, header)
             || !is_clear(header, contents)
             || !passes_in_order(&self.order, self.wanted)
+            || !passes_in_strings(&self.strings, self.wanted)
         {
             return false;
         }
@@ -185,6 +193,7 @@ impl Finder {
         self.is_open = true;
         self.check.restart(header);
         begin_in_order(&mut self.order, self.wanted, header);
+        begin_in_strings(&mut self.strings, self.wanted, header);
     }
 
     /// An element that holds others begins.
@@ -193,6 +202,7 @@ impl Finder {
         ensures { ReturnsFindings (finder_open_step self.old.kept header.now) self.new result }
     {
         open_in_order(&mut self.order, self.wanted, header);
+        open_in_strings(&mut self.strings, self.wanted, header);
         // Most such elements are not strings, and have no findings.
         if has_no_header_findings(self.wanted.rules, self.holders.frame(), header) {
             self.holders.open_without_frame(header);
@@ -222,6 +232,7 @@ impl Finder {
             let count = self.check.left().min(octets.len() as u64) as usize;
             self.check.bytes(&octets[..count]);
             bytes_in_order(&mut self.order, self.wanted, octets);
+            bytes_in_strings(&mut self.strings, self.wanted, octets);
         }
     }
 
@@ -238,6 +249,7 @@ impl Finder {
         self.holders
             .primitive(check.size(), check.has_unused_bits());
         let is_out_of_order = end_in_order(&mut self.order, self.wanted);
+        end_in_strings(&mut self.strings, self.wanted);
         if check.left() != 0 && !is_out_of_order {
             return false;
         }
@@ -264,11 +276,12 @@ impl Finder {
             return false;
         }
         let is_out_of_order = close_in_order(&mut self.order, self.wanted, has_end_octets);
+        let string = close_in_strings(&mut self.strings, self.wanted, has_end_octets);
         match self.holders.close() {
-            Some(closed) => self.find_with_end(&closed, is_out_of_order),
+            Some(closed) => self.find_with_end(&closed, is_out_of_order, string),
             None => {
-                if is_out_of_order {
-                    self.find_with_end(&top_frame(), true)
+                if has_finding(is_out_of_order, string) {
+                    self.find_with_end(&top_frame(), is_out_of_order, string)
                 } else {
                     false
                 }
@@ -277,21 +290,30 @@ impl Finder {
     }
 
     /// Determines the findings of the end of an element that held segments or lacks components, or is out of order.
+    /// Takes the offset of a string with wrong characters.
     #[inline(never)]
-    fn find_with_end(&mut self, closed: &HolderFrame, is_out_of_order: bool) -> bool
+    fn find_with_end(
+        &mut self,
+        closed: &HolderFrame,
+        is_out_of_order: bool,
+        string: Option<u64>,
+    ) -> bool
         ensures { ReturnsFindings
             (with_findings self.old.kept (depth_in self.old.kept.holders)
-            (end_offset is_out_of_order self.old.kept.order closed.now)
-            (with_order_if is_out_of_order (end_findings_in self.old.kept.wanted (segments_in closed.now))))
+            (end_offset is_out_of_order self.old.kept.seen.order string closed.now)
+            (end_findings_with self.old.kept.wanted is_out_of_order string closed.now))
             self.new result }
     {
         let offset = if is_out_of_order {
             self.order.offset()
         } else {
-            closed.offset
+            string.unwrap_or(closed.offset)
         };
         self.last.restart(self.holders.depth(), offset);
         add_end_findings(self.wanted, closed, &mut self.last.findings);
+        if string.is_some() {
+            insert_character_finding(&mut self.last.findings);
+        }
         if is_out_of_order {
             insert_order_finding(&mut self.last.findings);
         }
@@ -300,4 +322,12 @@ impl Finder {
             .saturating_add(self.last.findings.len() as u64);
         true
     }
+}
+
+/// Whether an element is out of order at its end, or a string with wrong characters, which begins at this offset.
+#[inline(always)]
+fn has_finding(is_out_of_order: bool, string: Option<u64>) -> bool
+    ensures { result ≡ (is_out_of_order || is_some string) }
+{
+    is_out_of_order || string.is_some()
 }

@@ -4,6 +4,7 @@ ghost use Rattle.tlv_show.specs.Laws.{BasicFindingsStay, ChecksGoOn, ChecksMakeT
 ghost use Rattle.tlv_show.specs.Laws.{DumpsMakeTexts, ListedItemsStay, PrimitivesAreShown};
 ghost use Rattle.tlv_show.specs.Spellings.{LongerIdentifiersAreFound, LongerLengthsAreFound, OneSpelling, SomeSpelling};
 ghost use Rattle.tlv_show.specs.SetOrderState.{OutOfOrderIsFound};
+ghost use Rattle.tlv_show.specs.SegmentCharactersState.{WrongCharactersAreFound};
 
 /// For the events of the reading of an input of at most 2^40 octets, a `Dump` writes the text of that reading and
 /// counts its findings. It always wants more.
@@ -78,4 +79,10 @@ pub fn longer_lengths_are_found()
 /// Event by event, the whole elements are found that are out of order in a SET, and no others.
 pub fn out_of_order_is_found()
     ensures { OutOfOrderIsFound }
+{}
+
+/// Event by event, the whole strings are found that have a segment with an octet that their type does not allow, and no
+/// others.
+pub fn wrong_characters_are_found()
+    ensures { WrongCharactersAreFound }
 {}

@@ -25,10 +25,13 @@ mod order_finding;
 mod outcome;
 mod rules;
 mod scope;
+mod segment_characters;
+mod segment_frame;
 mod set_frame;
 mod set_order;
 mod wanted;
 mod wanted_order;
+mod wanted_strings;
 
 pub use basic_findings::has_basic_findings;
 pub use check_call::{check, check_with};

@@ -1,8 +1,8 @@
 //! The finding on the order of a SET, among others.
-ghost use Rattle.std.specs.Prelude.{◌≡◌, ◌<◌, ◌≤◌, length};
+ghost use Rattle.std.specs.Prelude.{true, ◌≡◌, ◌<◌, ◌≤◌, length};
 ghost use Rattle.tlv_value.specs.declared.finding.Finding.TheVariants.{S05};
 ghost use Rattle.tlv_show.specs.Private.SetOrder.{inserted};
-ghost use Rattle.tlv_show.specs.ShownFindings.{comes_after_order, with_order};
+ghost use Rattle.tlv_show.specs.ShownFindings.{comes_after_order, with_characters_if, with_order};
 
 use arrayvec::ArrayVec;
 use tlv_value::Finding;
@@ -15,6 +15,15 @@ pub(crate) fn insert_order_finding(found: &mut ArrayVec<Finding, 17>)
 {
     let at = order_index(found.as_slice());
     found.insert(at, Finding::S05);
+}
+
+/// Adds the finding that a segment of a string has wrong characters to the other findings of the string's end: it comes
+/// first.
+pub(crate) fn insert_character_finding(found: &mut ArrayVec<Finding, 17>)
+    requires { length found.old.items < 17 }
+    ensures { found.new.items ≡ with_characters_if true found.old.items }
+{
+    found.insert(0, Finding::B28);
 }
 
 /// Where it is among these findings.

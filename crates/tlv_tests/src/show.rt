@@ -2,6 +2,7 @@
 mod calls;
 mod primitives;
 mod scopes;
+mod segments;
 mod set_order;
 mod turns;
 

@@ -35,6 +35,6 @@ pub use name_table::NameTable;
 pub use names::{Names, NamesFault};
 pub use short_look::is_clear;
 pub use time::{general_canonical, general_ok, utc_canonical, utc_ok};
-pub use value_check::ValueCheck;
+pub use value_check::{ValueCheck, are_allowed};
 pub use value_text::ValueText;
 pub use whole_lines::{put_whole, put_whole_with};

@@ -16,7 +16,7 @@ mod utf8_rows;
 use crate::Finding;
 use crate::real::RealCheck;
 use arrayvec::ArrayVec;
-pub(crate) use characters::are_allowed;
+pub use characters::are_allowed;
 pub(crate) use findings::is_any_set;
 use notes::{
     is_padded_with, note_time, notes_each, notes_first, notes_iri, notes_time, notes_units,

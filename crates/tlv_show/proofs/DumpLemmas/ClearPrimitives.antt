@@ -16,11 +16,13 @@ use Rattle.tlv_walk.specs.Follow.{Effect, contents_in, effect_if_more, effect_of
 use Rattle.tlv_walk.specs.Follow.{whole_events}
 use Rattle.tlv_walk.proofs.FollowerLemmas.FollowedEvents.{followed-one}
 use Rattle.tlv_io.proofs.Puts.{puts_nothing, puts_text}
-use Rattle.tlv_show.specs.FinderState.{is_order_found}
+use Rattle.tlv_show.specs.FinderState.{is_misplaced}
 use Rattle.tlv_show.specs.Private.SetOrder.{IsUnchangedByPrimitives}
-use Rattle.tlv_show.specs.SetOrderState.{SetOrderState}
-use Rattle.tlv_show.specs.ShownFindings.{contents_findings, wants_order, with_order_if}
-use Rattle.tlv_show.proofs.SetOrderLemmas.WantedOrder.{none-passed, order_whole, whole-passed}
+use Rattle.tlv_show.specs.FinderState.{SeenState}
+use Rattle.tlv_show.specs.ShownFindings.{contents_findings, wants_characters, wants_order, with_order_if}
+use Rattle.tlv_show.proofs.SetOrderLemmas.WantedOrder.{none-passed}
+use Rattle.tlv_show.proofs.SegmentLemmas.Seen.{seen_whole, whole-same}
+use Rattle.tlv_show.specs.Private.SegmentCharacters.{StayAtPrimitives}
 use Rattle.tlv_show.specs.declared.holder_frame.HolderFrame.{HolderFrame}
 use Rattle.tlv_show.specs.declared.finding_lines.Style.TheVariants.{Check}
 use Rattle.tlv_show.specs.CheckStep.{check_step, findings_effect}
@@ -62,30 +64,31 @@ without_primitive s = record s { holders = nesting_with_element s.holders; open_
 pub whole_step-clear : (s : CheckState) (h : HeaderValue) (c : List ℕ) → HasAllContents h c
     → s.holders.frame.has_segments ≡ false
     → header_findings_in s.wanted (surroundings_in s.holders.frame) h ≡ [] → all_contents_findings h c ≡ []
-    → (wants_order s.wanted ≡ true → IsUnchangedByPrimitives s.order)
+    → (wants_order s.wanted ≡ true → IsUnchangedByPrimitives s.seen.order)
+    → (wants_characters s.wanted ≡ true → StayAtPrimitives s.seen.strings)
     → finder_whole_step s h c ≡ record {
       kept = without_primitive s;
       level = depth_in s.holders;
       offset = h.offset;
       findings = [];
     }
-whole_step-clear s h c size w header contents passed =
-    let made_with : SetOrderState → Bool → HolderFrame → ℕ → List Finding → FinderState =
-    λ (o : SetOrderState) (b : Bool) (f : HolderFrame) (n : ℕ) (fs : List Finding). record {
+whole_step-clear s h c size w header contents in_order in_strings =
+    let made_with : SeenState → Bool → HolderFrame → ℕ → List Finding → FinderState =
+    λ (o : SeenState) (b : Bool) (f : HolderFrame) (n : ℕ) (fs : List Finding). record {
       kept =
           check_between s.wanted f s.holders.outer
-          (record { count = saturating_sum n (length (with_order_if b fs)); order = o });
+          (record { count = saturating_sum n (length (with_order_if b fs)); seen = o });
       level = depth_in s.holders;
       offset = h.offset;
       findings = with_order_if b fs;
     } in
-    let made : HolderFrame → ℕ → List Finding → FinderState = made_with s.order false in
-    let o : SetOrderState = order_whole s.wanted s.order h c in
-    let same : o ≡ s.order = whole-passed s.wanted s.order h c passed in
-    let none : is_order_found s.wanted o ≡ false =
-    ap (is_order_found s.wanted) same ∙ none-passed s.wanted s.order passed in
-    primitive-find s.wanted s.holders.frame s.holders.outer (record { count = s.finding_count; order = s.order }) h c size
-    ∙ ap₂ (λ (u : SetOrderState) (b : Bool). made_with u b (after_primitive s.wanted s.holders.frame h c)
+    let made : HolderFrame → ℕ → List Finding → FinderState = made_with s.seen false in
+    let o : SeenState = seen_whole s.wanted s.seen h c in
+    let same : o ≡ s.seen = whole-same s.wanted s.seen h c in_order in_strings in
+    let none : is_misplaced s.wanted o ≡ false =
+    ap (is_misplaced s.wanted) same ∙ none-passed s.wanted s.seen.order in_order in
+    primitive-find s.wanted s.holders.frame s.holders.outer (record { count = s.finding_count; seen = s.seen }) h c size
+    ∙ ap₂ (λ (u : SeenState) (b : Bool). made_with u b (after_primitive s.wanted s.holders.frame h c)
     (saturating_sum s.finding_count (length (header_findings_in s.wanted (surroundings_in s.holders.frame) h)))
     (contents_findings s.wanted h c))
     same none
@@ -102,7 +105,7 @@ whole_step-clear s h c size w header contents passed =
     record {
       kept =
           check_between s.wanted (with_element s.holders.frame) s.holders.outer
-          (record { count = n; order = s.order });
+          (record { count = n; seen = s.seen });
       level =
           depth_in s.holders;
       offset = h.offset;
@@ -113,10 +116,11 @@ whole_step-clear s h c size w header contents passed =
 pub passes_primitive-clear : (old new : FinderState) (h : HeaderValue) (c : List ℕ) → HasAllContents h c
     → old.kept.holders.frame.has_segments ≡ false
     → header_findings_in old.kept.wanted (surroundings_in old.kept.holders.frame) h ≡ [] → all_contents_findings h c ≡ []
-    → (wants_order old.kept.wanted ≡ true → IsUnchangedByPrimitives old.kept.order)
+    → (wants_order old.kept.wanted ≡ true → IsUnchangedByPrimitives old.kept.seen.order)
+    → (wants_characters old.kept.wanted ≡ true → StayAtPrimitives old.kept.seen.strings)
     → new ≡ with_check_state (without_primitive old.kept) old → PassesPrimitive old new h c
-passes_primitive-clear old new h c size w header contents passed e =
-    let all = whole_step-clear old.kept h c size w header contents passed in
+passes_primitive-clear old new h c size w header contents in_order in_strings e =
+    let all = whole_step-clear old.kept h c size w header contents in_order in_strings in
     record {
       begins = header;
       ends = ap (λ (f : FinderState). f.findings) all;
@@ -124,14 +128,14 @@ passes_primitive-clear old new h c size w header contents passed e =
     }
 
 -- an element that holds others, with whose header nothing is found
-pub opens-clear : (s : CheckState) (holders : NestingState) (order : SetOrderState) (fs : List Finding) → fs ≡ []
-    → (record s { holders = holders; order = order }
-    ≡ record s { holders = holders; order = order; finding_count = saturating_sum s.finding_count (length fs) })
+pub opens-clear : (s : CheckState) (holders : NestingState) (seen : SeenState) (fs : List Finding) → fs ≡ []
+    → (record s { holders = holders; seen = seen }
+    ≡ record s { holders = holders; seen = seen; finding_count = saturating_sum s.finding_count (length fs) })
     × (fs ≡ [])
-opens-clear s holders order fs e = (
-  ap (λ (n : ℕ). record s { holders = holders; order = order; finding_count = n }) (sym (sum-none s.finding_count))
+opens-clear s holders seen fs e = (
+  ap (λ (n : ℕ). record s { holders = holders; seen = seen; finding_count = n }) (sym (sum-none s.finding_count))
       ∙ ap (λ (l : List Finding).
-      record s { holders = holders; order = order; finding_count = saturating_sum s.finding_count (length l) })
+      record s { holders = holders; seen = seen; finding_count = saturating_sum s.finding_count (length l) })
       (sym e),
   e,
 )

@@ -9,8 +9,8 @@ use Rattle.tlv_walk.specs.Follow.{Effect, effect_if_more, effect_of}
 use Rattle.tlv_walk.specs.Forest.{Forest, spelling}
 use Rattle.tlv_walk.specs.Place.{top_place}
 use Rattle.tlv_walk.specs.Reading.{IsReading}
-use Rattle.tlv_show.specs.SetOrderState.{new_set_order}
-use Rattle.tlv_show.proofs.SetOrderLemmas.WantedOrder.{top-ordered}
+use Rattle.tlv_show.specs.FinderState.{new_seen}
+use Rattle.tlv_show.proofs.SegmentLemmas.Seen.{top-seen}
 use Rattle.tlv_show.specs.declared.options.Options.{Options}
 use Rattle.tlv_show.specs.declared.scope.Scope.{Scope}
 use Rattle.tlv_show.specs.ShowJob.{dump_job_with, top_layout, wanted_in}
@@ -53,7 +53,7 @@ module _ (scope : Scope) (with_text : Bool) (options : Options) (names : NamesVa
   text-made =
       (shows_forest with_text (top_layout options) names (wanted_in scope options) (top_place options.framing) None Start top_frame [] f
       r.obeys_grammar (omega (arith, short, ap length r.is_prefix.1, length-append (spelling f) r.is_prefix.0))
-      (refl, refl, λ e. refl)).text (record { count = 0; order = new_set_order }) (top-ordered (wanted_in scope options))
+      (refl, refl, λ e. refl)).text (record { count = 0; seen = new_seen }) (top-seen (wanted_in scope options))
 
   pub count-made : (effect_of dump_step (new_dump_with with_text (wanted_in scope options) (top_layout options) names)
       (events f)).state.finder.finding_count

@@ -5,7 +5,7 @@ use Rattle.std.proofs.Common.{refl, sym, ap, ap₂, ◌∙◌, arith}
 use Rattle.std.proofs.lemmas.Grind.{flat_map-append}
 use Rattle.std.specs.Prelude.{flat_map, Option, None}
 use Rattle.std.proofs.Common.{◌≢◌}
-use Rattle.tlv_show.proofs.SetOrderLemmas.WantedOrder.{Ordered, OrderedAfter}
+use Rattle.tlv_show.proofs.SegmentLemmas.Seen.{HasSeen, HasSeenAll}
 use Rattle.tlv_show.proofs.FindingLemmas.FinderSteps.{HasItsOffset, Kept, found_at_end, found_in_contents, offset-at_end}
 use Rattle.tlv_head.specs.Header.{AllowsSize, HasAllContents, HeaderValue, announced_length, octets_of}
 use Rattle.tlv_value.specs.declared.finding.Finding.{Finding}
@@ -74,17 +74,17 @@ module _ (with_text : Bool) (style : Layout) (names : NamesValue) (wanted : Want
 
   pub record IsShown (p : Place) (holder : Option HeaderValue) (previous : Previous) (w : HolderFrame)
       (outer : List HolderFrame) (f : Forest) : Type 0 where
-    pub text : (n : Kept) → Ordered wanted (site p holder previous) n.order
+    pub text : (n : Kept) → HasSeen wanted (site p holder previous) n.seen
         → (effect_of dump_step (start p (is_padding previous) w outer n) (events f)).put
         ≡ item_texts (items wanted (site p holder previous) f)
-    pub after : (n : Kept) → Ordered wanted (site p holder previous) n.order → holder ≢ None → is_whole f ≡ true
+    pub after : (n : Kept) → HasSeen wanted (site p holder previous) n.seen → holder ≢ None → is_whole f ≡ true
         → (m : Kept)
         × ((effect_of dump_step (start p (is_padding previous) w outer n) (events f)).state
         ≡ dump_state
         (lines_between with_text style names p.depth (p.offset + length (spelling f))
         (ends_in_padding with_text style names (is_padding previous) f))
         (check_between wanted (frame_after_elements w f) outer m))
-        × OrderedAfter wanted n.order (spelling f) m.order
+        × HasSeenAll wanted n.seen f m.seen
 
   -- elements after what was shown
   pub shown-after : (p q : Place) (padded : Bool) (w : HolderFrame) (outer : List HolderFrame) (n m : Kept)
@@ -92,7 +92,7 @@ module _ (with_text : Bool) (style : Layout) (names : NamesValue) (wanted : Want
       (rest : Forest)
       → q.depth ≡ p.depth
       → effect_of dump_step (start p padded w outer n) es ≡ effect_with (start q (is_padding previous) v outer m) put
-      → IsShown q holder previous v outer rest → Ordered wanted (site q holder previous) m.order
+      → IsShown q holder previous v outer rest → HasSeen wanted (site q holder previous) m.seen
       → effect_of dump_step (start p padded w outer n) (es ++ events rest)
       ≡ record (effect_of dump_step (start q (is_padding previous) v outer m) (events rest))
       { put = put ++ item_texts (items wanted (site q holder previous) rest) }

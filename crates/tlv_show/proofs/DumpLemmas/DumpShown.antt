@@ -19,14 +19,17 @@ use Rattle.tlv_walk.specs.Forest.{OpenBitString, OpenHeader, OpenEndOctets, exte
 use Rattle.tlv_walk.specs.Forest.{spelling}
 use Rattle.tlv_walk.specs.Place.{ObeysGrammar, Place, place_after, place_of_children}
 use Rattle.tlv_walk.proofs.GrammarLemmas.Spellings.{length-holder, length-primitive}
-use Rattle.tlv_walk.specs.Forest.{end_octets}
-use Rattle.tlv_walk.proofs.GrammarLemmas.Spellings.{append_assoc-3}
 use Rattle.tlv_show.specs.SetOrder.{Element, holder_element, primitive_element}
-use Rattle.tlv_show.specs.SetOrderState.{SetOrderState}
+use Rattle.tlv_show.specs.FinderState.{SeenState}
 use Rattle.tlv_show.specs.ShownFindings.{last_findings, with_order_if}
-use Rattle.tlv_show.proofs.SetOrderLemmas.WantedOrder.{IsTaken, Ordered, OrderedAfter, after-no-element, closed-taken}
-use Rattle.tlv_show.proofs.SetOrderLemmas.WantedOrder.{opened-ordered, order_closed, order_whole, ordered-padding}
-use Rattle.tlv_show.proofs.SetOrderLemmas.WantedOrder.{taken-after, taken-found, taken-offset, taken-ordered, whole-taken}
+use Rattle.tlv_show.proofs.SegmentLemmas.Seen.{HasPassed, HasSeen, HasSeenAll, after-holder, after-primitive}
+use Rattle.tlv_show.proofs.SegmentLemmas.Seen.{has_wrong_string, holder-seen, is_wrong_held, nothing-seen, opened-seen}
+use Rattle.tlv_show.proofs.SegmentLemmas.Seen.{passed-found, passed-offset, passed-seen, primitive-seen, seen-padding}
+use Rattle.tlv_show.proofs.SegmentLemmas.Seen.{seen_held, seen_whole, some-string, string-seen}
+use Rattle.tlv_show.specs.SegmentCharacters.{has_wrong_octet}
+use Rattle.tlv_show.specs.Items.{held_findings}
+use Rattle.tlv_show.specs.ShownFindings.{with_characters_if}
+use Rattle.std.specs.Option.{is_some}
 use Rattle.tlv_show.proofs.FindingLemmas.FinderSteps.{Kept, found_in_contents}
 use Rattle.tlv_show.specs.declared.holder_frame.HolderFrame.{HolderFrame}
 use Rattle.tlv_show.specs.declared.wanted.Wanted.{Wanted}
@@ -75,7 +78,7 @@ module _ (with_text : Bool) (style : Layout) (names : NamesValue) (wanted : Want
           ap (λ (offset : ℕ). dump_state (lines_between with_text style names p.depth offset (is_padding previous))
               (check_between wanted w outer n))
               (omega arith),
-          after-no-element wanted n.order,
+          nothing-seen wanted n.seen,
         );
   }
   shows_forest p holder previous w outer (PaddingOctet rest) v b k =
@@ -90,10 +93,10 @@ module _ (with_text : Bool) (style : Layout) (names : NamesValue) (wanted : Want
       λ n. ap (λ (d : Effect LinesState). effect_with (dump_state d.state (check_between wanted w outer n)) d.put)
       (fill_shown with_text style names p.depth p.offset (is_padding previous) (omega (arith, b))) in
       let all =
-      λ (n : Kept) (o : Ordered wanted s n.order). shown-after with_text style names wanted p (place_after p 1) (is_padding previous) w outer n n w holder Padding
+      λ (n : Kept) (o : HasSeen wanted s n.seen). shown-after with_text style names wanted p (place_after p 1) (is_padding previous) w outer n n w holder Padding
       (Pad (0 ∷ []) ∷ [])
       (if is_padding previous then [] else padding_line (layout_at style p.depth) p.offset) rest refl
-      (one n) t (ordered-padding wanted s n.order o (k.2 v.0.0)) in
+      (one n) t (seen-padding wanted s n.seen o (k.2 v.0.0)) in
       record {
         text =
             λ n o. ap (λ (x : Effect DumpState). x.put) (all n o)
@@ -121,12 +124,13 @@ module _ (with_text : Bool) (style : Layout) (names : NamesValue) (wanted : Want
       shows_forest q holder (Sibling h (first_contents_octet c) (primitive_element h c).octets) (after_primitive wanted w h c) outer rest v.1
       (omega (arith, b, length-primitive h c rest)) (known, k.1, k.2) in
       let e : Element = primitive_element h c in
-      let next : (n : Kept) → Ordered wanted s n.order
-      → Ordered wanted (site_after_primitive s h c) (order_whole wanted n.order h c) =
-      λ n o. taken-ordered wanted s (site_after_primitive s h c) n.order e (order_whole wanted n.order h c) o
-      (whole-taken wanted n.order h c) refl refl refl in
+      let wrong : ℕ → Bool = λ k. has_wrong_octet k c in
+      let next : (n : Kept) → HasSeen wanted s n.seen
+      → HasSeen wanted (site_after_primitive s h c) (seen_whole wanted n.seen h c) =
+      λ n o. passed-seen wanted s (site_after_primitive s h c) n.seen e wrong (seen_whole wanted n.seen h c) o
+      (primitive-seen wanted s n.seen h c o form) refl refl refl in
       let all =
-      λ (n : Kept) (o : Ordered wanted s n.order).
+      λ (n : Kept) (o : HasSeen wanted s n.seen).
       shown-after with_text style names wanted p q (is_padding previous) w outer n (after_contents wanted w h c n)
       (after_primitive wanted w h c) holder (Sibling h (first_contents_octet c) (primitive_element h c).octets) (Begin h ∷ Bytes c ∷ End ∷ []) _ rest
       refl
@@ -152,7 +156,7 @@ module _ (with_text : Bool) (style : Layout) (names : NamesValue) (wanted : Want
             (last_findings wanted s e (contents_findings wanted h c)) (item_texts with_text style names wanted others) others
             k.1
             (ap (λ (b : Bool). with_order_if b (contents_findings wanted h c))
-            (taken-found wanted s n.order e (order_whole wanted n.order h c) o (whole-taken wanted n.order h c)))
+            (passed-found wanted s n.seen e wrong (seen_whole wanted n.seen h c) o (primitive-seen wanted s n.seen h c o form)))
             refl));
         after = λ n o held x.
             let r = t.after (after_contents wanted w h c n) (next n o) held x in (
@@ -162,10 +166,8 @@ module _ (with_text : Bool) (style : Layout) (names : NamesValue) (wanted : Want
                   (lines_between with_text style names p.depth offset (ends_in_padding with_text style names false rest))
                   (check_between wanted (frame_after_elements (after_primitive wanted w h c) rest) outer r.0))
                   (omega (arith, length-primitive h c rest)),
-              subst (λ (l : List ℕ). OrderedAfter wanted n.order l r.0.order)
-                  (append_assoc (octets_of h) c (spelling rest))
-                  (taken-after wanted s n.order e (order_whole wanted n.order h c) (spelling rest) r.0.order o
-                  (whole-taken wanted n.order h c) r.2),
+              after-primitive wanted s n.seen h c rest (seen_whole wanted n.seen h c) r.0.seen o
+                  (primitive-seen wanted s n.seen h c o form) r.2,
             );
       }
     where
@@ -191,17 +193,18 @@ module _ (with_text : Bool) (style : Layout) (names : NamesValue) (wanted : Want
       styled_lines (Dump style.pure) (length outer) h.offset (header_findings_in wanted (surroundings_in w) h) in
       let last : List ℕ =
       styled_lines (Dump style.pure) (length outer) h.offset
-      (last_findings wanted s (holder_element h inside) (end_findings wanted h (headers inside))) in
+      (last_findings wanted s (holder_element h inside) (held_findings wanted h inside)) in
       let e : Element = holder_element h inside in
+      let wrong : ℕ → Bool = is_wrong_held wanted h inside in
       let held : List ℕ = item_texts with_text style names wanted (items wanted (site_of_children s h) inside) in
-      let held-shown : (m : Kept) → Ordered wanted (site_of_children s h) m.order
+      let held-shown : (m : Kept) → HasSeen wanted (site_of_children s h) m.seen
       → (r : Kept)
       × (effect_of dump_step (start with_text style names wanted i_place false (frame_under w h) (with_element w ∷ outer) m) (events inside)
       ≡ effect_with
       (dump_state (lines_between with_text style names (p.depth + 1) end false)
       (check_between wanted (frame_after_elements (frame_under w h) inside) (with_element w ∷ outer) r))
       held)
-      × OrderedAfter wanted m.order (spelling inside) r.order =
+      × HasSeenAll wanted m.seen inside r.seen =
       λ m o.
       let r = i.after m o (λ x. absurd (cc (x))) v.0.1 in (
         r.0,
@@ -213,9 +216,9 @@ module _ (with_text : Bool) (style : Layout) (names : NamesValue) (wanted : Want
             (i.text m o),
         r.2,
       ) in
-      let element : (n : Kept) → Ordered wanted s n.order
+      let element : (n : Kept) → HasSeen wanted s n.seen
       → (m : Kept)
-      × IsTaken wanted n.order e m.order
+      × HasPassed wanted n.seen e wrong m.seen
       × (effect_of dump_step (start with_text style names wanted p (is_padding previous) w outer n)
       (opening_events h ++ (events inside ++ closing_event h inside ∷ []))
       ≡ effect_with
@@ -223,9 +226,10 @@ module _ (with_text : Bool) (style : Layout) (names : NamesValue) (wanted : Want
       ((first ++ line) ++ (held ++ (close ++ last)))) =
       λ n o.
       let a : Kept = later_header wanted w h n in
-      let r = held-shown a (opened-ordered wanted s n.order h o v.0.0.shallow) in
-      let taken = closed-taken wanted s n.order h inside r.0.order o v.0.0.shallow v.0.0.header.valid.allowed r.2 in
-      let closed : SetOrderState = order_closed wanted r.0.order h inside in (
+      let r = held-shown a (opened-seen wanted s n.seen h o v.0.0.shallow) in
+      let taken = holder-seen wanted s n.seen h inside r.0.seen o v.0.0.shallow v.0.0.header.valid.allowed r.2 in
+      let closed : SeenState = seen_held wanted r.0.seen h inside in
+      let string = string-seen wanted s n.seen h inside r.0.seen o v.0.0.shallow r.2 in (
         after_end wanted h inside r.0,
         taken,
         then_shown (start with_text style names wanted p (is_padding previous) w outer n)
@@ -240,26 +244,27 @@ module _ (with_text : Bool) (style : Layout) (names : NamesValue) (wanted : Want
             held (events inside) (closing_event h inside ∷ []) r.1
             ∙ ap (λ (x : Effect DumpState). record x { put = held ++ x.put })
             (closed-shown with_text style names wanted p w outer r.0 h inside v.1 v.0.1 v.0.0.header.offset
-            v.0.0.header.valid.allowed (omega (arith, b, size)) (taken-offset wanted s n.order e closed o taken)
-            ∙ ap (λ (x : Bool). effect_with
+            v.0.0.header.valid.allowed (omega (arith, b, size)) (passed-offset wanted s n.seen e wrong closed o taken, has_wrong_string wanted h inside, string)
+            ∙ ap₂ (λ (x y : Bool). effect_with
             (start with_text style names wanted q false
             (frame_after (with_element w) (is_primitive h) (announced_length h.size) false) outer
             (after_end wanted h inside r.0))
             (close
             ++ styled_lines (Dump style.pure) (length outer) h.offset
-            (with_order_if x (end_findings wanted h (headers inside)))))
-            (taken-found wanted s n.order e closed o taken))),
+            (with_order_if x (with_characters_if y (end_findings wanted h (headers inside))))))
+            (passed-found wanted s n.seen e wrong closed o taken)
+            (ap is_some string ∙ some-string wanted (has_wrong_string wanted h inside) h.offset))),
       ) in
       let es : List EventValue = opening_events h ++ (events inside ++ closing_event h inside ∷ []) in
       let joined : es ++ events rest ≡ opening_events h ++ (events inside ++ closing_event h inside ∷ events rest) =
       append_assoc (opening_events h) (events inside ++ closing_event h inside ∷ []) (events rest)
       ∙ ap (λ (l : List EventValue). opening_events h ++ l)
       (append_assoc (events inside) (closing_event h inside ∷ []) (events rest)) in
-      let next : (n : Kept) (o : Ordered wanted s n.order)
-      → Ordered wanted (site_after_holder s h inside) (element n o).0.order =
-      λ n o. taken-ordered wanted s (site_after_holder s h inside) n.order e (element n o).0.order o (element n o).1 refl
+      let next : (n : Kept) (o : HasSeen wanted s n.seen)
+      → HasSeen wanted (site_after_holder s h inside) (element n o).0.seen =
+      λ n o. passed-seen wanted s (site_after_holder s h inside) n.seen e wrong (element n o).0.seen o (element n o).1 refl
       refl refl in
-      let all = λ (n : Kept) (o : Ordered wanted s n.order).
+      let all = λ (n : Kept) (o : HasSeen wanted s n.seen).
       ap (effect_of dump_step (start with_text style names wanted p (is_padding previous) w outer n)) (sym joined)
       ∙ shown-after with_text style names wanted p q (is_padding previous) w outer n (element n o).0
       (frame_after (with_element w) (is_primitive h) (announced_length h.size) false) holder (Sibling h None (holder_element h inside).octets) es
@@ -267,7 +272,7 @@ module _ (with_text : Bool) (style : Layout) (names : NamesValue) (wanted : Want
       let others : List Item = items wanted (site_after_holder s h inside) rest in
       let closing : List Item =
       ClosingLine p.depth (end_octets_offset h inside)
-      ∷ (finding_items p.depth h.offset (last_findings wanted s e (end_findings wanted h (headers inside))) ++ others) in
+      ∷ (finding_items p.depth h.offset (last_findings wanted s e (held_findings wanted h inside)) ++ others) in
       record {
         text = λ n o.
             ap (λ (x : Effect DumpState). x.put) (all n o)
@@ -280,8 +285,8 @@ module _ (with_text : Bool) (style : Layout) (names : NamesValue) (wanted : Want
             (ap (λ (l : List ℕ). line ++ l)
             (ap (λ (l : List ℕ). held ++ (close ++ l))
             (found-first with_text style names wanted (length outer) p.depth h.offset
-            (last_findings wanted s e (end_findings wanted h (headers inside)))
-            (last_findings wanted s e (end_findings wanted h (headers inside))) (item_texts with_text style names wanted others) others k.1
+            (last_findings wanted s e (held_findings wanted h inside))
+            (last_findings wanted s e (held_findings wanted h inside)) (item_texts with_text style names wanted others) others k.1
             refl refl)
             ∙ sym (item_texts-append with_text style names wanted (items wanted (site_of_children s h) inside) closing)));
         after = λ n o held x.
@@ -294,9 +299,7 @@ module _ (with_text : Bool) (style : Layout) (names : NamesValue) (wanted : Want
                   (frame_after_elements (frame_after (with_element w) (is_primitive h) (announced_length h.size) false) rest) outer
                   r.0))
                   (omega (arith, size)),
-              subst (λ (l : List ℕ). OrderedAfter wanted n.order l r.0.order)
-                  (append_assoc-3 (opening h) (spelling inside) (end_octets h.size) (spelling rest))
-                  (taken-after wanted s n.order e (element n o).0.order (spelling rest) r.0.order o (element n o).1 r.2),
+              after-holder wanted s n.seen h inside rest (element n o).0.seen r.0.seen o (element n o).1 r.2,
             );
       }
     where
@@ -340,7 +343,7 @@ module _ (with_text : Bool) (style : Layout) (names : NamesValue) (wanted : Want
             (first ++ line) (opening_events h) (events inside)
             (opened-shown with_text style names wanted p holder previous w outer n h k v.0.0.header.offset v.0.0.shallow
             (omega (arith, b, size))))
-            ∙ ap (λ (l : List ℕ). (first ++ line) ++ l) (i.text (later_header wanted w h n) (opened-ordered wanted s n.order h o v.0.0.shallow))
+            ∙ ap (λ (l : List ℕ). (first ++ line) ++ l) (i.text (later_header wanted w h n) (opened-seen wanted s n.seen h o v.0.0.shallow))
             ∙ append_assoc first line (item_texts with_text style names wanted (items wanted (site_of_children s h) inside))
             ∙ found-first with_text style names wanted (length outer) p.depth h.offset
             (header_findings_in wanted (surroundings_in w) h)

@@ -9,7 +9,9 @@ use Rattle.tlv_walk.specs.Events.{end_octets_offset}
 use Rattle.tlv_walk.specs.Forest.{Forest, NoMore, PaddingOctet, Primitive, Holder, OpenPrimitive, OpenHolder}
 use Rattle.tlv_walk.specs.Forest.{OpenBitString, OpenHeader, OpenEndOctets}
 use Rattle.tlv_show.specs.SetOrder.{Element, holder_element, primitive_element}
-use Rattle.tlv_show.specs.ShownFindings.{last_findings, wants_order}
+use Rattle.tlv_value.specs.declared.finding.Finding.TheVariants.{B28}
+use Rattle.tlv_show.specs.SegmentCharacters.{has_wrong_characters}
+use Rattle.tlv_show.specs.ShownFindings.{last_findings, wants_characters, wants_order, with_characters_if}
 use Rattle.tlv_show.specs.Site.{is_out_of_order_at}
 use Rattle.tlv_show.proofs.FindingLemmas.OrderFindings.{none-listed, without-order_if}
 use Rattle.tlv_show.specs.declared.rules.Rules.{Rules}
@@ -69,6 +71,19 @@ module _ (fewer more : Wanted) (kept : Finding → Bool) (test : Item → Bool)
           let none : is_shown fewer x ≡ false = some x ∙ ap (λ (a : Bool). a && kept x) e in
           rw (e, none) h
 
+-- B28 is shown if it is wanted
+characters-shown : (wanted : Wanted) (wrong : Bool) (fs : List Finding)
+    → with_characters_if (wants_characters wanted && wrong) (filter (is_shown wanted) fs)
+    ≡ filter (is_shown wanted) (with_characters_if wrong fs)
+characters-shown wanted wrong fs = by (wants_characters wanted) wrong refl
+  where
+    by : (k w : Bool) → is_shown wanted B28 ≡ k
+        → with_characters_if (k && w) (filter (is_shown wanted) fs) ≡ filter (is_shown wanted) (with_characters_if w fs)
+    by true true e = rw e refl
+    by false true e = rw e refl
+    by true false e = refl
+    by false false e = refl
+
 -- ---- the findings of BER
 
 module _ (scope : Scope) (rules : Rules) where
@@ -107,6 +122,20 @@ module _ (scope : Scope) (rules : Rules) where
       ∙ sym (without-order_if is_basic (λ level offset. refl) level offset
       (wants_order many && is_out_of_order_at rules s e) (filter (is_shown many) fs) ys)
 
+  -- the same with the characters of segments
+  same-held : (level offset : ℕ) (s : Site) (e : Element) (wrong : Bool) (fs : List Finding) (xs ys : List Item)
+      → only xs ≡ basic ys
+      → only (finding_items level offset
+      (last_findings few s e (with_characters_if (wants_characters few && wrong) (filter (is_shown few) fs))) ++ xs)
+      ≡ basic (finding_items level offset
+      (last_findings many s e (with_characters_if (wants_characters many && wrong) (filter (is_shown many) fs))) ++ ys)
+  same-held level offset s e wrong fs xs ys same =
+      ap (λ (gs : List Finding). only (finding_items level offset (last_findings few s e gs) ++ xs))
+      (characters-shown few wrong fs)
+      ∙ same-last level offset s e (with_characters_if wrong fs) xs ys same
+      ∙ sym (ap (λ (gs : List Finding). basic (finding_items level offset (last_findings many s e gs) ++ ys))
+      (characters-shown many wrong fs))
+
   same-pads : (k : Bool) (level offset : ℕ) (xs ys : List Item) → only xs ≡ basic ys
       → only ((if k then [] else PaddingLine level offset ∷ []) ++ xs)
       ≡ basic ((if k then [] else PaddingLine level offset ∷ []) ++ ys)
@@ -134,7 +163,7 @@ module _ (scope : Scope) (rules : Rules) where
       (OpeningLine s.depth h ∷ (items many (site_of_children s h) inside ++ last many))
       (filter-append _ (items few (site_of_children s h) inside) (last few)
       ∙ ap₂ (λ (a b : List Item). a ++ b) (basic_items-same (site_of_children s h) inside)
-      (same-last s.depth h.offset s (holder_element h inside) (findings_by (end_conditions h (headers inside)))
+      (same-held s.depth h.offset s (holder_element h inside) (has_wrong_characters h inside) (findings_by (end_conditions h (headers inside)))
       _ _ (basic_items-same (site_after_holder s h inside) rest))
       ∙ sym (filter-append is_basic (items many (site_of_children s h) inside) (last many)))
   basic_items-same s (OpenPrimitive h c) =
@@ -186,6 +215,23 @@ module _ (rules : Rules) where
       ∙ sym (without-order_if is_listed_item (λ level offset. refl) level offset
       (wants_order (all_by rules) && is_out_of_order_at rules s e) (filter (is_shown (all_by rules)) fs) ys)
 
+  -- the same with the characters of segments
+  listed-held : (level offset : ℕ) (s : Site) (e : Element) (wrong : Bool) (fs : List Finding) (xs ys : List Item)
+      → xs ≡ listed ys
+      → finding_items level offset
+      (last_findings (listed_by rules) s e
+      (with_characters_if (wants_characters (listed_by rules) && wrong) (filter (is_shown (listed_by rules)) fs))) ++ xs
+      ≡ listed
+      (finding_items level offset
+      (last_findings (all_by rules) s e
+      (with_characters_if (wants_characters (all_by rules) && wrong) (filter (is_shown (all_by rules)) fs))) ++ ys)
+  listed-held level offset s e wrong fs xs ys same =
+      ap (λ (gs : List Finding). finding_items level offset (last_findings (listed_by rules) s e gs) ++ xs)
+      (characters-shown (listed_by rules) wrong fs)
+      ∙ listed-last level offset s e (with_characters_if wrong fs) xs ys same
+      ∙ sym (ap (λ (gs : List Finding). listed (finding_items level offset (last_findings (all_by rules) s e gs) ++ ys))
+      (characters-shown (all_by rules) wrong fs))
+
   listed-pads : (k : Bool) (level offset : ℕ) (xs ys : List Item) → xs ≡ listed ys
       → (if k then [] else PaddingLine level offset ∷ []) ++ xs
       ≡ listed ((if k then [] else PaddingLine level offset ∷ []) ++ ys)
@@ -207,7 +253,7 @@ module _ (rules : Rules) where
       let held : Wanted → List Item = λ r. items r (site_of_children s h) inside in
       let ends : last (listed_by rules) ≡ listed (last (all_by rules)) =
       ap (λ (l : List Item). ClosingLine s.depth (end_octets_offset h inside) ∷ l)
-      (listed-last s.depth h.offset s (holder_element h inside) (findings_by (end_conditions h (headers inside)))
+      (listed-held s.depth h.offset s (holder_element h inside) (has_wrong_characters h inside) (findings_by (end_conditions h (headers inside)))
       _ _ (listed_items-same (site_after_holder s h inside) rest)) in
       listed-then s.depth h.offset (findings_by (header_conditions s h)) _ _
       (ap (λ (l : List Item). OpeningLine s.depth h ∷ l)

@@ -43,11 +43,14 @@ use Rattle.tlv_show.specs.Site.{site_after_primitive, site_after_holder, site_af
 use Rattle.tlv_show.specs.Texts.{check_line, finding_count, is_finding}
 use Rattle.std.proofs.Common.{◌&&◌}
 use Rattle.std.specs.Option.{is_some}
-use Rattle.tlv_show.proofs.SetOrderLemmas.WantedOrder.{top-ordered}
+use Rattle.tlv_show.proofs.SegmentLemmas.Seen.{top-seen}
 use Rattle.tlv_value.specs.declared.finding.Finding.TheVariants.{S05}
-use Rattle.tlv_show.specs.FinderState.{order_after}
+use Rattle.tlv_show.specs.FinderState.{seen_after}
+use Rattle.tlv_show.specs.Items.{held_findings}
+use Rattle.tlv_show.specs.SegmentCharacters.{has_wrong_characters}
+use Rattle.tlv_show.specs.ShownFindings.{wants_characters, with_characters_if}
 use Rattle.tlv_show.specs.SetOrder.{Element, holder_element, primitive_element}
-use Rattle.tlv_show.specs.SetOrderState.{new_set_order}
+use Rattle.tlv_show.specs.FinderState.{new_seen}
 use Rattle.tlv_show.specs.ShownFindings.{comes_after_order, last_findings, wants_order, with_order, with_order_if}
 use Rattle.tlv_show.specs.Site.{is_out_of_order_at}
 use Rattle.tlv_show.proofs.FindingLemmas.CheckLaws.{step-is}
@@ -119,7 +122,7 @@ counted-one s (Bytes octets) =
     either-count
     (record s {
       open_primitive = open_primitive_after s.open_primitive octets;
-      order = order_after s.wanted s.open_primitive s.order octets;
+      seen = seen_after s.wanted s.open_primitive s.seen octets;
     })
     s (length octets == 0)
     refl
@@ -212,8 +215,15 @@ module _ (wanted : Wanted) where
       by true = let r = one-more fs in omega (arith, r, few)
       by false = omega (arith, few)
 
-  few-end : (h : HeaderValue) (inside : Forest) → length (end_findings wanted h (headers inside)) ≤ 10
-  few-end h inside = few-rows (end_conditions h (headers inside)) 10 refl
+  few-end : (h : HeaderValue) (inside : Forest) → length (end_findings wanted h (headers inside)) ≤ 9
+  few-end h inside = few-rows (end_conditions h (headers inside)) 9 refl
+
+  few-held : (h : HeaderValue) (inside : Forest) → length (held_findings wanted h inside) ≤ 10
+  few-held h inside = by (wants_characters wanted && has_wrong_characters h inside)
+    where
+      by : (k : Bool) → length (with_characters_if k (end_findings wanted h (headers inside))) ≤ 10
+      by true = omega (arith, few-end h inside)
+      by false = omega (arith, few-end h inside)
 
   -- at most 64 findings for each octet
   pub findings-within : (p : Place) (s : Site) (f : Forest) → ObeysGrammar p f
@@ -243,9 +253,9 @@ module _ (wanted : Wanted) where
       let last : List Item =
       end_items wanted s h inside ++ items wanted (site_after_holder s h inside) rest in
       let b =
-      few-at s.depth h.offset (last_findings wanted s (holder_element h inside) (end_findings wanted h (headers inside)))
+      few-at s.depth h.offset (last_findings wanted s (holder_element h inside) (held_findings wanted h inside))
       (items wanted (site_after_holder s h inside) rest) 11
-      _ (few-last s (holder_element h inside) (end_findings wanted h (headers inside)) 10 (few-end h inside)) r in
+      _ (few-last s (holder_element h inside) (held_findings wanted h inside) 10 (few-held h inside)) r in
       let m =
       few-both (items wanted (site_of_children s h) inside)
       (ClosingLine s.depth (end_octets_offset h inside) ∷ last) _ _ i b in
@@ -291,8 +301,8 @@ module _ (wanted : Wanted) where
     put-is : (run_finder start (events f)).put ≡ only (items wanted top_site f)
     put-is =
         (finds_forest wanted (top_place framing) top_site top_frame [] f r.obeys_grammar refl refl refl
-        (λ e. refl)).put (record { count = 0; order = new_set_order })
-        (top-ordered wanted)
+        (λ e. refl)).put (record { count = 0; seen = new_seen })
+        (top-seen wanted)
 
     pub text-made : (effect_of check_step start (events f)).put ≡ (check_job_with wanted framing).text f
     text-made =

@@ -13,9 +13,14 @@ use Rattle.tlv_show.specs.declared.finding_lines.Style.TheVariants.{Check}
 use Rattle.tlv_show.specs.CheckStep.{check_octet_step, check_step, findings_effect}
 use Rattle.tlv_show.specs.FindingLines.{last_finding_lines, styled_lines}
 use Rattle.tlv_show.specs.FinderState.{CheckState, FinderState, OpenPrimitiveState, finder_bytes_step}
-use Rattle.tlv_show.specs.FinderState.{open_primitive_after, order_after}
+use Rattle.tlv_show.specs.FinderState.{open_primitive_after, seen_after}
 use Rattle.tlv_show.specs.declared.wanted.Wanted.{Wanted}
+use Rattle.tlv_show.specs.declared.segment_frame.SegmentFrame.{SegmentFrame}
+use Rattle.tlv_show.specs.FinderState.{SeenState}
+use Rattle.tlv_show.specs.SegmentCharactersState.{segments_after_octets}
 use Rattle.tlv_show.specs.SetOrderState.{SetOrderState, set_order_octets_step}
+use Rattle.tlv_show.specs.ShownFindings.{wants_characters}
+use Rattle.tlv_show.proofs.SegmentLemmas.Frames.{all-after-append}
 use Rattle.tlv_show.specs.ShownFindings.{wants_order}
 use Rattle.tlv_show.proofs.SetOrderLemmas.OneElement.{octets_step-append}
 use Rattle.tlv_show.specs.Private.FinderState.{ReturnsFindings, finder_step, with_findings_if}
@@ -29,19 +34,28 @@ primitive-join (Some v) x y =
     (checks-join v.check (take v.check.left x) (take (v.check.left - length (take v.check.left x)) y)
     ∙ ap (value_check_after v.check) (sym (take-both v.check.left x y)))
 
-order-join : (wanted : Wanted) (v : Option OpenPrimitiveState) (o : SetOrderState) (x y : List ℕ)
-    → order_after wanted v o (x ++ y)
-    ≡ order_after wanted (open_primitive_after v x) (order_after wanted v o x) y
-order-join wanted None o x y = refl
-order-join wanted (Some v) o x y = by (wants_order wanted)
+seen-join : (wanted : Wanted) (v : Option OpenPrimitiveState) (o : SeenState) (x y : List ℕ)
+    → seen_after wanted v o (x ++ y) ≡ seen_after wanted (open_primitive_after v x) (seen_after wanted v o x) y
+seen-join wanted None o x y = refl
+seen-join wanted (Some v) o x y =
+    ap₂ (λ (a : SetOrderState) (l : List SegmentFrame). record { order = a; strings = l })
+    (by-order (wants_order wanted)) (by-strings (wants_characters wanted))
   where
-    by : (k : Bool)
-        → (if k then set_order_octets_step o (x ++ y) else o)
+    by-order : (k : Bool)
+        → (if k then set_order_octets_step o.order (x ++ y) else o.order)
         ≡ (if k
-        then set_order_octets_step (if k then set_order_octets_step o x else o) y
-        else (if k then set_order_octets_step o x else o))
-    by true = octets_step-append o x y
-    by false = refl
+        then set_order_octets_step (if k then set_order_octets_step o.order x else o.order) y
+        else (if k then set_order_octets_step o.order x else o.order))
+    by-order true = octets_step-append o.order x y
+    by-order false = refl
+
+    by-strings : (k : Bool)
+        → (if k then segments_after_octets (x ++ y) o.strings else o.strings)
+        ≡ (if k
+        then segments_after_octets y (if k then segments_after_octets x o.strings else o.strings)
+        else (if k then segments_after_octets x o.strings else o.strings))
+    by-strings true = sym (all-after-append x y o.strings)
+    by-strings false = refl
 
 pub one-or-more : (x : ℕ) (octets : List ℕ) → (length (x ∷ octets) == 0) ≡ false
 one-or-more x octets = grind (arith, nat_tests)
@@ -52,9 +66,9 @@ found-join s [] y = refl
 found-join s (a ∷ x) [] = ap (λ (l : List ℕ). finder_bytes_step s (a ∷ l)) (append-nil x)
 found-join s (a ∷ x) (b ∷ y) =
     rw (one-or-more a (x ++ b ∷ y), one-or-more a x, one-or-more b y)
-    (ap₂ (λ (v : Option OpenPrimitiveState) (o : SetOrderState). record s { open_primitive = v; order = o })
+    (ap₂ (λ (v : Option OpenPrimitiveState) (o : SeenState). record s { open_primitive = v; seen = o })
     (sym (primitive-join s.open_primitive (a ∷ x) (b ∷ y)))
-    (order-join s.wanted s.open_primitive s.order (a ∷ x) (b ∷ y)))
+    (seen-join s.wanted s.open_primitive s.seen (a ∷ x) (b ∷ y)))
 
 -- octet by octet
 pub each-found : (s : CheckState) (octets : List ℕ)

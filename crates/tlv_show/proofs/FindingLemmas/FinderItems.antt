@@ -25,15 +25,18 @@ use Rattle.tlv_show.specs.Items.{PaddingLine, headers, items}
 use Rattle.tlv_show.specs.Items.{contents_items, end_items, finding_items, header_items}
 use Rattle.tlv_show.specs.Site.{Site, is_padding, site_of_children}
 use Rattle.tlv_show.specs.Site.{site_after_primitive, site_after_holder, site_after_padding}
-use Rattle.std.proofs.Common.{◌≢◌, append_assoc}
-use Rattle.tlv_walk.specs.Forest.{end_octets, opening, spelling}
-use Rattle.tlv_walk.proofs.GrammarLemmas.Spellings.{append_assoc-3}
+use Rattle.std.proofs.Common.{◌≢◌}
 use Rattle.tlv_show.specs.SetOrder.{Element, holder_element, primitive_element}
-use Rattle.tlv_show.specs.SetOrderState.{SetOrderState}
+use Rattle.tlv_show.specs.FinderState.{SeenState}
 use Rattle.tlv_show.specs.ShownFindings.{last_findings, with_order_if}
-use Rattle.tlv_show.proofs.SetOrderLemmas.WantedOrder.{IsTaken, Ordered, OrderedAfter, after-no-element, closed-taken}
-use Rattle.tlv_show.proofs.SetOrderLemmas.WantedOrder.{opened-ordered, order_closed, order_whole, ordered-padding}
-use Rattle.tlv_show.proofs.SetOrderLemmas.WantedOrder.{taken-after, taken-found, taken-offset, taken-ordered, whole-taken}
+use Rattle.tlv_show.proofs.SegmentLemmas.Seen.{HasPassed, HasSeen, HasSeenAll, after-holder, after-primitive}
+use Rattle.tlv_show.proofs.SegmentLemmas.Seen.{has_wrong_string, holder-seen, is_wrong_held, nothing-seen, opened-seen}
+use Rattle.tlv_show.proofs.SegmentLemmas.Seen.{passed-found, passed-offset, passed-seen, primitive-seen, seen-padding}
+use Rattle.tlv_show.proofs.SegmentLemmas.Seen.{seen_held, seen_whole, some-string, string-seen}
+use Rattle.tlv_show.specs.SegmentCharacters.{has_wrong_octet}
+use Rattle.tlv_show.specs.Items.{held_findings}
+use Rattle.tlv_show.specs.ShownFindings.{with_characters_if}
+use Rattle.std.specs.Option.{is_some}
 use Rattle.tlv_show.proofs.FindingLemmas.FinderSteps.{Kept}
 use Rattle.tlv_show.proofs.FindingLemmas.SiteWords.{first_contents_octet}
 use Rattle.tlv_show.specs.Texts.{is_finding}
@@ -63,13 +66,13 @@ only-pads false level offset l = refl
 module _ (wanted : Wanted) where
   -- what was reported of elements: the findings of their items; and if they are whole, the frame after them
   pub record IsFoundAs (s : Site) (w : HolderFrame) (outer : List HolderFrame) (f : Forest) : Type 0 where
-    pub put : (n : Kept) → Ordered wanted s n.order
+    pub put : (n : Kept) → HasSeen wanted s n.seen
         → (run_finder (check_between wanted w outer n) (events f)).put ≡ only (items wanted s f)
-    pub after : (n : Kept) → Ordered wanted s n.order → s.holder ≢ None → is_whole f ≡ true
+    pub after : (n : Kept) → HasSeen wanted s n.seen → s.holder ≢ None → is_whole f ≡ true
         → (m : Kept)
         × ((run_finder (check_between wanted w outer n) (events f)).state
         ≡ check_between wanted (frame_after_elements w f) outer m)
-        × OrderedAfter wanted n.order (spelling f) m.order
+        × HasSeenAll wanted n.seen f m.seen
 
   -- findings with a header, and then other items
   header-items : (s : Site) (w : HolderFrame) (outer : List HolderFrame) (h : HeaderValue) (found rest : List Item)
@@ -93,14 +96,14 @@ module _ (wanted : Wanted) where
       → Knows w s → length outer ≡ s.depth → s.depth ≡ p.depth → (p.padding ≡ true → s.holder ≡ None)
       → IsFoundAs s w outer f
   finds_forest p s w outer NoMore v k l d free =
-      record { put = λ n o. refl; after = λ n o held e. (n, refl, after-no-element wanted n.order) }
+      record { put = λ n o. refl; after = λ n o held e. (n, refl, nothing-seen wanted n.seen) }
   finds_forest p s w outer (PaddingOctet rest) v k l d free =
       let r =
       finds_forest (place_after p 1) (site_after_padding s) w outer rest v.1 (knows-padding w s k (free v.0.0)) l
       d free in
       record {
         put =
-            λ n o. r.put n (ordered-padding wanted s n.order o (free v.0.0))
+            λ n o. r.put n (seen-padding wanted s n.seen o (free v.0.0))
             ∙ sym (only-pads (is_padding s.previous) s.depth s.offset (items wanted (site_after_padding s) rest));
         after = λ n o held e. absurd (held (free v.0.0));
       }
@@ -118,10 +121,11 @@ module _ (wanted : Wanted) where
       (after_primitive wanted w h c)
       outer rest v.1 known l d free in
       let e : Element = primitive_element h c in
-      let next : (n : Kept) → Ordered wanted s n.order
-      → Ordered wanted (site_after_primitive s h c) (order_whole wanted n.order h c) =
-      λ n o. taken-ordered wanted s (site_after_primitive s h c) n.order e (order_whole wanted n.order h c) o
-      (whole-taken wanted n.order h c) refl refl refl in
+      let wrong : ℕ → Bool = λ k. has_wrong_octet k c in
+      let next : (n : Kept) → HasSeen wanted s n.seen
+      → HasSeen wanted (site_after_primitive s h c) (seen_whole wanted n.seen h c) =
+      λ n o. passed-seen wanted s (site_after_primitive s h c) n.seen e wrong (seen_whole wanted n.seen h c) o
+      (primitive-seen wanted s n.seen h c o form) refl refl refl in
       record {
         put = λ n o.
             ap (λ (t : FinderRun). t.put) (run-primitive wanted w outer n h c (events rest) size)
@@ -132,7 +136,7 @@ module _ (wanted : Wanted) where
             (ap (λ (b : Bool). finding_items (length outer) h.offset (with_order_if b (contents_findings wanted h c))
             ++ (run_finder (check_between wanted (after_primitive wanted w h c) outer (after_contents wanted w h c n))
             (events rest)).put)
-            (taken-found wanted s n.order e (order_whole wanted n.order h c) o (whole-taken wanted n.order h c))
+            (passed-found wanted s n.seen e wrong (seen_whole wanted n.seen h c) o (primitive-seen wanted s n.seen h c o form))
             ∙ more-items s outer h.offset (last_findings wanted s e (contents_findings wanted h c))
             _ (items wanted (site_after_primitive s h c) rest) l
             (r.put (after_contents wanted w h c n) (next n o)));
@@ -140,10 +144,8 @@ module _ (wanted : Wanted) where
             let t = r.after (after_contents wanted w h c n) (next n o) held x in (
               t.0,
               ap (λ (x : FinderRun). x.state) (run-primitive wanted w outer n h c (events rest) size) ∙ t.1,
-              subst (λ (l : List ℕ). OrderedAfter wanted n.order l t.0.order)
-                  (append_assoc (octets_of h) c (spelling rest))
-                  (taken-after wanted s n.order e (order_whole wanted n.order h c) (spelling rest) t.0.order o
-                  (whole-taken wanted n.order h c) t.2),
+              after-primitive wanted s n.seen h c rest (seen_whole wanted n.seen h c) t.0.seen o
+                  (primitive-seen wanted s n.seen h c o form) t.2,
             );
       }
   finds_forest p s w outer (Holder h inside rest) v k l d free =
@@ -158,20 +160,22 @@ module _ (wanted : Wanted) where
       let few : length outer < 128 = omega (arith, l, d, v.0.0.shallow) in
       let es : List EventValue = closing_event h inside ∷ events rest in
       let e : Element = holder_element h inside in
+      let wrong : ℕ → Bool = is_wrong_held wanted h inside in
       let low : s.depth < 128 = omega (arith, d, v.0.0.shallow) in
-      let all : (n : Kept) → Ordered wanted s n.order → (m : Kept) × IsTaken wanted n.order e m.order
+      let all : (n : Kept) → HasSeen wanted s n.seen → (m : Kept) × HasPassed wanted n.seen e wrong m.seen
       × (run_finder (check_between wanted w outer n) (events (Holder h inside rest))
       ≡ then_found (finding_items (length outer) h.offset (header_findings_in wanted (surroundings_in w) h))
       (then_found (only (items wanted (site_of_children s h) inside))
-      (then_found (finding_items (length outer) h.offset (last_findings wanted s e (end_findings wanted h (headers inside))))
+      (then_found (finding_items (length outer) h.offset (last_findings wanted s e (held_findings wanted h inside)))
       (run_finder (check_between wanted (frame_after (with_element w) (is_primitive h) (announced_length h.size) false) outer m)
       (events rest))))) =
       λ n o.
       let a : Kept = later_header wanted w h n in
-      let opened = opened-ordered wanted s n.order h o low in
+      let opened = opened-seen wanted s n.seen h o low in
       let t = i.after a opened (λ x. absurd (cc (x))) v.0.1 in
-      let taken = closed-taken wanted s n.order h inside t.0.order o low v.0.0.header.valid.allowed t.2 in
-      let closed : SetOrderState = order_closed wanted t.0.order h inside in
+      let taken = holder-seen wanted s n.seen h inside t.0.seen o low v.0.0.header.valid.allowed t.2 in
+      let closed : SeenState = seen_held wanted t.0.seen h inside in
+      let string = string-seen wanted s n.seen h inside t.0.seen o low t.2 in
       let put : List Item = finding_items (length outer) h.offset (header_findings_in wanted (surroundings_in w) h) in (
         after_end wanted h inside t.0,
         taken,
@@ -181,21 +185,23 @@ module _ (wanted : Wanted) where
             ∙ ap₂ (λ (l : List Item) (x : CheckState). then_found l (run_finder x es)) (i.put a opened) t.1
             ∙ ap (then_found (only (items wanted (site_of_children s h) inside)))
             (run-closing wanted (place_of_children p h) w outer t.0 h inside (events rest) v.1 v.0.1
-            (taken-offset wanted s n.order e closed o taken)
-            ∙ ap (λ (b : Bool). then_found
-            (finding_items (length outer) h.offset (with_order_if b (end_findings wanted h (headers inside))))
+            (passed-offset wanted s n.seen e wrong closed o taken, has_wrong_string wanted h inside, string)
+            ∙ ap₂ (λ (b k : Bool). then_found
+            (finding_items (length outer) h.offset
+            (with_order_if b (with_characters_if k (end_findings wanted h (headers inside)))))
             (run_finder
             (check_between wanted (frame_after (with_element w) (is_primitive h) (announced_length h.size) false) outer
             (after_end wanted h inside t.0))
             (events rest)))
-            (taken-found wanted s n.order e closed o taken))),
+            (passed-found wanted s n.seen e wrong closed o taken)
+            (ap is_some string ∙ some-string wanted (has_wrong_string wanted h inside) h.offset))),
       ) in
       let last : List Item =
       ClosingLine s.depth (end_octets_offset h inside)
       ∷ (end_items wanted s h inside ++ items wanted (site_after_holder s h inside) rest) in
-      let next : (n : Kept) (o : Ordered wanted s n.order)
-      → Ordered wanted (site_after_holder s h inside) (all n o).0.order =
-      λ n o. taken-ordered wanted s (site_after_holder s h inside) n.order e (all n o).0.order o (all n o).1 refl refl
+      let next : (n : Kept) (o : HasSeen wanted s n.seen)
+      → HasSeen wanted (site_after_holder s h inside) (all n o).0.seen =
+      λ n o. passed-seen wanted s (site_after_holder s h inside) n.seen e wrong (all n o).0.seen o (all n o).1 refl refl
       refl in
       record {
         put = λ n o.
@@ -204,7 +210,7 @@ module _ (wanted : Wanted) where
             ∙ header-items s w outer h _ (OpeningLine s.depth h ∷ (items wanted (site_of_children s h) inside ++ last))
             k l
             (ap (λ (t : List Item). only (items wanted (site_of_children s h) inside) ++ t)
-            (more-items s outer h.offset (last_findings wanted s e (end_findings wanted h (headers inside)))
+            (more-items s outer h.offset (last_findings wanted s e (held_findings wanted h inside))
             _ (items wanted (site_after_holder s h inside) rest) l (r.put a.0 (next n o)))
             ∙ sym (filter-append is_finding (items wanted (site_of_children s h) inside) last));
         after = λ n o held x.
@@ -212,9 +218,7 @@ module _ (wanted : Wanted) where
             let t = r.after a.0 (next n o) held x in (
               t.0,
               ap (λ (x : FinderRun). x.state) a.2 ∙ t.1,
-              subst (λ (l : List ℕ). OrderedAfter wanted n.order l t.0.order)
-                  (append_assoc-3 (opening h) (spelling inside) (end_octets h.size) (spelling rest))
-                  (taken-after wanted s n.order e a.0.order (spelling rest) t.0.order o a.1 t.2),
+              after-holder wanted s n.seen h inside rest a.0.seen t.0.seen o a.1 t.2,
             );
       }
   finds_forest p s w outer (OpenPrimitive h c) v k l d free = record {
@@ -231,7 +235,7 @@ module _ (wanted : Wanted) where
             ap (λ (t : FinderRun). t.put) (run-opening wanted w outer n h (events inside) few)
             ∙ header-items s w outer h _ (OpeningLine s.depth h ∷ items wanted (site_of_children s h) inside) k l
             (i.put (later_header wanted w h n)
-            (opened-ordered wanted s n.order h o (omega (arith, d, v.0.0.shallow))));
+            (opened-seen wanted s n.seen h o (omega (arith, d, v.0.0.shallow))));
         after = λ n o held e. absurd (cc (e));
       }
   finds_forest p s w outer (OpenBitString h) v k l d free = record {

@@ -1,16 +1,18 @@
 -- What a finder reports of each event, and of those of one element.
 use Rattle.std.proofs.Common.{◌≡◌, ℕ, ◌+◌, ◌-◌, ◌<◌, ◌≤◌, ◌==◌, ◌&&◌, Bool, true, false, nat_lt, if◌then◌else◌, List, [], ◌∷◌}
-use Rattle.std.proofs.Common.{◌++◌, length, map, refl, sym, ap, ap₂, ◌∙◌, arith, append_assoc}
+use Rattle.std.proofs.Common.{◌++◌, length, map, refl, subst, sym, ap, ap₂, ◌∙◌, arith, append_assoc}
 use Rattle.std.proofs.lemmas.Bool.Decides.{nat_tests}
 use Rattle.std.specs.List.{filter}
 use Rattle.std.specs.Prelude.{Option, Some, None}
 use Rattle.std.specs.Option.{is_some}
-use Rattle.tlv_show.specs.FinderState.{end_offset as end_offset_by, is_order_found}
-use Rattle.tlv_show.specs.SetOrderState.{SetOrderState}
+use Rattle.tlv_show.specs.FinderState.{end_offset as end_offset_by, is_misplaced}
+use Rattle.tlv_show.specs.FinderState.{SeenState}
 use Rattle.tlv_show.specs.ShownFindings.{with_order_if}
 use Rattle.tlv_show.specs.Laws.{whole_primitive}
-use Rattle.tlv_show.proofs.SetOrderLemmas.WantedOrder.{ends_with_octets, filled-none, order_begun, order_closed}
-use Rattle.tlv_show.proofs.SetOrderLemmas.WantedOrder.{order_filled, order_opened, order_whole}
+use Rattle.tlv_show.proofs.SetOrderLemmas.WantedOrder.{ends_with_octets}
+use Rattle.tlv_show.proofs.SegmentLemmas.Seen.{filled-none, seen_held, seen_whole}
+use Rattle.tlv_show.specs.FinderState.{seen_begun, seen_filled, seen_opened, string_found}
+use Rattle.tlv_show.specs.ShownFindings.{with_characters_if}
 use Rattle.tlv_head.specs.Header.{HasAllContents, HeaderValue, announced_length}
 use Rattle.tlv_value.specs.declared.finding.Finding.{Finding}
 use Rattle.tlv_value.specs.ValueCheckState.{ValueCheckState, findings_in, has_unused_bits, value_check_for}
@@ -73,14 +75,14 @@ abbrev with_check : CheckState → ℕ → ValueCheckState → CheckState
 with_check s offset t = record s { open_primitive = Some (record { offset = offset; check = t }) }
 
 abbrev with_contents : CheckState → ℕ → ValueCheckState → List ℕ → CheckState
-with_contents s offset t c = record (with_check s offset t) { order = order_filled s.wanted s.order c }
+with_contents s offset t c = record (with_check s offset t) { seen = seen_filled s.wanted s.seen c }
 
 bytes_step-all : (s : CheckState) (offset : ℕ) (h : HeaderValue) (c : List ℕ) → length c ≤ announced_length h.size
     → finder_bytes_step (with_check s offset (new_value_check h)) c
     ≡ with_contents s offset (value_check_for h c) c
 bytes_step-all s offset h [] e =
-    ap₂ (λ (t : ValueCheckState) (o : SetOrderState). record (with_check s offset t) { order = o })
-    (sym (checked-none h)) (sym (filled-none s.wanted s.order))
+    ap₂ (λ (t : ValueCheckState) (o : SeenState). record (with_check s offset t) { seen = o })
+    (sym (checked-none h)) (sym (filled-none s.wanted s.seen))
 bytes_step-all s offset h (x ∷ c) e =
     rw (one-or-more x c)
     (ap (λ (l : List ℕ). with_contents s offset (value_check_for h l) (x ∷ c))
@@ -98,8 +100,8 @@ contents_findings-at_end wanted h c e =
 -- ---- a primitive at once
 
 -- what a finder makes of a primitive
-abbrev pub primitive_order : CheckState → HeaderValue → List ℕ → SetOrderState
-primitive_order s h c = order_whole s.wanted s.order h c
+abbrev pub primitive_seen : CheckState → HeaderValue → List ℕ → SeenState
+primitive_seen s h c = seen_whole s.wanted s.seen h c
 
 pub primitive-found : (s : CheckState) (h : HeaderValue) (c : List ℕ) → HasAllContents h c
     → (u : CheckState) × (u.open_primitive ≡ None)
@@ -108,20 +110,20 @@ pub primitive-found : (s : CheckState) (h : HeaderValue) (c : List ℕ) → HasA
       level = depth_in s.holders;
       offset = h.offset;
       findings =
-          with_order_if (is_order_found s.wanted (whole_primitive s h c).order) (contents_findings s.wanted h c);
+          with_order_if (is_misplaced s.wanted (whole_primitive s h c).seen) (contents_findings s.wanted h c);
     })
 primitive-found s h c e =
-    let b : Bool = is_order_found s.wanted (primitive_order s h c) in
+    let b : Bool = is_misplaced s.wanted (primitive_seen s h c) in
     let n = saturating_sum s.finding_count (length (header_findings_in s.wanted (surroundings_in s.holders.frame) h)) in
     let t : ValueCheckState = value_check_for h c in
     let state_with : List Finding → CheckState = λ fs. record {
       wanted = s.wanted;
       holders = nesting_primitive_step s.holders (announced_length h.size) (has_unused_bits t);
       open_primitive = None;
-      order = primitive_order s h c;
+      seen = primitive_seen s h c;
       finding_count = saturating_sum n (length (with_order_if b fs));
     } in
-    let before : CheckState = record s { finding_count = n; order = order_begun s.wanted s.order h } in
+    let before : CheckState = record s { finding_count = n; seen = seen_begun s.wanted s.seen h } in
     let all : finder_end_step (finder_bytes_step (finder_begin_step s h).kept c)
     ≡ record {
       kept = state_with (contents_findings s.wanted h c);
@@ -141,19 +143,19 @@ primitive-found s h c e =
       state_with (contents_findings s.wanted h c),
       refl,
       all
-          ∙ ap (λ (o : SetOrderState). record {
+          ∙ ap (λ (o : SeenState). record {
             kept = state_with (contents_findings s.wanted h c);
             level = depth_in s.holders;
             offset = h.offset;
-            findings = with_order_if (is_order_found s.wanted o) (contents_findings s.wanted h c);
+            findings = with_order_if (is_misplaced s.wanted o) (contents_findings s.wanted h c);
           })
-          (sym (ap (λ (f : FinderState). f.kept.order) all)),
+          (sym (ap (λ (f : FinderState). f.kept.seen) all)),
     )
 
 -- what is kept besides the frames: the number of findings, and the open SETs
 pub record Kept : Type 0 where
   pub count : ℕ
-  pub order : SetOrderState
+  pub seen : SeenState
 
 module _ (wanted : Wanted) where
   -- between two elements
@@ -162,7 +164,7 @@ module _ (wanted : Wanted) where
     wanted = wanted;
     holders = record { frame = w; outer = outer };
     open_primitive = None;
-    order = n.order;
+    seen = n.seen;
     finding_count = n.count;
   }
 
@@ -170,7 +172,7 @@ module _ (wanted : Wanted) where
   header_count w h n = saturating_sum n.count (length (header_findings_in wanted (surroundings_in w) h))
 
   abbrev pub later_header : HolderFrame → HeaderValue → Kept → Kept
-  later_header w h n = record { count = header_count w h n; order = order_opened wanted n.order h }
+  later_header w h n = record { count = header_count w h n; seen = seen_opened wanted n.seen h }
 
   -- ---- an element that holds others begins
 
@@ -216,39 +218,58 @@ module _ (wanted : Wanted) where
 
   -- the element is out of order, by what is kept before its end
   abbrev pub is_holder_found : HeaderValue → Forest → Kept → Bool
-  is_holder_found h inside n = is_order_found wanted (order_closed wanted n.order h inside)
+  is_holder_found h inside n = is_misplaced wanted (seen_held wanted n.seen h inside)
+
+  -- the string that ends has a segment with wrong characters
+  abbrev pub string_in : Kept → Option ℕ
+  string_in n = string_found wanted n.seen.strings
+
+  -- what is found with its end, if these are the other findings
+  abbrev with_found : Bool → Option ℕ → List Finding → List Finding
+  with_found misplaced string others = with_order_if misplaced (with_characters_if (is_some string) others)
 
   abbrev pub found_at_end : HeaderValue → Forest → Kept → List Finding
-  found_at_end h inside n = with_order_if (is_holder_found h inside n) (end_findings wanted h (headers inside))
+  found_at_end h inside n =
+      with_found (is_holder_found h inside n) (string_in n) (end_findings wanted h (headers inside))
 
   abbrev pub after_end : HeaderValue → Forest → Kept → Kept
   after_end h inside n = record {
     count = saturating_sum n.count (length (found_at_end h inside n));
-    order = order_closed wanted n.order h inside;
+    seen = seen_held wanted n.seen h inside;
   }
 
-  -- the offset of an element that is out of order is known
+  -- the offset of an element that is out of order is known, and that of a string with wrong characters
   abbrev pub HasItsOffset : HeaderValue → Forest → Kept → Type 0
   HasItsOffset h inside n =
-      is_holder_found h inside n ≡ true → (order_closed wanted n.order h inside).frame.offset ≡ h.offset
+      (is_holder_found h inside n ≡ true → (seen_held wanted n.seen h inside).order.frame.offset ≡ h.offset)
+      × (k : Bool) × (string_in n ≡ (if k then Some h.offset else None))
 
   pub offset-at_end : {T : Type 0} (p : Place) (w : HolderFrame) (h : HeaderValue) (inside : Forest) (n : Kept)
       → ObeysGrammar p inside → is_whole inside ≡ true → HasItsOffset h inside n
       → (put : ℕ → List Finding → List T) → ((offset : ℕ) → put offset [] ≡ [])
       → put
-      (end_offset_by (is_holder_found h inside n) (order_closed wanted n.order h inside)
+      (end_offset_by (is_holder_found h inside n) (seen_held wanted n.seen h inside).order (string_in n)
       (frame_after_elements (frame_under w h) inside))
       (found_at_end h inside n)
       ≡ put h.offset (found_at_end h inside n)
-  offset-at_end p w h inside n v whole there put none = by (is_holder_found h inside n) there
+  offset-at_end p w h inside n v whole there put none =
+      by (is_holder_found h inside n) (string_in n) there.1 there.0 there.2
     where
-      by : (b : Bool) → (b ≡ true → (order_closed wanted n.order h inside).frame.offset ≡ h.offset)
-          → put
-          (end_offset_by b (order_closed wanted n.order h inside) (frame_after_elements (frame_under w h) inside))
-          (with_order_if b (end_findings wanted h (headers inside)))
-          ≡ put h.offset (with_order_if b (end_findings wanted h (headers inside)))
-      by true at = ap (λ (offset : ℕ). put offset (with_order_if true (end_findings wanted h (headers inside)))) (at refl)
-      by false at = offset-under wanted p w h inside v whole put none
+      others : List Finding
+      others = end_findings wanted h (headers inside)
+
+      IsPut : Bool → Option ℕ → Type 0
+      IsPut b o =
+          put (end_offset_by b (seen_held wanted n.seen h inside).order o (frame_after_elements (frame_under w h) inside))
+          (with_found b o others)
+          ≡ put h.offset (with_found b o others)
+
+      by : (b : Bool) (o : Option ℕ) (k : Bool)
+          → (b ≡ true → (seen_held wanted n.seen h inside).order.frame.offset ≡ h.offset)
+          → o ≡ (if k then Some h.offset else None) → IsPut b o
+      by true o k at is = ap (λ (offset : ℕ). put offset (with_found true o others)) (at refl)
+      by false o true at is = subst (IsPut false) (sym is) refl
+      by false o false at is = subst (IsPut false) (sym is) (offset-under wanted p w h inside v whole put none)
 
   pub run-closing : (p : Place) (w : HolderFrame) (outer : List HolderFrame) (n : Kept) (h : HeaderValue) (inside : Forest)
       (es : List EventValue)
@@ -262,14 +283,15 @@ module _ (wanted : Wanted) where
       es)
   run-closing p w outer n h inside es v whole there =
       let f : HolderFrame = frame_after_elements (frame_under w h) inside in
-      let o : SetOrderState = order_closed wanted n.order h inside in
+      let o : SeenState = seen_held wanted n.seen h inside in
       let b : Bool = is_holder_found h inside n in
+      let c : Option ℕ = string_in n in
       closed-by (check_between f (with_element w ∷ outer) n)
       (end_offset h.size (h.offset + length (opening h) + length (spelling inside))) h.constructed es
-      ∙ ap (λ (fs : List Finding). then_found (finding_items (length outer) (end_offset_by b o f) (with_order_if b fs))
+      ∙ ap (λ (fs : List Finding). then_found (finding_items (length outer) (end_offset_by b o.order c f) (with_found b c fs))
       (run_finder
       (check_between (frame_after (with_element w) f.is_primitive f.announced_length false) outer
-      (record { count = saturating_sum n.count (length (with_order_if b fs)); order = o }))
+      (record { count = saturating_sum n.count (length (with_found b c fs)); seen = o }))
       es))
       (summed-under wanted p w h inside v whole)
       ∙ ap₂
@@ -286,7 +308,7 @@ module _ (wanted : Wanted) where
 
   -- the primitive is out of order, by what is kept before it
   abbrev pub is_primitive_found : HeaderValue → List ℕ → Kept → Bool
-  is_primitive_found h c n = is_order_found wanted (order_whole wanted n.order h c)
+  is_primitive_found h c n = is_misplaced wanted (seen_whole wanted n.seen h c)
 
   abbrev pub found_in_contents : HeaderValue → List ℕ → Kept → List Finding
   found_in_contents h c n = with_order_if (is_primitive_found h c n) (contents_findings wanted h c)
@@ -295,14 +317,14 @@ module _ (wanted : Wanted) where
   abbrev pub with_contents_found : HolderFrame → HeaderValue → List ℕ → Kept → List Finding → Kept
   with_contents_found w h c n fs = record {
     count = saturating_sum (header_count w h n) (length (with_order_if (is_primitive_found h c n) fs));
-    order = order_whole wanted n.order h c;
+    seen = seen_whole wanted n.seen h c;
   }
 
   abbrev pub after_contents : HolderFrame → HeaderValue → List ℕ → Kept → Kept
   after_contents w h c n = with_contents_found w h c n (contents_findings wanted h c)
 
   abbrev pub in_contents : HolderFrame → HeaderValue → Kept → Kept
-  in_contents w h n = record { count = header_count w h n; order = order_begun wanted n.order h }
+  in_contents w h n = record { count = header_count w h n; seen = seen_begun wanted n.seen h }
 
   pub run-primitive : (w : HolderFrame) (outer : List HolderFrame) (n : Kept) (h : HeaderValue) (c : List ℕ)
       (es : List EventValue)
@@ -334,23 +356,24 @@ module _ (wanted : Wanted) where
             check_between (frame_after (with_element w) (is_primitive h) (announced_length h.size) false) outer (after_end h inside n);
         level = length outer;
         offset =
-            end_offset_by (is_holder_found h inside n) (order_closed wanted n.order h inside)
+            end_offset_by (is_holder_found h inside n) (seen_held wanted n.seen h inside).order (string_in n)
             (frame_after_elements (frame_under w h) inside);
         findings = found_at_end h inside n;
       }
   closed-find p w outer n h inside v whole =
       let f : HolderFrame = frame_after_elements (frame_under w h) inside in
-      let o : SetOrderState = order_closed wanted n.order h inside in
+      let o : SeenState = seen_held wanted n.seen h inside in
       let b : Bool = is_holder_found h inside n in
+      let c : Option ℕ = string_in n in
       ap (λ (gs : List Finding).
       record {
         kept =
             check_between (frame_after (with_element w) f.is_primitive f.announced_length false) outer
-            (record { count = saturating_sum n.count (length (with_order_if b gs)); order = o });
+            (record { count = saturating_sum n.count (length (with_found b c gs)); seen = o });
         level =
             length outer;
-        offset = end_offset_by b o f;
-        findings = with_order_if b gs;
+        offset = end_offset_by b o.order c f;
+        findings = with_found b c gs;
       })
       (summed-under wanted p w h inside v whole)
       ∙ ap (λ (t : HolderFrame).
@@ -359,7 +382,7 @@ module _ (wanted : Wanted) where
             check_between t outer (after_end h inside n);
         level =
             length outer;
-        offset = end_offset_by b o f;
+        offset = end_offset_by b o.order c f;
         findings = found_at_end h inside n;
       })
       (after-under (with_element w) h inside)

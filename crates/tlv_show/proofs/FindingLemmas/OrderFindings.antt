@@ -2,11 +2,12 @@
 use Rattle.std.proofs.Common.{◌≡◌, ℕ, ◌&&◌, Bool, true, false, if◌then◌else◌, List, [], ◌∷◌, ◌++◌, refl, ap}
 use Rattle.std.specs.List.{filter}
 use Rattle.tlv_value.specs.declared.finding.Finding.{Finding}
-use Rattle.tlv_value.specs.declared.finding.Finding.TheVariants.{S05}
+use Rattle.tlv_value.specs.declared.finding.Finding.TheVariants.{B28, S05}
 use Rattle.tlv_show.specs.declared.rules.Rules.{Rules}
 use Rattle.tlv_show.specs.Items.{FindingAt, Item, finding_items}
 use Rattle.tlv_show.specs.SetOrder.{Element}
 use Rattle.tlv_show.specs.ShownFindings.{comes_after_order, is_by, last_findings, listed_by, with_order, with_order_if}
+use Rattle.tlv_show.specs.ShownFindings.{wants_characters, with_characters_if}
 use Rattle.tlv_show.specs.Site.{Site, is_out_of_order_at}
 
 module _ (test : Item → Bool) (hidden : (level offset : ℕ) → test (FindingAt level offset S05) ≡ false) where
@@ -35,7 +36,16 @@ module _ (test : Item → Bool) (hidden : (level offset : ℕ) → test (Finding
   without-order_if level offset true gs ys = without-order level offset gs ys
   without-order_if level offset false gs ys = refl
 
--- of the listed findings S05 is none
+-- of the listed findings B28 is none
+pub no-characters : (rules : Rules) (wrong : Bool) (gs : List Finding)
+    → with_characters_if (wants_characters (listed_by rules) && wrong) gs ≡ gs
+no-characters rules wrong gs = ap (λ (k : Bool). with_characters_if (k && wrong) gs) (and-none (is_by rules B28))
+  where
+    and-none : (k : Bool) → (k && false) ≡ false
+    and-none true = refl
+    and-none false = refl
+
+-- nor is S05
 pub none-listed : (rules : Rules) (s : Site) (e : Element) (gs : List Finding)
     → last_findings (listed_by rules) s e gs ≡ gs
 none-listed rules s e gs =

@@ -28,8 +28,10 @@ use Rattle.tlv_walk.proofs.GrammarLemmas.RespelledElements.{sound-spelling}
 use Rattle.tlv_walk.proofs.EventLemmas.Wrappers.{AreNamed, Rise, wrapper_offsets-named, wrapper_offsets-rise}
 use Rattle.tlv_value.specs.declared.finding.Finding.{Finding}
 use Rattle.tlv_show.specs.Items.{finding_items}
+use Rattle.tlv_show.specs.Items.{held_findings}
+use Rattle.tlv_show.specs.SegmentCharacters.{has_wrong_characters}
 use Rattle.tlv_show.specs.SetOrder.{holder_element, primitive_element}
-use Rattle.tlv_show.proofs.FindingLemmas.OrderFindings.{none-listed}
+use Rattle.tlv_show.proofs.FindingLemmas.OrderFindings.{no-characters, none-listed}
 use Rattle.tlv_show.specs.declared.rules.Rules.{Rules}
 use Rattle.tlv_show.specs.ShownFindings.{listed_by}
 use Rattle.tlv_show.specs.declared.rules.Rules.TheVariants.{Ber, Der, Cer}
@@ -121,7 +123,8 @@ module _ (rules : Rules) (strict : rules ≢ Ber) where
       → list_any is_item_on_spelling (end_items (listed_by rules) s h inside) ≡ false
   end-none s h inside =
       ap (λ (fs : List Finding). list_any is_item_on_spelling (finding_items s.depth h.offset fs))
-      (none-listed rules s (holder_element h inside) (end_findings (listed_by rules) h (headers inside)))
+      (none-listed rules s (holder_element h inside) (held_findings (listed_by rules) h inside)
+      ∙ no-characters rules (has_wrong_characters h inside) (end_findings (listed_by rules) h (headers inside)))
       ∙ items-found s.depth h.offset (end_findings (listed_by rules) h (headers inside))
       ∙ all-found is_on_spelling (listed_by rules) (end_conditions h (headers inside))
       ∙ end-absent rules h (headers inside)

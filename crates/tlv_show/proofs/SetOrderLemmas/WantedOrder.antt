@@ -215,7 +215,7 @@ module _ (wanted : Wanted) where
   abbrev pub order_closed : SetOrderState → HeaderValue → Forest → SetOrderState
   order_closed o h inside = order_if wanted (set_order_close_step o (end_octets_if (ends_with_octets h inside))) o
 
-  last-octets : (size : Size) (offset : ℕ) (k : Bool) → AllowsSize k size
+  pub last-octets : (size : Size) (offset : ℕ) (k : Bool) → AllowsSize k size
       → end_octets_if (k && is_some (end_offset size offset)) ≡ end_octets size
   last-octets (Definite n) offset true allowed = refl
   last-octets (Definite n) offset false allowed = refl

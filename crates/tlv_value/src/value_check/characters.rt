@@ -19,7 +19,7 @@ static PRINTABLE: [u8; 256] = *b"\
 
 /// Whether the type with this universal number allows all of the octets.
 #[inline(never)]
-pub(crate) fn are_allowed(number: u64, octets: &[u8]) -> bool
+pub fn are_allowed(number: u64, octets: &[u8]) -> bool
     ensures { result ≡ list_all (allows_octet number) octets.now }
 {
     // A call for each type: where the call is inlined, the type is not checked again at each octet.

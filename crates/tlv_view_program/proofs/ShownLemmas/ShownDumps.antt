@@ -29,10 +29,10 @@ use Rattle.tlv_value.specs.ValueLines.{value_lines, whole_lines_with}
 use Rattle.tlv_show.specs.ShowJob.{top_layout}
 use Rattle.tlv_show.specs.HolderLines.{closing_line, opening_line, opening_word, padding_line, size_text}
 use Rattle.tlv_show.specs.Items.{ClosingLine, FindingAt, Item, OpenPrimitiveLines, OpeningLine, PaddingLine}
-use Rattle.tlv_show.specs.Items.{PrimitiveLines, contents_items, end_items, finding_items, header_items, headers}
+use Rattle.tlv_show.specs.Items.{PrimitiveLines, contents_items, end_items, finding_items, header_items, held_findings}
 use Rattle.tlv_show.specs.Items.{items}
 use Rattle.tlv_show.specs.SetOrder.{holder_element, primitive_element}
-use Rattle.tlv_show.specs.ShownFindings.{all_by, contents_findings, end_findings, header_findings, last_findings}
+use Rattle.tlv_show.specs.ShownFindings.{all_by, contents_findings, header_findings, last_findings}
 use Rattle.tlv_show.specs.Site.{Site, is_padding, site_after_holder, site_after_padding, site_after_primitive}
 use Rattle.tlv_show.specs.Site.{site_of_children, top_site}
 use Rattle.tlv_show.specs.Texts.{dump_finding_line, item_text, layout_at}
@@ -212,7 +212,7 @@ module _ (wanted : Wanted) where
       (ClosingLine s.depth (end_octets_offset h children)) _ tt
       (All-append IsOfOctets (end_items wanted s h children) _
       (findings-of s.depth h.offset
-      (last_findings wanted s (holder_element h children) (end_findings wanted h (headers children))))
+      (last_findings wanted s (holder_element h children) (held_findings wanted h children)))
       (items-of (site_after_holder s h children) rest
       (right-octets (end_octets h.size) (spelling rest)
       (right-octets (spelling children) (end_octets h.size ++ spelling rest) after)))))))

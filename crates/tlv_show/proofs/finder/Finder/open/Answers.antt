@@ -13,10 +13,10 @@ returns-then-has_no_header_findings c =
       wanted = f.wanted;
       holders = f.holders;
       open_primitive = if_open f.is_open (record { offset = f.offset; check = f.check });
-      order = f.order;
+      seen = record { order = f.order; strings = f.strings };
       finding_count = f.finding_count;
     } in
     let none =
     ap (λ (t : Surroundings). header_findings_in f.wanted t h) (sym c.frame.ensures.around)
     ∙ c.has_no_header_findings.ensures.no_findings (search rules) f.wanted.scope in
-    rw (← c.self.view_is, c.open_without_frame.ensures, c.open_in_order.ensures) (opens-clear s _ _ _ none)
+    rw (← c.self.view_is, c.open_without_frame.ensures, c.open_in_order.ensures, c.open_in_strings.ensures) (opens-clear s _ _ _ none)

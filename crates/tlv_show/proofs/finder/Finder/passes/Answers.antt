@@ -13,4 +13,4 @@ returns c =
     (sym c.frame-frame.ensures.segments ∙ nothing.no_segments (search rules))
     (ap (λ (t : Surroundings). header_findings_in c.self.inside.wanted t h) (sym c.frame-frame.ensures.around)
     ∙ nothing.no_findings (search rules) usual c.self.inside.wanted.scope)
-    (c.is_clear.ensures.contents (search rules)) (c.passes_in_order.ensures (search rules)) refl)
+    (c.is_clear.ensures.contents (search rules)) (c.passes_in_order.ensures (search rules)) (c.passes_in_strings.ensures (search rules)) refl)
