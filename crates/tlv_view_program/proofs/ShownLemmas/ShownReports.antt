@@ -1,5 +1,5 @@
 -- What is reported of blocks is printable ASCII.
-use Rattle.std.proofs.Common.{ℕ, ◌==◌, Bool, true, false, List, Option, Some, None, Result}
+use Rattle.std.proofs.Common.{◌≡◌, ℕ, ◌==◌, Bool, true, false, List, Option, Some, None, Result}
 use Rattle.std.proofs.Common.{refl, subst, sym}
 use Rattle.std.proofs.lemmas.List.Folds.{list_all-append}
 use Rattle.tlv_head.specs.Fault.{fault_code, fault_text}
