@@ -4,6 +4,7 @@ use Rattle.std.proofs.Common.{◌∙◌, sym, subst, arith, IfSome}
 use Rattle.tlv_head.specs.declared.fault.FaultCode.TheVariants.{StrayEnd}
 use Rattle.tlv_head.specs.Header.{HeaderValue, definite_length, octets_of}
 use Rattle.tlv_open.specs.Opens.{closed_framing}
+use Rattle.tlv_walk.proofs.GrammarLemmas.Endings.{ending-by}
 use Rattle.tlv_walk.proofs.GrammarLemmas.Faults.{fault-refused}
 use Rattle.tlv_walk.proofs.GrammarLemmas.Readings.{Halted, run-reading}
 use Rattle.tlv_walk.proofs.GrammarLemmas.SoundElements.{sound-obeys_grammar_top}
@@ -60,27 +61,30 @@ move p q (PaddingOctet rest) a s = let e : true ≡ false = sym s.0 ∙ a.paddin
 move p q (Primitive h c rest) a s =
     let n : ℕ = primitive_extent h c in
     let r : Moved (place_after q n) rest =
-    move (place_after p n) (place_after q n) rest (loose-after p q n n a) s.2 in
+    move (place_after p n) (place_after q n) rest (loose-after p q n n a) s.1 in
     record {
       forest = Primitive (header-at q h) c r.forest;
-      sound = ((header-loose p q h a s.0.0, s.0.1), s.1, r.sound);
+      sound = ((header-loose p q h a s.0.0, s.0.1, s.0.2), r.sound);
       spelled = ap (λ (o : List ℕ). octets_of h ++ (c ++ o)) r.spelled;
     }
 move p q (Holder h children rest) a s =
     let k : HeaderValue = header-at q h in
     let i : Moved (place_of_children q k) children =
-    move (place_of_children p h) (place_of_children q k) children (loose-inside p q h k a) s.3 in
+    move (place_of_children p h) (place_of_children q k) children (loose-inside p q h k a) s.1 in
     let n : ℕ = extent h children in
     let m : ℕ = extent k i.forest in
     let r : Moved (place_after q m) rest =
-    move (place_after p n) (place_after q m) rest (loose-after p q n m a) s.4 in
+    move (place_after p n) (place_after q m) rest (loose-after p q n m a) s.2 in
     record {
       forest = Holder k i.forest r.forest;
       sound = (
-        (header-loose p q h a s.0.0, s.0.1),
-        subst (λ (o : List ℕ). IfSome (definite_length h.size) (λ n. length (lead h) + length o ≡ n)) (sym i.spelled)
-            s.1,
-        omega (arith, s.2, a.depth),
+        (
+          header-loose p q h a s.0.0,
+          s.0.1,
+          omega (arith, s.0.2, a.depth),
+          subst (λ (o : List ℕ). IfSome (definite_length h.size) (λ n. length (lead h) + length o ≡ n)) (sym i.spelled)
+              s.0.3,
+        ),
         i.sound,
         r.sound,
       );
@@ -99,8 +103,8 @@ zero-refused : (p : Place) (f : Forest) → IsSound p f → p.indefinite ≡ fal
     → IsRefusedAt (open_end p f) 0 StrayEnd
 zero-refused p NoMore s i a = stray_end i a refl
 zero-refused p (PaddingOctet rest) s i a = let e : true ≡ false = sym s.0 ∙ a in absurd (cc)
-zero-refused p (Primitive h c rest) s i a = zero-refused (place_after p (primitive_extent h c)) rest s.2 i a
-zero-refused p (Holder h children rest) s i a = zero-refused (place_after p (extent h children)) rest s.4 i a
+zero-refused p (Primitive h c rest) s i a = zero-refused (place_after p (primitive_extent h c)) rest s.1 i a
+zero-refused p (Holder h children rest) s i a = zero-refused (place_after p (extent h children)) rest s.2 i a
 zero-refused p (OpenPrimitive h c) s i a = absurd s
 zero-refused p (OpenHolder h children) s i a = absurd s
 zero-refused p (OpenBitString h) s i a = absurd s
@@ -121,7 +125,7 @@ breaks-at_zero f more s =
       front = refl;
       refused = fault-refused w f 0 StrayEnd (sound-obeys_grammar_top w f s) x;
     }) in
-    refused f 0 more StrayEnd reading refl x
+    ending-by w (spelling f ++ 0 ∷ more) f _ reading (refused 0 more StrayEnd refl x)
 
 -- the same of elements at any place
 pub inner-breaks : (p : Place) (f : Forest) (more : List ℕ) → p.inside ≡ [] → p.padding ≡ false → IsSound p f

@@ -74,7 +74,7 @@ module _ (octets : List ℕ) (fields : HeaderFields) (count : ℕ) (b : BeginsWi
       let a = after-header octets (octets_of h) (spelling children) others count i.0 e' in
       let none : lead h ≡ [] = lead-none h c in
       let long : IfSome (definite_length (Definite n)) (λ m. length (lead h) + length (spelling children) ≡ m) =
-      subst (λ (x : Size). IfSome (definite_length x) (λ m. length (lead h) + length (spelling children) ≡ m)) z s.1 in
+      subst (λ (x : Size). IfSome (definite_length x) (λ m. length (lead h) + length (spelling children) ≡ m)) z s.0.3 in
       let m : length (spelling children) ≡ n = omega (arith, long, ap length none) in
       let spelled : opening h ++ (spelling children ++ (end_octets h.size ++ [])) ≡ octets_of h ++ spelling children =
       rw (none, z, append-nil (spelling children), append-nil (octets_of h)) refl in
@@ -99,7 +99,7 @@ module _ (octets : List ℕ) (fields : HeaderFields) (count : ℕ) (b : BeginsWi
       let breaks : IsEnding (closed_framing false) (drop count octets) (fault_ending StrayEnd (length contents)) =
       subst (λ (o : List ℕ). IsEnding (closed_framing false) o (fault_ending StrayEnd (length contents)))
       (sym (a.0 ∙ append_assoc contents (0 ∷ 0 ∷ []) others))
-      (inner-breaks (place_of_children (top_place (closed_framing false)) h) children (0 ∷ others) refl refl s.3) in
+      (inner-breaks (place_of_children (top_place (closed_framing false)) h) children (0 ∷ others) refl refl s.1) in
       of_indefinite (length contents) (sym i.1 ∙ z) breaks (omega (arith, m, a.2))
       (record {
         forest = Holder h children NoMore;
@@ -118,10 +118,10 @@ module _ (octets : List ℕ) (fields : HeaderFields) (count : ℕ) (b : BeginsWi
       ∙ ap (λ (o : List ℕ). octets_of h ++ o) (append_assoc c (spelling more) rest)) ∙ e in
       let i = header-is h (c ++ (spelling more ++ rest)) s.0.0 e' in
       let a = after-header octets (octets_of h) c (spelling more ++ rest) count i.0 e' in
-      of_definite (length c) (sym i.1 ∙ s.1) a.2
+      of_definite (length c) (sym i.1 ∙ s.0.2) a.2
       (record {
         forest = Primitive h c NoMore;
-        sound = (s.0, s.1, tt);
+        sound = (s.0, tt);
         some = refl;
         spelled = ap (λ (o : List ℕ). octets_of h ++ o) (append-nil c) ∙ sym a.1;
       })
@@ -136,7 +136,7 @@ module _ (octets : List ℕ) (fields : HeaderFields) (count : ℕ) (b : BeginsWi
       (append_assoc (spelling children) (end_octets h.size ++ spelling more) rest
       ∙ ap (λ (x : List ℕ). spelling children ++ x) (append_assoc (end_octets h.size) (spelling more) rest)))
       ∙ ap (λ (x : List ℕ). (x ++ (spelling children ++ (end_octets h.size ++ spelling more))) ++ rest) (sym o) ∙ e in
-      by_size h children (spelling more ++ rest) h.size refl (s.0, s.1, s.2, s.3, tt) c e'
+      by_size h children (spelling more ++ rest) h.size refl (s.0, s.1, tt) c e'
   by_forest (OpenPrimitive h c) rest s t e = absurd s
   by_forest (OpenHolder h children) rest s t e = absurd s
   by_forest (OpenBitString h) rest s t e = absurd s

@@ -24,7 +24,7 @@ use Rattle.tlv_run.proofs.Results.{is_result, makes_unique}
 use Rattle.tlv_run.proofs.RowWords.{check, clean_result, dump, extract, fault_result, lines, octets, result}
 use Rattle.tlv_run.specs.declared.command.Command.{Command}
 use Rattle.tlv_run.specs.RunsOctets.{IsReport, RunsOctets, at_source_end, read_failed, at_settled_result, too_long}
-use Rattle.tlv_run.specs.Report.{ReportValue, clean_report, device_report, report_with}
+use Rattle.tlv_run.specs.Report.{ReportValue, device_report, report_with}
 use Rattle.tlv_run.specs.Results.{CommandResult, IsResult, command_job}
 
 -- ---- octets
@@ -196,11 +196,11 @@ unfolding digits
 null-made = refl
 
 -- the input ends: just enough room
-null-1 : Writes plain_dump null_element false 22 null_lines clean_report
+null-1 : Writes plain_dump null_element false 22 null_lines (report_with 0 [])
 null-1 = to-end plain_dump null_element (clean_result null_lines) refl refl refl null-made 22 refl
 
 -- the same with more room
-null-2 : Writes plain_dump null_element false 1000 null_lines clean_report
+null-2 : Writes plain_dump null_element false 1000 null_lines (report_with 0 [])
 null-2 = to-end plain_dump null_element (clean_result null_lines) refl refl refl null-made 1000 refl
 
 -- a read fails: the line was written before
@@ -299,6 +299,6 @@ null_and_more = octets "05 00 ff"
 null_and_more-made : result first_element null_and_more ≡ clean_result (octets "05 00")
 null_and_more-made = refl
 
-null_and_more-1 : Writes first_element null_and_more true 2 (octets "05 00") clean_report
+null_and_more-1 : Writes first_element null_and_more true 2 (octets "05 00") (report_with 0 [])
 null_and_more-1 =
     to-enough first_element null_and_more (clean_result (octets "05 00")) refl refl refl null_and_more-made 2 refl refl

@@ -19,7 +19,7 @@ use Rattle.tlv_walk.specs.Ending.{fault_ending}
 use Rattle.tlv_walk.specs.declared.ending.Ending.TheVariants.{Done}
 use Rattle.tlv_walk.specs.declared.framing.Framing.{Framing}
 use Rattle.tlv_run.proofs.Results.{result_of}
-use Rattle.tlv_run.specs.Report.{clean_report}
+use Rattle.tlv_run.specs.Report.{report_with}
 use Rattle.tlv_run.specs.Results.{CommandResult, command_job}
 use Rattle.tlv_run.specs.declared.command.Command.{Command}
 use Rattle.tlv_run.specs.declared.command.Command.TheVariants.{Check, Dump, Extract, Indef}
@@ -74,7 +74,7 @@ lines texts = flat_map (λ text. codes text ++ 10 ∷ []) texts
 
 -- status 0, and no message
 abbrev pub clean_result : List ℕ → CommandResult
-clean_result output = record { output = output; ending = Done; report = clean_report }
+clean_result output = record { output = output; ending = Done; report = report_with 0 [] }
 
 -- status 1 with so many findings and this message
 abbrev pub notice_result : ℕ → String → List ℕ → CommandResult

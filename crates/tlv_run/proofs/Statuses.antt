@@ -1,6 +1,6 @@
 -- Which status an input comes to.
-use Rattle.std.proofs.Common.{◌≡◌, ◌==◌, ℕ, Bool, true, false, if◌then◌else◌, ◌++◌, refl, sym, ap, ◌∙◌, subst}
-use Rattle.std.specs.Prelude.{Option, Some, None, codes, decimal}
+use Rattle.std.proofs.Common.{◌≡◌, ◌==◌, ℕ, Bool, true, false, refl, sym, ap, ◌∙◌, subst}
+use Rattle.std.specs.Prelude.{Option, Some, None}
 use Rattle.tlv_cut.specs.Extract.{has_element_at}
 use Rattle.tlv_show.specs.declared.outcome.Outcome.{Outcome}
 use Rattle.tlv_show.specs.ShowJob.{check_job, dump_job}
@@ -13,33 +13,31 @@ use Rattle.tlv_walk.specs.declared.ending.Ending.TheVariants as ending
 use Rattle.tlv_walk.specs.Ending.{IsEnding}
 use Rattle.tlv_walk.specs.Forest.{Forest}
 use Rattle.tlv_run.specs.Laws.{StatusesShowSoundness}
-use Rattle.tlv_run.specs.Report.{ReportValue, clean_report, findings_report, found_report, unused_report, report_with}
+use Rattle.tlv_run.specs.Report.{ReportValue, cut_report, outcome_report}
 use Rattle.tlv_run.specs.Results.{command_job}
 use Rattle.tlv_run.specs.declared.command.Command.{Command}
 use Rattle.tlv_run.specs.declared.command.Command.TheVariants.{Check, Dump, Extract, Indef}
 
 -- what is reported if there is no fault
-no_fault-not_2 : (unused : Option ℕ) (findings : ℕ) → (unused_report unused (findings_report findings)).status ≡ 2 → ⊥
-no_fault-not_2 None findings e = by-test (findings == 0) e
-  where
-    by-test : (none : Bool)
-        → (if none then clean_report else report_with 1 (codes "findings: " ++ decimal findings)).status ≡ 2 → ⊥
-    by-test true e = absurd (cc (e))
-    by-test false e = absurd (cc (e))
-no_fault-not_2 (Some offset) findings e = absurd (cc (e))
+outcome_quiet : (outcome : Outcome) (unused : Option ℕ) (none : Bool) → outcome.ending ≡ ending.Done
+    → outcome.unused ≡ unused → (outcome.findings == 0) ≡ none → (outcome_report outcome).status ≡ 2 → ⊥
+outcome_quiet outcome (Some offset) none d u z e = let e' : 1 ≡ 2 = rw (d, u) at e in absurd (cc (e'))
+outcome_quiet outcome None false d u z e = let e' : 1 ≡ 2 = rw (d, u, z) at e in absurd (cc (e'))
+outcome_quiet outcome None true d u z e = let e' : 0 ≡ 2 = rw (d, u, z) at e in absurd (cc (e'))
 
-found_quiet : (offset : ℕ) (found : Bool) → (found_report offset found).status ≡ 2 → ⊥
+found_quiet : (offset : ℕ) (found : Bool)
+    → (cut_report offset (record { ending = ending.Done; found = found })).status ≡ 2 → ⊥
 found_quiet offset true e = absurd (cc (e))
 found_quiet offset false e = absurd (cc (e))
 
 done_quiet : (command : Command) (names : NamesValue) (f : Forest)
     → ((command_job command names).returns f ending.Done).status ≡ 2 → ⊥
 done_quiet (Dump options names_file file) names f e =
-    let outcome : Outcome = (dump_job options names).returns f ending.Done in no_fault-not_2 outcome.unused
-    outcome.findings e
+    let outcome : Outcome = (dump_job options names).returns f ending.Done in
+    outcome_quiet outcome outcome.unused (outcome.findings == 0) refl refl refl e
 done_quiet (Check rules framing file) names f e =
-    let outcome : Outcome = (check_job rules framing).returns f ending.Done in no_fault-not_2 outcome.unused
-    outcome.findings e
+    let outcome : Outcome = (check_job rules framing).returns f ending.Done in
+    outcome_quiet outcome outcome.unused (outcome.findings == 0) refl refl refl e
 done_quiet (Extract offset contents framing file) names f e = found_quiet offset (has_element_at offset f) e
 done_quiet (Indef padding file) names f e = absurd (cc (e))
 

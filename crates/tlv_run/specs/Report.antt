@@ -1,5 +1,5 @@
 -- What the program reports at its end: the exit status, the number of findings and the message.
-use Rattle.std.specs.Prelude.{◌∷◌, ⊤, ℕ, Bool, ◌==◌, if◌then◌else◌, List, [], ◌++◌, Option, Some, None, Result, Ok, Err}
+use Rattle.std.specs.Prelude.{◌∷◌, ⊤, ℕ, Bool, true, false, ◌==◌, List, [], ◌++◌, Option, Some, None, Result, Ok, Err}
 use Rattle.std.specs.Prelude.{codes, decimal}
 use Rattle.tlv_cut.specs.declared.extract_call.Cut.{Cut}
 use Rattle.tlv_head.specs.declared.fault.Fault.{Fault}
@@ -30,48 +30,37 @@ report_with status message = record { status = status; findings = 0; message = m
 
 -- ---- the result of an input
 
--- the report if there is nothing to say
-abbrev pub clean_report : ReportValue
-clean_report = report_with 0 []
-
 -- a fault of the encoding: its offset, its code and its text
 abbrev pub fault_line : Fault → List ℕ
 fault_line fault =
     codes "fault at " ++ decimal fault.offset ++ codes ": "
     ++ fault_code fault.code ++ codes " " ++ fault_text fault.code
 
--- a fault takes precedence over all else that there is to say
-abbrev pub ending_report : Ending → ReportValue → ReportValue
-ending_report (ending.Fault f) other = report_with 2 (fault_line f)
-ending_report ending.Done other = other
-
--- the first named offset at which there is no string to read takes precedence over findings
-abbrev pub unused_report : Option ℕ → ReportValue → ReportValue
-unused_report None other = other
-unused_report (Some offset) other = report_with 1 (codes "E7 no string to read at offset " ++ decimal offset)
-
-abbrev pub findings_report : ℕ → ReportValue
-findings_report n = if n == 0 then clean_report else report_with 1 (codes "findings: " ++ decimal n)
-
--- a dump or a check: the report keeps the count of findings, whatever else it says
+-- a dump or a check: a fault, else the first named offset at which there is no string to read, else the findings. The
+-- count of findings is reported with each
 abbrev pub outcome_report : Outcome → ReportValue
 outcome_report outcome =
-    let other = unused_report outcome.unused (findings_report outcome.findings) in
-    record (ending_report outcome.ending other) { findings = outcome.findings }
+    record (by_case outcome.ending outcome.unused (outcome.findings == 0)) { findings = outcome.findings }
+  where
+    by_case : Ending → Option ℕ → Bool → ReportValue
+    by_case (ending.Fault f) unused none = report_with 2 (fault_line f)
+    by_case ending.Done (Some offset) none = report_with 1 (codes "E7 no string to read at offset " ++ decimal offset)
+    by_case ending.Done None false = report_with 1 (codes "findings: " ++ decimal outcome.findings)
+    by_case ending.Done None true = report_with 0 []
 
--- whether an element was found at this offset
-abbrev pub found_report : ℕ → Bool → ReportValue
-found_report offset found =
-    if found then clean_report
-    else report_with 1 (codes "E4 no element at offset " ++ decimal offset)
-
--- an extract of the element at this offset
+-- an extract of the element at this offset: a fault, else whether the element was found
 abbrev pub cut_report : ℕ → Cut → ReportValue
-cut_report offset cut = ending_report cut.ending (found_report offset cut.found)
+cut_report offset cut = by_case cut.ending cut.found
+  where
+    by_case : Ending → Bool → ReportValue
+    by_case (ending.Fault f) found = report_with 2 (fault_line f)
+    by_case ending.Done false = report_with 1 (codes "E4 no element at offset " ++ decimal offset)
+    by_case ending.Done true = report_with 0 []
 
--- an input written with indefinite lengths
+-- an input written with indefinite lengths: a fault, or nothing
 abbrev pub indef_report : Ending → ReportValue
-indef_report e = ending_report e clean_report
+indef_report (ending.Fault f) = report_with 2 (fault_line f)
+indef_report ending.Done = report_with 0 []
 
 -- ---- devices
 

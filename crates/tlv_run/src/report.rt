@@ -1,8 +1,7 @@
 //! What the program reports at its end: the exit status, the number of findings and the message.
 ghost use Rattle.std.specs.Prelude.{◌≡◌, ◌+◌, ◌++◌, ◌≤◌, [], decimal, length};
-ghost use Rattle.tlv_run.specs.Report.{cut_report, device_report, ending_report, fault_line, findings_report};
-ghost use Rattle.tlv_run.specs.Report.{found_report, indef_report, names_fault_line, names_report, outcome_report};
-ghost use Rattle.tlv_run.specs.Report.{report_value_of, report_with, unopened_report, unused_report};
+ghost use Rattle.tlv_run.specs.Report.{cut_report, device_report, fault_line, indef_report, names_fault_line};
+ghost use Rattle.tlv_run.specs.Report.{names_report, outcome_report, report_value_of, report_with, unopened_report};
 
 use arrayvec::ArrayVec;
 use itoa::Buffer;
@@ -42,67 +41,42 @@ impl Report {
     }
 }
 
-/// The report of a dump or a check: a fault, else an offset without a string, else findings. It keeps the count of
+/// The report of a dump or a check: a fault, else an offset without a string, else findings. It has the count of
 /// findings in each case.
 pub(crate) fn outcome_report(outcome: Outcome) -> Report
     ensures { report_value_of result ≡ outcome_report outcome }
 {
-    let unused = unused_report(outcome.unused, findings_report(outcome.findings));
-    let mut report = ending_report(outcome.ending, unused);
-    report.findings = outcome.findings;
-    report
+    let findings = outcome.findings;
+    match (outcome.ending, outcome.unused) {
+        (Ending::Fault(fault), _) => counted_report(2, findings, fault_line(fault)),
+        (Ending::Done, Some(offset)) => counted_report(
+            1,
+            findings,
+            number_line(b"E7 no string to read at offset ", offset),
+        ),
+        (Ending::Done, None) if findings == 0 => Report::without_message(0),
+        (Ending::Done, None) => counted_report(1, findings, number_line(b"findings: ", findings)),
+    }
 }
 
-/// The report of an extract of the element at this offset.
+/// The report of an extract of the element at this offset: a fault, else whether there is such an element.
 pub(crate) fn cut_report(offset: u64, cut: Cut) -> Report
     ensures { report_value_of result ≡ cut_report offset cut }
 {
-    ending_report(cut.ending, found_report(offset, cut.found))
+    match (cut.ending, cut.found) {
+        (Ending::Fault(fault), _) => report_with(2, fault_line(fault)),
+        (Ending::Done, false) => report_with(1, number_line(b"E4 no element at offset ", offset)),
+        (Ending::Done, true) => Report::without_message(0),
+    }
 }
 
 /// The report of an input if only its ending matters: a fault, or nothing.
 pub fn indef_report(ending: Ending) -> Report
     ensures { report_value_of result ≡ indef_report ending }
 {
-    ending_report(ending, Report::without_message(0))
-}
-
-/// A fault if there is one; otherwise what there is to say about an input without a fault.
-fn ending_report(ending: Ending, other: Report) -> Report
-    ensures { report_value_of result ≡ ending_report ending (report_value_of other) }
-{
     match ending {
         Ending::Fault(fault) => report_with(2, fault_line(fault)),
-        Ending::Done => other,
-    }
-}
-
-fn unused_report(unused: Option<u64>, other: Report) -> Report
-    ensures { report_value_of result ≡ unused_report unused (report_value_of other) }
-{
-    match unused {
-        Some(offset) => report_with(1, number_line(b"E7 no string to read at offset ", offset)),
-        None => other,
-    }
-}
-
-fn findings_report(findings: u64) -> Report
-    ensures { report_value_of result ≡ findings_report findings }
-{
-    if findings == 0 {
-        Report::without_message(0)
-    } else {
-        report_with(1, number_line(b"findings: ", findings))
-    }
-}
-
-fn found_report(offset: u64, found: bool) -> Report
-    ensures { report_value_of result ≡ found_report offset found }
-{
-    if found {
-        Report::without_message(0)
-    } else {
-        report_with(1, number_line(b"E4 no element at offset ", offset))
+        Ending::Done => Report::without_message(0),
     }
 }
 
@@ -148,9 +122,16 @@ pub fn names_report(fault: NamesFault) -> Report
 fn report_with(status: u8, message: ArrayVec<u8, 128>) -> Report
     ensures { report_value_of result ≡ report_with status message.items }
 {
+    counted_report(status, 0, message)
+}
+
+/// A report with this count of findings.
+fn counted_report(status: u8, findings: u64, message: ArrayVec<u8, 128>) -> Report
+    ensures { report_value_of result ≡ record (report_with status message.items) { findings = findings } }
+{
     Report {
         status,
-        findings: 0,
+        findings,
         message,
     }
 }

@@ -10,4 +10,5 @@ pub mod Prefixes
 pub mod Pauses
 pub mod WalkSoFar
 pub mod TurnEnds
+pub mod TurnResults
 pub mod Turns

@@ -15,7 +15,7 @@ use Rattle.tlv_walk.specs.Forest.{Forest, NoMore, PaddingOctet, Primitive, Holde
 use Rattle.tlv_walk.specs.Forest.{OpenHeader, OpenEndOctets, extent, has_element, is_whole}
 use Rattle.tlv_walk.specs.Forest.{primitive_extent, spelling}
 use Rattle.tlv_walk.specs.Place.{Fits, IsHeaderAt, Place, announced_extent, place_after, place_of_children, top_place}
-use Rattle.tlv_walk.specs.Reading.{CannotBecomeSound, IsReading, IsSoundList, ReadsAll}
+use Rattle.tlv_walk.specs.Reading.{CannotBecomeSound, IsReading, IsSoundList}
 
 -- an open end of a forest: its place, and what is open there: nothing, between encodings (`NoMore`), or an incomplete
 -- primitive, wrapping BIT STRING, header or end-of-contents octets, whose place is that of their first octet
@@ -71,21 +71,24 @@ fault_at code offset = record { code = code; offset = offset }
 abbrev pub fault_ending : FaultCode → ℕ → Ending
 fault_ending code offset = ending.Fault (fault_at code offset)
 
--- the ending of an input. In each case the forest is the reading of the input, which has one reading
-pub data IsEnding (framing : Framing) (b : List ℕ) : Ending → Type 0 where
-  -- F01: no octet of an element came
-  empty : (f : Forest) → ReadsAll framing b f → has_element f ≡ false
-      → IsEnding framing b (fault_ending Empty (length b))
-  -- F02: something is open
-  short : (f : Forest) → ReadsAll framing b f → is_whole f ≡ false
-      → IsEnding framing b (fault_ending Short (length b))
-  -- one or more elements, and nothing is open
-  done : (f : Forest) → ReadsAll framing b f → has_element f ≡ true → is_whole f ≡ true
-      → IsEnding framing b Done
+-- the ending of an input with the reading f, one line for each case
+pub data IsEndingOf (framing : Framing) (b : List ℕ) (f : Forest) : Ending → Type 0 where
+  -- F01: all is read, and no octet of an element came
+  empty : spelling f ≡ b → has_element f ≡ false → IsEndingOf framing b f (fault_ending Empty (length b))
+  -- F02: all is read, and something is open
+  short : spelling f ≡ b → is_whole f ≡ false → IsEndingOf framing b f (fault_ending Short (length b))
+  -- all is read, one or more elements, and nothing is open
+  done : spelling f ≡ b → has_element f ≡ true → is_whole f ≡ true → IsEndingOf framing b f Done
   -- the octet after the reading is refused
-  refused : (f : Forest) (x : ℕ) (rest : List ℕ) (code : FaultCode) → IsReading framing b f → spelling f ++ x ∷ rest ≡ b
+  refused : (x : ℕ) (rest : List ℕ) (code : FaultCode) → spelling f ++ x ∷ rest ≡ b
       → IsRefusedAt (open_end (top_place framing) f) x code
-      → IsEnding framing b (fault_ending code (length (spelling f)))
+      → IsEndingOf framing b f (fault_ending code (length (spelling f)))
+
+-- the ending of an input, by its reading
+pub record IsEnding (framing : Framing) (b : List ℕ) (e : Ending) : Type 0 where
+  pub reading : Forest
+  pub is_reading : IsReading framing b reading
+  pub ends : IsEndingOf framing b reading e
 
 -- a code other than F01 and F02; only F01 and F02 say that the input ends too early
 abbrev pub IsFinalCode : FaultCode → Type 0

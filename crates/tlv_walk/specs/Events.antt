@@ -1,13 +1,10 @@
 -- The events that a walk over elements yields, in order.
-use Rattle.std.specs.Prelude.{◌≡◌, ◌≢◌, ℕ, ◌+◌, if◌then◌else◌, List, [], ◌∷◌, ◌++◌, flat_map, length, map, Option, Some}
-use Rattle.std.specs.Prelude.{None}
-use Rattle.tlv_head.specs.declared.header.Size.{Size}
-use Rattle.tlv_head.specs.declared.header.Size.TheVariants.{Definite, Indefinite}
+use Rattle.std.specs.Prelude.{◌≡◌, ◌≢◌, ℕ, if◌then◌else◌, List, [], ◌∷◌, ◌++◌, flat_map, map, Option, Some}
 use Rattle.tlv_head.specs.Header.{HeaderValue, octets_of}
 use Rattle.tlv_walk.specs.declared.event.Event.{Event}
 use Rattle.tlv_walk.specs.declared.event.Event.TheVariants as event
 use Rattle.tlv_walk.specs.Forest.{Forest, NoMore, PaddingOctet, Primitive, Holder, OpenPrimitive, OpenHolder}
-use Rattle.tlv_walk.specs.Forest.{OpenBitString, OpenHeader, OpenEndOctets, lead, opening, spelling}
+use Rattle.tlv_walk.specs.Forest.{OpenBitString, OpenHeader, OpenEndOctets, end_octets_offset, lead}
 
 -- an event, without where its octets lie in memory
 pub data EventValue : Type 0 where
@@ -64,15 +61,6 @@ IsNoEmptyPart (event.Enter h) = Unit {0}
 IsNoEmptyPart event.Unused = Unit {0}
 IsNoEmptyPart event.Leave = Unit {0}
 IsNoEmptyPart (event.Pad octets) = octets.now ≢ []
-
--- 8.1.5: the offset of the end-of-contents octets, if any
-abbrev pub end_offset : Size → ℕ → Option ℕ
-end_offset (Definite n) offset = None
-end_offset Indefinite offset = Some offset
-
--- 8.1.5: the offset of the end-of-contents octets of an element that holds others, if any
-abbrev pub end_octets_offset : HeaderValue → Forest → Option ℕ
-end_octets_offset h children = end_offset h.size (h.offset + length (opening h) + length (spelling children))
 
 -- an element that holds others begins: it is constructed, or a wrapper
 abbrev pub opening_event : HeaderValue → EventValue

@@ -1,5 +1,6 @@
 -- Elements, of which the last may still be open: X.690 8.1.1, 8.1.4 and 8.1.5.
-use Rattle.std.specs.Prelude.{ℕ, ◌+◌, Bool, true, false, eqb, if◌then◌else◌, List, [], ◌∷◌, ◌++◌, length}
+use Rattle.std.specs.Prelude.{ℕ, ◌+◌, Bool, true, false, not, ◌&&◌, eqb, if◌then◌else◌, List, [], ◌∷◌, ◌++◌, length}
+use Rattle.std.specs.Prelude.{Option, Some, None}
 use Rattle.tlv_head.specs.declared.header.Size.{Size}
 use Rattle.std.specs.Option.{is_some}
 use Rattle.tlv_head.specs.UniversalTypes as universal
@@ -27,10 +28,15 @@ pub data Forest : Type 0 where
   -- the first of the end-of-contents octets
   OpenEndOctets : Forest
 
--- 8.6.2: the contents octets before the elements that an element holds: in a BIT STRING that holds encodings 00, for no
--- unused bits, and otherwise none. An element that holds others is constructed, an OCTET STRING or a BIT STRING
+-- 8.6.2: an element that holds others is a BIT STRING that holds encodings. It is constructed, or a string of class
+-- universal, so its form and its number say which
+abbrev pub is_wrapping_bit_string : HeaderValue → Bool
+is_wrapping_bit_string h = not h.constructed && eqb h.number universal.bit_string
+
+-- 8.6.2.2: the contents octets before the elements that an element holds: in a BIT STRING 00, for no unused bits, and
+-- otherwise none
 abbrev pub lead : HeaderValue → List ℕ
-lead h = if h.constructed then [] else (if eqb h.number universal.bit_string then 0 ∷ [] else [])
+lead h = if is_wrapping_bit_string h then 0 ∷ [] else []
 
 -- 8.1.1.1: the octets of an element before the elements that it holds
 abbrev pub opening : HeaderValue → List ℕ
@@ -63,6 +69,12 @@ primitive_extent h contents = length (octets_of h) + length contents
 -- 8.1.1.1: the number of octets of an element that holds others and has ended
 abbrev pub extent : HeaderValue → Forest → ℕ
 extent h children = length (opening h) + (length (spelling children) + length (end_octets h.size))
+
+-- 8.1.5: the offset of the end-of-contents octets of an element that holds others, if its length is indefinite
+abbrev pub end_octets_offset : HeaderValue → Forest → Option ℕ
+end_octets_offset h children =
+    if is_some (definite_length h.size) then None
+    else Some (h.offset + length (opening h) + length (spelling children))
 
 -- nothing is open behind the outermost elements. What a `Holder` holds is not looked at: `ObeysGrammar` asks of each
 -- `Holder` that this is whole

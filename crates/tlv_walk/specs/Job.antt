@@ -10,9 +10,9 @@ use Rattle.tlv_walk.specs.declared.run.DeviceFault.{DeviceFault}
 use Rattle.tlv_walk.specs.declared.run.DeviceFault.TheVariants.{ReadFailed, WriteFailed, InputTooLong}
 use Rattle.tlv_io.specs.Device.{DrainState, Pieces, SourceState, failed, failures_after, gave, octets_given}
 use Rattle.tlv_walk.specs.Ending.{HasEnding, IsFinalEnding}
-use Rattle.tlv_walk.specs.Forest.{Forest}
+use Rattle.tlv_walk.specs.Forest.{Forest, spelling}
 use Rattle.tlv_io.specs.Out.{Sends}
-use Rattle.tlv_walk.specs.Reading.{IsPrefixOf, IsReading, ReadsAll}
+use Rattle.tlv_walk.specs.Reading.{IsPrefixOf, IsReading}
 
 -- the state of the devices of a run, before or after it, as the source and the drain show it
 pub record DeviceStates : Type 0 where
@@ -58,7 +58,8 @@ module _ {A : Type 0} (job : Job A) where
 
   -- the octets hold no fault, and after them more is wanted
   abbrev pub WantMore : List ℕ → Type 0
-  WantMore octets = (f : Forest) × ReadsAll job.framing octets f × (job.is_enough f ≡ false)
+  WantMore octets =
+      (f : Forest) × (IsReading job.framing octets f × (spelling f ≡ octets)) × (job.is_enough f ≡ false)
 
   -- the most octets that are read as encodings
   module _ (limit : ℕ) where

@@ -128,41 +128,31 @@ module _ {S : Type 0} (next : S → EventValue → Effect S) (old new : TurnStat
     pub put : SendsMade more (Err WriteFailed)
     pub has_events : HasEvents old.walker.framing octets (yielded ++ more)
 
-  -- nothing was followed, and nothing was sent
-  pub record ReadsNothing : Type 0 where
-    pub same : HasNotMoved
-    pub put : SendsMade [] (Ok tt)
-
-  -- a turn before which the walker stands for the octets that it took, which yielded these events; the read of the
-  -- turn gave other octets. Of all these octets no more than the limit are followed
-  module _ (limit : ℕ) (taken : List ℕ) (yielded : List EventValue) (given : List ℕ) where
+  -- what a turn adds to a walk, a line for each result and cause. Before the turn the walker stands for the octets that
+  -- it took, which yielded these events; the read of the turn gave other octets. Of all these octets no more than the
+  -- limit are followed
+  pub data TurnsTo (limit : ℕ) (taken : List ℕ) (yielded : List EventValue) (given : List ℕ)
+      : Result Turn DeviceFault → Type 0 where
     -- the octets are within the limit, and others may follow them
-    pub record WalksOn : Type 0 where
-      pub some : given ≢ []
-      pub within : length (taken ++ given) ≤ limit
-      pub stands : StandsAfter (taken ++ given) yielded
-
-    -- why a walk ends, one line for each cause
-    pub data WalkEnds (run : Run) : Type 0 where
-      -- the follower had enough
-      at_enough : HasEnoughIn (octets_followed limit taken given) yielded run → WalkEnds run
-      -- an octet is refused, whatever follows
-      at_fault : EndsIn (octets_followed limit taken given) yielded run → IsFinalEnding run.ending → WalkEnds run
-      -- the input has ended
-      at_input_end : EndsIn (octets_followed limit taken given) yielded run → given ≡ [] → WalkEnds run
-
+    again : given ≢ [] → length (taken ++ given) ≤ limit → StandsAfter (taken ++ given) yielded
+        → TurnsTo limit taken yielded given (Ok Again)
+    -- the follower had enough
+    at_enough : (run : Run) → HasEnoughIn (octets_followed limit taken given) yielded run
+        → TurnsTo limit taken yielded given (Ok (Ended run))
+    -- an octet is refused, whatever follows
+    at_fault : (run : Run) → EndsIn (octets_followed limit taken given) yielded run → IsFinalEnding run.ending
+        → TurnsTo limit taken yielded given (Ok (Ended run))
+    -- the input has ended
+    at_input_end : (run : Run) → EndsIn (octets_followed limit taken given) yielded run → given ≡ []
+        → TurnsTo limit taken yielded given (Ok (Ended run))
+    -- a read failed: nothing was followed, and nothing was sent
+    read_failed : HasNotMoved → SendsMade [] (Ok tt) → TurnsTo limit taken yielded given (Err ReadFailed)
+    -- a write failed
+    write_failed : WriteFailsIn (octets_followed limit taken given) yielded
+        → TurnsTo limit taken yielded given (Err WriteFailed)
     -- there are more octets than the limit
-    pub record ExceedsLimit : Type 0 where
-      pub beyond : limit < length (taken ++ given)
-      pub stands : StandsAfter (octets_followed limit taken given) yielded
-
-    -- the outcome of a turn, by its result
-    abbrev pub TurnsTo : Result Turn DeviceFault → Type 0
-    TurnsTo (Ok Again) = WalksOn
-    TurnsTo (Ok (Ended run)) = WalkEnds run
-    TurnsTo (Err ReadFailed) = ReadsNothing
-    TurnsTo (Err WriteFailed) = WriteFailsIn (octets_followed limit taken given) yielded
-    TurnsTo (Err InputTooLong) = ExceedsLimit
+    too_long : limit < length (taken ++ given) → StandsAfter (octets_followed limit taken given) yielded
+        → TurnsTo limit taken yielded given (Err InputTooLong)
 
   -- the walker took octets, in all at most the limit, and is ready for the next one
   pub record HasMovedWithin (limit : ℕ) : Type 0 where

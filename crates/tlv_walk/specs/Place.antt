@@ -1,5 +1,5 @@
 -- Where elements are allowed, and what may be open there: X.690 8.1.3, 8.1.4 and 8.1.5.
-use Rattle.std.specs.Prelude.{◌≡◌, ◌≢◌, ℕ, ◌+◌, ◌<◌, ◌≤◌, Bool, true, false, List, [], ◌∷◌, length, Option}
+use Rattle.std.specs.Prelude.{◌≡◌, ◌≢◌, ℕ, ◌+◌, ◌<◌, ◌≤◌, Bool, true, false, List, [], length, Option}
 use Rattle.std.specs.Prelude.{Some, None, IfSome}
 use Rattle.std.specs.Option.{is_none, option_map_or}
 use Rattle.tlv_head.specs.Limits.{depth_limit}
@@ -11,7 +11,7 @@ use Rattle.tlv_walk.specs.declared.framing.Framing.{Framing}
 use Rattle.tlv_walk.specs.Inside.{is_among}
 use Rattle.tlv_walk.specs.Forest.{Forest, Holder, NoMore, OpenBitString, OpenEndOctets, OpenHeader}
 use Rattle.tlv_walk.specs.Forest.{OpenHolder, OpenPrimitive, PaddingOctet, Primitive, contents_length, extent}
-use Rattle.tlv_walk.specs.Forest.{is_whole, lead, opening, primitive_extent}
+use Rattle.tlv_walk.specs.Forest.{is_whole, is_wrapping_bit_string, opening, primitive_extent}
 
 -- where a forest is
 pub record Place : Type 0 where
@@ -47,29 +47,20 @@ place_after p n = record p { offset = p.offset + n }
 abbrev pub is_indefinite : Size → Bool
 is_indefinite size = is_none (definite_length size)
 
--- 8.1.3.3: the end of contents that begin at the offset `start`, if their length is definite; otherwise the bound
--- outside
-abbrev pub bound_in : Size → ℕ → Option ℕ → Option ℕ
-bound_in size start outside = option_map_or (λ n. Some (start + n)) (definite_length size) outside
-
--- 8.1.4: the place of the elements inside an element with this header: the bound is the end of its contents, if its
--- length is definite
+-- 8.1.4: the place of the elements inside an element with this header. 8.1.3.3: the bound is the end of its contents, if
+-- its length is definite, and otherwise the bound outside
 abbrev pub place_of_children : Place → HeaderValue → Place
 place_of_children p h = record p {
   offset = p.offset + length (opening h);
   depth = p.depth + 1;
   indefinite = is_indefinite h.size;
   padding = false;
-  bound = bound_in h.size (p.offset + length (octets_of h)) p.bound;
+  bound = option_map_or (λ n. Some (p.offset + length (octets_of h) + n)) (definite_length h.size) p.bound;
 }
 
--- the offset does not lie beyond the bound
-abbrev pub IsWithin : Option ℕ → ℕ → Type 0
-IsWithin bound offset = IfSome bound (λ b. offset ≤ b)
-
--- n octets from there on end within the bound
+-- n octets from there on do not end beyond the bound
 abbrev pub Fits : Place → ℕ → Type 0
-Fits p n = IsWithin p.bound (p.offset + n)
+Fits p n = IfSome p.bound (λ b. p.offset + n ≤ b)
 
 -- 8.1.2, 8.1.3: the header of an element is there
 pub record IsHeaderAt (p : Place) (h : HeaderValue) : Type 0 where
@@ -80,14 +71,14 @@ pub record IsHeaderAt (p : Place) (h : HeaderValue) : Type 0 where
 -- 8.1.4: a primitive is there that holds no encodings, and n octets of it end within the bound
 pub record IsPrimitiveAt (p : Place) (h : HeaderValue) (n : ℕ) : Type 0 where
   pub header : IsHeaderAt p h
-  pub form : holds h ≡ false
+  pub holding : holds h ≡ false
   pub fits : Fits p n
 
 -- 8.1.4: an element that holds encodings is there, and n octets of it end within the bound. It is inside fewer than
 -- `depth_limit` such elements, a limit of our own
 pub record IsHolderAt (p : Place) (h : HeaderValue) (n : ℕ) : Type 0 where
   pub header : IsHeaderAt p h
-  pub form : holds h ≡ true
+  pub holding : holds h ≡ true
   pub shallow : p.depth < depth_limit
   pub fits : Fits p n
 
@@ -123,7 +114,7 @@ ObeysGrammar p (OpenHolder h children) =
     × (is_whole children ≡ true → IfSome (definite_length h.size) (λ n. contents_length h children < n)))
     × ObeysGrammar (place_of_children p h) children
 -- 8.6.2.2: a wrapping BIT STRING with only its header there
-ObeysGrammar p (OpenBitString h) = IsHolderAt p h (announced_extent h) × (lead h ≡ 0 ∷ [])
+ObeysGrammar p (OpenBitString h) = IsHolderAt p h (announced_extent h) × (is_wrapping_bit_string h ≡ true)
 -- a prefix of a header, or the first of the end-of-contents octets, inside the bound
 ObeysGrammar p (OpenHeader octets) = (octets ≢ []) × IsHeaderPrefix octets × Fits p (length octets)
 ObeysGrammar p OpenEndOctets = (p.indefinite ≡ true) × Fits p 1

@@ -25,10 +25,6 @@ pub record IsReading (framing : Framing) (b : List ℕ) (f : Forest) : Type 0 wh
   pub longest : (g : Forest) → ObeysGrammar (top_place framing) g → IsPrefixOf (spelling g) b
       → length (spelling g) ≤ length (spelling f)
 
--- f is the reading of an input, and spells all of it
-abbrev pub ReadsAll : Framing → List ℕ → Forest → Type 0
-ReadsAll framing b f = IsReading framing b f × (spelling f ≡ b)
-
 -- 8.1.1 to 8.1.5: nothing is open, each definite length is the length of the contents, and each element that holds
 -- others is inside fewer than `depth_limit` such elements; padding is at the top level only. A string that the user named
 -- is an element that holds others, so it has to hold sound encodings, which X.690 does not ask for
@@ -36,10 +32,10 @@ abbrev pub IsSound : Place → Forest → Type 0
 IsSound p NoMore = Unit {0}
 IsSound p (PaddingOctet rest) = (p.padding ≡ true) × IsSound (place_after p 1) rest
 IsSound p (Primitive h c rest) =
-    (IsHeaderAt p h × (holds h ≡ false)) × (h.size ≡ Definite (length c))
+    (IsHeaderAt p h × (holds h ≡ false) × (h.size ≡ Definite (length c)))
     × IsSound (place_after p (primitive_extent h c)) rest
 IsSound p (Holder h children rest) =
-    (IsHeaderAt p h × (holds h ≡ true)) × HasItsLength h children × (p.depth < depth_limit)
+    (IsHeaderAt p h × (holds h ≡ true) × (p.depth < depth_limit) × HasItsLength h children)
     × IsSound (place_of_children p h) children × IsSound (place_after p (extent h children)) rest
 IsSound p end = ⊥
 

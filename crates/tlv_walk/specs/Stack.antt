@@ -1,6 +1,9 @@
 -- The open elements that hold others, innermost first.
-use Rattle.std.specs.Prelude.{◌≡◌, ℕ, Bool, true, List, [], ◌∷◌, Option, Some, None}
-use Rattle.tlv_walk.specs.Place.{IsWithin}
+use Rattle.std.specs.Prelude.{◌≡◌, ℕ, ◌≤◌, Bool, true, List, [], ◌∷◌, Option, Some, None, IfSome}
+
+-- the offset does not lie beyond the bound
+abbrev pub IsWithin : Option ℕ → ℕ → Type 0
+IsWithin bound offset = IfSome bound (λ b. offset ≤ b)
 
 -- an open element that holds others
 pub record FrameValue : Type 0 where

@@ -5,8 +5,7 @@ use Rattle.tlv_head.specs.HeadReader.{HeadReaderState}
 use Rattle.tlv_head.specs.Limits.{depth_limit, input_limit}
 use Rattle.tlv_walk.specs.declared.framing.Framing.{Framing}
 use Rattle.tlv_walk.specs.Inside.{are_rising}
-use Rattle.tlv_walk.specs.Stack.{FrameValue, IsInIndefinite, IsInWrapper, IsNested, bound_of}
-use Rattle.tlv_walk.specs.Place.{IsWithin}
+use Rattle.tlv_walk.specs.Stack.{FrameValue, IsInIndefinite, IsInWrapper, IsNested, IsWithin, bound_of}
 
 -- what the next octet of an input belongs to
 pub data PhaseValue : Type 0 where

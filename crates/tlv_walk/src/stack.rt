@@ -3,7 +3,7 @@ ghost use Rattle.tlv_head.specs.Limits.{depth_limit};
 ghost use Rattle.std.specs.Prelude.{◌≡◌, ◌≢◌, ◌<◌, ◌≤◌, ◌↔◌, ◌∷◌, IfSome, IsTrue, None, [], length};
 ghost use Rattle.std.specs.Prelude.{drop, true};
 ghost use Rattle.tlv_walk.specs.Stack.{IsInIndefinite, IsInWrapper, bound_of};
-ghost use Rattle.tlv_walk.specs.Place.{IsWithin};
+ghost use Rattle.tlv_walk.specs.Stack.{IsWithin};
 ghost use Rattle.tlv_walk.specs.Private.FrameFields.{no_bound_mark};
 ghost use Rattle.tlv_walk.specs.Private.Stack.{IsFilled, frame_inside, innermost_wraps, room_in, room_to};
 

@@ -1,15 +1,15 @@
 -- What an `Indef` makes of the events of elements is what `indef` writes.
 use Rattle.std.proofs.Common.{refl, sym, ap, ap₂, ◌∙◌, append_assoc, append-nil, flat_map}
-use Rattle.std.specs.Prelude.{◌≡◌, ℕ, ◌+◌, Bool, true, false, eqb, if◌then◌else◌, List, [], ◌∷◌, ◌++◌, length}
+use Rattle.std.specs.Prelude.{◌≡◌, ℕ, Bool, true, false, eqb, if◌then◌else◌, List, [], ◌∷◌, ◌++◌}
 use Rattle.std.specs.Prelude.{map, Option}
 use Rattle.std.proofs.lemmas.Grind.{flat_map-append}
 use Rattle.tlv_head.specs.Header.{HeaderValue, spell_indefinite, octets_of}
-use Rattle.tlv_walk.specs.Events.{Close, Enter, EventValue, Leave, Open, Unused, closing_event, end_offset, events}
+use Rattle.tlv_walk.specs.Events.{Close, Enter, EventValue, Leave, Open, Unused, closing_event, events}
 use Rattle.tlv_walk.specs.Events.{opening_events}
 use Rattle.tlv_walk.specs.Follow.{Effect, effect_of, effect_with}
 use Rattle.tlv_walk.specs.Forest.{Forest, NoMore, PaddingOctet, Primitive, Holder, OpenPrimitive, OpenHolder}
 use Rattle.tlv_walk.specs.Forest.{OpenBitString, OpenHeader, OpenEndOctets}
-use Rattle.tlv_walk.specs.Forest.{lead, opening, spelling}
+use Rattle.tlv_walk.specs.Forest.{end_octets_offset, lead, opening, spelling}
 use Rattle.tlv_walk.proofs.GrammarLemmas.Leads.{lead_by}
 use Rattle.tlv_cut.specs.Indef.{indef_text, indefinite_header, with_indefinite_lengths}
 use Rattle.tlv_cut.specs.IndefStep.{IndefState, indef_event_text, indef_step}
@@ -57,7 +57,7 @@ closes_by false offset = refl
 
 closes_put : (h : HeaderValue) (inside : Forest) → indef_event_text (closing_event h inside) ≡ end_by h.constructed
 closes_put h inside =
-    closes_by h.constructed (end_offset h.size (h.offset + length (opening h) + length (spelling inside)))
+    closes_by h.constructed (end_octets_offset h inside)
 
 -- in a constructed element nothing is between the indefinite length and what it holds
 no_lead : (h : HeaderValue) → h.constructed ≡ true → spell_indefinite h ≡ opening (indefinite_header h)

@@ -1,16 +1,16 @@
 -- The same elements with indefinite lengths obey the grammar.
 use Rattle.std.specs.Option.{option_map_or}
 use Rattle.std.proofs.Common.{refl, sym, ap, ◌∙◌, subst}
-use Rattle.std.specs.Prelude.{◌≡◌, ℕ, ◌+◌, ◌<◌, ◌≤◌, Bool, true, false, ◌||◌, eqb, if◌then◌else◌, List, []}
-use Rattle.std.specs.Prelude.{◌∷◌, ◌++◌, length, Option, Some, None, IfSome}
+use Rattle.std.specs.Prelude.{◌≡◌, ℕ, ◌+◌, ◌<◌, ◌≤◌, Bool, true, false, not, ◌&&◌, ◌||◌, eqb, if◌then◌else◌, List}
+use Rattle.std.specs.Prelude.{[], ◌++◌, length, Option, Some, None, IfSome}
 use Rattle.tlv_head.specs.declared.header.Size.{Size}
 use Rattle.tlv_head.specs.declared.header.Size.TheVariants.{Indefinite}
 use Rattle.tlv_head.specs.Header.{AllowsSize, HeaderValue, definite_length, holds, octets_of}
 use Rattle.tlv_head.proofs.Wraps.{is_wrapper}
 use Rattle.tlv_walk.specs.Forest.{Forest, NoMore, PaddingOctet, Primitive, Holder, OpenPrimitive, OpenHolder}
 use Rattle.tlv_walk.specs.Forest.{OpenBitString, OpenHeader, OpenEndOctets}
-use Rattle.tlv_walk.specs.Forest.{extent, has_element, is_whole, lead, opening, spelling}
-use Rattle.tlv_walk.proofs.GrammarLemmas.Leads.{lead_by}
+use Rattle.tlv_walk.specs.Forest.{extent, has_element, is_whole, is_wrapping_bit_string, lead, opening}
+use Rattle.tlv_walk.specs.Forest.{spelling}
 use Rattle.tlv_walk.specs.Place.{Fits, IsHeaderAt, ObeysGrammar, Place, announced_extent, place_after}
 use Rattle.tlv_walk.specs.Place.{place_of_children}
 use Rattle.tlv_cut.specs.Indef.{with_indefinite_lengths, indefinite_header, with_offsets_from}
@@ -177,7 +177,7 @@ obeys_grammar p q (Primitive h c rest) k v =
       (
         record {
           header = primitive_at p q h k v.0.0.header;
-          form = v.0.0.form;
+          holding = v.0.0.holding;
           fits = free_fits p q k n;
         },
         v.0.1,
@@ -188,12 +188,12 @@ obeys_grammar p q (Holder h inside rest) k v =
     let header = heading_at q h in
     let offset = q.offset + length (opening header) in
     let n = extent header (with_indefinite_lengths inside) in
-    let constructed = constructed_at p h k.names v.0.0.header v.0.0.form in
+    let constructed = constructed_at p h k.names v.0.0.header v.0.0.holding in
     made_holder q h inside rest constructed (
       (
         record {
           header = constructed_header p q h k v.0.0.header constructed;
-          form = constructed_holds q h constructed;
+          holding = constructed_holds q h constructed;
           shallow = subst (λ (d : ℕ). d < 128) (sym k.depth) v.0.0.shallow;
           fits = free_fits p q k (extent header (with_offsets_from offset (with_indefinite_lengths inside)));
         },
@@ -209,19 +209,19 @@ obeys_grammar p q (Holder h inside rest) k v =
 obeys_grammar p q (OpenPrimitive h c) k v = (
   record {
     header = primitive_at p q h k v.0.header;
-    form = v.0.form;
+    holding = v.0.holding;
     fits = free_fits p q k (announced_extent h);
   },
   v.1,
 )
 obeys_grammar p q (OpenHolder h inside) k v =
     let header = heading_at q h in
-    let constructed = constructed_at p h k.names v.0.0.header v.0.0.form in
+    let constructed = constructed_at p h k.names v.0.0.header v.0.0.holding in
     made_open_holder q h inside constructed (
       (
         record {
           header = constructed_header p q h k v.0.0.header constructed;
-          form = constructed_holds q h constructed;
+          holding = constructed_holds q h constructed;
           shallow = subst (λ (d : ℕ). d < 128) (sym k.depth) v.0.0.shallow;
           fits = free_fits p q k (length (octets_of header) + 0);
         },
@@ -229,9 +229,9 @@ obeys_grammar p q (OpenHolder h inside) k v =
       ),
       obeys_grammar (place_of_children p h) (place_of_children q header) inside (free_inside p q h header refl k) v.1,
     )
-obeys_grammar p q (OpenBitString h) k v = absurd (awaits h (constructed_at p h k.names v.0.header v.0.form) v.1)
+obeys_grammar p q (OpenBitString h) k v = absurd (awaits h (constructed_at p h k.names v.0.header v.0.holding) v.1)
   where
-    awaits : (h : HeaderValue) → h.constructed ≡ true → lead h ≡ 0 ∷ [] → ⊥
-    awaits h e l = cc (ap (λ (k : Bool). lead_by k (eqb h.number 3)) e, l)
+    awaits : (h : HeaderValue) → h.constructed ≡ true → is_wrapping_bit_string h ≡ true → ⊥
+    awaits h e bits = cc (ap (λ (k : Bool). not k && eqb h.number 3) e, bits)
 obeys_grammar p q (OpenHeader octets) k v = tt
 obeys_grammar p q OpenEndOctets k v = tt

@@ -5,7 +5,7 @@ use Rattle.tlv_walk.specs.Ending.{IsEnding, done}
 use Rattle.tlv_walk.specs.Forest.{Forest, has_element, is_whole, spelling}
 use Rattle.tlv_walk.specs.Place.{ObeysGrammar, top_place}
 use Rattle.tlv_walk.specs.Reading.{IsReading, IsSoundList}
-use Rattle.tlv_walk.proofs.GrammarLemmas.Endings.{done-sound, sound-reading}
+use Rattle.tlv_walk.proofs.GrammarLemmas.Endings.{done-sound, ending-by, sound-reading}
 use Rattle.tlv_walk.proofs.GrammarLemmas.Readings.{Going, reading-unique, run-reading}
 use Rattle.tlv_walk.proofs.GrammarLemmas.SoundElements.{sound-whole}
 use Rattle.tlv_cut.specs.Indef.{indef_text, with_indefinite_lengths, indef_framing, IsReadBack, indef_reading}
@@ -38,8 +38,9 @@ sound_again : (padding : Bool) (b : List ℕ) (f : Forest) → IsReading (indef_
     → IsEnding (indef_framing padding) (indef_text f) Done
 sound_again padding b f r w e =
     let o = indef_text_obeys_grammar padding f r.obeys_grammar in
-    done (indef_reading f) ((indef_text_is_read_back padding b f r).is_reading, o.0) (offsets-has_element 0 f w e)
-    (offsets-whole 0 f w)
+    ending-by (indef_framing padding) (indef_text f) (indef_reading f) Done
+    (indef_text_is_read_back padding b f r).is_reading
+    (done o.0 (offsets-has_element 0 f w e) (offsets-whole 0 f w))
 
 pub indef_text_is_done : (padding : Bool) (b : List ℕ) (f : Forest) → IsReading (indef_framing padding) b f
     → IsEnding (indef_framing padding) b Done

@@ -40,7 +40,7 @@ then-sound p (Primitive h c NoMore) g likely o s k t l =
     let size : length (octets_of h ++ (c ++ [])) ≡ primitive_extent h c =
     omega (arith, length-append (octets_of h) (c ++ []), length-append c []) in
     record {
-      sound = (s.0, s.1, subst (λ (n : ℕ). IsSound (place_after p n) g) size t);
+      sound = (s.0, subst (λ (n : ℕ). IsSound (place_after p n) g) size t);
       probable = λ e. ((k e).0, l e);
       spelled =
           sym (append_assoc (octets_of h) (c ++ []) (spelling g)
@@ -50,7 +50,7 @@ then-sound p (Holder h inside NoMore) g likely o s k t l =
     let size : length (spelling (Holder h inside NoMore)) ≡ extent h inside =
     omega (arith, length-holder h inside NoMore) in
     record {
-      sound = (s.0, s.1, s.2, s.3, subst (λ (n : ℕ). IsSound (place_after p n) g) size t);
+      sound = (s.0, s.1, subst (λ (n : ℕ). IsSound (place_after p n) g) size t);
       probable = λ e. l e;
       spelled =
           sym (append_assoc (opening h) (spelling inside ++ (end_octets h.size ++ [])) (spelling g)
@@ -120,7 +120,7 @@ elements-cases p likely ends (Primitive h c f) rest octets z s k e g =
     (record {
       element = Primitive h c NoMore;
       is_one = refl;
-      sound = (s.0, s.1, tt);
+      sound = (s.0, tt);
       probable = λ e. ((k e).0, tt);
       rest = spelling f ++ rest;
       spelled = whole;
@@ -128,7 +128,7 @@ elements-cases p likely ends (Primitive h c f) rest octets z s k e g =
     })
     (record {
       elements = f;
-      sound = s.2;
+      sound = s.1;
       probable = λ e. (k e).1;
       rest = rest;
       end = e;
@@ -145,7 +145,7 @@ elements-cases p likely ends (Holder h inside f) rest octets z s k e g =
     (record {
       element = Holder h inside NoMore;
       is_one = refl;
-      sound = (s.0, s.1, s.2, s.3, tt);
+      sound = (s.0, s.1, tt);
       probable = λ e. tt;
       rest = spelling f ++ rest;
       spelled = whole;
@@ -153,7 +153,7 @@ elements-cases p likely ends (Holder h inside f) rest octets z s k e g =
     })
     (record {
       elements = f;
-      sound = s.4;
+      sound = s.2;
       probable = λ e. k e;
       rest = rest;
       end = e;
@@ -179,15 +179,15 @@ one-size : (p : Place) (f g : Forest) (x y : List ℕ) → p.padding ≡ false �
     → length (spelling f) ≡ length (spelling g)
 one-size p (Primitive h c NoMore) (Primitive k d NoMore) x y z o q s t e =
     let r : (h ≡ k) × (c ≡ d) × (x ≡ y) =
-    primitive-one p h k c d x y s.0.0 t.0.0 s.1 t.1
+    primitive-one p h k c d x y s.0.0 t.0.0 s.0.2 t.0.2
     (sym (regroup-3 (octets_of h) c [] x) ∙ (e ∙ regroup-3 (octets_of k) d [] y)) in
     ap₂ (λ (u : HeaderValue) (v : List ℕ). length (octets_of u ++ (v ++ []))) r.0 r.1
 one-size p (Primitive h c NoMore) (Holder k inside NoMore) x y z o q s t e = absurd
-    (not-both p h k ((c ++ []) ++ x) (lead k ++ ((spelling inside ++ (end_octets k.size ++ [])) ++ y)) s.0 t.0
+    (not-both p h k ((c ++ []) ++ x) (lead k ++ ((spelling inside ++ (end_octets k.size ++ [])) ++ y)) (s.0.0, s.0.1) (t.0.0, t.0.1)
     (sym (append_assoc (octets_of h) (c ++ []) x)
     ∙ (e ∙ (append_assoc (opening k) _ y ∙ append_assoc (octets_of k) (lead k) _))))
 one-size p (Holder h inside NoMore) (Primitive k d NoMore) x y z o q s t e = absurd
-    (not-both p k h ((d ++ []) ++ y) (lead h ++ ((spelling inside ++ (end_octets h.size ++ [])) ++ x)) t.0 s.0
+    (not-both p k h ((d ++ []) ++ y) (lead h ++ ((spelling inside ++ (end_octets h.size ++ [])) ++ x)) (t.0.0, t.0.1) (s.0.0, s.0.1)
     (sym (append_assoc (octets_of k) (d ++ []) y)
     ∙ (sym e ∙ (append_assoc (opening h) _ x ∙ append_assoc (octets_of h) (lead h) _))))
 one-size p (Holder h inside NoMore) (Holder k inside2 NoMore) x y z o q s t e =
@@ -198,10 +198,10 @@ one-size p (Holder h inside NoMore) (Holder k inside2 NoMore) x y z o q s t e =
     let same : h ≡ k = (opening-one p h k _ _ s.0.0 t.0.0 e').0 in
     let alike : AreAlikePlaces p p = record { offset = refl; depth = refl; padding = refl; inside = refl } in
     let r : (h ≡ k) × AreOne (spelling inside) (spelling inside2) x y =
-    holder-one p h k inside inside2 x y s.0.0 t.0.0 s.1 t.1
+    holder-one p h k inside inside2 x y s.0.0 t.0.0 s.0.3 t.0.3
     (λ u v m n e''.
     one-list (place_of_children p h) (place_of_children p k) true inside inside2 u v (inside-alike p p h k alike same)
-    refl s.3 t.3 m n e'')
+    refl s.1 t.1 m n e'')
     e' in
     ap₂ (λ (u : HeaderValue) (v : List ℕ). length (opening u ++ (v ++ (end_octets u.size ++ [])))) same r.1.0
 one-size p f g x y z o q s t e = absurd (cc)

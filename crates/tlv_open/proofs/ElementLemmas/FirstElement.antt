@@ -75,7 +75,7 @@ first-from p likely h after octets x (Primitive k c NoMore) at form whole o s l 
     let r : (k ≡ h) × (c ++ ([] ++ x) ≡ after) =
     header-one p k h (c ++ ([] ++ x)) after s.0.0 at
     (sym (regroup-3 (octets_of k) c [] x) ∙ (e ∙ sym whole)) in
-    primitive c x (sym form ∙ (ap holds (sym r.0) ∙ s.0.1)) (ap (λ (z : HeaderValue). z.size) (sym r.0) ∙ s.1) r.1
+    primitive c x (sym form ∙ (ap holds (sym r.0) ∙ s.0.1)) (ap (λ (z : HeaderValue). z.size) (sym r.0) ∙ s.0.2) r.1
     (λ t. subst (λ (z : HeaderValue). IsClearPrimitive z c) r.0 (l t).0)
 first-from p likely h after octets x (Holder k inside NoMore) at form whole o s l e =
     let r : (k ≡ h) × (lead k ++ (spelling inside ++ (end_octets k.size ++ ([] ++ x))) ≡ after) =
@@ -86,10 +86,10 @@ first-from p likely h after octets x (Holder k inside NoMore) at form whole o s 
     let no_lead : lead k ≡ [] =
     lead-none k (ap (λ (z : HeaderValue). z.constructed) r.0 ∙ constructed) in
     let size : IfSome (definite_length k.size) (λ n. length (spelling inside) ≡ n) =
-    length-led k.size (length (lead k)) (length (spelling inside)) (ap (λ (o : List ℕ). length o) no_lead) s.1 in
+    length-led k.size (length (lead k)) (length (spelling inside)) (ap (λ (o : List ℕ). length o) no_lead) s.0.3 in
     holder inside x constructed
-    (subst (λ (z : HeaderValue). IfSome (definite_length z.size) (λ n. length (spelling inside) ≡ n)) r.0 size) s.2
-    (subst (λ (z : HeaderValue). IsSound (place_of_children p z) inside) r.0 s.3)
+    (subst (λ (z : HeaderValue). IfSome (definite_length z.size) (λ n. length (spelling inside) ≡ n)) r.0 size) s.0.2
+    (subst (λ (z : HeaderValue). IsSound (place_of_children p z) inside) r.0 s.1)
     (ap (λ (z : HeaderValue). spelling inside ++ (end_octets z.size ++ x)) (sym r.0)
     ∙ (ap (λ (o : List ℕ). o ++ (spelling inside ++ (end_octets k.size ++ x))) (sym no_lead) ∙ r.1))
 first-from p likely h after octets x f at form whole o s l e = absurd (cc)
@@ -219,7 +219,7 @@ module _ (octets : List ℕ) (offset depth : ℕ) (likely : Bool) (f : HeaderFie
       record {
         element = Primitive head (take m after) NoMore;
         is_one = refl;
-        sound = ((head-at, head-form ∙ c), k ∙ ap Definite (sym all), tt);
+        sound = ((head-at, head-form ∙ c, k ∙ ap Definite (sym all)), tt);
         probable = λ w. (clear w, tt);
         rest = drop m after;
         spelled =
@@ -242,9 +242,12 @@ module _ (octets : List ℕ) (offset depth : ℕ) (likely : Bool) (f : HeaderFie
         element = Holder head e.elements NoMore;
         is_one = refl;
         sound = (
-          (head-at, head-form ∙ c),
-          rw k (omega (arith, all, ap (λ (o : List ℕ). length o) (lead-none head c))),
-          shallow,
+          (
+            head-at,
+            head-form ∙ c,
+            shallow,
+            rw k (omega (arith, all, ap (λ (o : List ℕ). length o) (lead-none head c))),
+          ),
           sound-alike inner (place_of_children here head) e.elements (alike-back _ _ (alike-inside c)) e.sound,
           tt,
         );
@@ -277,9 +280,7 @@ module _ (octets : List ℕ) (offset depth : ℕ) (likely : Bool) (f : HeaderFie
         element = Holder head e.elements NoMore;
         is_one = refl;
         sound = (
-          (head-at, head-form ∙ c),
-          rw k tt,
-          shallow c,
+          (head-at, head-form ∙ c, shallow c, rw k tt),
           sound-alike inner (place_of_children here head) e.elements (alike-back _ _ (alike-inside c)) e.sound,
           tt,
         );

@@ -184,20 +184,20 @@ one-list p q ends (Primitive h c rest) NoMore x y a z s t m n e = absurd
 one-list p q ends (Primitive h c rest) (Primitive k d rest2) x y a z s t m n e =
     let j : IsHeaderAt p k = header-alike q p k (alike-back p q a) t.0.0 in
     let r : (h ≡ k) × (c ≡ d) × (spelling rest ++ x ≡ spelling rest2 ++ y) =
-    primitive-one p h k c d (spelling rest ++ x) (spelling rest2 ++ y) s.0.0 j s.1 t.1
+    primitive-one p h k c d (spelling rest ++ x) (spelling rest2 ++ y) s.0.0 j s.0.2 t.0.2
     (sym (regroup-3 (octets_of h) c (spelling rest) x) ∙ (e ∙ regroup-3 (octets_of k) d (spelling rest2) y)) in
     let same : primitive_extent h c ≡ primitive_extent k d =
     ap₂ (λ (z : HeaderValue) (o : List ℕ). length (octets_of z) + length o) r.0 r.1 in
     let i : AreOne (spelling rest) (spelling rest2) x y =
     one-list (place_after p (primitive_extent h c)) (place_after q (primitive_extent k d)) ends rest rest2 x y
-    (after-alike p q _ _ a same) z s.2 t.2 m n r.2 in (
+    (after-alike p q _ _ a same) z s.1 t.1 m n r.2 in (
       ap (λ (z : HeaderValue). octets_of z ++ (c ++ spelling rest)) r.0
           ∙ ap₂ (λ (u v : List ℕ). octets_of k ++ (u ++ v)) r.1 i.0,
       i.1,
     )
 one-list p q ends (Primitive h c rest) (Holder k inside rest2) x y a z s t m n e = absurd
     (not-both p h k ((c ++ spelling rest) ++ x)
-    (lead k ++ ((spelling inside ++ (end_octets k.size ++ spelling rest2)) ++ y)) s.0
+    (lead k ++ ((spelling inside ++ (end_octets k.size ++ spelling rest2)) ++ y)) (s.0.0, s.0.1)
     (header-alike q p k (alike-back p q a) t.0.0, t.0.1)
     (sym (append_assoc (octets_of h) (c ++ spelling rest) x)
     ∙ (e ∙ (append_assoc (opening k) _ y ∙ append_assoc (octets_of k) (lead k) _))))
@@ -207,7 +207,7 @@ one-list p q ends (Holder h inside rest) NoMore x y a z s t m n e = absurd
 one-list p q ends (Holder h inside rest) (Primitive k d rest2) x y a z s t m n e = absurd
     (not-both p k h ((d ++ spelling rest2) ++ y)
     (lead h ++ ((spelling inside ++ (end_octets h.size ++ spelling rest)) ++ x))
-    (header-alike q p k (alike-back p q a) t.0.0, t.0.1) s.0
+    (header-alike q p k (alike-back p q a) t.0.0, t.0.1) (s.0.0, s.0.1)
     (sym (append_assoc (octets_of k) (d ++ spelling rest2) y)
     ∙ (sym e ∙ (append_assoc (opening h) _ x ∙ append_assoc (octets_of h) (lead h) _))))
 one-list p q ends (Holder h inside rest) (Holder k inside2 rest2) x y a z s t m n e =
@@ -218,14 +218,14 @@ one-list p q ends (Holder h inside rest) (Holder k inside2 rest2) x y a z s t m 
     ∙ (e ∙ regroup-4 (opening k) (spelling inside2) (end_octets k.size) (spelling rest2) y) in
     let same : h ≡ k = (opening-one p h k _ _ s.0.0 j e').0 in
     let r : (h ≡ k) × AreOne (spelling inside) (spelling inside2) (spelling rest ++ x) (spelling rest2 ++ y) =
-    holder-one p h k inside inside2 (spelling rest ++ x) (spelling rest2 ++ y) s.0.0 j s.1 t.1
+    holder-one p h k inside inside2 (spelling rest ++ x) (spelling rest2 ++ y) s.0.0 j s.0.3 t.0.3
     (λ u v m' n' e''.
     one-list (place_of_children p h) (place_of_children q k) true inside inside2 u v (inside-alike p q h k a same)
-    refl s.3 t.3 m' n' e'')
+    refl s.1 t.1 m' n' e'')
     e' in
     let i : AreOne (spelling rest) (spelling rest2) x y =
     one-list (place_after p (extent h inside)) (place_after q (extent k inside2)) ends rest rest2 x y
-    (after-alike p q _ _ a (extents h k inside inside2 same r.1.0)) z s.4 t.4 m n r.1.1 in (
+    (after-alike p q _ _ a (extents h k inside inside2 same r.1.0)) z s.2 t.2 m n r.1.1 in (
       ap (λ (z : HeaderValue). opening z ++ (spelling inside ++ (end_octets z.size ++ spelling rest))) same
           ∙ ap₂ (λ (u v : List ℕ). opening k ++ (u ++ (end_octets k.size ++ v))) r.1.0 i.0,
       i.1,

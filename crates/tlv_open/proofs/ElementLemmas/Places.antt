@@ -50,18 +50,15 @@ sound-alike p q NoMore a s = tt
 sound-alike p q (PaddingOctet rest) a s =
     (sym a.padding ∙ s.0, sound-alike (place_after p 1) (place_after q 1) rest (alike-after p q 1 a) s.1)
 sound-alike p q (Primitive h c rest) a s = (
-  (header-alike p q h a s.0.0, s.0.1),
-  s.1,
+  (header-alike p q h a s.0.0, s.0.1, s.0.2),
   sound-alike (place_after p (primitive_extent h c)) (place_after q (primitive_extent h c)) rest
-      (alike-after p q (primitive_extent h c) a) s.2,
+      (alike-after p q (primitive_extent h c) a) s.1,
 )
 sound-alike p q (Holder h inside rest) a s = (
-  (header-alike p q h a s.0.0, s.0.1),
-  s.1,
-  omega (arith, a.depth, s.2),
-  sound-alike (place_of_children p h) (place_of_children q h) inside (alike-children p q h a) s.3,
+  (header-alike p q h a s.0.0, s.0.1, omega (arith, a.depth, s.0.2), s.0.3),
+  sound-alike (place_of_children p h) (place_of_children q h) inside (alike-children p q h a) s.1,
   sound-alike (place_after p (extent h inside)) (place_after q (extent h inside)) rest
-      (alike-after p q (extent h inside) a) s.4,
+      (alike-after p q (extent h inside) a) s.2,
 )
 sound-alike p q (OpenPrimitive h c) a s = absurd s
 sound-alike p q (OpenHolder h inside) a s = absurd s

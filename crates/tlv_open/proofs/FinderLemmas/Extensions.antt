@@ -76,7 +76,7 @@ other-begin_extension p (Primitive k c g) depth offset ends octets rest r six hi
     elim (cases_Bool (is_a universal.object_identifier k)) [
       | inl is ↦
           absurd (object-first k (c ++ (spelling g ++ rest)) octets r.obeys_grammar.0.0.header.valid
-          (unnamed-form p false k r.none_named r.obeys_grammar.0.0.header r.obeys_grammar.0.0.form) is
+          (unnamed-form p false k r.none_named r.obeys_grammar.0.0.header r.obeys_grammar.0.0.holding) is
           (sym (regroup-3 (octets_of k) c (spelling g) rest) ∙ r.spelled) six high)
       | inr other ↦ ap (λ (b : Bool). b && names_extension c) (sym other)
     ]

@@ -17,10 +17,13 @@ use Rattle.tlv_walk.specs.Forest.{Forest, Holder, NoMore, OpenBitString, OpenEnd
 use Rattle.tlv_walk.specs.Forest.{OpenPrimitive, PaddingOctet, Primitive, end_octets, extent, is_whole}
 use Rattle.tlv_walk.specs.Forest.{lead, opening, primitive_extent, spelling}
 use Rattle.tlv_walk.specs.Inside.{is_among}
-use Rattle.tlv_walk.specs.Place.{Fits, IsHeaderAt, IsWithin, ObeysGrammar, Place, bound_in, place_after}
+use Rattle.tlv_walk.specs.Place.{Fits, IsHeaderAt, ObeysGrammar, Place, place_after}
+use Rattle.tlv_walk.specs.Private.Stack.{bound_in}
+use Rattle.tlv_walk.specs.Stack.{IsWithin}
 use Rattle.tlv_walk.specs.Place.{place_of_children}
 use Rattle.tlv_walk.proofs.GrammarLemmas.Bounds.{fits-inside}
 use Rattle.tlv_walk.proofs.GrammarLemmas.OpenElements.{size-definite, spelling-fits}
+use Rattle.tlv_walk.proofs.GrammarLemmas.Leads.{lead-one}
 use Rattle.tlv_walk.proofs.GrammarLemmas.Spellings.{length-opening}
 use Rattle.tlv_open.specs.declared.spot.Spot.{Spot}
 use Rattle.tlv_open.specs.Opens.{is_one_primitive}
@@ -95,7 +98,7 @@ module _ (p : Place) (h : HeaderValue) (after octets rest : List ℕ) (depth off
       header-one p k h _ after r.obeys_grammar.0.0.header at
       (sym (regroup-3 (octets_of k) c (spelling g) rest) ∙ (r.spelled ∙ sym whole)) in
       subst (λ (z : HeaderValue). IsReadFirst p z after rest (Primitive k c g)) s.0
-      (first_primitive (unnamed-form p false k r.none_named r.obeys_grammar.0.0.header r.obeys_grammar.0.0.form)
+      (first_primitive (unnamed-form p false k r.none_named r.obeys_grammar.0.0.header r.obeys_grammar.0.0.holding)
       r.obeys_grammar.0.1 s.1 r.obeys_grammar.1)
   first-cases (Holder k inside g) r =
       let s : (k ≡ h) × (lead k ++ (spelling inside ++ (end_octets k.size ++ (spelling g ++ rest))) ≡ after) =
@@ -104,7 +107,7 @@ module _ (p : Place) (h : HeaderValue) (after octets rest : List ℕ) (depth off
       ∙ (sym (regroup-4 (opening k) (spelling inside) (end_octets k.size) (spelling g) rest)
       ∙ (r.spelled ∙ sym whole))) in
       let constructed : k.constructed ≡ true =
-      unnamed-form p true k r.none_named r.obeys_grammar.0.0.header r.obeys_grammar.0.0.form in
+      unnamed-form p true k r.none_named r.obeys_grammar.0.0.header r.obeys_grammar.0.0.holding in
       let none : lead k ≡ [] = lead-none k constructed in
       subst (λ (z : HeaderValue). IsReadFirst p z after rest (Holder k inside g)) s.0
       (first_holder constructed r.obeys_grammar.0.0.shallow
@@ -119,9 +122,9 @@ module _ (p : Place) (h : HeaderValue) (after octets rest : List ℕ) (depth off
       header-one p k h _ after r.obeys_grammar.0.header at
       (sym (append_assoc (octets_of k) c rest) ∙ (r.spelled ∙ sym whole)) in
       let size : (n : ℕ) × (k.size ≡ Definite n) =
-      size-definite k r.obeys_grammar.0.header.valid r.obeys_grammar.0.form in
+      size-definite k r.obeys_grammar.0.header.valid r.obeys_grammar.0.holding in
       subst (λ (z : HeaderValue). IsReadFirst p z after rest (OpenPrimitive k c)) s.0
-      (first_open_primitive (unnamed-form p false k r.none_named r.obeys_grammar.0.header r.obeys_grammar.0.form)
+      (first_open_primitive (unnamed-form p false k r.none_named r.obeys_grammar.0.header r.obeys_grammar.0.holding)
       size.0 size.1 (rw size.1 at r.obeys_grammar.1)
       (sym (append-nil c) ∙ (ap (λ (o : List ℕ). c ++ o) (sym nothing) ∙ s.1)) nothing)
   first-cases (OpenHolder k inside) r =
@@ -131,11 +134,11 @@ module _ (p : Place) (h : HeaderValue) (after octets rest : List ℕ) (depth off
       (sym (append_assoc (octets_of k) (lead k) (spelling inside ++ rest))
       ∙ (sym (append_assoc (opening k) (spelling inside) rest) ∙ (r.spelled ∙ sym whole))) in
       let constructed : k.constructed ≡ true =
-      unnamed-form p true k r.none_named r.obeys_grammar.0.0.header r.obeys_grammar.0.0.form in
+      unnamed-form p true k r.none_named r.obeys_grammar.0.0.header r.obeys_grammar.0.0.holding in
       let none : lead k ≡ [] = lead-none k constructed in
       let fits : Fits (place_of_children p k) (length (spelling inside)) =
       spelling-fits (place_of_children p k) inside
-      (fits-inside p k r.obeys_grammar.0.0.form r.obeys_grammar.0.0.fits) r.obeys_grammar.1 in
+      (fits-inside p k r.obeys_grammar.0.0.holding r.obeys_grammar.0.0.fits) r.obeys_grammar.1 in
       let room : (p.offset + length (opening k)) + length (spelling inside)
       ≡ ((p.offset + length (octets_of k)) + length (lead k)) + length (spelling inside) =
       omega (arith, length-opening k) in
@@ -149,8 +152,8 @@ module _ (p : Place) (h : HeaderValue) (after octets rest : List ℕ) (depth off
       ∙ (ap (λ (o : List ℕ). o ++ (spelling inside ++ rest)) (sym none) ∙ s.1))) nothing)
   first-cases (OpenBitString k) r =
       let constructed : k.constructed ≡ true =
-      unnamed-form p true k r.none_named r.obeys_grammar.0.header r.obeys_grammar.0.form in
-      let w : 0 ∷ [] ≡ [] = sym r.obeys_grammar.1 ∙ lead-none k constructed in
+      unnamed-form p true k r.none_named r.obeys_grammar.0.header r.obeys_grammar.0.holding in
+      let w : 0 ∷ [] ≡ [] = sym (lead-one k r.obeys_grammar.1) ∙ lead-none k constructed in
       absurd (cc (w))
   first-cases (OpenHeader o) r =
       let nothing : rest ≡ [] = open-last ends (OpenHeader o) rest refl r.end in

@@ -81,19 +81,16 @@ pub sound-padded : (p q : Place) (f : Forest) → p.padding ≡ false → q.offs
 sound-padded p q NoMore z o d i s = tt
 sound-padded p q (PaddingOctet rest) z o d i s = let w : true ≡ false = sym s.0 ∙ z in absurd (cc (w))
 sound-padded p q (Primitive h c rest) z o d i s = (
-  (header-padded p q h o i s.0.0, s.0.1),
-  s.1,
+  (header-padded p q h o i s.0.0, s.0.1, s.0.2),
   sound-padded (place_after p (primitive_extent h c)) (place_after q (primitive_extent h c)) rest z
-      (ap (λ (n : ℕ). n + primitive_extent h c) o) d i s.2,
+      (ap (λ (n : ℕ). n + primitive_extent h c) o) d i s.1,
 )
 sound-padded p q (Holder h inside rest) z o d i s = (
-  (header-padded p q h o i s.0.0, s.0.1),
-  s.1,
-  omega (arith, s.2, d),
+  (header-padded p q h o i s.0.0, s.0.1, omega (arith, s.0.2, d), s.0.3),
   sound-padded (place_of_children p h) (place_of_children q h) inside refl
-      (ap (λ (n : ℕ). n + length (opening h)) o) (ap (λ (n : ℕ). n + 1) d) i s.3,
+      (ap (λ (n : ℕ). n + length (opening h)) o) (ap (λ (n : ℕ). n + 1) d) i s.1,
   sound-padded (place_after p (extent h inside)) (place_after q (extent h inside)) rest z
-      (ap (λ (n : ℕ). n + extent h inside) o) d i s.4,
+      (ap (λ (n : ℕ). n + extent h inside) o) d i s.2,
 )
 sound-padded p q (OpenPrimitive h c) z o d i s = absurd s
 sound-padded p q (OpenHolder h inside) z o d i s = absurd s

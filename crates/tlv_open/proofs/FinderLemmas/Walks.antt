@@ -8,7 +8,7 @@ use Rattle.tlv_walk.specs.declared.event.Event.{Event}
 use Rattle.tlv_walk.specs.declared.event.Step.{Step}
 use Rattle.tlv_walk.specs.declared.event.Step.TheVariants as step
 use Rattle.tlv_walk.specs.declared.framing.Framing.{Framing}
-use Rattle.tlv_walk.specs.Ending.{IsEnding, empty, short, done, refused}
+use Rattle.tlv_walk.specs.Ending.{IsEnding, IsEndingOf, empty, short, done, refused}
 use Rattle.tlv_walk.specs.Events.{EventValue, event_value_of}
 use Rattle.tlv_walk.specs.Forest.{Forest, spelling}
 use Rattle.tlv_walk.specs.WalkerReads.{StandsAtEnd, refused_one, took_all, IsIdle, Stands, RefusesNext, StepsTo}
@@ -148,13 +148,15 @@ abbrev pub count_of : List ℕ → Ending → ℕ
 count_of octets ending.Done = length octets
 count_of octets (ending.Fault f) = f.offset
 
+count-by : (framing : Framing) (octets : List ℕ) (e : Ending) (f : Forest) → IsEndingOf framing octets f e
+    → count_of octets e ≡ length (spelling f)
+count-by framing octets _ f (empty spelled none) = sym (ap length spelled)
+count-by framing octets _ f (short spelled open_) = sym (ap length spelled)
+count-by framing octets _ f (done spelled some whole) = sym (ap length spelled)
+count-by framing octets _ f (refused x rest code spelled why) = refl
+
 pub ending-count : (framing : Framing) (octets : List ℕ) (e : Ending) (f : Forest) → IsEnding framing octets e
     → IsReading framing octets f → count_of octets e ≡ length (spelling f)
-ending-count framing octets _ f (empty g reads none) r =
-    sym (ap length (ap spelling (reading-unique framing octets f g r reads.0) ∙ reads.1))
-ending-count framing octets _ f (short g reads open_) r =
-    sym (ap length (ap spelling (reading-unique framing octets f g r reads.0) ∙ reads.1))
-ending-count framing octets _ f (done g reads some whole) r =
-    sym (ap length (ap spelling (reading-unique framing octets f g r reads.0) ∙ reads.1))
-ending-count framing octets _ f (refused g x rest code reading spelled why) r =
-    sym (ap length (ap spelling (reading-unique framing octets f g r reading)))
+ending-count framing octets e f x r =
+    count-by framing octets e x.reading x.ends
+    ∙ ap (λ (g : Forest). length (spelling g)) (reading-unique framing octets x.reading f x.is_reading r)

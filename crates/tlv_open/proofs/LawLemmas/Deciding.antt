@@ -33,11 +33,11 @@ and-true a b e d = rw (e, d) refl
 sound-shallow : (p : Place) (f : Forest) → IsSound p f → is_shallow p.depth f ≡ true
 sound-shallow p NoMore s = refl
 sound-shallow p (PaddingOctet rest) s = sound-shallow (place_after p 1) rest s.1
-sound-shallow p (Primitive h c rest) s = sound-shallow (place_after p (primitive_extent h c)) rest s.2
+sound-shallow p (Primitive h c rest) s = sound-shallow (place_after p (primitive_extent h c)) rest s.1
 sound-shallow p (Holder h inside rest) s =
-    and-true _ _ (lt-ltb p.depth 128 s.2)
-    (and-true _ _ (sound-shallow (place_of_children p h) inside s.3)
-    (sound-shallow (place_after p (extent h inside)) rest s.4))
+    and-true _ _ (lt-ltb p.depth 128 s.0.2)
+    (and-true _ _ (sound-shallow (place_of_children p h) inside s.1)
+    (sound-shallow (place_after p (extent h inside)) rest s.2))
 sound-shallow p (OpenPrimitive h c) s = refl
 sound-shallow p (OpenHolder h inside) s = refl
 sound-shallow p (OpenBitString h) s = refl
@@ -56,16 +56,14 @@ sound-at : (p : Place) (depth : ℕ) (f : Forest) → IsSound p f → is_shallow
 sound-at p depth NoMore s e = tt
 sound-at p depth (PaddingOctet rest) s e = (s.0, sound-at (place_after p 1) depth rest s.1 e)
 sound-at p depth (Primitive h c rest) s e =
-    ((header-with p depth h s.0.0, s.0.1), s.1, sound-at (place_after p (primitive_extent h c)) depth rest s.2 e)
+    ((header-with p depth h s.0.0, s.0.1, s.0.2), sound-at (place_after p (primitive_extent h c)) depth rest s.1 e)
 sound-at p depth (Holder h inside rest) s e =
     let parts : (ltb depth 128 ≡ true) × ((is_shallow (depth + 1) inside && is_shallow depth rest) ≡ true) =
     and_parts _ _ e in
     let others : (is_shallow (depth + 1) inside ≡ true) × (is_shallow depth rest ≡ true) = and_parts _ _ parts.1 in (
-      (header-with p depth h s.0.0, s.0.1),
-      s.1,
-      ltb-true depth 128 parts.0,
-      sound-at (place_of_children p h) (depth + 1) inside s.3 others.0,
-      sound-at (place_after p (extent h inside)) depth rest s.4 others.1,
+      (header-with p depth h s.0.0, s.0.1, ltb-true depth 128 parts.0, s.0.3),
+      sound-at (place_of_children p h) (depth + 1) inside s.1 others.0,
+      sound-at (place_after p (extent h inside)) depth rest s.2 others.1,
     )
 sound-at p depth (OpenPrimitive h c) s e = absurd s
 sound-at p depth (OpenHolder h inside) s e = absurd s

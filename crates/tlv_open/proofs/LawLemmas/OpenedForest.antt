@@ -13,7 +13,7 @@ use Rattle.tlv_walk.specs.Forest.{lead, opening, primitive_extent, spelling}
 use Rattle.tlv_walk.specs.Place.{IsHeaderAt, ObeysGrammar, Place, place_after, place_of_children}
 use Rattle.tlv_walk.specs.Reading.{IsSound}
 use Rattle.tlv_walk.specs.Wrappers.{wrapper_offsets}
-use Rattle.tlv_walk.proofs.GrammarLemmas.Leads.{lead_by, wrapper_offset_by}
+use Rattle.tlv_walk.proofs.GrammarLemmas.Leads.{lead-one, lead_by, wrapper_offset_by}
 use Rattle.tlv_walk.proofs.EventLemmas.Wrappers.{Rise}
 use Rattle.tlv_walk.proofs.GrammarLemmas.Spellings.{length-holder, length-opening, length-primitive}
 use Rattle.tlv_open.specs.Held.{HoldsEncodings, after_unused_bits, place_by_itself}
@@ -72,11 +72,11 @@ pub sound-plain : (p : Place) (f : Forest) → p.inside ≡ [] → IsSound p f �
 sound-plain p NoMore e s = tt
 sound-plain p (PaddingOctet rest) e s = sound-plain (place_after p 1) rest e s.1
 sound-plain p (Primitive h c rest) e s =
-    ((plain-header p false h e s.0.0 s.0.1, s.1), sound-plain (place_after p (primitive_extent h c)) rest e s.2)
+    ((plain-header p false h e s.0.0 s.0.1, s.0.2), sound-plain (place_after p (primitive_extent h c)) rest e s.1)
 sound-plain p (Holder h inside rest) e s = (
   plain-header p true h e s.0.0 s.0.1,
-  sound-plain (place_of_children p h) inside e s.3,
-  sound-plain (place_after p (extent h inside)) rest e s.4,
+  sound-plain (place_of_children p h) inside e s.1,
+  sound-plain (place_after p (extent h inside)) rest e s.2,
 )
 sound-plain p (OpenPrimitive h c) e s = absurd s
 sound-plain p (OpenHolder h inside) e s = absurd s
@@ -88,20 +88,20 @@ pub grammar-plain : (p : Place) (f : Forest) → p.inside ≡ [] → ObeysGramma
 grammar-plain p NoMore e o = tt
 grammar-plain p (PaddingOctet rest) e o = grammar-plain (place_after p 1) rest e o.1
 grammar-plain p (Primitive h c rest) e o = (
-  (plain-header p false h e o.0.0.header o.0.0.form, o.0.1),
+  (plain-header p false h e o.0.0.header o.0.0.holding, o.0.1),
   grammar-plain (place_after p (primitive_extent h c)) rest e o.1,
 )
 grammar-plain p (Holder h inside rest) e o = (
-  plain-header p true h e o.0.0.header o.0.0.form,
+  plain-header p true h e o.0.0.header o.0.0.holding,
   grammar-plain (place_of_children p h) inside e o.1,
   grammar-plain (place_after p (extent h inside)) rest e o.2,
 )
-grammar-plain p (OpenPrimitive h c) e o = plain-header p false h e o.0.header o.0.form
+grammar-plain p (OpenPrimitive h c) e o = plain-header p false h e o.0.header o.0.holding
 grammar-plain p (OpenHolder h inside) e o =
-    (plain-header p true h e o.0.0.header o.0.0.form, grammar-plain (place_of_children p h) inside e o.1)
+    (plain-header p true h e o.0.0.header o.0.0.holding, grammar-plain (place_of_children p h) inside e o.1)
 grammar-plain p (OpenBitString h) e o =
-    let constructed : h.constructed ≡ true = unnamed-form p true h e o.0.header o.0.form in
-    let w : 0 ∷ [] ≡ [] = sym o.1 ∙ lead-none h constructed in
+    let constructed : h.constructed ≡ true = unnamed-form p true h e o.0.header o.0.holding in
+    let w : 0 ∷ [] ≡ [] = sym (lead-one h o.1) ∙ lead-none h constructed in
     absurd (cc (w))
 grammar-plain p (OpenHeader octets) e o = tt
 grammar-plain p OpenEndOctets e o = tt

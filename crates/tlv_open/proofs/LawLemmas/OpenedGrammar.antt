@@ -12,7 +12,9 @@ use Rattle.tlv_walk.specs.Forest.{Forest, Holder, NoMore, OpenBitString, OpenEnd
 use Rattle.tlv_walk.specs.Forest.{OpenPrimitive, Primitive, extent}
 use Rattle.tlv_walk.specs.Forest.{lead, opening, primitive_extent, spelling}
 use Rattle.tlv_walk.specs.Inside.{is_among}
-use Rattle.tlv_walk.specs.Place.{Fits, IsHeaderAt, IsWithin, ObeysGrammar, Place, announced_extent, bound_in}
+use Rattle.tlv_walk.specs.Place.{Fits, IsHeaderAt, ObeysGrammar, Place, announced_extent}
+use Rattle.tlv_walk.specs.Private.Stack.{bound_in}
+use Rattle.tlv_walk.specs.Stack.{IsWithin}
 use Rattle.tlv_walk.specs.Place.{place_after, place_of_children}
 use Rattle.tlv_walk.specs.Reading.{IsSound}
 use Rattle.tlv_walk.proofs.GrammarLemmas.PlacedSpelling.{Agrees}
@@ -179,7 +181,7 @@ opened-grammar {w = w} p q
         (
           record {
             header = there.0;
-            form = there.1;
+            holding = there.1;
             shallow = omega (arith, held.shallow, k, m.depth);
             fits = fits-same p q _ _ s far o.0.0.fits;
           },
@@ -211,7 +213,7 @@ opened-grammar {w = w} {xs = xs} p q (closed {h = h} {contents = contents} {rest
         (
           record {
             header = there.0;
-            form = there.1;
+            holding = there.1;
             fits = fits-same p q _ _ s refl o.0.0.fits;
           },
           o.0.1,
@@ -243,7 +245,7 @@ opened-grammar {w = w} p q (holder {h = h} {children = children} {rest = rest} {
         (
           record {
             header = there.0;
-            form = there.1;
+            holding = there.1;
             shallow = omega (arith, o.0.0.shallow, s.depth);
             fits = fits-same p q _ _ s far o.0.0.fits;
           },
@@ -279,7 +281,7 @@ opened-grammar {w = w} {xs = xs} p q (open_holder {h = h} {children = children} 
         (
           record {
             header = there.0;
-            form = there.1;
+            holding = there.1;
             shallow = omega (arith, o.0.0.shallow, s.depth);
             fits = fits-same p q _ _ s refl o.0.0.fits;
           },
@@ -302,7 +304,7 @@ opened-grammar {w = w} p q (open_primitive {h = h} {contents = contents}) e k z 
       obeys = (
         record {
           header = there.0;
-          form = there.1;
+          holding = there.1;
           fits = fits-same p q _ _ s refl o.0.fits;
         },
         o.1,

@@ -1,13 +1,14 @@
 -- What comes of an input if the strings that are opened are named.
-use Rattle.std.proofs.Common.{◌≡◌, ℕ, ◌≤◌, Bool, true, false, List, ◌∷◌, ◌++◌, length, refl, sym, ap, ◌∙◌, arith}
+use Rattle.std.proofs.Common.{◌≡◌, ℕ, ◌≤◌, Bool, List, ◌∷◌, ◌++◌, length, refl, ap, ◌∙◌, arith}
 use Rattle.std.proofs.Common.{subst}
 use Rattle.tlv_walk.specs.declared.ending.Ending.{Ending}
-use Rattle.tlv_walk.specs.Ending.{IsEnding, IsRefusedAt, done, empty, fault_ending, open_end, refused, short}
-use Rattle.tlv_walk.specs.Forest.{Forest, has_element, is_whole, spelling}
+use Rattle.tlv_walk.specs.Ending.{IsEnding, IsEndingOf, IsRefusedAt, done, empty, fault_ending, open_end, refused}
+use Rattle.tlv_walk.specs.Ending.{short}
+use Rattle.tlv_walk.specs.Forest.{Forest, spelling}
 use Rattle.tlv_walk.specs.Place.{Place, top_place}
 use Rattle.tlv_walk.specs.Reading.{AreOctets, IsReading}
 use Rattle.tlv_walk.specs.Wrappers.{wrapper_offsets}
-use Rattle.tlv_walk.proofs.GrammarLemmas.Endings.{ending, halt-ending, is-ending}
+use Rattle.tlv_walk.proofs.GrammarLemmas.Endings.{ending, ending-by, halt-ending, is-ending}
 use Rattle.tlv_walk.proofs.GrammarLemmas.Faults.{fault-refused}
 use Rattle.tlv_walk.proofs.GrammarLemmas.Readings.{Going, Halted, IsHalt, reading-unique, run-reading}
 use Rattle.tlv_open.specs.Laws.{OpeningIsSafe, OpensWell, opened_framing}
@@ -46,58 +47,34 @@ module _ (padding : Bool) (octets offsets : List ℕ) (closed : Forest) (opens :
     pub reading : IsReading (opened_framing padding offsets) octets forest
     pub is_ending : IsEnding (opened_framing padding offsets) octets e
 
-  reads-all : (f : Forest) → IsReading (closed_framing padding) octets f → spelling f ≡ octets
-      → spelling forest ≡ octets
-  reads-all f r e =
-      spelled ∙ (ap spelling (reading-unique (closed_framing padding) octets closed f is_reading r) ∙ e)
-
   all-read : spelling forest ≡ octets → IsReading (opened_framing padding offsets) octets forest
   all-read e =
       run-reading (opened_framing padding offsets) (Going forest) octets
       (record { obeys_grammar = well.obeys; spelled = e })
 
-  element : (f : Forest) (b : Bool) → IsReading (closed_framing padding) octets f → has_element f ≡ b
-      → has_element forest ≡ b
-  element f b r e =
-      opened-element opens
-      ∙ (ap has_element (reading-unique (closed_framing padding) octets closed f is_reading r) ∙ e)
+  -- all octets are read, with this ending
+  reads-all : (e : Ending) → spelling closed ≡ octets
+      → (spelling forest ≡ octets → IsEndingOf (opened_framing padding offsets) octets forest e) → Ends e
+  reads-all e all ends =
+      let read : IsReading (opened_framing padding offsets) octets forest = all-read (spelled ∙ all) in
+      record {
+        reading = read;
+        is_ending = ending-by (opened_framing padding offsets) octets forest e read (ends (spelled ∙ all));
+      }
 
-  whole : (f : Forest) (b : Bool) → IsReading (closed_framing padding) octets f → is_whole f ≡ b
-      → is_whole forest ≡ b
-  whole f b r e =
-      opened-whole opens
-      ∙ (ap is_whole (reading-unique (closed_framing padding) octets closed f is_reading r) ∙ e)
-
-  ends : (e : Ending) → IsEnding (closed_framing padding) octets e → Ends e
-  ends _ (empty f r none) =
-      let all : spelling forest ≡ octets = reads-all f r.0 r.1 in
-      record {
-        reading = all-read all;
-        is_ending = empty forest (all-read all, all) (element f false r.0 none);
-      }
-  ends _ (short f r open_) =
-      let all : spelling forest ≡ octets = reads-all f r.0 r.1 in
-      record {
-        reading = all-read all;
-        is_ending = short forest (all-read all, all) (whole f false r.0 open_);
-      }
-  ends _ (done f r some closed_) =
-      let all : spelling forest ≡ octets = reads-all f r.0 r.1 in
-      record {
-        reading = all-read all;
-        is_ending = done forest (all-read all, all) (element f true r.0 some) (whole f true r.0 closed_);
-      }
-  ends _ (refused f x rest code r front why) =
-      let same : f ≡ closed = reading-unique (closed_framing padding) octets f closed r is_reading in
-      let why' : IsRefusedAt (open_end now forest) x code =
-      well.refuses x code (subst (λ (g : Forest). IsRefusedAt (open_end before g) x code) same why) in
-      let size : length (spelling forest) ≡ length (spelling f) = ap length (spelled ∙ ap spelling (sym same)) in
+  ends-by : (e : Ending) → IsEndingOf (closed_framing padding) octets closed e → Ends e
+  ends-by _ (empty all none) = reads-all _ all (λ s. empty s (opened-element opens ∙ none))
+  ends-by _ (short all open_) = reads-all _ all (λ s. short s (opened-whole opens ∙ open_))
+  ends-by _ (done all some closed_) =
+      reads-all _ all (λ s. done s (opened-element opens ∙ some) (opened-whole opens ∙ closed_))
+  ends-by _ (refused x rest code front why) =
+      let why' : IsRefusedAt (open_end now forest) x code = well.refuses x code why in
+      let size : length (spelling forest) ≡ length (spelling closed) = ap length spelled in
       let halt : IsHalt (opened_framing padding offsets) forest code octets = record {
         obeys_grammar = well.obeys;
         octet = x;
         rest = rest;
-        front =
-            ap (λ (o : List ℕ). o ++ x ∷ rest) (spelled ∙ ap spelling (sym same)) ∙ front;
+        front = ap (λ (o : List ℕ). o ++ x ∷ rest) spelled ∙ front;
         refused = fault-refused (opened_framing padding offsets) forest x code well.obeys why';
       } in
       record {
@@ -106,6 +83,12 @@ module _ (padding : Bool) (octets offsets : List ℕ) (closed : Forest) (opens :
             subst (λ (n : ℕ). IsEnding (opened_framing padding offsets) octets (fault_ending code n)) size
             (halt-ending (opened_framing padding offsets) forest code octets halt why');
       }
+
+  ends : (e : Ending) → IsEnding (closed_framing padding) octets e → Ends e
+  ends e x =
+      let same : x.reading ≡ closed =
+      reading-unique (closed_framing padding) octets x.reading closed x.is_reading is_reading in
+      ends-by e (subst (λ (f : Forest). IsEndingOf (closed_framing padding) octets f e) same x.ends)
 
   -- the reading with the strings named is that forest
   pub opens-well : (opened : Forest) → AreOctets octets → IsReading (opened_framing padding offsets) octets opened

@@ -243,11 +243,15 @@ opened-sound {w = w} p q (opened {h = h} {contents = contents} {rest = rest} {xs
     e k m s agrees =
     let plain : ArePlain p.offset (Primitive h contents rest) = sound-plain p (Primitive h contents rest) e s in
     let far : extent (moved w.start true h) (opened_forest a) ≡ primitive_extent h contents =
-    held-extent w h contents inner rest xs ys p.offset held a r plain.0.0 s.1 plain.1 q m.offset agrees in (
-      header-named w.start q p.offset w.depth h contents inner plain.0.0 s.1 held m.offset
-          (string-named w h contents inner rest xs ys p.offset held a r plain.0.0 s.1 plain.1 q m.offset agrees),
-      held-has_length w h contents inner rest xs ys p.offset held a r plain.0.0 s.1 plain.1 q m.offset agrees,
-      omega (arith, held.shallow, k, m.depth),
+    held-extent w h contents inner rest xs ys p.offset held a r plain.0.0 s.0.2 plain.1 q m.offset agrees in
+    let named = header-named w.start q p.offset w.depth h contents inner plain.0.0 s.0.2 held m.offset
+    (string-named w h contents inner rest xs ys p.offset held a r plain.0.0 s.0.2 plain.1 q m.offset agrees) in (
+      (
+        named.0,
+        named.1,
+        omega (arith, held.shallow, k, m.depth),
+        held-has_length w h contents inner rest xs ys p.offset held a r plain.0.0 s.0.2 plain.1 q m.offset agrees,
+      ),
       opened-sound (place_by_itself (w.depth + 1)) (place_of_children q (moved w.start true h)) a refl refl
           (record {
             offset = omega (arith, m.offset, plain.0.0.offset);
@@ -255,11 +259,11 @@ opened-sound {w = w} p q (opened {h = h} {contents = contents} {rest = rest} {xs
             padding = refl;
           })
           held.sound
-          (agrees-inner w h contents inner rest xs ys p.offset held a r plain.0.0 s.1 plain.1 q m.offset agrees),
+          (agrees-inner w h contents inner rest xs ys p.offset held a r plain.0.0 s.0.2 plain.1 q m.offset agrees),
       opened-sound (place_after p (primitive_extent h contents))
           (place_after q (extent (moved w.start true h) (opened_forest a))) r e k
-          (record { offset = omega (arith, m.offset, far); depth = m.depth; padding = m.padding }) s.2
-          (agrees-rest w h contents inner rest xs ys p.offset held a r plain.0.0 s.1 plain.1 q m.offset agrees),
+          (record { offset = omega (arith, m.offset, far); depth = m.depth; padding = m.padding }) s.1
+          (agrees-rest w h contents inner rest xs ys p.offset held a r plain.0.0 s.0.2 plain.1 q m.offset agrees),
     )
 opened-sound {w = w} {xs = xs} p q (closed {h = h} {contents = contents} {rest = rest} none r) e k m s agrees =
     let plain : ArePlain p.offset (Primitive h contents rest) = sound-plain p (Primitive h contents rest) e s in
@@ -268,29 +272,34 @@ opened-sound {w = w} {xs = xs} p q (closed {h = h} {contents = contents} {rest =
     let unnamed : is_among q.offset q.inside ≡ false =
     agrees q.offset (omega arith) (omega (arith, length-primitive h contents rest, two))
     ∙ before-none _ _ q.offset xs (omega (arith, m.offset, two))
-    (opened-rise (p.offset + primitive_extent h contents) r plain.1) in (
-      header-unnamed w.start q p.offset false h plain.0.0 m.offset unnamed,
-      s.1,
+    (opened-rise (p.offset + primitive_extent h contents) r plain.1) in
+    let there = header-unnamed w.start q p.offset false h plain.0.0 m.offset unnamed in (
+      (there.0, there.1, s.0.2),
       opened-sound (place_after p (primitive_extent h contents)) (place_after q (primitive_extent h contents)) r e k
-          (record { offset = omega (arith, m.offset); depth = m.depth; padding = m.padding }) s.2
+          (record { offset = omega (arith, m.offset); depth = m.depth; padding = m.padding }) s.1
           (λ i least most.
           agrees i (omega (arith, least)) (omega (arith, most, length-primitive h contents rest))),
     )
 opened-sound {w = w} p q (holder {h = h} {children = children} {rest = rest} {xs = xs} {ys = ys} a r) e k m s agrees =
     let plain : ArePlain p.offset (Holder h children rest) = sound-plain p (Holder h children rest) e s in
     let far : extent (moved w.start false h) (opened_forest a) ≡ extent h children =
-    children-extent w _ h children rest xs ys p.offset refl a r plain.0 plain.1 plain.2 q m.offset agrees in (
-      header-unnamed w.start q p.offset true h plain.0 m.offset
-          (holder-unnamed w _ h children rest xs ys p.offset refl a r plain.0 plain.1 plain.2 q m.offset agrees),
-      children-has_length w _ h children rest xs ys p.offset refl a r plain.0 plain.1 plain.2 q m.offset agrees s.1,
-      omega (arith, s.2, m.depth),
+    children-extent w _ h children rest xs ys p.offset refl a r plain.0 plain.1 plain.2 q m.offset agrees in
+    let there = header-unnamed w.start q p.offset true h plain.0 m.offset
+    (holder-unnamed w _ h children rest xs ys p.offset refl a r plain.0 plain.1 plain.2 q m.offset agrees) in (
+      (
+        there.0,
+        there.1,
+        omega (arith, s.0.2, m.depth),
+        children-has_length w _ h children rest xs ys p.offset refl a r plain.0 plain.1 plain.2 q m.offset agrees
+            s.0.3,
+      ),
       opened-sound (place_of_children p h) (place_of_children q (moved w.start false h)) a e
           (ap (λ (n : ℕ). n + 1) k)
-          (record { offset = omega (arith, m.offset); depth = ap (λ (n : ℕ). n + 1) m.depth; padding = refl }) s.3
+          (record { offset = omega (arith, m.offset); depth = ap (λ (n : ℕ). n + 1) m.depth; padding = refl }) s.1
           (agrees-children w _ h children rest xs ys p.offset refl a r plain.0 plain.1 plain.2 q m.offset agrees),
       opened-sound (place_after p (extent h children))
           (place_after q (extent (moved w.start false h) (opened_forest a)))
-          r e k (record { offset = omega (arith, m.offset, far); depth = m.depth; padding = m.padding }) s.4
+          r e k (record { offset = omega (arith, m.offset, far); depth = m.depth; padding = m.padding }) s.2
           (agrees-others w _ h children rest xs ys p.offset refl a r plain.0 plain.1 plain.2 q m.offset agrees),
     )
 opened-sound p q (open_holder a) e k m s agrees = absurd s

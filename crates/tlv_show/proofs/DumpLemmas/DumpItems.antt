@@ -12,8 +12,9 @@ use Rattle.tlv_value.specs.declared.finding.Finding.{Finding}
 use Rattle.tlv_value.specs.declared.layout.Layout.{Layout}
 use Rattle.tlv_value.specs.Names.{NamesValue}
 use Rattle.tlv_value.specs.ValueLines.{whole_lines_with}
-use Rattle.tlv_walk.specs.Events.{Begin, Bytes, End, EventValue, events, opening_events, closing_event, end_offset}
-use Rattle.tlv_walk.specs.Events.{end_octets_offset}
+use Rattle.tlv_walk.specs.Events.{Begin, Bytes, End, EventValue, events, opening_events, closing_event}
+use Rattle.tlv_walk.proofs.GrammarLemmas.Leads.{end_offset}
+use Rattle.tlv_walk.specs.Forest.{end_octets_offset}
 use Rattle.tlv_walk.specs.Follow.{Effect, effect_of, effect_with}
 use Rattle.tlv_walk.specs.Forest.{Forest, is_whole, opening, spelling, end_octets, extent}
 use Rattle.tlv_walk.specs.Place.{Place, place_after, place_of_children, ObeysGrammar}

@@ -1,7 +1,7 @@
 -- What a dump makes of the events of elements is their text.
 use Rattle.std.proofs.Common.{◌≡◌, ℕ, ◌+◌, ◌-◌, ◌^◌, ◌≤◌, Bool, true, false, if◌then◌else◌, List, [], ◌∷◌}
 use Rattle.std.proofs.Common.{◌++◌, length, refl, sym, subst, not, ap, ap₂, ◌∙◌, arith, append_assoc, append-nil}
-use Rattle.std.proofs.Common.{length-append}
+use Rattle.std.proofs.Common.{length-append, ◌&&◌, eqb}
 use Rattle.std.specs.FinMap as finite
 use Rattle.std.specs.Prelude.{Option, Some, None}
 use Rattle.tlv_head.specs.Header.{HasAllContents, HeaderValue, announced_length, octets_of, wraps}
@@ -11,11 +11,12 @@ use Rattle.tlv_value.specs.Names.{NamesValue}
 use Rattle.tlv_value.specs.ValueLines.{incomplete_lines_with, whole_lines_with}
 use Rattle.tlv_value.specs.Types.{is_primitive}
 use Rattle.tlv_walk.specs.declared.follow.Go.{Go}
-use Rattle.tlv_walk.specs.Events.{Begin, Bytes, End, EventValue, Pad, closing_event, end_octets_offset, events}
+use Rattle.tlv_walk.specs.Events.{Begin, Bytes, End, EventValue, Pad, closing_event, events}
+use Rattle.tlv_walk.specs.Forest.{end_octets_offset}
 use Rattle.tlv_walk.specs.Events.{opening_events}
 use Rattle.tlv_walk.specs.Follow.{Effect, effect_of, effect_with}
 use Rattle.tlv_walk.specs.Forest.{Forest, NoMore, PaddingOctet, Primitive, Holder, OpenPrimitive, OpenHolder}
-use Rattle.tlv_walk.specs.Forest.{OpenBitString, OpenHeader, OpenEndOctets, extent, lead, opening}
+use Rattle.tlv_walk.specs.Forest.{OpenBitString, OpenHeader, OpenEndOctets, extent, opening}
 use Rattle.tlv_walk.specs.Forest.{spelling}
 use Rattle.tlv_walk.specs.Place.{ObeysGrammar, Place, place_after, place_of_children}
 use Rattle.tlv_walk.proofs.GrammarLemmas.Spellings.{length-holder, length-primitive}
@@ -113,7 +114,7 @@ module _ (with_text : Bool) (style : Layout) (names : NamesValue) (wanted : Want
       let s : Site = site with_text style names wanted p holder previous in
       let q : Place = place_after p (length (octets_of h) + length c) in
       let size : HasAllContents h c = ap announced_length v.0.1 in
-      let form : h.constructed ≡ false = not-constructed h.constructed (wraps h) v.0.0.form in
+      let form : h.constructed ≡ false = not-constructed h.constructed (wraps h) v.0.0.holding in
       let u : Bool = has_unused_bits (value_check_for h c) in
       let known : Knows (after_primitive wanted w h c) (site_after_primitive s h c) =
       subst (λ (x : Bool). Knows (frame_after (with_element w) x (announced_length h.size) u) (site_after_primitive s h c))
@@ -367,7 +368,7 @@ module _ (with_text : Bool) (style : Layout) (names : NamesValue) (wanted : Want
   }
     where
       awaiting : (level : ℕ) (h : HeaderValue) (k : Bool)
-          → (if k then [] else lead (record h { constructed = false })) ≡ 0 ∷ []
+          → (not k && eqb h.number 3) ≡ true
           → opening_line (layout_at style level) h (opening_word k)
           ≡ opening_line (layout_at style level) h (opening_word false)
       awaiting level h true e = absurd (cc (e))

@@ -15,7 +15,9 @@ use Rattle.tlv_value.specs.ValueTextState.{new_value_text_with, value_text_after
 use Rattle.tlv_value.specs.Value.{NameOf}
 use Rattle.tlv_value.proofs.TextLemmas.Pieces.{lines-end, open-lines}
 use Rattle.tlv_walk.specs.Events.{Begin, Bytes, Close, End, Enter, Leave, Open, Pad, Unused, closing_event}
-use Rattle.tlv_walk.specs.Events.{end_offset, end_octets_offset, opening_events}
+use Rattle.tlv_walk.specs.Events.{opening_events}
+use Rattle.tlv_walk.proofs.GrammarLemmas.Leads.{end_offset}
+use Rattle.tlv_walk.specs.Forest.{end_octets_offset}
 use Rattle.tlv_walk.specs.Follow.{Effect, effect_if_more, effect_of, effect_with}
 use Rattle.tlv_walk.specs.Forest.{Forest, NoMore, PaddingOctet, Primitive, Holder, OpenPrimitive, OpenHolder}
 use Rattle.tlv_walk.specs.Forest.{OpenBitString, OpenHeader, OpenEndOctets, end_octets, extent, lead, opening, spelling}

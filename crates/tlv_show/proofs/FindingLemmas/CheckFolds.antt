@@ -14,7 +14,7 @@ use Rattle.tlv_value.specs.Checks.{findings_by, type_conditions}
 use Rattle.tlv_walk.specs.declared.follow.Go.TheVariants as go
 use Rattle.tlv_walk.specs.declared.framing.Framing.{Framing}
 use Rattle.tlv_walk.specs.Events.{Begin, Bytes, Close, End, Enter, EventValue, Leave, Open, Pad, Unused}
-use Rattle.tlv_walk.specs.Events.{end_octets_offset}
+use Rattle.tlv_walk.specs.Forest.{end_octets_offset}
 use Rattle.tlv_walk.specs.Events.{events}
 use Rattle.tlv_walk.specs.Follow.{Effect, effect_if_more, effect_of}
 use Rattle.tlv_walk.specs.Forest.{Forest, NoMore, PaddingOctet, Primitive, Holder, OpenPrimitive, OpenHolder}

@@ -205,7 +205,7 @@ sums-up p w n (PaddingOctet rest) v e o =
     record { segments = r.segments; bits = r.bits; all = r.all; value_length = r.value_length; empty = r.empty }
 sums-up p w n (Primitive h c rest) v e o =
     let d : ℕ = announced_length h.size - bits_octet_count w.is_bit_string in
-    let k : is_primitive h ≡ true = ap not (not-constructed h.constructed (wraps h) v.0.0.form) in
+    let k : is_primitive h ≡ true = ap not (not-constructed h.constructed (wraps h) v.0.0.holding) in
     let u : Bool = has_unused_bits (value_check_for h c) in
     let r =
     sums-up (place_after p (length (octets_of h) + length c))

@@ -9,7 +9,8 @@ use Rattle.tlv_value.specs.declared.finding.Finding.{Finding}
 use Rattle.tlv_value.specs.ValueCheckState.{has_unused_bits, value_check_for}
 use Rattle.tlv_value.specs.Types.{is_primitive}
 use Rattle.tlv_walk.specs.Events.{EventValue, closing_event}
-use Rattle.tlv_walk.specs.Events.{end_octets_offset, events}
+use Rattle.tlv_walk.specs.Events.{events}
+use Rattle.tlv_walk.specs.Forest.{end_octets_offset}
 use Rattle.tlv_walk.specs.Forest.{Forest, NoMore, PaddingOctet, Primitive, Holder, OpenPrimitive, OpenHolder}
 use Rattle.tlv_walk.specs.Forest.{OpenBitString, OpenHeader, OpenEndOctets, extent, is_whole}
 use Rattle.tlv_walk.specs.Place.{ObeysGrammar, Place, place_after, place_of_children}
@@ -109,7 +110,7 @@ module _ (wanted : Wanted) where
       }
   finds_forest p s w outer (Primitive h c rest) v k l d free =
       let size : HasAllContents h c = ap announced_length v.0.1 in
-      let form : h.constructed ≡ false = not-constructed h.constructed (wraps h) v.0.0.form in
+      let form : h.constructed ≡ false = not-constructed h.constructed (wraps h) v.0.0.holding in
       let u : Bool = has_unused_bits (value_check_for h c) in
       let known : Knows (after_primitive wanted w h c) (site_after_primitive s h c) =
       subst (λ (b : Bool). Knows (frame_after (with_element w) b (announced_length h.size) u) (site_after_primitive s h c))

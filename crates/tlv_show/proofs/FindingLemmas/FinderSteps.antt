@@ -20,7 +20,8 @@ use Rattle.tlv_value.specs.ValueCheckState.{new_value_check}
 use Rattle.tlv_value.specs.Types.{is_primitive}
 use Rattle.tlv_value.proofs.CheckLemmas.CheckPieces.{checked-none, findings-end}
 use Rattle.tlv_walk.specs.Events.{Begin, Bytes, Close, End, Enter, EventValue, Leave, Open, Unused, closing_event}
-use Rattle.tlv_walk.specs.Events.{end_offset, opening_events}
+use Rattle.tlv_walk.specs.Events.{opening_events}
+use Rattle.tlv_walk.proofs.GrammarLemmas.Leads.{end_offset}
 use Rattle.tlv_walk.specs.Forest.{Forest}
 use Rattle.tlv_walk.specs.Forest.{is_whole, opening, spelling}
 use Rattle.tlv_walk.specs.Place.{ObeysGrammar, Place}

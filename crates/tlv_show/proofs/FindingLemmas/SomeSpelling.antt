@@ -12,7 +12,7 @@ use Rattle.tlv_head.specs.Header.{HeaderValue, is_universal, octets_of}
 use Rattle.tlv_value.specs.Checks.{contents_conditions, type_conditions}
 use Rattle.tlv_walk.specs.declared.framing.Framing.{Framing}
 use Rattle.tlv_walk.specs.AlikeElements.{AreAlike, holders, nothing, padding, primitives}
-use Rattle.tlv_walk.specs.Events.{end_octets_offset}
+use Rattle.tlv_walk.specs.Forest.{end_octets_offset}
 use Rattle.tlv_walk.specs.Forest.{Forest, NoMore, PaddingOctet, Primitive, Holder, OpenPrimitive, OpenHolder}
 use Rattle.tlv_walk.specs.Forest.{OpenBitString, OpenHeader, OpenEndOctets, extent, has_element, spelling}
 use Rattle.tlv_walk.specs.Inside.{are_rising, is_among}
@@ -142,7 +142,7 @@ module _ (rules : Rules) (strict : rules ≢ Ber) where
       (PrimitiveLines s.depth h c ∷ (contents_items (listed_by rules) s h c ++ items (listed_by rules) (site_after_primitive s h c) rest))
       (header-none s h r.0)
       (both-none (contents_items (listed_by rules) s h c) (items (listed_by rules) (site_after_primitive s h c) rest) (contents-none s h c)
-      (none-found (place_after p (length (octets_of h) + length c)) (site_after_primitive s h c) rest u.2 r.1))
+      (none-found (place_after p (length (octets_of h) + length c)) (site_after_primitive s h c) rest u.1 r.1))
   none-found p s (Holder h inside rest) u r =
       let last : List Item = end_items (listed_by rules) s h inside ++ items (listed_by rules) (site_after_holder s h inside) rest in
       let held : List Item = items (listed_by rules) (site_of_children s h) inside in
@@ -151,9 +151,9 @@ module _ (rules : Rules) (strict : rules ≢ Ber) where
       ∷ (held ++ ClosingLine s.depth (end_octets_offset h inside) ∷ last))
       (header-none s h r.0)
       (both-none held (ClosingLine s.depth (end_octets_offset h inside) ∷ last)
-      (none-found (place_of_children p h) (site_of_children s h) inside u.3 r.1)
+      (none-found (place_of_children p h) (site_of_children s h) inside u.1 r.1)
       (both-none (end_items (listed_by rules) s h inside) (items (listed_by rules) (site_after_holder s h inside) rest) (end-none s h inside)
-      (none-found (place_after p (extent h inside)) (site_after_holder s h inside) rest u.4 r.2)))
+      (none-found (place_after p (extent h inside)) (site_after_holder s h inside) rest u.2 r.2)))
   none-found p s (OpenPrimitive h c) u r = absurd u
   none-found p s (OpenHolder h inside) u r = absurd u
   none-found p s (OpenBitString h) u r = absurd u

@@ -15,7 +15,7 @@ use Rattle.tlv_value.specs.declared.finding.Finding.{Finding}
 use Rattle.tlv_walk.specs.declared.ending.Ending.TheVariants.{Done}
 use Rattle.tlv_walk.specs.declared.framing.Framing.{Framing}
 use Rattle.tlv_walk.specs.Ending.{IsEnding}
-use Rattle.tlv_walk.specs.Events.{end_octets_offset}
+use Rattle.tlv_walk.specs.Forest.{end_octets_offset}
 use Rattle.tlv_walk.specs.Forest.{Forest, NoMore, PaddingOctet, Primitive, Holder, OpenPrimitive, OpenHolder}
 use Rattle.tlv_walk.specs.Forest.{OpenBitString, OpenHeader, OpenEndOctets, extent, spelling}
 use Rattle.tlv_walk.specs.Place.{Place, is_indefinite, place_after, place_of_children, top_place}
@@ -143,7 +143,7 @@ module _ (rules : Rules) (strict : rules ≢ Ber) where
       (PrimitiveLines s.depth h c ∷ (contents_items (listed_by rules) s h c ++ items (listed_by rules) (site_after_primitive s h c) rest)) e in
       let others = none-in (contents_items (listed_by rules) s h c) (items (listed_by rules) (site_after_primitive s h c) rest) header.1 in (
         no_findings-regular rules s h strict u.0.0.valid header.0,
-        all-regular (place_after p (length (octets_of h) + length c)) (site_after_primitive s h c) rest u.2 others.1,
+        all-regular (place_after p (length (octets_of h) + length c)) (site_after_primitive s h c) rest u.1 others.1,
       )
   all-regular p s (Holder h inside rest) u e =
       let last : List Item = end_items (listed_by rules) s h inside ++ items (listed_by rules) (site_after_holder s h inside) rest in
@@ -156,8 +156,8 @@ module _ (rules : Rules) (strict : rules ≢ Ber) where
       (ClosingLine s.depth (end_octets_offset h inside) ∷ last) header.1 in
       let others = none-in (end_items (listed_by rules) s h inside) (items (listed_by rules) (site_after_holder s h inside) rest) held.1 in (
         no_findings-regular rules s h strict u.0.0.valid header.0,
-        all-regular (place_of_children p h) (site_of_children s h) inside u.3 held.0,
-        all-regular (place_after p (extent h inside)) (site_after_holder s h inside) rest u.4 others.1,
+        all-regular (place_of_children p h) (site_of_children s h) inside u.1 held.0,
+        all-regular (place_after p (extent h inside)) (site_after_holder s h inside) rest u.2 others.1,
       )
   all-regular p s (OpenPrimitive h c) u e = absurd u
   all-regular p s (OpenHolder h inside) u e = absurd u

@@ -13,7 +13,7 @@ use Rattle.tlv_head.specs.Tag.{tag_text}
 use Rattle.tlv_head.specs.declared.header.Size.{Size}
 use Rattle.tlv_head.specs.declared.header.Size.TheVariants.{Definite, Indefinite}
 use Rattle.tlv_io.specs.Device.{octets_given}
-use Rattle.tlv_walk.specs.Events.{end_octets_offset}
+use Rattle.tlv_walk.specs.Forest.{end_octets_offset}
 use Rattle.tlv_walk.specs.Forest.{Forest, end_octets, opening, spelling}
 use Rattle.tlv_walk.specs.Forest.{Holder, NoMore, OpenBitString, OpenEndOctets, OpenHeader, OpenHolder, OpenPrimitive}
 use Rattle.tlv_walk.specs.Forest.{PaddingOctet, Primitive}

@@ -1,7 +1,6 @@
 -- What is reported of blocks is printable ASCII.
-use Rattle.std.proofs.Common.{ℕ, ◌==◌, Bool, true, false, List, Option, Some, None, Result}
-use Rattle.std.proofs.Common.{inl, inr, refl, subst, sym}
-use Rattle.std.proofs.lemmas.Bool.{cases_Bool}
+use Rattle.std.proofs.Common.{◌≡◌, ℕ, ◌==◌, Bool, true, false, List, Option, Some, None, Result}
+use Rattle.std.proofs.Common.{refl, subst, sym}
 use Rattle.std.proofs.lemmas.List.Folds.{list_all-append}
 use Rattle.tlv_head.specs.Fault.{fault_code, fault_text}
 use Rattle.tlv_head.specs.declared.fault.Fault.{Fault}
@@ -26,9 +25,8 @@ use Rattle.tlv_show.specs.declared.scope.Scope.TheVariants.{All}
 use Rattle.tlv_show.specs.declared.outcome.Outcome.{Outcome}
 use Rattle.tlv_text.specs.declared.text_fault.TextFault.{TextFault}
 use Rattle.tlv_text.specs.declared.text_fault.TextFault.TheVariants as text
-use Rattle.tlv_run.specs.Report.{ReportValue, clean_report, device_report, ending_report, fault_line}
-use Rattle.tlv_run.specs.Report.{findings_report, found_report, indef_report, outcome_report, result_report}
-use Rattle.tlv_run.specs.Report.{unused_report}
+use Rattle.tlv_run.specs.Report.{ReportValue, cut_report, device_report, fault_line, indef_report, outcome_report}
+use Rattle.tlv_run.specs.Report.{result_report}
 use Rattle.tlv_run.specs.Results.{job_with_report}
 use Rattle.tlv_run.specs.RunsAndReports.{RunsAndReports}
 use Rattle.tlv_view.specs.ReadWhole.{input_report}
@@ -81,33 +79,26 @@ broken_line-shown s =
 
 -- ---- what an input comes to
 
-ending_report-shown : (e : Ending) (other : ReportValue) → IsShownReport other
-    → IsShownReport (ending_report e other)
-ending_report-shown (ending.Fault f) other shown = fault_line-shown f
-ending_report-shown ending.Done other shown = shown
-
-unused_report-shown : (unused : Option ℕ) (other : ReportValue) → IsShownReport other
-    → IsShownReport (unused_report unused other)
-unused_report-shown None other shown = shown
-unused_report-shown (Some offset) other shown = simp (list_all-append, decimal-shown)
-
-findings_report-shown : (n : ℕ) → IsShownReport (findings_report n)
-findings_report-shown n = elim (cases_Bool (n == 0)) [
-  | inl none ↦ rw none refl
-  | inr some ↦ rw some (simp (list_all-append, decimal-shown))
-]
+outcome-shown : (outcome : Outcome) (e : Ending) (unused : Option ℕ) (none : Bool) → outcome.ending ≡ e
+    → outcome.unused ≡ unused → (outcome.findings == 0) ≡ none → IsShownReport (outcome_report outcome)
+outcome-shown outcome (ending.Fault f) unused none d u z = rw d (fault_line-shown f)
+outcome-shown outcome ending.Done (Some offset) none d u z = rw (d, u) (simp (list_all-append, decimal-shown))
+outcome-shown outcome ending.Done None false d u z = rw (d, u, z) (simp (list_all-append, decimal-shown))
+outcome-shown outcome ending.Done None true d u z = rw (d, u, z) refl
 
 outcome_report-shown : (outcome : Outcome) → IsShownReport (outcome_report outcome)
 outcome_report-shown outcome =
-    ending_report-shown outcome.ending _
-    (unused_report-shown outcome.unused _ (findings_report-shown outcome.findings))
+    outcome-shown outcome outcome.ending outcome.unused (outcome.findings == 0) refl refl refl
 
-found_report-shown : (offset : ℕ) (found : Bool) → IsShownReport (found_report offset found)
-found_report-shown offset true = refl
-found_report-shown offset false = simp (list_all-append, decimal-shown)
+cut-shown : (offset : ℕ) (e : Ending) (found : Bool)
+    → IsShownReport (cut_report offset (record { ending = e; found = found }))
+cut-shown offset (ending.Fault f) found = fault_line-shown f
+cut-shown offset ending.Done false = simp (list_all-append, decimal-shown)
+cut-shown offset ending.Done true = refl
 
 pub indef_report-shown : (e : Ending) → IsShownReport (indef_report e)
-indef_report-shown e = ending_report-shown e clean_report refl
+indef_report-shown (ending.Fault f) = fault_line-shown f
+indef_report-shown ending.Done = refl
 
 -- ---- devices
 
@@ -155,7 +146,7 @@ view-shown (view.Dump rules limit pure text) framing names =
 view-shown (view.Check rules) framing names =
     job-shown outcome_report (check_job_with (all_by rules) framing) outcome_report-shown
 view-shown (view.Extract offset contents) framing names =
-    λ f e. search (ending_report-shown, found_report-shown)
+    λ f e. cut-shown offset e _
 
 pub views-shown : (v : View) (names : NamesValue) (closed padding : Bool) (octets : List ℕ) (old new : DrainState)
     (report : ReportValue)

@@ -14,6 +14,7 @@ use Rattle.tlv_walk.proofs.GrammarLemmas.Bounds.{fits}
 use Rattle.tlv_walk.proofs.GrammarLemmas.PushSteps.{PushStep, Grown, Ended, Refused, holder_so_far, push_after}
 use Rattle.tlv_walk.proofs.GrammarLemmas.PushSteps.{is_filled_by, primitive_so_far, push, settle}
 use Rattle.tlv_walk.proofs.EventLemmas.JoinedEvents.{apart-before, apart-more, bytes_apart}
+use Rattle.tlv_walk.proofs.GrammarLemmas.Leads.{lead-one}
 
 -- the events of what a step gives
 abbrev pub step_events : PushStep → List EventValue
@@ -153,6 +154,6 @@ push-brings p (Holder h inside rest) x w =
 push-brings p (OpenPrimitive h c) x w = open_primitive-brings h c x
 push-brings p (OpenHolder h inside) x w =
     settle-brings h (events inside) _ _ (push-brings (place_of_children p h) inside x w.1)
-push-brings p (OpenBitString h) x w = open_bit_string-brings h x w.1
+push-brings p (OpenBitString h) x w = open_bit_string-brings h x (lead-one h w.1)
 push-brings p (OpenHeader o) x w = step-brings (push p (OpenHeader o) x)
 push-brings p OpenEndOctets x w = end_octets-brings (fits p 2) (eqb x 0)

@@ -11,7 +11,7 @@ use Rattle.tlv_walk.specs.Place.{IsHeaderAt, ObeysGrammar, Place, place_after, p
 use Rattle.tlv_walk.specs.Events.{Begin, Bytes, Close, End, Enter, EventValue, Leave, Open, Pad, Unused, closing_event}
 use Rattle.tlv_walk.specs.Events.{events, opening_events, single_octets}
 use Rattle.tlv_walk.specs.Wrappers.{entered_offsets, wrapper_offset, wrapper_offsets}
-use Rattle.tlv_walk.proofs.GrammarLemmas.Leads.{wrapper_offset_by}
+use Rattle.tlv_walk.proofs.GrammarLemmas.Leads.{lead-one, wrapper_offset_by}
 use Rattle.tlv_walk.proofs.GrammarLemmas.Spellings.{length-holder, length-opening, length-primitive}
 use Rattle.tlv_head.proofs.ReaderLemmas.Prefix.{header-two}
 
@@ -107,7 +107,7 @@ wrapper_offsets-entered p (OpenPrimitive h c) w = refl
 wrapper_offsets-entered p (OpenHolder h inside) w =
     sym (enters-opens h (events inside)
     ∙ ap (λ (t : List ℕ). wrapper_offset h ++ t) (sym (wrapper_offsets-entered (place_of_children p h) inside w.1)))
-wrapper_offsets-entered p (OpenBitString h) w = waiting-wraps h w.1
+wrapper_offsets-entered p (OpenBitString h) w = waiting-wraps h (lead-one h w.1)
 wrapper_offsets-entered p (OpenHeader octets) w = refl
 wrapper_offsets-entered p OpenEndOctets w = refl
 
@@ -197,12 +197,12 @@ wraps-named false false h c e = absurd (cc)
 
 -- an element that is there, if it is a wrapper, is named
 wrapper-named : (p : Place) (h : HeaderValue) → IsHeaderAt p h → holds h ≡ true → AreNamed p.inside (wrapper_offset h)
-wrapper-named p h header form = elim (cases_Bool h.constructed) [
+wrapper-named p h header holding = elim (cases_Bool h.constructed) [
   | inl c ↦ rw c tt
   | inr c ↦
       let named : is_among h.offset p.inside ≡ true =
       ap (λ (n : ℕ). is_among n p.inside) header.offset
-      ∙ (sym header.named ∙ wraps-named h.constructed h.named h c form) in
+      ∙ (sym header.named ∙ wraps-named h.constructed h.named h c holding) in
       rw c (named, tt)
 ]
 
@@ -214,14 +214,14 @@ wrapper_offsets-named p (Primitive h c rest) w =
     wrapper_offsets-named (place_after p (length (octets_of h) + length c)) rest w.1
 wrapper_offsets-named p (Holder h inside rest) w =
     named-append p.inside (wrapper_offset h) (wrapper_offsets inside ++ wrapper_offsets rest)
-    (wrapper-named p h w.0.0.header w.0.0.form)
+    (wrapper-named p h w.0.0.header w.0.0.holding)
     (named-append p.inside (wrapper_offsets inside) (wrapper_offsets rest)
     (wrapper_offsets-named (place_of_children p h) inside w.1)
     (wrapper_offsets-named (place_after p (extent h inside)) rest w.2))
 wrapper_offsets-named p (OpenPrimitive h c) w = tt
 wrapper_offsets-named p (OpenHolder h inside) w =
-    named-append p.inside (wrapper_offset h) (wrapper_offsets inside) (wrapper-named p h w.0.0.header w.0.0.form)
+    named-append p.inside (wrapper_offset h) (wrapper_offsets inside) (wrapper-named p h w.0.0.header w.0.0.holding)
     (wrapper_offsets-named (place_of_children p h) inside w.1)
-wrapper_offsets-named p (OpenBitString h) w = wrapper-named p h w.0.header w.0.form
+wrapper_offsets-named p (OpenBitString h) w = wrapper-named p h w.0.header w.0.holding
 wrapper_offsets-named p (OpenHeader octets) w = tt
 wrapper_offsets-named p OpenEndOctets w = tt

@@ -28,7 +28,7 @@ use Rattle.tlv_io.specs.Out.{Sends}
 use Rattle.tlv_walk.specs.Reading.{AreOctets, IsReading}
 use Rattle.tlv_walk.specs.WalkerReads.{Stands}
 use Rattle.tlv_walk.specs.OneTurn.{EndsIn, FollowsMore, FollowsOneRead, LastReadWas, LastReadGaveUpTo, HasEnoughIn}
-use Rattle.tlv_walk.specs.OneTurn.{TurnStates, TurnsTo, WalkEnds, at_enough, at_fault, at_input_end, last_octets}
+use Rattle.tlv_walk.specs.OneTurn.{TurnStates, last_octets}
 use Rattle.tlv_walk.specs.Wrappers.{first_not_among}
 use Rattle.tlv_walk.proofs.FollowerLemmas.FollowSteps.{made_both, made_put}
 use Rattle.tlv_walk.proofs.FollowerLemmas.Enough.{comes_to, ends_without}
@@ -36,6 +36,8 @@ use Rattle.tlv_io.proofs.Pieces.{pieces_so_far_more, pieces_all, together_more}
 use Rattle.tlv_io.proofs.Sends.{sends_as, sends_ok, sends_then, sends_then-sent}
 use Rattle.tlv_walk.proofs.FollowerLemmas.Pauses.{stands_spelled, stands_yielded}
 use Rattle.tlv_walk.proofs.FollowerLemmas.WalkSoFar.{gave_last, gave_none, given_short, given_octets, Walking}
+use Rattle.tlv_walk.proofs.FollowerLemmas.TurnResults.{Turned, WalkEnds, ends_at_enough, ends_at_fault}
+use Rattle.tlv_walk.proofs.FollowerLemmas.TurnResults.{ends_at_input_end, turned-by}
 use Rattle.tlv_walk.proofs.FollowerLemmas.MadeAll.{MadeAll, PieceLaws, alike, enough_enters, enough_octets, made_all}
 use Rattle.tlv_walk.proofs.FollowerLemmas.MadeAll.{made_enough}
 
@@ -71,10 +73,10 @@ module _ {S : Type 0} (next : S → EventValue → Effect S) (framing : Framing)
     abbrev walked_octets : List ℕ
     walked_octets = take limit (b ++ r)
 
-    turned : (answer : Result Turn DeviceFault) → result ≡ answer → TurnsTo next now new limit b x.yielded r answer
+    turned : (answer : Result Turn DeviceFault) → result ≡ answer → Turned next now new limit b x.yielded r answer
     turned answer is =
-        subst (λ (k : Result Turn DeviceFault). TurnsTo next now new limit b x.yielded r k) is
-        (read.turned b x.yielded x.stands)
+        subst (λ (k : Result Turn DeviceFault). Turned next now new limit b x.yielded r k) is
+        (turned-by next now new limit b x.yielded r result (read.turned b x.yielded x.stands))
 
     gave_so : (answer : Result Turn DeviceFault) → result ≡ answer
         → LastReadWas (length piece) answer new.devices.source.last
@@ -264,9 +266,9 @@ module _ {S : Type 0} (next : S → EventValue → Effect S) (framing : Framing)
       -- by why it ends
       ends_so_far : (run : Run) → result ≡ Ok (Ended run) → WalkEnds next now new limit b x.yielded r run
           → Driven (Ok run)
-      ends_so_far run is (at_enough y) = ends_with run is y
-      ends_so_far run is (at_fault y final) = ends_at run is y (inl final)
-      ends_so_far run is (at_input_end y none) =
+      ends_so_far run is (ends_at_enough y) = ends_with run is y
+      ends_so_far run is (ends_at_fault y final) = ends_at run is y (inl final)
+      ends_so_far run is (ends_at_input_end y none) =
           let last : new.devices.source.last ≡ gave 0 =
           gave_none new.devices.source.last piece (gave_so (Ok (Ended run)) is) none in
           ends_at run is y (inr (last, read.calls.at_end last))

@@ -27,8 +27,8 @@ use Rattle.tlv_walk.specs.Forest.{Forest}
 use Rattle.tlv_io.specs.Out.{Sends, drain_of}
 use Rattle.tlv_walk.specs.Reading.{AreOctets, IsReading}
 use Rattle.tlv_walk.specs.WalkerReads.{Stands, IfAtEnd, took_all}
-use Rattle.tlv_walk.specs.OneTurn.{EndsIn, HasEnoughIn, StandsAfter, TurnStates, TurnsTo, at_enough, at_fault}
-use Rattle.tlv_walk.specs.OneTurn.{at_input_end}
+use Rattle.tlv_walk.specs.OneTurn.{EndsIn, HasEnoughIn, StandsAfter, TurnStates, TurnsTo, again, at_enough, at_fault}
+use Rattle.tlv_walk.specs.OneTurn.{at_input_end, too_long, write_failed}
 use Rattle.tlv_walk.proofs.GrammarLemmas.FinalFaults.{refused-final}
 use Rattle.tlv_walk.proofs.FollowerLemmas.FollowedEvents.{followed-prefix}
 use Rattle.tlv_io.proofs.Sends.{sends_err, sends_ok}
@@ -101,18 +101,17 @@ module _ {S D : Type 0} (next : S → EventValue → Effect S) (old new : TurnSt
 
   turns_again : (why : Pause) → Followed why pause.UsedUp → (m < n → ⊥) → (n ≡ 0 → ⊥)
       → TurnsTo next old new limit b yielded r (Ok Again)
-  turns_again why x fits some' = record {
-    some = λ e. some' (sym given-length ∙ ap length e);
-    within = omega (arith, length-append b r, given-length, st.private_state.has_zipper.offset, fits, below, is_m);
-    stands = subst (λ (o : List ℕ). StandsAfter next old new (b ++ o) yielded) (all_within fits) (used_up-stands why x);
-  }
+  turns_again why x fits some' =
+      again (λ e. some' (sym given-length ∙ ap length e))
+      (omega (arith, length-append b r, given-length, st.private_state.has_zipper.offset, fits, below, is_m))
+      (subst (λ (o : List ℕ). StandsAfter next old new (b ++ o) yielded) (all_within fits) (used_up-stands why x))
 
   turns_long : (why : Pause) → Followed why pause.UsedUp → m < n
       → TurnsTo next old new limit b yielded r (Err InputTooLong)
-  turns_long why x more = record {
-    beyond = omega (arith, length-append b r, given-length, st.private_state.has_zipper.offset, more, below, is_m);
-    stands = subst (λ (o : List ℕ). StandsAfter next old new o yielded) reached (used_up-stands why x);
-  }
+  turns_long why x more =
+      too_long
+      (omega (arith, length-append b r, given-length, st.private_state.has_zipper.offset, more, below, is_m))
+      (subst (λ (o : List ℕ). StandsAfter next old new o yielded) reached (used_up-stands why x))
 
   ends_in : (run : Run) → EndsIn next old new (b ++ piece) yielded run
       → EndsIn next old new (take limit (b ++ r)) yielded run
@@ -124,7 +123,7 @@ module _ {S D : Type 0} (next : S → EventValue → Effect S) (old new : TurnSt
       → TurnsTo next old new limit b yielded r (Ok (Ended run))
   turns_end run e why x none is ends =
       let on = used_up-stands why x in
-      at_input_end
+      at_input_end run
       (ends_in run
       (used_up_ends next old new (b ++ piece) yielded run e on is (ends (b ++ piece) on.all
       (took_all on.stands on.idle))))
@@ -136,7 +135,7 @@ module _ {S D : Type 0} (next : S → EventValue → Effect S) (old new : TurnSt
   turns_fault run e why x is =
       let k : WalksToFault old.walker new.walker piece x.more e b yielded = x.pauses.walked b yielded st in
       let r = (walked_refused old.walker new.walker b piece yielded x.more e k).0 in
-      at_fault
+      at_fault run
       (ends_in run
       (fault_ends next old new from to b piece yielded x.more (sent-of_turn why x.more x.put) st e x.pauses run is))
       (subst IsFinalEnding (sym (ap (λ (x : Run). x.ending) is))
@@ -145,7 +144,7 @@ module _ {S D : Type 0} (next : S → EventValue → Effect S) (old new : TurnSt
   turns_enough : (run : Run) (why : Pause) → Followed why pause.Enough → run ≡ run_of new.walker ending.Done true
       → TurnsTo next old new limit b yielded r (Ok (Ended run))
   turns_enough run why x is =
-      at_enough
+      at_enough run
       (subst (λ (o : List ℕ). HasEnoughIn next old new o yielded run) reached
       (enough_ends next old new from to b piece yielded x.more (sent-of_turn why x.more x.put) st x.pauses read.0 read.1
       run is))
@@ -188,7 +187,7 @@ module _ {S D : Type 0} (next : S → EventValue → Effect S) (old new : TurnSt
     pub turns_failed : (e : WriteFault) → FollowsIn (Err e) → TurnsTo next old new limit b yielded r (Err WriteFailed)
     turns_failed e x =
         let o = x.pauses.yields b yielded st read.0 read.1 in
-        let front = followed-prefix next old.follower x.more o.0 in record {
+        let front = followed-prefix next old.follower x.more o.0 in write_failed (record {
           more = x.more ++ o.0;
           put =
               sends_err old.devices.drain new.devices.drain (effect_of next old.follower x.more).put
@@ -201,4 +200,4 @@ module _ {S D : Type 0} (next : S → EventValue → Effect S) (old new : TurnSt
                 subst (λ (es : List EventValue). AreEqualJoined es (events read.0)) (append_assoc yielded x.more o.0)
                 o.1;
           };
-        }
+        })

@@ -57,22 +57,22 @@ module _ (form : Bool → Bool) where
   one_spelling p q f g (padding a b rest) u v r s =
       ap (λ (l : List ℕ). 0 ∷ l) (one_spelling (place_after p 1) (place_after q 1) a b rest u.1 v.1 r s)
   one_spelling p q f g (primitives h k c a b tag rest) u v r s =
-      let size : h.size ≡ k.size = u.1 ∙ sym v.1 in
+      let size : h.size ≡ k.size = u.0.2 ∙ sym v.0.2 in
       let header : octets_of h ≡ octets_of k =
       same-octets h k u.0.0.valid v.0.0.valid tag size r.0.shortest s.0.shortest in
       let others : spelling a ≡ spelling b =
       one_spelling (place_after p (length (octets_of h) + length c)) (place_after q (length (octets_of k) + length c))
-      a b rest u.2 v.2 r.1 s.1 in
+      a b rest u.1 v.1 r.1 s.1 in
       ap₂ (λ (x y : List ℕ). x ++ (c ++ y)) header others
   one_spelling p q f g (holders h k inside within a b tag held rest) u v r s =
       let contents : spelling inside ≡ spelling within =
-      one_spelling (place_of_children p h) (place_of_children q k) inside within held u.3 v.3 r.1 s.1 in
+      one_spelling (place_of_children p h) (place_of_children q k) inside within held u.1 v.1 r.1 s.1 in
       let others : spelling a ≡ spelling b =
-      one_spelling (place_after p (extent h inside)) (place_after q (extent k within)) a b rest u.4 v.4 r.2 s.2 in
+      one_spelling (place_after p (extent h inside)) (place_after q (extent k within)) a b rest u.2 v.2 r.2 s.2 in
       let count : contents_length h inside ≡ contents_length k within =
       ap₂ (λ (x y : List ℕ). length x + length y) (same-lead h k tag) contents in
       let size : h.size ≡ k.size =
-      same-size h.size k.size (contents_length h inside) (same-form form h k tag r.0 s.0) u.1 (rw count v.1) in
+      same-size h.size k.size (contents_length h inside) (same-form form h k tag r.0 s.0) u.0.3 (rw count v.0.3) in
       let header : octets_of h ≡ octets_of k =
       same-octets h k u.0.0.valid v.0.0.valid tag size r.0.shortest s.0.shortest in
       let begins : opening h ≡ opening k = ap₂ (λ (x y : List ℕ). x ++ y) header (same-lead h k tag) in

@@ -1,5 +1,5 @@
 -- Bounds and lengths as tests, and what they say of an element's contents.
-use Rattle.std.proofs.Common.{◌≡◌, inl, inr, ℕ, ◌+◌, ◌≤◌, Bool, true, false, not, ◌||◌, eqb, leb, List}
+use Rattle.std.proofs.Common.{◌≡◌, inl, inr, ℕ, ◌+◌, ◌≤◌, Bool, true, false, not, ◌||◌, eqb, leb}
 use Rattle.std.proofs.Common.{[], ◌∷◌, length, Option, Some, None, IfSome, refl, arith, eq-eqb, ne_eqb, eqb-true}
 use Rattle.std.proofs.Common.{le-leb, leb-true}
 use Rattle.std.proofs.lemmas.Bool.{cases_Bool, eqb-false, not-true}
@@ -12,7 +12,8 @@ use Rattle.tlv_head.proofs.Wraps.{is_wrapper}
 use Rattle.tlv_walk.specs.Forest.{end_octets, lead}
 use Rattle.tlv_walk.proofs.GrammarLemmas.Leads.{lead_by}
 use Rattle.tlv_walk.proofs.GrammarLemmas.Spellings.{length-opening}
-use Rattle.tlv_walk.specs.Place.{Fits, Place, bound_in, is_indefinite, place_of_children}
+use Rattle.tlv_walk.specs.Place.{Fits, Place, is_indefinite, place_of_children}
+use Rattle.tlv_walk.specs.Private.Stack.{bound_in}
 use Rattle.tlv_walk.proofs.GrammarLemmas.Lengths.{HasLength, LacksOctets}
 
 -- the offset n is not beyond the bound
@@ -147,19 +148,6 @@ lead-least false true Universal number size e = elim (cases_Bool (eqb number 3))
 -- what comes before the elements that an element holds is announced
 pub lead-announced_length : (h : HeaderValue) → holds h ≡ true → length (lead h) ≤ announced_length h.size
 lead-announced_length h e = lead-least h.constructed h.named h.class h.number h.size e
-
--- `lead-zero`, by the fields
-lead-cases : (constructed : Bool) (number x : ℕ) (xs : List ℕ) → lead_by constructed (eqb number 3) ≡ x ∷ xs
-    → lead_by constructed (eqb number 3) ≡ 0 ∷ []
-lead-cases true number x xs e = absurd (cc)
-lead-cases false number x xs e = elim (cases_Bool (eqb number 3)) [
-  | inl three ↦ rw three
-  | inr other ↦ let e' : [] ≡ x ∷ xs = rw other at e in absurd (cc)
-]
-
--- what comes before the elements that an element holds is 00 or nothing
-pub lead-zero : (h : HeaderValue) (x : ℕ) (xs : List ℕ) → lead h ≡ x ∷ xs → lead h ≡ 0 ∷ []
-lead-zero h x xs e = lead-cases h.constructed h.number x xs e
 
 -- the bound is not before the first element that an element holds
 pub fits-inside : (p : Place) (h : HeaderValue) → holds h ≡ true

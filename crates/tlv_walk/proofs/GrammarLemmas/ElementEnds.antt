@@ -8,7 +8,8 @@ use Rattle.tlv_head.specs.declared.header.Size.TheVariants.{Definite, Indefinite
 use Rattle.tlv_head.specs.Header.{HeaderValue, octets_of}
 use Rattle.tlv_walk.specs.declared.framing.Framing.{Framing}
 use Rattle.tlv_walk.specs.Forest.{Forest, Holder, NoMore, contents_length, is_whole, opening, spelling}
-use Rattle.tlv_walk.specs.Place.{Fits, ObeysGrammar, Place, bound_in, place_after, place_of_children, top_place}
+use Rattle.tlv_walk.specs.Place.{Fits, ObeysGrammar, Place, place_after, place_of_children, top_place}
+use Rattle.tlv_walk.specs.Private.Stack.{bound_in}
 use Rattle.tlv_walk.specs.Private.Stack.{IsFilled}
 use Rattle.tlv_walk.specs.Private.Zipper.{AreLayers, AreWhole, Layer, frames_of, place_in, spelling_of_layers}
 use Rattle.tlv_walk.specs.WalkerReads.{is_end_at}
@@ -71,7 +72,7 @@ pub unfilled-room : (w : Framing) (l : Layer) (ls : List Layer) (f : Forest) →
 unfilled-room w l ls f a i e =
     let p : Place = place_after (place_in w ls) (length (spelling l.before)) in
     let there : Fits (place_of_children p l.header) (length (spelling f)) =
-    spelling-fits (place_of_children p l.header) f (fits-inside p l.header a.2.form a.2.fits) i.obeys_grammar in
+    spelling-fits (place_of_children p l.header) f (fits-inside p l.header a.2.holding a.2.fits) i.obeys_grammar in
     grammar-within w (l ∷ ls) f a i.obeys_grammar (λ whole. unfilled-lacks p l.header f e whole there)
 
 -- the forest obeys the grammar, and spells the octets of the layers and then its own

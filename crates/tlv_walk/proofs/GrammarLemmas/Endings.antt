@@ -12,7 +12,7 @@ use Rattle.tlv_walk.specs.declared.framing.Framing.{Framing}
 use Rattle.tlv_walk.specs.Forest.{Forest, has_element, is_whole, spelling}
 use Rattle.tlv_walk.specs.Place.{top_place}
 use Rattle.tlv_walk.specs.Reading.{IsReading, IsSoundList}
-use Rattle.tlv_walk.specs.Ending.{IsEnding, IsRefusedAt, done, empty, fault_ending, refused, short, open_end}
+use Rattle.tlv_walk.specs.Ending.{IsEnding, IsEndingOf, IsRefusedAt, done, empty, fault_ending, refused, short, open_end}
 use Rattle.tlv_walk.proofs.GrammarLemmas.PushSteps.{Spells}
 use Rattle.tlv_walk.proofs.GrammarLemmas.Readings.{PushRun, Going, Halted, IsHalt, IsRightRun, halt-longer}
 use Rattle.tlv_walk.proofs.GrammarLemmas.Readings.{halt-longest, is-run}
@@ -36,6 +36,11 @@ octet-small s x rest b e each =
     let there : length s < length b = omega (arith, ap length e, length-append s (x ∷ rest)) in
     rw (← e, get_or_at s x rest 0 (length s) refl) at (each (length s) 0 there)
 
+-- the ending of an input, by its reading
+pub ending-by : (w : Framing) (b : List ℕ) (f : Forest) (e : Ending) → IsReading w b f → IsEndingOf w b f e
+    → IsEnding w b e
+ending-by w b f e r x = record { reading = f; is_reading = r; ends = x }
+
 -- if no octet is refused, the ending says what is open
 going-ending : (w : Framing) (f : Forest) (b : List ℕ) → Spells (top_place w) b f
     → IsEnding w b (ending_of (length b) (Going f))
@@ -43,17 +48,18 @@ going-ending w f b r =
     let reading : IsReading w b f = run-reading w (Going f) b r in
     elim (cases_Bool (has_element f)) [
       | inl some ↦ elim (cases_Bool (is_whole f)) [
-        | inl whole ↦ rw (some, whole) (done f (reading, r.spelled) some whole)
-        | inr part ↦ rw (some, part) (short f (reading, r.spelled) part)
+        | inl whole ↦ rw (some, whole) (ending-by w b f _ reading (done r.spelled some whole))
+        | inr part ↦ rw (some, part) (ending-by w b f _ reading (short r.spelled part))
       ]
-      | inr none ↦ rw none (empty f (reading, r.spelled) none)
+      | inr none ↦ rw none (ending-by w b f _ reading (empty r.spelled none))
     ]
 
 -- an octet that is refused gives an ending, whatever follows
 pub halt-ending : (w : Framing) (f : Forest) (code : FaultCode) (b : List ℕ) → (r : IsHalt w f code b)
     → IsRefusedAt (open_end (top_place w) f) r.octet code
     → IsEnding w b (fault_ending code (length (spelling f)))
-halt-ending w f code b r k = refused f r.octet r.rest code (run-reading w (Halted f code) b r) r.front k
+halt-ending w f code b r k =
+    ending-by w b f _ (run-reading w (Halted f code) b r) (refused r.octet r.rest code r.front k)
 
 -- a right run of pushes has the ending that it gives
 run-ending : (w : Framing) (r : PushRun) (b : List ℕ) → All (λ x. x < 256) b → IsRightRun w r b
@@ -90,17 +96,17 @@ abbrev pub Says : Framing → List ℕ → Ending → Type 0
 Says w b Done = IsDone w b
 Says w b (Fault f) = IsEarly f.code ⊎ IsRefused w b f.code f.offset
 
--- each ending says so
-pub ending-says : (w : Framing) (b : List ℕ) (e : Ending) → IsEnding w b e → Says w b e
-ending-says w b e (empty f r n) = inl (inl refl)
-ending-says w b e (short f r p) = inl (inr refl)
-ending-says w b e (done f r n t) = record {
+-- `ending-says`, by the reading
+says-by : (w : Framing) (b : List ℕ) (f : Forest) (e : Ending) → IsReading w b f → IsEndingOf w b f e → Says w b e
+says-by w b f e r (empty s n) = inl (inl refl)
+says-by w b f e r (short s p) = inl (inr refl)
+says-by w b f e r (done s n t) = record {
   forest = f;
-  spells = record { obeys_grammar = r.0.obeys_grammar; spelled = r.1 };
+  spells = record { obeys_grammar = r.obeys_grammar; spelled = s };
   some = n;
   whole = t;
 }
-ending-says w b e (refused f x rest code r s k) = inr (record {
+says-by w b f e r (refused x rest code s k) = inr (record {
   forest = f;
   halt = record {
     obeys_grammar = r.obeys_grammar;
@@ -112,6 +118,10 @@ ending-says w b e (refused f x rest code r s k) = inr (record {
   fault = k;
   there = refl;
 })
+
+-- each ending says so
+pub ending-says : (w : Framing) (b : List ℕ) (e : Ending) → IsEnding w b e → Says w b e
+ending-says w b e x = says-by w b x.reading e x.is_reading x.ends
 
 -- after a fault other than F01 and F02 an octet is refused
 pub fault-halt : (w : Framing) (b : List ℕ) (code : FaultCode) (offset : ℕ) → code ≢ Empty → code ≢ Short
@@ -160,24 +170,26 @@ sound-reading w b s = run-reading w (Going s.forest) b (record {
 -- the ending of a sound input is `Done`
 pub sound-done : (w : Framing) (b : List ℕ) → IsSoundList w b → IsEnding w b Done
 sound-done w b s =
-    done s.forest (sound-reading w b s, s.spelled) s.some (sound-whole (top_place w) s.forest s.sound)
+    ending-by w b s.forest Done (sound-reading w b s)
+    (done s.spelled s.some (sound-whole (top_place w) s.forest s.sound))
 
 abbrev pub offset_in : Ending → ℕ
 offset_in Done = 0
 offset_in (Fault f) = f.offset
 
 -- an ending that is a fault: the input ends there, or an octet of it is refused
-fault-place : (w : Framing) (b : List ℕ) (e : Ending) (f : fault.Fault) → IsEnding w b e → e ≡ Fault f
+fault-place : (w : Framing) (b : List ℕ) (g : Forest) (e : Ending) (f : fault.Fault) → IsReading w b g
+    → IsEndingOf w b g e → e ≡ Fault f
     → (f.offset ≡ length b) ⊎ ((g : Forest) × IsReading w b g × (f.offset ≡ length (spelling g)))
-fault-place w b e f (empty g r n) i = inl (sym (ap offset_in i))
-fault-place w b e f (short g r n) i = inl (sym (ap offset_in i))
-fault-place w b e f (done g r n t) i = absurd (cc (i))
-fault-place w b e f (refused g x rest code r s k) i = inr (g, r, sym (ap offset_in i))
+fault-place w b g e f r (empty s n) i = inl (sym (ap offset_in i))
+fault-place w b g e f r (short s n) i = inl (sym (ap offset_in i))
+fault-place w b g e f r (done s n t) i = absurd (cc (i))
+fault-place w b g e f r (refused x rest code s k) i = inr (g, r, sym (ap offset_in i))
 
 -- if the octet after p is refused and p is the spelling of a forest that obeys the grammar, that is the reading
 pub refused-reading : (w : Framing) (p : List ℕ) (x : ℕ) (c : List ℕ) (f : fault.Fault) (g : Forest)
     → Spells (top_place w) p g → f.offset ≡ length p → IsEnding w (p ++ x ∷ c) (Fault f) → IsReading w (p ++ x ∷ c) g
-refused-reading w p x c f g v there e = elim (fault-place w (p ++ x ∷ c) (Fault f) f e refl) [
+refused-reading w p x c f g v there e = elim (fault-place w (p ++ x ∷ c) e.reading (Fault f) f e.is_reading e.ends refl) [
   | inl end ↦ absurd (omega (arith, end, there, length-append p (x ∷ c)))
   | inr r ↦
       let same : spelling r.0 ≡ spelling g =

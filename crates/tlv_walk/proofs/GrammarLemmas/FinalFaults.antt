@@ -8,9 +8,10 @@ use Rattle.tlv_head.specs.Refusal.{length_too_large}
 use Rattle.tlv_walk.specs.declared.ending.Ending.{Ending}
 use Rattle.tlv_walk.specs.declared.ending.Ending.TheVariants.{Done, Fault}
 use Rattle.tlv_walk.specs.declared.framing.Framing.{Framing}
-use Rattle.tlv_walk.specs.Ending.{IsEnding, IsRefusedAt, IsFinalCode, OpenEnd, bad_inside, missing_end, bad_end}
-use Rattle.tlv_walk.specs.Ending.{no_room}
+use Rattle.tlv_walk.specs.Ending.{IsEnding, IsEndingOf, IsFinalCode, IsRefusedAt, OpenEnd, bad_inside, missing_end}
+use Rattle.tlv_walk.specs.Ending.{bad_end, no_room}
 use Rattle.tlv_walk.specs.Ending.{refused_octet, too_deep, overrun, no_end, stray_end, done, empty, refused, short}
+use Rattle.tlv_walk.specs.Forest.{Forest}
 use Rattle.tlv_walk.proofs.GrammarLemmas.Endings.{offset_in}
 
 -- no cause in the octets of a header is that the input ends too early
@@ -38,15 +39,15 @@ code_in Done = Empty
 code_in (Fault f) = f.code
 
 -- a fault that comes before the end of the input is final
-pub early-final : (w : Framing) (b : List ℕ) (e : Ending) (f : fault.Fault) → IsEnding w b e → e ≡ Fault f
+early-final : (w : Framing) (b : List ℕ) (g : Forest) (e : Ending) (f : fault.Fault) → IsEndingOf w b g e → e ≡ Fault f
     → f.offset ≢ length b → IsFinalCode f.code
-early-final w b e f (empty g r n) i k = absurd (k (sym (ap offset_in i)))
-early-final w b e f (short g r n) i k = absurd (k (sym (ap offset_in i)))
-early-final w b e f (done g r n t) i k = absurd (cc (i))
-early-final w b e f (refused g x rest code r s c) i k = rw (← ap code_in i) (cause-final _ x code c)
+early-final w b g e f (empty s n) i k = absurd (k (sym (ap offset_in i)))
+early-final w b g e f (short s n) i k = absurd (k (sym (ap offset_in i)))
+early-final w b g e f (done s n t) i k = absurd (cc (i))
+early-final w b g e f (refused x rest code s c) i k = rw (← ap code_in i) (cause-final _ x code c)
 
 -- the octet after p is refused
 pub refused-final : (w : Framing) (p : List ℕ) (x : ℕ) (rest : List ℕ) (f : fault.Fault) → f.offset ≡ length p
     → IsEnding w (p ++ x ∷ rest) (Fault f) → IsFinalCode f.code
 refused-final w p x rest f there e =
-    early-final w (p ++ x ∷ rest) (Fault f) f e refl (λ n. omega (arith, n, there, length-append p (x ∷ rest)))
+    early-final w (p ++ x ∷ rest) e.reading (Fault f) f e.ends refl (λ n. omega (arith, n, there, length-append p (x ∷ rest)))

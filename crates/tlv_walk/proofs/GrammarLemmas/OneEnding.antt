@@ -12,9 +12,8 @@ use Rattle.tlv_walk.specs.Forest.{Forest, NoMore, PaddingOctet, Primitive, Holde
 use Rattle.tlv_walk.specs.Forest.{OpenBitString, OpenHeader, OpenEndOctets, has_element, is_whole, spelling}
 use Rattle.tlv_walk.specs.Place.{top_place}
 use Rattle.tlv_walk.specs.Reading.{CannotBecomeSound, IsReading, IsSoundList}
-use Rattle.tlv_walk.specs.Ending.{IsEnding, IsRefusedAt, IsFinalEnding, ShowsSoundness, done, empty, fault_ending}
-use Rattle.tlv_walk.specs.Ending.{refused}
-use Rattle.tlv_walk.specs.Ending.{short, open_end}
+use Rattle.tlv_walk.specs.Ending.{IsEnding, IsEndingOf, IsFinalEnding, IsRefusedAt, ShowsSoundness, done, empty}
+use Rattle.tlv_walk.specs.Ending.{fault_ending, open_end, refused, short}
 use Rattle.tlv_walk.proofs.GrammarLemmas.Readings.{Halted, IsHalt, halt-longer, reading-unique, run-reading}
 use Rattle.tlv_walk.proofs.GrammarLemmas.Faults.{fault-unique}
 use Rattle.tlv_walk.proofs.GrammarLemmas.Endings.{IsRefused, done-sound, fault-halt, halt-ending, no-false-alarm}
@@ -60,25 +59,30 @@ refused-same w b f g x y r s c d u v e e' k l =
     ap (λ (c : FaultCode). fault_ending c (length (spelling f))) code
     ∙ ap (λ (f : Forest). fault_ending d (length (spelling f))) same
 
+-- `ending-unique`, by the readings
+unique-by : (w : Framing) (b : List ℕ) (f g : Forest) (e d : Ending) → IsReading w b f → IsReading w b g
+    → IsEndingOf w b f e → IsEndingOf w b g d → e ≡ d
+unique-by w b f g e d r u (empty s n) (empty t m) = refl
+unique-by w b f g e d r u (empty s n) (short t p) = absurd (test-apart w b f g is_whole r u (none-whole f n) p)
+unique-by w b f g e d r u (empty s n) (done t m q) = absurd (test-apart w b g f has_element u r m n)
+unique-by w b f g e d r u (empty s n) (refused y rest c t k) = absurd (read-apart w b f g y rest r u s t)
+unique-by w b f g e d r u (short s p) (empty t m) = absurd (test-apart w b g f is_whole u r (none-whole g m) p)
+unique-by w b f g e d r u (short s p) (short t q) = refl
+unique-by w b f g e d r u (short s p) (done t m q) = absurd (test-apart w b g f is_whole u r q p)
+unique-by w b f g e d r u (short s p) (refused y rest c t k) = absurd (read-apart w b f g y rest r u s t)
+unique-by w b f g e d r u (done s n q) (empty t m) = absurd (test-apart w b f g has_element r u n m)
+unique-by w b f g e d r u (done s n q) (short t p) = absurd (test-apart w b f g is_whole r u q p)
+unique-by w b f g e d r u (done s n q) (done t m p) = refl
+unique-by w b f g e d r u (done s n q) (refused y rest c t k) = absurd (read-apart w b f g y rest r u s t)
+unique-by w b f g e d r u (refused x rest c s k) (empty t m) = absurd (read-apart w b g f x rest u r t s)
+unique-by w b f g e d r u (refused x rest c s k) (short t p) = absurd (read-apart w b g f x rest u r t s)
+unique-by w b f g e d r u (refused x rest c s k) (done t m q) = absurd (read-apart w b g f x rest u r t s)
+unique-by w b f g e d r u (refused x rest c s k) (refused y more m t l) =
+    refused-same w b f g x y rest more c m r u s t k l
+
 -- an input has one ending
 pub ending-unique : (w : Framing) (b : List ℕ) (e d : Ending) → IsEnding w b e → IsEnding w b d → e ≡ d
-ending-unique w b e d (empty f r n) (empty g u m) = refl
-ending-unique w b e d (empty f r n) (short g u p) = absurd (test-apart w b f g is_whole r.0 u.0 (none-whole f n) p)
-ending-unique w b e d (empty f r n) (done g u m q) = absurd (test-apart w b g f has_element u.0 r.0 m n)
-ending-unique w b e d (empty f r n) (refused g y rest c u t k) = absurd (read-apart w b f g y rest r.0 u r.1 t)
-ending-unique w b e d (short f r p) (empty g u m) = absurd (test-apart w b g f is_whole u.0 r.0 (none-whole g m) p)
-ending-unique w b e d (short f r p) (short g u q) = refl
-ending-unique w b e d (short f r p) (done g u m q) = absurd (test-apart w b g f is_whole u.0 r.0 q p)
-ending-unique w b e d (short f r p) (refused g y rest c u t k) = absurd (read-apart w b f g y rest r.0 u r.1 t)
-ending-unique w b e d (done f r n q) (empty g u m) = absurd (test-apart w b f g has_element r.0 u.0 n m)
-ending-unique w b e d (done f r n q) (short g u p) = absurd (test-apart w b f g is_whole r.0 u.0 q p)
-ending-unique w b e d (done f r n q) (done g u m p) = refl
-ending-unique w b e d (done f r n q) (refused g y rest c u t k) = absurd (read-apart w b f g y rest r.0 u r.1 t)
-ending-unique w b e d (refused f x rest c r s k) (empty g u m) = absurd (read-apart w b g f x rest u.0 r u.1 s)
-ending-unique w b e d (refused f x rest c r s k) (short g u p) = absurd (read-apart w b g f x rest u.0 r u.1 s)
-ending-unique w b e d (refused f x rest c r s k) (done g u m q) = absurd (read-apart w b g f x rest u.0 r u.1 s)
-ending-unique w b e d (refused f x rest c r s k) (refused g y more m u t l) =
-    refused-same w b f g x y rest more c m r u s t k l
+ending-unique w b e d x y = unique-by w b x.reading y.reading e d x.is_reading y.is_reading x.ends y.ends
 
 -- a fault other than F01 and F02 is final: no continuation changes the reading or the ending
 pub refused-for-good : (w : Framing) (b c : List ℕ) (code : FaultCode) (offset : ℕ) (f : Forest) → code ≢ Empty

@@ -12,7 +12,8 @@ use Rattle.tlv_walk.specs.Forest.{lead, opening, spelling}
 use Rattle.tlv_walk.specs.Place.{Fits, IsHeaderAt, IsHolderAt, ObeysGrammar, Place, announced_extent, place_after}
 use Rattle.tlv_walk.specs.Place.{place_of_children}
 use Rattle.tlv_walk.proofs.GrammarLemmas.Lengths.{LacksOctets}
-use Rattle.tlv_walk.proofs.GrammarLemmas.Bounds.{IsDefiniteLength, fits-inside, has_length, lead-zero, length-full}
+use Rattle.tlv_walk.proofs.GrammarLemmas.Leads.{wraps-bits}
+use Rattle.tlv_walk.proofs.GrammarLemmas.Bounds.{IsDefiniteLength, fits-inside, has_length, length-full}
 use Rattle.tlv_walk.proofs.GrammarLemmas.Bounds.{length-lacks, within-le, within-outside}
 use Rattle.tlv_walk.proofs.GrammarLemmas.Spellings.{length-holder, length-opening, length-primitive}
 use Rattle.tlv_walk.proofs.GrammarLemmas.ShortHeaders.{not-holding}
@@ -51,7 +52,7 @@ spelling-fits p (OpenPrimitive h c) z w = within-le p.bound _ _ (omega (arith, l
     w.0.fits
 spelling-fits p (OpenHolder h inside) z w =
     reaches-open_holder p h inside w.0.0.fits
-    (spelling-fits (place_of_children p h) inside (fits-inside p h w.0.0.form w.0.0.fits) w.1)
+    (spelling-fits (place_of_children p h) inside (fits-inside p h w.0.0.holding w.0.0.fits) w.1)
 spelling-fits p (OpenBitString h) z w = within-le p.bound _ _ (omega arith) w.0.fits
 spelling-fits p (OpenHeader o) z w = w.2
 spelling-fits p OpenEndOctets z w = w.1
@@ -76,14 +77,14 @@ primitive_so_far-spells p h c n header form e most f =
     elim (cases_eq (length c) n) [
       | inl full ↦ rw (eq-eqb (length c) (announced_length h.size) (full ∙ sym all)) (record {
         obeys_grammar = (
-          (record { header = header; form = form; fits = rw full f }, e ∙ ap Definite (sym full)),
+          (record { header = header; holding = form; fits = rw full f }, e ∙ ap Definite (sym full)),
           tt,
         );
         spelled = ap (λ (t : List ℕ). octets_of h ++ t) (append-nil c);
       })
       | inr less ↦ rw (ne_eqb (length c) (announced_length h.size) (λ z. less (z ∙ all))) (record {
         obeys_grammar = (
-          record { header = header; form = form; fits = within-le p.bound _ _ (omega arith) f },
+          record { header = header; holding = form; fits = within-le p.bound _ _ (omega arith) f },
           omega arith,
         );
         spelled = refl;
@@ -102,7 +103,7 @@ holder-spells p h g entry w whole full =
         (
           record {
             header = entry.header;
-            form = entry.form;
+            holding = entry.holding;
             shallow = entry.shallow;
             fits = within-le p.bound _ _ (omega (arith, full.all, length-opening h)) entry.fits;
           },
@@ -134,7 +135,7 @@ holder_so_far-spells p h g entry w = elim (cases_Bool (is_filled_by h g)) [
       rw e (holder-spells p h g entry w parts.0 (length-full h.size _ parts.1))
   | inr e ↦
       let there : Fits (place_of_children p h) (length (spelling g)) =
-      spelling-fits (place_of_children p h) g (fits-inside p h entry.form entry.fits) w in
+      spelling-fits (place_of_children p h) g (fits-inside p h entry.holding entry.fits) w in
       rw e (record { obeys_grammar = ((entry, λ whole. unfilled-lacks p h g e whole there), w); spelled = refl })
 ]
 
@@ -146,7 +147,7 @@ holder_begun-spells p h [] e entry =
     let none : opening h ++ [] ≡ octets_of h =
     append-nil (opening h) ∙ ap (λ (t : List ℕ). octets_of h ++ t) e ∙ append-nil (octets_of h) in
     record { obeys_grammar = r.obeys_grammar; spelled = r.spelled ∙ none }
-holder_begun-spells p h (x ∷ xs) e entry = record { obeys_grammar = (entry, lead-zero h x xs e); spelled = refl }
+holder_begun-spells p h (x ∷ xs) e entry = record { obeys_grammar = (entry, wraps-bits h x xs e); spelled = refl }
 
 -- a header where one may be obeys the grammar
 pub element_begun-spells : (p : Place) (h : HeaderValue) (k : Bool) → IsHeaderAt p h → holds h ≡ k
@@ -154,7 +155,7 @@ pub element_begun-spells : (p : Place) (h : HeaderValue) (k : Bool) → IsHeader
     → Spells p (octets_of h) (element_begun k h)
 element_begun-spells p h true header form d f = holder_begun-spells p h (lead h) refl (record {
   header = header;
-  form = form;
+  holding = form;
   shallow = leb-false 128 p.depth d;
   fits = f;
 })

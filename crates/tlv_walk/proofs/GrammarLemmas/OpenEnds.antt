@@ -88,7 +88,7 @@ open_end-fact p (Holder h inside rest) z r w =
     (room-after p _ rest (Holder h inside rest) (length-holder h inside rest) (λ t. t) r) w.2
 open_end-fact p (OpenPrimitive h c) z r w = tt
 open_end-fact p (OpenHolder h inside) z r w =
-    open_end-fact (place_of_children p h) inside (fits-inside p h w.0.0.form w.0.0.fits)
+    open_end-fact (place_of_children p h) inside (fits-inside p h w.0.0.holding w.0.0.fits)
     (room-inside p h inside w)
     w.1
 open_end-fact p (OpenBitString h) z r w = tt

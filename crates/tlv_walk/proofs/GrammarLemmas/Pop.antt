@@ -18,6 +18,7 @@ use Rattle.tlv_walk.proofs.GrammarLemmas.Spellings.{length-primitive}
 use Rattle.tlv_walk.proofs.GrammarLemmas.PushSteps.{IsWholeHolder, IsWholePrimitive, Grown, Ended, holder_so_far}
 use Rattle.tlv_walk.proofs.GrammarLemmas.PushSteps.{push_after, is_filled_by, primitive_so_far, push, settle}
 use Rattle.tlv_walk.proofs.GrammarLemmas.OpenElements.{spelling-fits, size-definite}
+use Rattle.tlv_walk.proofs.GrammarLemmas.Leads.{lead-one}
 use Rattle.tlv_walk.proofs.GrammarLemmas.PopHeaders.{list-back, Popped, header-popped, holder_begun-popped, lead-popped}
 use Rattle.tlv_walk.proofs.GrammarLemmas.PopHeaders.{prefix-popped, is_nil, is_push}
 
@@ -41,7 +42,7 @@ contents-popped p h c x n g header form e less f same spelled = record {
   from = OpenPrimitive h c;
   last = x;
   obeys_grammar = (
-    record { header = header; form = form; fits = rw (ap announced_length e) f },
+    record { header = header; holding = form; fits = rw (ap announced_length e) f },
     omega (arith, less, ap announced_length e),
   );
   spelled = spelled ∙ sym (append_assoc (octets_of h) c (x ∷ []));
@@ -68,16 +69,16 @@ primitive-popped p h c n g header form e most f same spelled = elim (list-back c
 whole_primitive-popped : (p : Place) (h : HeaderValue) (c : List ℕ) → IsWholePrimitive p h c
     → Popped p (Primitive h c NoMore)
 whole_primitive-popped p h c w =
-    primitive-popped p h c (length c) (Primitive h c NoMore) w.0.header w.0.form w.1 (omega arith)
+    primitive-popped p h c (length c) (Primitive h c NoMore) w.0.header w.0.holding w.1 (omega arith)
     w.0.fits (primitive_so_far-whole h c w.1) (ap (λ (t : List ℕ). octets_of h ++ t) (append-nil c))
 
 -- a primitive that lacks contents octets is popped
 open_primitive-popped : (p : Place) (h : HeaderValue) (c : List ℕ) → ObeysGrammar p (OpenPrimitive h c)
     → Popped p (OpenPrimitive h c)
 open_primitive-popped p h c w =
-    let n : (n : ℕ) × (h.size ≡ Definite n) = size-definite h w.0.header.valid w.0.form in
+    let n : (n : ℕ) × (h.size ≡ Definite n) = size-definite h w.0.header.valid w.0.holding in
     let all : announced_length h.size ≡ n.0 = ap announced_length n.1 in
-    primitive-popped p h c n.0 (OpenPrimitive h c) w.0.header w.0.form n.1 (omega (arith, w.1))
+    primitive-popped p h c n.0 (OpenPrimitive h c) w.0.header w.0.holding n.1 (omega (arith, w.1))
     (within-le p.bound _ _ (omega arith) w.0.fits) (primitive_so_far-open h c n.0 n.1 (omega (arith, w.1))) refl
 
 -- an element that lacks contents octets has not ended
@@ -96,7 +97,7 @@ lacks-before p h f g x entry w spelled =
     within-lacks h.size (p.offset + length (octets_of h)) p.bound (contents_length h f)
     (within-le (place_of_children p h).bound
     _ _ (omega (arith, ap length spelled, length-append (spelling f) (x ∷ []), length-opening h))
-    (spelling-fits (place_of_children p h) g (fits-inside p h entry.form entry.fits) w))
+    (spelling-fits (place_of_children p h) g (fits-inside p h entry.holding entry.fits) w))
 
 -- an element that holds octets is popped by the last of them, or by that of what comes before
 holder_so_far-popped : (p : Place) (h : HeaderValue) (inside g : Forest) → IsHolderAt p h (announced_extent h)
@@ -187,7 +188,7 @@ endless-popped p h inside i w v =
         (
           record {
             header = w.0.header;
-            form = w.0.form;
+            holding = w.0.holding;
             shallow = w.0.shallow;
             fits = within-le p.bound _ _ (omega (arith, e.none, length-opening h)) w.0.fits;
           },
@@ -210,7 +211,7 @@ definite-popped p h inside i w v below =
     let none : length (end_octets h.size) ≡ 0 = ap length full.ends in
     let entry : IsHolderAt p h (announced_extent h) = record {
       header = w.0.header;
-      form = w.0.form;
+      holding = w.0.holding;
       shallow = w.0.shallow;
       fits = within-le p.bound _ _ (omega (arith, full.all, length-opening h)) w.0.fits;
     } in
@@ -278,7 +279,7 @@ forest-popped p (OpenHolder h inside) w =
     inr
     (holder_so_far-popped p h inside (OpenHolder h inside) w.0.0 w.1 (forest-popped (place_of_children p h) inside w.1)
     (holder_so_far-open h inside w.0.1) refl)
-forest-popped p (OpenBitString h) w = inr (holder_begun-popped p h (0 ∷ []) w.1 w.0)
+forest-popped p (OpenBitString h) w = inr (holder_begun-popped p h (0 ∷ []) (lead-one h w.1) w.0)
 forest-popped p (OpenHeader o) w = inr (elim (list-back o) [
   | is_nil e ↦ absurd (w.0 e)
   | is_push ys y e ↦ rw e (prefix-popped p ys y (rw e at w.1) (rw e at w.2))

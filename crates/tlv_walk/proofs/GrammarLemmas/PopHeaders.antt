@@ -7,9 +7,11 @@ use Rattle.tlv_head.specs.Refusal.{IsHeaderPrefix}
 use Rattle.tlv_head.proofs.GrammarLemmas.Scan.{Origin, Scan, Fresh, High, Named, Long, Ready, Stuck, Over, origin_of}
 use Rattle.tlv_head.proofs.GrammarLemmas.Scan.{scan, scan_from-append, scan-header, is_more, more-from_prefix}
 use Rattle.tlv_head.proofs.ReaderLemmas.Prefix.{header-two}
-use Rattle.tlv_walk.specs.Forest.{Forest, NoMore, OpenBitString, OpenHeader, lead, opening, spelling}
+use Rattle.tlv_walk.specs.Forest.{Forest, NoMore, OpenBitString, OpenHeader, is_wrapping_bit_string, lead, opening}
+use Rattle.tlv_walk.specs.Forest.{spelling}
 use Rattle.tlv_walk.specs.Place.{Fits, IsHeaderAt, IsHolderAt, ObeysGrammar, Place, announced_extent}
-use Rattle.tlv_walk.proofs.GrammarLemmas.Bounds.{fits-within, lead-zero, within-le}
+use Rattle.tlv_walk.proofs.GrammarLemmas.Bounds.{fits-within, within-le}
+use Rattle.tlv_walk.proofs.GrammarLemmas.Leads.{lead-one, wraps-bits}
 use Rattle.tlv_walk.proofs.GrammarLemmas.PushSteps.{Grown, begin, complete, element_begun, holder_begun, holder_so_far}
 use Rattle.tlv_walk.proofs.GrammarLemmas.PushSteps.{origin, push}
 use Rattle.tlv_walk.proofs.GrammarLemmas.OpenElements.{element_begun-spells, holder_so_far-spells}
@@ -109,7 +111,7 @@ pub holder_begun-popped : (p : Place) (h : HeaderValue) (l : List ℕ) → lead 
     → Popped p (holder_begun h l)
 holder_begun-popped p h l e entry =
     let r : Popped p (holder_begun h (lead h)) =
-    header-popped p h true entry.header entry.form (lt-leb 128 p.depth entry.shallow) entry.fits in
+    header-popped p h true entry.header entry.holding (lt-leb 128 p.depth entry.shallow) entry.fits in
     rw (ap (holder_begun h) e) at r
 
 -- an element that holds none yet
@@ -117,11 +119,12 @@ pub lead-popped : (p : Place) (h : HeaderValue) (l : List ℕ) → lead h ≡ l 
     → Popped p (holder_so_far h NoMore)
 lead-popped p h [] e entry = holder_begun-popped p h [] e entry
 lead-popped p h (x ∷ xs) e entry =
-    let one : lead h ≡ 0 ∷ [] = lead-zero h x xs e in
+    let bits : is_wrapping_bit_string h ≡ true = wraps-bits h x xs e in
+    let one : lead h ≡ 0 ∷ [] = lead-one h bits in
     record {
       from = OpenBitString h;
       last = 0;
-      obeys_grammar = (entry, one);
+      obeys_grammar = (entry, bits);
       spelled =
           (holder_so_far-spells p h NoMore entry tt).spelled ∙ append-nil (opening h)
           ∙ ap (λ (t : List ℕ). octets_of h ++ t) one;

@@ -22,6 +22,7 @@ use Rattle.tlv_walk.proofs.GrammarLemmas.PushSteps.{IsStep, Grown, Ended, Refuse
 use Rattle.tlv_walk.proofs.GrammarLemmas.OpenElements.{element_begun-spells, holder_so_far-spells}
 use Rattle.tlv_walk.proofs.GrammarLemmas.OpenElements.{primitive_so_far-spells}
 use Rattle.tlv_walk.proofs.GrammarLemmas.OpenElements.{size-definite}
+use Rattle.tlv_walk.proofs.GrammarLemmas.Leads.{lead-one}
 
 -- a header that is complete
 complete-sound : (p : Place) (h : HeaderValue) → IsHeader h → origin_of h ≡ origin p
@@ -115,10 +116,10 @@ end_octets-step p x i = elim (cases_Bool (fits p 2)) [
 open_primitive-step : (p : Place) (h : HeaderValue) (c : List ℕ) (x : ℕ) → ObeysGrammar p (OpenPrimitive h c)
     → IsStep p ((octets_of h ++ c) ++ x ∷ []) (push p (OpenPrimitive h c) x)
 open_primitive-step p h c x w =
-    let n : (n : ℕ) × (h.size ≡ Definite n) = size-definite h w.0.header.valid w.0.form in
+    let n : (n : ℕ) × (h.size ≡ Definite n) = size-definite h w.0.header.valid w.0.holding in
     let all : announced_length h.size ≡ n.0 = ap announced_length n.1 in
     rw (append_assoc (octets_of h) c (x ∷ []))
-    (primitive_so_far-spells p h (c ++ x ∷ []) n.0 w.0.header w.0.form n.1
+    (primitive_so_far-spells p h (c ++ x ∷ []) n.0 w.0.header w.0.holding n.1
     (omega (arith, length-append c (x ∷ []), w.1)) (within-le p.bound _ _ (omega arith) w.0.fits))
 
 -- before the first contents octet of a wrapping BIT STRING
@@ -129,7 +130,7 @@ open_bit_string-step p h x w = elim (cases_eq x 0) [
       let r : Spells p (opening h ++ []) (holder_so_far h NoMore) = holder_so_far-spells p h NoMore w.0 tt in
       rw (eq-eqb x 0 z, z) (record {
         obeys_grammar = r.obeys_grammar;
-        spelled = r.spelled ∙ append-nil (opening h) ∙ ap (λ (t : List ℕ). octets_of h ++ t) w.1;
+        spelled = r.spelled ∙ append-nil (opening h) ∙ ap (λ (t : List ℕ). octets_of h ++ t) (lead-one h w.1);
       })
   | inr nz ↦ rw (ne_eqb x 0 nz) tt
 ]
@@ -194,7 +195,7 @@ open_holder-step p h o (Ended g) entry r =
         (
           record {
             header = entry.header;
-            form = entry.form;
+            holding = entry.holding;
             shallow = entry.shallow;
             fits = within-le p.bound _ _ (omega arith) (rw e.bound at r.fits);
           },

@@ -98,8 +98,8 @@ module _ (form : Bool → Bool) (definite : form false ≡ false) where
                     named = sym unnamed;
                   },
                   refl,
+                  refl,
                 ),
-                refl,
                 t.sound,
               );
               regular = (
@@ -202,10 +202,10 @@ module _ (form : Bool → Bool) (definite : form false ≡ false) where
                     named = sym named;
                   },
                   holding.again,
+                  omega (arith, like.depth, few),
+                  size-length (form constructed) m (length first + length (spelling i.forest))
+                      (omega (arith, ap length i.spelled)),
                 ),
-                size-length (form constructed) m (length first + length (spelling i.forest))
-                    (omega (arith, ap length i.spelled)),
-                omega (arith, like.depth, few),
                 i.sound,
                 t.sound,
               );
@@ -255,14 +255,14 @@ module _ (form : Bool → Bool) (definite : form false ≡ false) where
       (subst (λ (k : Bool). identifier_octet h.class k h.number ≢ 0) primitive low.0) refl
       (omega (arith, count, few)) in
       spelling-primitive p h c rest primitive u.0.0.valid o
-      (sound-spelling (place_after p (length (octets_of h) + length c)) rest (omega (arith, count, few)) u.2 low.1)
+      (sound-spelling (place_after p (length (octets_of h) + length c)) rest (omega (arith, count, few)) u.1 low.1)
   sound-spelling p (Holder h inside rest) few u low =
       let count : length (spelling (Holder h inside rest)) ≡ extent h inside + length (spelling rest) =
       length-holder h inside rest in
       let begins : length (opening h) ≡ length (octets_of h) + length (lead h) = length-opening h in
       let some : 2 ≤ length (octets_of h) = header-two h u.0.0.valid in
       let held : Spelling form (place_of_children p h) inside =
-      sound-spelling (place_of_children p h) inside (omega (arith, count, few)) u.3 low.0 in
+      sound-spelling (place_of_children p h) inside (omega (arith, count, few)) u.1 low.0 in
       let m : ℕ = length (lead h) + length held.octets in
       let below : m < 2 ^ 40 = omega (arith, held.short, count, begins, some, few, lead-short h.constructed h.number) in
       let primitive : h.constructed ≡ false → form h.constructed ≡ false = λ e. ap form e ∙ definite in
@@ -272,8 +272,8 @@ module _ (form : Bool → Bool) (definite : form false ≡ false) where
       octets-for h h.constructed (size-for (form h.constructed) m) u.0.0.valid.identifier holding.nonzero
       (allows-size h.constructed (form h.constructed) m primitive)
       (size-below (form h.constructed) m below) in
-      spelling-holder p h inside rest h.constructed refl u.0.0.valid u.2 held holding o
-      (sound-spelling (place_after p (extent h inside)) rest (omega (arith, count, few)) u.4 low.1)
+      spelling-holder p h inside rest h.constructed refl u.0.0.valid u.0.2 held holding o
+      (sound-spelling (place_after p (extent h inside)) rest (omega (arith, count, few)) u.2 low.1)
   sound-spelling p (OpenPrimitive h c) few u low = absurd u
   sound-spelling p (OpenHolder h inside) few u low = absurd u
   sound-spelling p (OpenBitString h) few u low = absurd u

@@ -14,8 +14,8 @@ use Rattle.tlv_walk.proofs.GrammarLemmas.Spellings.{length-holder, length-openin
 pub sound-whole : (p : Place) (f : Forest) → IsSound p f → is_whole f ≡ true
 sound-whole p NoMore s = refl
 sound-whole p (PaddingOctet rest) s = sound-whole (place_after p 1) rest s.1
-sound-whole p (Primitive h c rest) s = sound-whole (place_after p (length (octets_of h) + length c)) rest s.2
-sound-whole p (Holder h inside rest) s = sound-whole (place_after p (extent h inside)) rest s.4
+sound-whole p (Primitive h c rest) s = sound-whole (place_after p (length (octets_of h) + length c)) rest s.1
+sound-whole p (Holder h inside rest) s = sound-whole (place_after p (extent h inside)) rest s.2
 sound-whole p (OpenPrimitive h c) s = absurd s
 sound-whole p (OpenHolder h inside) s = absurd s
 sound-whole p (OpenBitString h) s = absurd s
@@ -43,24 +43,24 @@ sound-obeys_grammar p (Primitive h c rest) d z s = (
   (
     record {
       header = s.0.0;
-      form = s.0.1;
+      holding = s.0.1;
       fits = within-le p.bound _ _ (omega (arith, length-primitive h c rest)) z;
     },
-    s.1,
+    s.0.2,
   ),
   sound-obeys_grammar (place_after p (length (octets_of h) + length c)) rest d
-      (within-le p.bound _ _ (omega (arith, length-primitive h c rest)) z) s.2,
+      (within-le p.bound _ _ (omega (arith, length-primitive h c rest)) z) s.1,
 )
 sound-obeys_grammar p (Holder h inside rest) d z s =
     let f : Fits p (extent h inside) = within-le p.bound _ _ (omega (arith, length-holder h inside rest)) z in (
       (
-        record { header = s.0.0; form = s.0.1; shallow = s.2; fits = f },
-        sound-whole (place_of_children p h) inside s.3,
-        s.1,
+        record { header = s.0.0; holding = s.0.1; shallow = s.0.2; fits = f },
+        sound-whole (place_of_children p h) inside s.1,
+        s.0.3,
       ),
-      sound-obeys_grammar (place_of_children p h) inside (λ e. absurd (cc)) (fits-contents p h inside s.1 f) s.3,
+      sound-obeys_grammar (place_of_children p h) inside (λ e. absurd (cc)) (fits-contents p h inside s.0.3 f) s.1,
       sound-obeys_grammar (place_after p (extent h inside)) rest d
-          (within-le p.bound _ _ (omega (arith, length-holder h inside rest)) z) s.4,
+          (within-le p.bound _ _ (omega (arith, length-holder h inside rest)) z) s.2,
     )
 sound-obeys_grammar p (OpenPrimitive h c) d z s = absurd s
 sound-obeys_grammar p (OpenHolder h inside) d z s = absurd s
@@ -73,11 +73,9 @@ pub grammar-sound : (p : Place) (f : Forest) → ObeysGrammar p f → is_whole f
 grammar-sound p NoMore w t = tt
 grammar-sound p (PaddingOctet rest) w t = (w.0.0, grammar-sound (place_after p 1) rest w.1 t)
 grammar-sound p (Primitive h c rest) w t =
-    ((w.0.0.header, w.0.0.form), w.0.1, grammar-sound (place_after p (length (octets_of h) + length c)) rest w.1 t)
+    ((w.0.0.header, w.0.0.holding, w.0.1), grammar-sound (place_after p (length (octets_of h) + length c)) rest w.1 t)
 grammar-sound p (Holder h inside rest) w t = (
-  (w.0.0.header, w.0.0.form),
-  w.0.2,
-  w.0.0.shallow,
+  (w.0.0.header, w.0.0.holding, w.0.0.shallow, w.0.2),
   grammar-sound (place_of_children p h) inside w.1 w.0.1,
   grammar-sound (place_after p (extent h inside)) rest w.2 t,
 )

@@ -9,7 +9,7 @@ use Rattle.tlv_walk.specs.declared.framing.Framing.{Framing}
 use Rattle.tlv_walk.specs.Walker.{InEndOctets, WalkerState}
 use Rattle.tlv_walk.specs.Ending.{IsEnding}
 use Rattle.tlv_walk.specs.Events.{EventValue, event_value_of}
-use Rattle.tlv_walk.specs.Place.{IsWithin}
+use Rattle.tlv_walk.specs.Stack.{IsWithin}
 use Rattle.tlv_walk.specs.Private.Stack.{room_to}
 use Rattle.tlv_walk.specs.Private.Zipper.{HasZipper}
 use Rattle.tlv_walk.specs.Private.Yields.{Continues, RefusesOctet, YieldsEvent, YieldsFault, YieldsStep}

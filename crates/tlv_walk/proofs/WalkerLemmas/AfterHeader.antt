@@ -9,10 +9,11 @@ use Rattle.tlv_walk.specs.Walker.{Between, InBitString, InHeader, InPrimitive, W
 use Rattle.tlv_walk.specs.Events.{AreEqualJoined, Begin, Bytes, Enter, EventValue, Open, Unused, events, opening_events}
 use Rattle.tlv_walk.specs.Events.{opening_event, single_octets}
 use Rattle.tlv_walk.specs.Forest.{Forest, NoMore, OpenBitString, lead, opening, spelling}
-use Rattle.tlv_walk.proofs.GrammarLemmas.Leads.{lead_by}
+use Rattle.tlv_walk.proofs.GrammarLemmas.Leads.{lead-one, lead_by, wraps-bits}
 use Rattle.tlv_walk.specs.Inside.{is_among}
 use Rattle.tlv_walk.specs.Private.WalkerCalls.{after_header}
-use Rattle.tlv_walk.specs.Place.{Fits, IsHeaderAt, IsHolderAt, ObeysGrammar, IsWithin, Place, announced_extent}
+use Rattle.tlv_walk.specs.Place.{Fits, IsHeaderAt, IsHolderAt, ObeysGrammar, Place, announced_extent}
+use Rattle.tlv_walk.specs.Stack.{IsWithin}
 use Rattle.tlv_walk.specs.Stack.{FrameValue, bound_of}
 use Rattle.tlv_walk.specs.Private.Zipper.{BitStringTail, NoTail, HasZipper, PrimitiveTail, EndOctetsTail, HeaderTail}
 use Rattle.tlv_walk.specs.Private.Zipper.{IsPhaseOf, Layer, Tail, Zipper, events_of_layers, events_of_tail, frame_at}
@@ -115,7 +116,7 @@ entry_at : (w : WalkerState) (b : List ℕ) (yielded : List EventValue) (s : Zip
     → IsHolderAt (place_of w.framing s) h (announced_extent h)
 entry_at w b yielded s r t h at c e = record {
   header = is_header_at w b yielded s r t h at c;
-  form = e;
+  holding = e;
   shallow = omega (arith, c.shallow e, place-depth w.framing s.layers, ap length at.stack);
   fits = fits_at w b yielded s r t h at c;
 }
@@ -164,7 +165,7 @@ primitive_state w b yielded s r t h n at c e size =
       here = at.has.here;
       phase = record {
         header = is_header_at w b yielded s r t h at c;
-        form = e;
+        holding = e;
         size = size ∙ ap Definite zero;
         fits =
             subst (λ (m : ℕ). Fits (place_of w.framing s) (length (octets_of h) + m))
@@ -237,7 +238,7 @@ lead_state w b yielded s r t h k at c e one = record {
   stack = ap (λ (fs : List FrameValue). frame_at (place_of w.framing s) h ∷ fs) at.stack;
   layers = at.has.layers;
   here = at.has.here;
-  phase = (entry_at w b yielded s r t h at c e, one);
+  phase = (entry_at w b yielded s r t h at c e, wraps-bits h 0 [] one);
   same_events =
       yielded_after yielded s.layers s.here [] (Enter h ∷ []) (Enter h ∷ []) (quiet_yielded w b yielded s r at) refl;
   element = refl;
@@ -261,10 +262,11 @@ unused_state : (w : WalkerState) (b : List ℕ) (yielded : List EventValue) (s :
     (yielded ++ Unused ∷ [])
     (record { layers = record { before = s.here; header = h } ∷ s.layers; here = NoMore; tail = NoTail })
 unused_state w b yielded s h has a =
-    let k : h.constructed ≡ false = lead_primitive h.constructed (eqb h.number 3) a.1 in
+    let one : lead h ≡ 0 ∷ [] = lead-one h a.1 in
+    let k : h.constructed ≡ false = lead_primitive h.constructed (eqb h.number 3) one in
     record {
       spelled =
-          layer_spelled s.layers s.here h (octets_of h) (0 ∷ []) b (ap (λ (l : List ℕ). octets_of h ++ l) (sym a.1))
+          layer_spelled s.layers s.here h (octets_of h) (0 ∷ []) b (ap (λ (l : List ℕ). octets_of h ++ l) (sym one))
           has.spelled;
       offset = omega (arith, has.offset, length-append b (0 ∷ []));
       stack = has.stack;
@@ -273,7 +275,7 @@ unused_state w b yielded s h has a =
       phase = tt;
       same_events = layer_yielded yielded s.layers s.here h (Enter h ∷ []) (Unused ∷ [])
           (ap (λ (c : Bool). (if c then Open h else Enter h) ∷ map (λ z. Unused) (lead h)) k
-          ∙ ap (λ (l : List ℕ). Enter h ∷ map (λ z. Unused) l) a.1)
+          ∙ ap (λ (l : List ℕ). Enter h ∷ map (λ z. Unused) l) one)
           has.same_events;
       element = has.element;
     }

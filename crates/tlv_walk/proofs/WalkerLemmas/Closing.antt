@@ -7,14 +7,17 @@ use Rattle.tlv_head.specs.declared.header.Size.{Size}
 use Rattle.tlv_head.specs.declared.header.Size.TheVariants.{Definite, Indefinite}
 use Rattle.tlv_head.specs.Header.{AllowsSize, HeaderValue, announced_length, octets_of}
 use Rattle.tlv_walk.specs.Walker.{Between, InEndOctets, WalkerState}
-use Rattle.tlv_walk.specs.Events.{AreEqualJoined, Close, EventValue, Leave, closing_event, end_offset, events}
+use Rattle.tlv_walk.specs.Events.{AreEqualJoined, Close, EventValue, Leave, closing_event, events}
+use Rattle.tlv_walk.proofs.GrammarLemmas.Leads.{end_offset}
 use Rattle.tlv_walk.specs.Events.{opening_events, single_octets}
 use Rattle.tlv_walk.specs.Forest.{Forest, Holder, NoMore, OpenEndOctets, contents_length, end_octets, extent, is_whole}
 use Rattle.tlv_walk.specs.Forest.{opening, spelling}
 use Rattle.tlv_walk.specs.Wrappers.{entered_offsets}
 use Rattle.std.proofs.lemmas.Bool.{cases_Bool}
 use Rattle.tlv_walk.specs.Private.WrapperCount.{wrapper_count_after}
-use Rattle.tlv_walk.specs.Place.{Fits, IsHolderAt, ObeysGrammar, IsWithin, Place, announced_extent, bound_in}
+use Rattle.tlv_walk.specs.Place.{Fits, IsHolderAt, ObeysGrammar, Place, announced_extent}
+use Rattle.tlv_walk.specs.Private.Stack.{bound_in}
+use Rattle.tlv_walk.specs.Stack.{IsWithin}
 use Rattle.tlv_walk.specs.Place.{is_indefinite, place_after}
 use Rattle.tlv_walk.proofs.GrammarLemmas.Lengths.{HasLength}
 use Rattle.tlv_walk.specs.Stack.{FrameValue, IsInIndefinite, IsInWrapper, bound_of}
@@ -77,7 +80,7 @@ closed_whole : (w : WalkerState) (l : Layer) (ls : List Layer) (here : Forest)
 closed_whole w l ls here earlier entry inside filled fits = record {
   obeys_grammar = grammar-followed_by (place_in w.framing ls) l.before (Holder l.header here NoMore) earlier (
     (
-      record { header = entry.header; form = entry.form; shallow = entry.shallow; fits = fits },
+      record { header = entry.header; holding = entry.holding; shallow = entry.shallow; fits = fits },
       inside.whole,
       filled,
     ),

@@ -10,7 +10,8 @@ use Rattle.tlv_walk.specs.declared.framing.Framing.{Framing}
 use Rattle.tlv_walk.specs.Walker.{IsAfterEvent, PhaseValue, Between, InBitString, InEndOctets, InHeader, InPrimitive}
 use Rattle.tlv_walk.specs.Walker.{WalkerState}
 use Rattle.tlv_walk.specs.Events.{AreEqualJoined, Begin, Bytes, Close, End, Enter, EventValue, Leave, Open, Pad, Unused}
-use Rattle.tlv_walk.specs.Events.{closing_event, end_offset, event_octets, events, opening_events, single_octets}
+use Rattle.tlv_walk.specs.Events.{closing_event, event_octets, events, opening_events, single_octets}
+use Rattle.tlv_walk.proofs.GrammarLemmas.Leads.{end_offset}
 use Rattle.tlv_walk.specs.Forest.{Forest, NoMore, PaddingOctet, Primitive, Holder, OpenPrimitive, OpenHolder}
 use Rattle.tlv_walk.specs.Forest.{OpenBitString, OpenHeader, OpenEndOctets, end_octets, extent, is_whole, lead, opening}
 use Rattle.tlv_walk.specs.Forest.{spelling}

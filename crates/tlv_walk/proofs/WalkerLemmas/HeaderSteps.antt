@@ -21,7 +21,7 @@ use Rattle.tlv_walk.specs.Private.WrapperCount.{wrapper_count_after}
 use Rattle.tlv_walk.specs.Wrappers.{entered_offsets}
 use Rattle.tlv_walk.specs.Private.HandsOver.{HandsOver, YieldsHeader}
 use Rattle.tlv_walk.specs.Stack.{bound_of}
-use Rattle.tlv_walk.specs.Place.{IsWithin}
+use Rattle.tlv_walk.specs.Stack.{IsWithin}
 use Rattle.tlv_walk.specs.Private.Stack.{room_to}
 use Rattle.tlv_walk.specs.Private.Zipper.{NoTail, HasZipper, HeaderTail, IsPhaseOf, Zipper, place_of}
 use Rattle.tlv_walk.specs.Private.Yields.{Continues, YieldsEvent}

@@ -16,7 +16,7 @@ use Rattle.tlv_walk.specs.Walker.{WalkerState, Between, InPrimitive, PhaseValue}
 use Rattle.tlv_walk.specs.Private.WalkerCalls.{CanPass, after_header, header_at}
 use Rattle.tlv_walk.specs.Private.Yields.{Continues}
 use Rattle.tlv_walk.specs.Stack.{bound_of}
-use Rattle.tlv_walk.specs.Place.{IsWithin}
+use Rattle.tlv_walk.specs.Stack.{IsWithin}
 use Rattle.tlv_walk.proofs.WalkerLemmas.HeaderKinds.{takes_at_once}
 use Rattle.tlv_walk.proofs.WalkerLemmas.ZipperGrowth.{continues_both}
 use Rattle.tlv_walk.proofs.WalkerLemmas.YieldedEvents.{yields_passed}

@@ -13,7 +13,7 @@ use Rattle.tlv_walk.specs.Ending.{stray_end}
 use Rattle.tlv_walk.specs.Events.{EventValue}
 use Rattle.tlv_walk.proofs.WalkerLemmas.Waiting.{EventWaits, EventWaitsIn, none_waits-idle}
 use Rattle.tlv_walk.specs.Stack.{IsInIndefinite, bound_of}
-use Rattle.tlv_walk.specs.Place.{IsWithin}
+use Rattle.tlv_walk.specs.Stack.{IsWithin}
 use Rattle.tlv_walk.specs.Private.Stack.{IsFilled, room_in, room_to}
 use Rattle.tlv_walk.specs.Private.Zipper.{BitStringTail, NoTail, HasZipper, EndOctetsTail, Layer, Zipper, frames_of}
 use Rattle.tlv_walk.specs.Private.Zipper.{place_in, place_of}

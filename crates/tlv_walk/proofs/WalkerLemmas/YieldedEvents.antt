@@ -7,7 +7,8 @@ use Rattle.tlv_head.specs.Header.{HeaderValue, octets_of}
 use Rattle.tlv_walk.specs.Walker.{Between, InEndOctets, InPrimitive, WalkerState}
 use Rattle.tlv_walk.specs.Events.{Begin, Bytes, End, EventValue, single_octets}
 use Rattle.tlv_walk.specs.Forest.{NoMore, Primitive, spelling}
-use Rattle.tlv_walk.specs.Place.{Fits, IsWithin, Place, is_indefinite, place_after}
+use Rattle.tlv_walk.specs.Place.{Fits, Place, is_indefinite, place_after}
+use Rattle.tlv_walk.specs.Stack.{IsWithin}
 use Rattle.tlv_walk.specs.Stack.{FrameValue, IsInIndefinite, bound_of}
 use Rattle.tlv_walk.specs.Private.Zipper.{NoTail, HasZipper, PrimitiveTail, EndOctetsTail, IsContents, Layer, Zipper}
 use Rattle.tlv_walk.specs.Private.Zipper.{frames_of, place_in, place_of}
@@ -39,7 +40,7 @@ contents_state w b yielded s h c t left has e most =
       here = has.here;
       phase = record {
         header = k.header;
-        form = k.form;
+        holding = k.holding;
         size = k.size ∙ ap Definite same;
         fits = subst (λ (n : ℕ). Fits (place_of w.framing s) (length (octets_of h) + n)) same k.fits;
       };
@@ -95,7 +96,7 @@ end_state w b yielded s h c has e =
             (
               record {
                 header = k.header;
-                form = k.form;
+                holding = k.holding;
                 fits = subst (λ (n : ℕ). Fits p (length (octets_of h) + n)) same k.fits;
               },
               k.size ∙ ap Definite same,

@@ -10,7 +10,8 @@ use Rattle.tlv_walk.specs.Ending.{open_end}
 use Rattle.tlv_walk.specs.Forest.{Forest, Holder, NoMore, OpenBitString, OpenEndOctets, OpenHeader, OpenHolder}
 use Rattle.tlv_walk.specs.Forest.{OpenPrimitive, PaddingOctet, Primitive, contents_length, end_octets, extent, is_whole}
 use Rattle.tlv_walk.specs.Forest.{opening, spelling}
-use Rattle.tlv_walk.specs.Place.{ObeysGrammar, Place, bound_in, is_indefinite, place_after, top_place}
+use Rattle.tlv_walk.specs.Place.{ObeysGrammar, Place, is_indefinite, place_after, top_place}
+use Rattle.tlv_walk.specs.Private.Stack.{bound_in}
 use Rattle.tlv_walk.proofs.GrammarLemmas.Lengths.{LacksOctets}
 use Rattle.tlv_walk.specs.Stack.{IsInIndefinite}
 use Rattle.tlv_walk.specs.Private.Zipper.{AreLayers, AreWhole, BitStringTail, NoTail, PrimitiveTail, EndOctetsTail}

@@ -16,7 +16,7 @@ use Rattle.tlv_walk.specs.Private.Zipper.{BitStringTail, NoTail, HasZipper, Prim
 use Rattle.tlv_walk.specs.Private.Zipper.{IsPhaseOf, Layer, Tail, Zipper, zipper_has_element, frames_of, place_in}
 use Rattle.tlv_walk.specs.Private.Zipper.{place_of}
 use Rattle.tlv_walk.specs.Private.Zipper.{spelling_of_tail, stack_of}
-use Rattle.tlv_walk.proofs.GrammarLemmas.Endings.{halt-ending}
+use Rattle.tlv_walk.proofs.GrammarLemmas.Endings.{ending-by, halt-ending}
 use Rattle.tlv_walk.proofs.GrammarLemmas.Faults.{fault-refused}
 use Rattle.tlv_walk.proofs.GrammarLemmas.PushSteps.{Spells}
 use Rattle.tlv_walk.proofs.GrammarLemmas.Readings.{IsHalt}
@@ -154,8 +154,8 @@ pub state-done : (w : WalkerState) (b : List ℕ) (yielded : List EventValue) (s
     → IsEnding w.framing b Done
 state-done w b yielded s h e none some =
     let o : IsOutermost w b s = state-outermost w b yielded s h e none in
-    done (reading_of s) (state-reading w b yielded s h, o.spelled) (ap has_element o.reading ∙ o.element ∙ some)
-    (ap is_whole o.reading ∙ h.here.whole)
+    ending-by w.framing b (reading_of s) Done (state-reading w b yielded s h)
+    (done o.spelled (ap has_element o.reading ∙ o.element ∙ some) (ap is_whole o.reading ∙ h.here.whole))
 
 -- and if no octet of an element came, there is none
 pub state-empty : (w : WalkerState) (b : List ℕ) (yielded : List EventValue) (s : Zipper) → HasZipper w b yielded s
@@ -163,7 +163,8 @@ pub state-empty : (w : WalkerState) (b : List ℕ) (yielded : List EventValue) (
     → IsEnding w.framing b (fault_ending Empty (length b))
 state-empty w b yielded s h e none no_element =
     let o : IsOutermost w b s = state-outermost w b yielded s h e none in
-    empty (reading_of s) (state-reading w b yielded s h, o.spelled) (ap has_element o.reading ∙ o.element ∙ no_element)
+    ending-by w.framing b (reading_of s) _ (state-reading w b yielded s h)
+    (empty o.spelled (ap has_element o.reading ∙ o.element ∙ no_element))
 
 -- elsewhere something is open: an element that holds others, or what is after the whole elements
 open-elsewhere : (w : Framing) (ls : List Layer) (here : Forest) (f : PhaseValue) (t : Tail)
@@ -187,5 +188,5 @@ state-short w b yielded s h n outside =
     whole-within w.framing s.layers (followed_by s.here (tail_forest s.tail)) h.layers
     (λ e. whole-followed_by s.here (tail_forest s.tail) h.here.whole
     ∙ open-elsewhere w.framing s.layers s.here w.phase s.tail h.phase (λ p q. outside p (h.stack ∙ q)) e) in
-    short (reading_of s) (state-reading w b yielded s h, r.spelled)
-    (ap is_whole (state-within w b yielded s h n) ∙ part)
+    ending-by w.framing b (reading_of s) _ (state-reading w b yielded s h)
+    (short r.spelled (ap is_whole (state-within w b yielded s h n) ∙ part))

@@ -6,7 +6,8 @@ use Rattle.tlv_head.specs.declared.header.Size.{Size}
 use Rattle.tlv_head.specs.declared.header.Size.TheVariants.{Definite, Indefinite}
 use Rattle.tlv_head.specs.Header.{HeaderValue}
 use Rattle.tlv_walk.specs.declared.framing.Framing.{Framing}
-use Rattle.tlv_walk.specs.Events.{Begin, Bytes, Close, End, EventValue, Leave, Pad, closing_event, end_offset, events}
+use Rattle.tlv_walk.specs.Events.{Begin, Bytes, Close, End, EventValue, Leave, Pad, closing_event, events}
+use Rattle.tlv_walk.proofs.GrammarLemmas.Leads.{end_offset}
 use Rattle.tlv_walk.specs.Events.{opening_events}
 use Rattle.tlv_walk.specs.Forest.{Forest, Holder, NoMore, OpenBitString, OpenEndOctets, OpenHeader, OpenHolder}
 use Rattle.tlv_walk.specs.Forest.{OpenPrimitive, PaddingOctet, Primitive, contents_length, end_octets, is_whole}

@@ -115,7 +115,7 @@ contents-whole p h c left i e =
     record {
       obeys_grammar = (
         (
-          record { header = i.header; form = i.form; fits = rw size at i.fits },
+          record { header = i.header; holding = i.holding; fits = rw size at i.fits },
           i.size ∙ ap Definite size,
         ),
         tt,
@@ -129,7 +129,7 @@ contents-open_primitive : (p : Place) (h : HeaderValue) (c : List ℕ) (left : �
 contents-open_primitive p h c left i n = (
   record {
     header = i.header;
-    form = i.form;
+    holding = i.holding;
     fits = within-le p.bound _ _ (omega (arith, ap announced_length i.size)) i.fits;
   },
   omega (arith, ap announced_length i.size),

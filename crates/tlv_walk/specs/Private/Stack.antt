@@ -1,8 +1,8 @@
 -- What the functions of a stack return, and the frame of an element, given its header.
-use Rattle.std.specs.Prelude.{◌≡◌, ℕ, ◌-◌, Bool, not, List, [], ◌∷◌, Option, Some, None}
-use Rattle.std.specs.Option.{option_or}
+use Rattle.std.specs.Prelude.{◌≡◌, ℕ, ◌+◌, ◌-◌, Bool, not, List, [], ◌∷◌, Option, Some, None}
+use Rattle.std.specs.Option.{option_map_or, option_or}
 use Rattle.tlv_head.specs.declared.header.Size.{Size}
-use Rattle.tlv_walk.specs.Place.{bound_in}
+use Rattle.tlv_head.specs.Header.{definite_length}
 use Rattle.tlv_walk.specs.Stack.{FrameValue, bound_of}
 
 -- whether the innermost element is a wrapper, if there is one
@@ -27,6 +27,10 @@ room_to (Some b) offset = Some (b - offset)
 -- the number of octets from an offset to the end of the innermost definite element
 abbrev pub room_in : List FrameValue → ℕ → Option ℕ
 room_in stack offset = room_to (bound_of stack) offset
+
+-- the end of contents that begin at the offset `start`, if their length is definite; otherwise the bound outside
+abbrev pub bound_in : Size → ℕ → Option ℕ → Option ℕ
+bound_in size start outside = option_map_or (λ n. Some (start + n)) (definite_length size) outside
 
 -- the frame of an element whose contents begin at the offset
 abbrev pub frame_with : ℕ → Option ℕ → Size → Bool → FrameValue

@@ -25,7 +25,7 @@ use Rattle.tlv_walk.specs.Inside.{is_among}
 use Rattle.tlv_walk.specs.Walker.{Between, InBitString, InEndOctets, InHeader, InPrimitive, PhaseValue, Refused}
 use Rattle.tlv_walk.specs.Walker.{HasYieldedEvent, WalkerState, least_octets}
 use Rattle.tlv_walk.specs.Stack.{FrameValue, bound_of}
-use Rattle.tlv_walk.specs.Place.{IsWithin}
+use Rattle.tlv_walk.specs.Stack.{IsWithin}
 use Rattle.tlv_walk.specs.Private.Stack.{frame_with, room_in}
 use Rattle.tlv_walk.specs.Private.WrapperCount.{next_wrapper_count}
 use Rattle.tlv_walk.specs.WalkerReads.{IsReady}

@@ -67,7 +67,7 @@ AreLayers framing (l ∷ ls) =
 -- 8.1.3.3: a primitive with this many contents octets still to come
 pub record IsContents (p : Place) (h : HeaderValue) (c : List ℕ) (left : ℕ) : Type 0 where
   pub header : IsHeaderAt p h
-  pub form : holds h ≡ false
+  pub holding : holds h ≡ false
   pub size : h.size ≡ Definite (length c + left)
   pub fits : Fits p (length (octets_of h) + (length c + left))
 

@@ -10,7 +10,7 @@ ghost use Rattle.tlv_walk.specs.Private.WalkerCalls.{TakesHeader, CountsAt};
 ghost use Rattle.tlv_walk.specs.Private.WrapperCount.{next_wrapper_count};
 ghost use Rattle.tlv_walk.specs.Private.HandsOver.{YieldsFrom, YieldsHeader};
 ghost use Rattle.tlv_walk.specs.Stack.{bound_of};
-ghost use Rattle.tlv_walk.specs.Place.{IsWithin};
+ghost use Rattle.tlv_walk.specs.Stack.{IsWithin};
 ghost use Rattle.tlv_walk.specs.Private.Yields.{Steps};
 
 use super::{Phase, Walker};

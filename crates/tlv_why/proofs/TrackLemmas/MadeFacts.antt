@@ -8,7 +8,7 @@ use Rattle.tlv_head.specs.declared.fault.Fault.{Fault}
 use Rattle.tlv_walk.specs.declared.ending.Ending.{Ending}
 use Rattle.tlv_walk.specs.declared.ending.Ending.TheVariants as ending
 use Rattle.tlv_walk.specs.declared.framing.Framing.{Framing}
-use Rattle.tlv_walk.specs.Ending.{IsEnding, done, empty, open_end, refused, short}
+use Rattle.tlv_walk.specs.Ending.{IsEnding, IsEndingOf, done, empty, open_end, refused, short}
 use Rattle.tlv_walk.specs.Events.{AreEqualJoined, EventValue, events}
 use Rattle.tlv_walk.specs.Forest.{Forest, Holder, NoMore, OpenBitString, OpenEndOctets, OpenHeader, OpenHolder}
 use Rattle.tlv_walk.specs.Forest.{OpenPrimitive, PaddingOctet, Primitive, spelling}
@@ -137,16 +137,18 @@ count_read-same : (found : Option Fault) (octets : List ℕ)
 count_read-same None octets = refl
 count_read-same (Some f) octets = refl
 
+count-by : (framing : Framing) (octets : List ℕ) (e : Ending) (f : Forest) → IsEndingOf framing octets f e
+    → count_of octets e ≡ length (spelling f)
+count-by framing octets _ f (empty spelled none) = sym (ap length spelled)
+count-by framing octets _ f (short spelled open_) = sym (ap length spelled)
+count-by framing octets _ f (done spelled some whole) = sym (ap length spelled)
+count-by framing octets _ f (refused x rest code spelled why) = refl
+
 ending-count : (framing : Framing) (octets : List ℕ) (e : Ending) (f : Forest) → IsEnding framing octets e
     → IsReading framing octets f → count_of octets e ≡ length (spelling f)
-ending-count framing octets _ f (empty g reads none) r =
-    sym (ap length (ap spelling (reading-unique framing octets f g r reads.0) ∙ reads.1))
-ending-count framing octets _ f (short g reads open_) r =
-    sym (ap length (ap spelling (reading-unique framing octets f g r reads.0) ∙ reads.1))
-ending-count framing octets _ f (done g reads some whole) r =
-    sym (ap length (ap spelling (reading-unique framing octets f g r reads.0) ∙ reads.1))
-ending-count framing octets _ f (refused g x rest code reading spelled why) r =
-    sym (ap length (ap spelling (reading-unique framing octets f g r reading)))
+ending-count framing octets e f x r =
+    count-by framing octets e x.reading x.ends
+    ∙ ap (λ (g : Forest). length (spelling g)) (reading-unique framing octets x.reading f x.is_reading r)
 
 pub facts-made : (framing : Framing) (octets : List ℕ) (w : WalkerState) (t : Tracker) (e : Ending) (facts : Facts)
     → HasTracked framing octets w t → IsEnding framing octets e → MakesFacts t octets e facts

@@ -7,7 +7,9 @@ use Rattle.tlv_head.specs.declared.header.Size.TheVariants.{Definite, Indefinite
 use Rattle.tlv_head.specs.Header.{AllowsSize, HeaderValue, IsHeader, octets_of}
 use Rattle.tlv_head.specs.UniversalTypes as universal
 use Rattle.tlv_walk.specs.Events.{Begin, Bytes, Close, End, Enter, EventValue, Leave, Open, Pad, Unused, closing_event}
-use Rattle.tlv_walk.specs.Events.{end_octets_offset, end_offset, event_octets, opening_events}
+use Rattle.tlv_walk.specs.Events.{event_octets, opening_events}
+use Rattle.tlv_walk.proofs.GrammarLemmas.Leads.{end_offset}
+use Rattle.tlv_walk.specs.Forest.{end_octets_offset}
 use Rattle.tlv_walk.specs.Forest.{Forest, end_octets, lead, opening, primitive_extent, spelling}
 use Rattle.tlv_walk.proofs.GrammarLemmas.Leads.{lead_by}
 use Rattle.tlv_why.specs.declared.element.Element.{Element}

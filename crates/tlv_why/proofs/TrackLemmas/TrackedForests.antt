@@ -10,6 +10,7 @@ use Rattle.tlv_walk.specs.Forest.{Forest, Holder, NoMore, OpenBitString, OpenEnd
 use Rattle.tlv_walk.specs.Forest.{OpenPrimitive, PaddingOctet, Primitive, end_octets, extent, is_whole, opening}
 use Rattle.tlv_walk.specs.Forest.{primitive_extent, spelling}
 use Rattle.tlv_walk.specs.Place.{ObeysGrammar, Place, place_after, place_of_children}
+use Rattle.tlv_walk.proofs.GrammarLemmas.Leads.{lead-one}
 use Rattle.tlv_walk.proofs.GrammarLemmas.Spellings.{length-holder, length-primitive}
 use Rattle.tlv_why.specs.declared.element.Element.{Element}
 use Rattle.tlv_why.specs.declared.tracker.Tracker.{Tracker}
@@ -249,7 +250,7 @@ forest-tracked p (OpenHolder h children) holders before top nearest o depth =
     })
 forest-tracked p (OpenBitString h) holders before top nearest o depth =
     subst (λ (t : Tracker). IsTracked p (OpenBitString h) holders before top nearest t)
-    (sym (bit_string-entered holders before top nearest p.offset h o.1))
+    (sym (bit_string-entered holders before top nearest p.offset h (lead-one h o.1)))
     (record {
       holders_are = sym (append-nil holders);
       current = refl;

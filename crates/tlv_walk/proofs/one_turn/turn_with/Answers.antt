@@ -1,11 +1,19 @@
 use Rattle.std.proofs.Common.{rules, refl, arith}
 use Rattle.std.proofs.lemmas.Grind.{elements}
 use Rattle.tlv_io.specs.Out.{drain_of}
-use Rattle.tlv_walk.specs.OneTurn.{turn_states}
+use Rattle.tlv_walk.specs.OneTurn.{read_failed, turn_states}
 use Rattle.tlv_walk.specs.Private.FollowsPiece.{follow_states}
 use Rattle.tlv_walk.proofs.FollowerLemmas.Calls.{calls_answered, calls_given, can_go_on_answered, used_up_ready}
 use Rattle.tlv_walk.proofs.FollowerLemmas.Turns.{turns_answered, turns_failed}
 use Rattle.tlv_walk.proofs.one_turn.turn_with.Goals as goal
+
+pub returns-in_default-clause-read : goal.returns-in_default-clause-read
+returns-in_default-clause-read g c = record {
+  calls = search rules;
+  are_octets = grind (arith, elements);
+  turned = λ b yielded st. read_failed (record { walker = refl; follower = refl }) (search rules);
+  goes_on = search rules;
+}
 
 pub returns-in_default-follow_and_flush-clause-read : goal.returns-in_default-follow_and_flush-clause-read
 returns-in_default-follow_and_flush-clause-read g c = record {

@@ -1,7 +1,7 @@
 use Rattle.std.proofs.Common.{◌≡◌, ℕ, ◌+◌, ◌-◌, List, ◌∷◌, length, take, drop, refl, sym, subst, inl, arith, rules}
 use Rattle.std.proofs.lemmas.Grind.{common_steps}
 use Rattle.tlv_walk.specs.Stack.{bound_of}
-use Rattle.tlv_walk.specs.Place.{IsWithin}
+use Rattle.tlv_walk.specs.Stack.{IsWithin}
 use Rattle.tlv_walk.specs.Private.Yields.{YieldsStep}
 use Rattle.tlv_walk.proofs.WalkerLemmas.AfterFirstZero.{room_more, step_after}
 use Rattle.tlv_walk.proofs.WalkerLemmas.YieldedEvents.{yields_zero}

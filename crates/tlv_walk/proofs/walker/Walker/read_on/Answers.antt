@@ -4,7 +4,7 @@ use Rattle.tlv_head.specs.HeadReader.{HeadReaderState, FitsThere, IsRefusedPush,
 use Rattle.tlv_walk.specs.Walker.{WalkerState}
 use Rattle.tlv_walk.specs.Private.HandsOver.{HandsOver}
 use Rattle.tlv_walk.specs.Stack.{bound_of}
-use Rattle.tlv_walk.specs.Place.{IsWithin}
+use Rattle.tlv_walk.specs.Stack.{IsWithin}
 use Rattle.tlv_walk.specs.Private.Stack.{room_to}
 use Rattle.tlv_walk.specs.Events.{event_value_of}
 use Rattle.tlv_walk.specs.WalkerFields.{walker_state_of}
