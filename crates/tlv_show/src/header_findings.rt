@@ -145,7 +145,7 @@ fn add_if(there: bool, finding: Finding, found: &mut ArrayVec<Finding, 17>)
     }
 }
 
-/// Adds what violates the rules of all encodings: the listed findings.
+/// Adds what violates the rules of all encodings, of the listed findings.
 #[inline(always)]
 fn add_basic_findings(frame: &HolderFrame, header: &Header, found: &mut ArrayVec<Finding, 17>)
     requires { found.old.items ≡ [] }
@@ -183,7 +183,7 @@ fn add_basic_findings(frame: &HolderFrame, header: &Header, found: &mut ArrayVec
     );
 }
 
-/// Adds the others of them, in the scope that has them.
+/// Adds the rest of what violates the rules of all encodings, if it is in the scope.
 #[inline(always)]
 fn add_later_basic_findings(scope: Scope, header: &Header, found: &mut ArrayVec<Finding, 17>)
     requires { length found.old.items ≤ 7 }
