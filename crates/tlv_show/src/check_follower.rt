@@ -10,7 +10,7 @@ use crate::finder::Finder;
 use crate::finding_lines::{Style, put_findings};
 use crate::{Rules, Wanted};
 use std::marker::Model;
-use tlv_head::Header;
+use tlv_head::{Header, HeaderFields};
 use tlv_walk::{Drain, Event, Follow, Go, Out, WriteFault};
 
 /// Lists what violates the rules, a line for each finding: the offset of the element, the code, and the text. A
@@ -84,5 +84,29 @@ impl Follow for Check {
         _out: &mut Out<'_, D>,
     ) -> Result<bool, WriteFault> {
         Ok(self.finder.passes(header, contents_in(header, octets)))
+    }
+
+    #[inline(always)]
+    fn open<D: Drain>(
+        &mut self,
+        fields: &HeaderFields,
+        octets: &[u8],
+        out: &mut Out<'_, D>,
+    ) -> Result<Go, WriteFault> {
+        let may_have_findings = self.finder.open(&Header::new(fields, octets), octets);
+        put_findings(may_have_findings, Style::Check, &self.finder, out)?;
+        Ok(Go::On)
+    }
+
+    #[inline(always)]
+    fn enter<D: Drain>(
+        &mut self,
+        fields: &HeaderFields,
+        octets: &[u8],
+        out: &mut Out<'_, D>,
+    ) -> Result<Go, WriteFault> {
+        let may_have_findings = self.finder.open(&Header::new(fields, octets), octets);
+        put_findings(may_have_findings, Style::Check, &self.finder, out)?;
+        Ok(Go::On)
     }
 }

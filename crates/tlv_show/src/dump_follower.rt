@@ -1,5 +1,6 @@
 //! The follower that writes a dump.
 ghost use Rattle.std.specs.Prelude.{◌≡◌, ◌≤◌, length, refl};
+ghost use Rattle.tlv_head.specs.Header.{octets_of};
 ghost use Rattle.tlv_walk.proofs.FollowerLemmas.FollowedEvents.{each_octet-goes_on, each_octet-joins};
 ghost use Rattle.tlv_walk.specs.Events.{Begin, Bytes, Close, End, Enter, event_value_of};
 ghost use Rattle.tlv_walk.specs.Follow.{HasEffect};
@@ -118,13 +119,24 @@ impl<N: FiniteNames> Follow for Dump<'_, N> {
     }
 
     #[inline(always)]
+    fn open<D: Drain>(
+        &mut self,
+        fields: &HeaderFields,
+        octets: &[u8],
+        out: &mut Out<'_, D>,
+    ) -> Result<Go, WriteFault> {
+        Dump::open(self, &Header::new(fields, octets), octets, b" {", out)?;
+        Ok(Go::On)
+    }
+
+    #[inline(always)]
     fn enter<D: Drain>(
         &mut self,
         fields: &HeaderFields,
         octets: &[u8],
         out: &mut Out<'_, D>,
     ) -> Result<Go, WriteFault> {
-        self.open(&Header::new(fields, octets), b" wraps {", out)?;
+        Dump::open(self, &Header::new(fields, octets), octets, b" wraps {", out)?;
         Ok(Go::On)
     }
 }
@@ -141,7 +153,7 @@ impl<N: FiniteNames> Dump<'_, N> {
             out.old out.new self.new result }
     {
         match event {
-            Event::Open(header) => self.open(header, b" {", out),
+            Event::Open(header) => self.open(header, header.raw(), b" {", out),
             Event::Enter(header) => self.open_wrapper(header, out),
             Event::Begin(header) => self.begin(header, out),
             Event::Bytes(octets) => self.bytes(octets, out),
@@ -161,16 +173,18 @@ impl<N: FiniteNames> Dump<'_, N> {
     fn open<D: Drain>(
         &mut self,
         header: &Header,
+        octets: &[u8],
         word: &[u8],
         out: &mut Out<'_, D>,
     ) -> Result<(), WriteFault>
-        requires { length word.now ≤ 16 }
+        requires octets { octets.now ≡ octets_of header.now }
+        requires short { length word.now ≤ 16 }
         ensures { HasEffect D.state
             (findings_before self.old (finder_open_step self.old.finder header.now)
             (lines_open_step self.old.lines header.now word.now))
             out.old out.new self.new result }
     {
-        let may_have_findings = self.finder.open(header);
+        let may_have_findings = self.finder.open(header, octets);
         let style = self.lines.style();
         put_findings(may_have_findings, style, &self.finder, out)?;
         self.lines.open(header, word, out)
@@ -186,7 +200,7 @@ impl<N: FiniteNames> Dump<'_, N> {
         ensures { HasEffect D.state (dump_step self.old (Enter header.now))
             out.old out.new self.new result }
     {
-        self.open(header, b" wraps {", out)
+        self.open(header, header.raw(), b" wraps {", out)
     }
 
     /// A primitive begins whose octets are not all available, or that may have findings.

@@ -1,7 +1,7 @@
 //! The findings in elements, event by event.
 ghost use Rattle.std.specs.Option.{is_some};
 ghost use Rattle.std.specs.Prelude.{◌≡◌, ◌||◌};
-ghost use Rattle.tlv_head.specs.Header.{HasAllContents};
+ghost use Rattle.tlv_head.specs.Header.{HasAllContents, octets_of};
 ghost use Rattle.tlv_walk.specs.Events.{event_value_of};
 ghost use Rattle.tlv_show.specs.FinderState.{finder_in_primitive, finder_begin_step, finder_bytes_step};
 ghost use Rattle.tlv_show.specs.FinderState.{finder_close_step, finder_end_step, finder_open_step};
@@ -125,8 +125,8 @@ impl Finder {
             (finder_step self.old.kept (event_value_of event.now)) self.new result }
     {
         match event {
-            Event::Open(header) => self.open(header),
-            Event::Enter(header) => self.open(header),
+            Event::Open(header) => self.open(header, header.raw()),
+            Event::Enter(header) => self.open(header, header.raw()),
             Event::Begin(header) => {
                 self.begin(header);
                 true
@@ -192,17 +192,19 @@ impl Finder {
         self.offset = header.offset;
         self.is_open = true;
         self.check.restart(header);
-        begin_in_order(&mut self.order, self.wanted, header);
-        begin_in_strings(&mut self.strings, self.wanted, header);
+        begin_in_order(&mut self.order, self.wanted, header, header.raw());
+        begin_in_strings(&mut self.strings, self.wanted, header, header.raw());
     }
 
-    /// An element that holds others begins.
+    /// An element that holds others begins, with a header of these octets. The octets are an argument, since a header
+    /// whose own are not used need not be made in memory.
     #[inline(always)]
-    pub fn open(&mut self, header: &Header) -> bool
+    pub fn open(&mut self, header: &Header, octets: &[u8]) -> bool
+        requires { octets.now ≡ octets_of header.now }
         ensures { ReturnsFindings (finder_open_step self.old.kept header.now) self.new result }
     {
-        open_in_order(&mut self.order, self.wanted, header);
-        open_in_strings(&mut self.strings, self.wanted, header);
+        open_in_order(&mut self.order, self.wanted, header, octets);
+        open_in_strings(&mut self.strings, self.wanted, header, octets);
         // Most such elements are not strings, and have no findings.
         if has_no_header_findings(self.wanted.rules, self.holders.frame(), header) {
             self.holders.open_without_frame(header);

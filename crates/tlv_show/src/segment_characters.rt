@@ -1,5 +1,6 @@
 //! Strings whose segments have characters that are not of their type, event by event.
 ghost use Rattle.std.specs.Prelude.{◌≡◌, ◌<◌, [], ◌∷◌, length, true};
+ghost use Rattle.tlv_head.specs.Header.{octets_of};
 ghost use Rattle.tlv_show.specs.Private.SegmentCharacters.{AreDone, StayAtPrimitives, segments_after_octets_from};
 ghost use Rattle.tlv_show.specs.SegmentCharactersState.{at_innermost, closing_string, new_segment_frame, segment_ended};
 ghost use Rattle.tlv_show.specs.SegmentCharactersState.{segments_after_octets};
@@ -64,12 +65,13 @@ impl SegmentCharacters {
         !self.is_open
     }
 
-    /// A primitive begins.
-    #[inline]
-    pub fn begin(&mut self, header: &Header)
+    /// A primitive begins, with a header of these octets.
+    #[inline(always)]
+    pub fn begin(&mut self, header: &Header, raw: &[u8])
+        requires { raw.now ≡ octets_of header.now }
         ensures { self.new ≡ segments_begun self.old header.now }
     {
-        self.octets(header.raw());
+        self.octets(raw);
         if self.is_open {
             begin_in(&mut self.frame, header);
         }
@@ -87,17 +89,18 @@ impl SegmentCharacters {
 
     /// An element that holds others begins. Of a BIT STRING that holds encodings, the first contents octet is taken
     /// too.
-    #[inline]
-    pub fn open(&mut self, header: &Header)
+    #[inline(always)]
+    pub fn open(&mut self, header: &Header, octets: &[u8])
+        requires { octets.now ≡ octets_of header.now }
         ensures { self.new ≡ segments_opened self.old header.now }
     {
-        self.begin(header);
+        self.begin(header, octets);
         self.octets(lead_of(header));
         self.enter(header);
     }
 
     /// The elements that come next are in the element with this header.
-    #[inline]
+    #[inline(always)]
     fn enter(&mut self, header: &Header)
         ensures { self.new ≡ segments_entered self.old header.now }
     {
@@ -122,6 +125,7 @@ impl SegmentCharacters {
     }
 
     /// A string begins in which octets are looked at.
+    #[inline(always)]
     fn push(&mut self, header: &Header)
         requires { length self.old < 128 }
         ensures { self.new ≡ new_segment_frame header.now ∷ self.old }
@@ -134,7 +138,7 @@ impl SegmentCharacters {
     }
 
     /// Octets of the input.
-    #[inline]
+    #[inline(never)]
     pub fn octets(&mut self, octets: &[u8])
         ensures { self.new ≡ segments_after_octets octets.now self.old }
     {

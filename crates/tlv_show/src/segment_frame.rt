@@ -41,6 +41,7 @@ pub(crate) fn is_tested_string(header: &Header) -> bool
 }
 
 /// The frame of a string before its first segment.
+#[inline(always)]
 pub(crate) fn new_segment_frame(header: &Header) -> SegmentFrame
     ensures { result ≡ new_segment_frame header.now }
 {
@@ -72,7 +73,7 @@ pub(crate) fn look_at(frame: &mut SegmentFrame, octets: &[u8])
 }
 
 /// After the header of an element, its contents octets come.
-#[inline]
+#[inline(always)]
 pub(crate) fn begin_in(frame: &mut SegmentFrame, header: &Header)
     ensures { frame.new ≡ segment_begun frame.old header.now }
 {

@@ -142,7 +142,7 @@ pub(crate) fn is_full(frame: &SetFrame) -> bool
 }
 
 /// An element begins directly in the SET.
-#[inline]
+#[inline(always)]
 pub(crate) fn begin_in(frame: &mut SetFrame, rules: Rules, header: &Header)
     ensures { frame.new ≡ frame_begun rules frame.old header.now }
 {

@@ -1,5 +1,6 @@
 //! Elements of a SET that are out of order, event by event.
 ghost use Rattle.std.specs.Prelude.{◌≡◌, true};
+ghost use Rattle.tlv_head.specs.Header.{octets_of};
 ghost use Rattle.tlv_show.specs.Private.SetOrder.{AreFull, IsUnchangedByPrimitives, frames_after_octets_from};
 ghost use Rattle.tlv_show.specs.SetOrderState.{frames_after_octets};
 ghost use Rattle.tlv_show.specs.SetOrderState.{is_last_out_of_order, new_set_order, set_order_begin_step};
@@ -71,29 +72,31 @@ impl SetOrder {
         self.full == self.outer.len()
     }
 
-    /// A primitive begins.
-    #[inline]
-    pub fn begin(&mut self, rules: Rules, header: &Header)
+    /// A primitive begins, with a header of these octets.
+    #[inline(always)]
+    pub fn begin(&mut self, rules: Rules, header: &Header, raw: &[u8])
+        requires { raw.now ≡ octets_of header.now }
         ensures { self.new ≡ set_order_begin_step rules self.old header.now }
     {
         if self.frame.open_count == 0 {
             begin_in(&mut self.frame, rules, header);
         }
-        self.octets(header.raw());
+        self.octets(raw);
     }
 
     /// An element that holds others begins. Of a BIT STRING that holds encodings, the first contents octet is taken too.
-    #[inline]
-    pub fn open(&mut self, rules: Rules, header: &Header)
+    #[inline(always)]
+    pub fn open(&mut self, rules: Rules, header: &Header, octets: &[u8])
+        requires { octets.now ≡ octets_of header.now }
         ensures { self.new ≡ set_order_open_step rules self.old header.now }
     {
-        self.begin(rules, header);
+        self.begin(rules, header, octets);
         self.octets(lead_of(header));
         self.enter(header);
     }
 
     /// The elements that come next are in the element with this header.
-    #[inline]
+    #[inline(always)]
     fn enter(&mut self, header: &Header)
         ensures { self.new ≡ set_order_entered self.old header.now }
     {
@@ -106,7 +109,7 @@ impl SetOrder {
 
     /// Octets of the open elements, after their headers.
     #[tactic(auto, using(crate::proofs::SetOrderLemmas::KeptFrames::reverse_after))]
-    #[inline]
+    #[inline(never)]
     pub fn octets(&mut self, octets: &[u8])
         ensures { self.new ≡ set_order_octets_step self.old octets.now }
     {

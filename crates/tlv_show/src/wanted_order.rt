@@ -1,5 +1,6 @@
 //! What is kept of the open SETs, if their order is wanted.
 ghost use Rattle.std.specs.Prelude.{◌≡◌, true};
+ghost use Rattle.tlv_head.specs.Header.{octets_of};
 ghost use Rattle.tlv_show.specs.Private.SetOrder.{IsUnchangedByPrimitives};
 ghost use Rattle.tlv_show.specs.FinderState.{end_octets_if, is_order_found, order_if};
 ghost use Rattle.tlv_show.specs.SetOrderState.{set_order_begin_step, set_order_close_step, set_order_end_step};
@@ -32,23 +33,25 @@ pub(crate) fn passes_in_order(order: &SetOrder, wanted: Wanted) -> bool
 
 /// A primitive begins.
 #[inline(always)]
-pub(crate) fn begin_in_order(order: &mut SetOrder, wanted: Wanted, header: &Header)
+pub(crate) fn begin_in_order(order: &mut SetOrder, wanted: Wanted, header: &Header, octets: &[u8])
+    requires { octets.now ≡ octets_of header.now }
     ensures { order.new
         ≡ order_if wanted (set_order_begin_step wanted.rules order.old header.now) order.old }
 {
     if wants_order(wanted) {
-        order.begin(wanted.rules, header);
+        order.begin(wanted.rules, header, octets);
     }
 }
 
 /// An element that holds others begins.
 #[inline(always)]
-pub(crate) fn open_in_order(order: &mut SetOrder, wanted: Wanted, header: &Header)
+pub(crate) fn open_in_order(order: &mut SetOrder, wanted: Wanted, header: &Header, octets: &[u8])
+    requires { octets.now ≡ octets_of header.now }
     ensures { order.new
         ≡ order_if wanted (set_order_open_step wanted.rules order.old header.now) order.old }
 {
     if wants_order(wanted) {
-        order.open(wanted.rules, header);
+        order.open(wanted.rules, header, octets);
     }
 }
 

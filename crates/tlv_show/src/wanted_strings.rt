@@ -1,5 +1,6 @@
 //! What is kept of the open strings, if the characters of their segments are wanted.
 ghost use Rattle.std.specs.Prelude.{◌≡◌, true};
+ghost use Rattle.tlv_head.specs.Header.{octets_of};
 ghost use Rattle.tlv_show.specs.FinderState.{end_octets_if, string_found, strings_if};
 ghost use Rattle.tlv_show.specs.Private.SegmentCharacters.{StayAtPrimitives};
 ghost use Rattle.tlv_show.specs.SegmentCharactersState.{at_innermost, segment_ended, segments_after_octets};
@@ -35,21 +36,33 @@ pub(crate) fn passes_in_strings(strings: &SegmentCharacters, wanted: Wanted) -> 
 
 /// A primitive begins.
 #[inline(always)]
-pub(crate) fn begin_in_strings(strings: &mut SegmentCharacters, wanted: Wanted, header: &Header)
+pub(crate) fn begin_in_strings(
+    strings: &mut SegmentCharacters,
+    wanted: Wanted,
+    header: &Header,
+    octets: &[u8],
+)
+    requires { octets.now ≡ octets_of header.now }
     ensures { strings.new ≡ strings_if wanted (segments_begun strings.old header.now) strings.old }
 {
     if wants_characters(wanted) {
-        strings.begin(header);
+        strings.begin(header, octets);
     }
 }
 
 /// An element that holds others begins.
 #[inline(always)]
-pub(crate) fn open_in_strings(strings: &mut SegmentCharacters, wanted: Wanted, header: &Header)
+pub(crate) fn open_in_strings(
+    strings: &mut SegmentCharacters,
+    wanted: Wanted,
+    header: &Header,
+    octets: &[u8],
+)
+    requires { octets.now ≡ octets_of header.now }
     ensures { strings.new ≡ strings_if wanted (segments_opened strings.old header.now) strings.old }
 {
     if wants_characters(wanted) {
-        strings.open(header);
+        strings.open(header, octets);
     }
 }
 

@@ -10,7 +10,8 @@ use Rattle.tlv_head.specs.declared.header.Size.TheVariants.{Definite, Indefinite
 use Rattle.tlv_head.specs.Header.{AllowsSize, HeaderValue, octets_of}
 use Rattle.tlv_value.specs.Types.{is_primitive}
 use Rattle.tlv_walk.specs.Events.{Begin, Bytes, Close, End, Enter, EventValue, Leave, Open, Unused, closing_event}
-use Rattle.tlv_walk.specs.Events.{end_offset, event_octets, opening_events}
+use Rattle.tlv_walk.specs.Events.{event_octets, opening_events}
+use Rattle.tlv_walk.proofs.GrammarLemmas.Leads.{end_offset}
 use Rattle.tlv_walk.specs.Forest.{Forest, end_octets, lead, opening, spelling}
 use Rattle.tlv_walk.proofs.GrammarLemmas.Leads.{lead_by}
 use Rattle.tlv_show.specs.declared.segment_frame.SegmentFrame.{SegmentFrame}

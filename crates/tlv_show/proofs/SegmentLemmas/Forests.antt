@@ -55,7 +55,7 @@ segments-forest p frames (Primitive h c rest) v between few short free =
     let octets : List ℕ = octets_of h ++ c in
     let t : List SegmentFrame = passed octets wrong frames in
     let taken : primitive_taken frames h c ≡ t =
-    primitive-passed frames h c (not-holding h.constructed (wraps h) v.0.0.form) between in
+    primitive-passed frames h c (not-holding h.constructed (wraps h) v.0.0.holding) between in
     let same = passed-length octets wrong frames in
     let r =
     segments-forest (place_after p (primitive_extent h c)) t rest v.1 (passed-between octets wrong frames between)

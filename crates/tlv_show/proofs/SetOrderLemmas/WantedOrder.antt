@@ -8,7 +8,8 @@ use Rattle.std.specs.Option.{is_some}
 use Rattle.tlv_head.specs.declared.header.Size.{Size}
 use Rattle.tlv_head.specs.declared.header.Size.TheVariants.{Definite, Indefinite}
 use Rattle.tlv_head.specs.Header.{AllowsSize, HeaderValue, octets_of}
-use Rattle.tlv_walk.specs.Events.{end_offset, end_octets_offset}
+use Rattle.tlv_walk.proofs.GrammarLemmas.Leads.{end_offset}
+use Rattle.tlv_walk.specs.Forest.{end_octets_offset}
 use Rattle.tlv_walk.specs.Forest.{Forest, end_octets, opening, spelling}
 use Rattle.tlv_show.specs.declared.set_frame.SetFrame.{SetFrame}
 use Rattle.tlv_show.specs.declared.wanted.Wanted.{Wanted}
