@@ -19,89 +19,89 @@ abbrev breaks_there : ℕ → Suspicion → FaultCode → ℕ → BrokenString
 breaks_there offset reason code fault = record { offset = offset; reason = reason; fault = fault_at code fault }
 
 -- octets 00
-abbrev zeros : ℕ → List ℕ
-zeros zero = []
-zeros (suc n) = 0 ∷ zeros n
+abbrev zero_octets : ℕ → List ℕ
+zero_octets zero = []
+zero_octets (suc n) = 0 ∷ zero_octets n
 
 -- a SEQUENCE of 23 octets in 25
-row-broken_1 : AreBroken false (4 ∷ 0x19 ∷ 0x30 ∷ 0x17 ∷ 2 ∷ 1 ∷ 5 ∷ 4 ∷ 0x13 ∷ zeros 18)
+row-broken_1 : AreBroken false (4 ∷ 0x19 ∷ 0x30 ∷ 0x17 ∷ 2 ∷ 1 ∷ 5 ∷ 4 ∷ 0x13 ∷ zero_octets 18)
     (breaks_there 0 Sequence Overrun 8 ∷ [])
 row-broken_1 = row-of_broken _ _ refl refl
 
 -- a SET
-row-broken_2 : AreBroken false (4 ∷ 0x19 ∷ 0x31 ∷ 0x17 ∷ 2 ∷ 1 ∷ 5 ∷ 4 ∷ 0x13 ∷ zeros 18)
+row-broken_2 : AreBroken false (4 ∷ 0x19 ∷ 0x31 ∷ 0x17 ∷ 2 ∷ 1 ∷ 5 ∷ 4 ∷ 0x13 ∷ zero_octets 18)
     (breaks_there 0 Set Overrun 8 ∷ [])
 row-broken_2 = row-of_broken _ _ refl refl
 
 -- an element that ends 8 octets too early
-row-broken_3 : AreBroken false (4 ∷ 0x19 ∷ 0x30 ∷ 0x0f ∷ 2 ∷ 1 ∷ 5 ∷ 4 ∷ 0x13 ∷ zeros 18)
+row-broken_3 : AreBroken false (4 ∷ 0x19 ∷ 0x30 ∷ 0x0f ∷ 2 ∷ 1 ∷ 5 ∷ 4 ∷ 0x13 ∷ zero_octets 18)
     (breaks_there 0 Sequence Overrun 8 ∷ [])
 row-broken_3 = row-of_broken _ _ refl refl
 
 -- 9 octets too early
-row-broken_4 : AreBroken false (4 ∷ 0x19 ∷ 0x30 ∷ 0x0e ∷ 2 ∷ 1 ∷ 5 ∷ 4 ∷ 0x13 ∷ zeros 18)
+row-broken_4 : AreBroken false (4 ∷ 0x19 ∷ 0x30 ∷ 0x0e ∷ 2 ∷ 1 ∷ 5 ∷ 4 ∷ 0x13 ∷ zero_octets 18)
     []
 row-broken_4 = row-of_broken _ _ refl refl
 
 -- 8 octets too late
-row-broken_5 : AreBroken false (4 ∷ 0x19 ∷ 0x30 ∷ 0x1f ∷ 2 ∷ 1 ∷ 5 ∷ 4 ∷ 0x13 ∷ zeros 18)
+row-broken_5 : AreBroken false (4 ∷ 0x19 ∷ 0x30 ∷ 0x1f ∷ 2 ∷ 1 ∷ 5 ∷ 4 ∷ 0x13 ∷ zero_octets 18)
     (breaks_there 0 Sequence Overrun 3 ∷ [])
 row-broken_5 = row-of_broken _ _ refl refl
 
 -- 9 octets too late
-row-broken_6 : AreBroken false (4 ∷ 0x19 ∷ 0x30 ∷ 0x20 ∷ 2 ∷ 1 ∷ 5 ∷ 4 ∷ 0x13 ∷ zeros 18)
+row-broken_6 : AreBroken false (4 ∷ 0x19 ∷ 0x30 ∷ 0x20 ∷ 2 ∷ 1 ∷ 5 ∷ 4 ∷ 0x13 ∷ zero_octets 18)
     []
 row-broken_6 = row-of_broken _ _ refl refl
 
 -- 24 octets are too few
-row-broken_7 : AreBroken false (4 ∷ 0x18 ∷ 0x30 ∷ 0x16 ∷ 2 ∷ 1 ∷ 5 ∷ 4 ∷ 0x13 ∷ zeros 17)
+row-broken_7 : AreBroken false (4 ∷ 0x18 ∷ 0x30 ∷ 0x16 ∷ 2 ∷ 1 ∷ 5 ∷ 4 ∷ 0x13 ∷ zero_octets 17)
     []
 row-broken_7 = row-of_broken _ _ refl refl
 
 -- an element of another type
-row-broken_8 : AreBroken false (4 ∷ 0x19 ∷ 0xa0 ∷ 0x17 ∷ 2 ∷ 1 ∷ 5 ∷ 4 ∷ 0x13 ∷ zeros 18)
+row-broken_8 : AreBroken false (4 ∷ 0x19 ∷ 0xa0 ∷ 0x17 ∷ 2 ∷ 1 ∷ 5 ∷ 4 ∷ 0x13 ∷ zero_octets 18)
     []
 row-broken_8 = row-of_broken _ _ refl refl
 
 -- a BIT STRING without unused bits
-row-broken_9 : AreBroken false (3 ∷ 0x1a ∷ 0 ∷ 0x30 ∷ 0x17 ∷ 2 ∷ 1 ∷ 5 ∷ 4 ∷ 0x13 ∷ zeros 18)
+row-broken_9 : AreBroken false (3 ∷ 0x1a ∷ 0 ∷ 0x30 ∷ 0x17 ∷ 2 ∷ 1 ∷ 5 ∷ 4 ∷ 0x13 ∷ zero_octets 18)
     (breaks_there 0 Sequence Overrun 9 ∷ [])
 row-broken_9 = row-of_broken _ _ refl refl
 
 -- with one
-row-broken_10 : AreBroken false (3 ∷ 0x1a ∷ 1 ∷ 0x30 ∷ 0x17 ∷ 2 ∷ 1 ∷ 5 ∷ 4 ∷ 0x13 ∷ zeros 18)
+row-broken_10 : AreBroken false (3 ∷ 0x1a ∷ 1 ∷ 0x30 ∷ 0x17 ∷ 2 ∷ 1 ∷ 5 ∷ 4 ∷ 0x13 ∷ zero_octets 18)
     []
 row-broken_10 = row-of_broken _ _ refl refl
 
 -- a segment of a constructed string
 row-broken_11 : AreBroken false
     (0x24 ∷ 0x36 ∷ 4 ∷ 0x19 ∷ 0x30 ∷ 0x17 ∷ 2 ∷ 1 ∷ 5 ∷ 4 ∷ 0x13 ∷ 0 ∷ 0 ∷ 0 ∷ 0 ∷ 0 ∷ 0 ∷ 0 ∷ 0 ∷ 0 ∷
-    0 ∷ 0 ∷ 0 ∷ 0 ∷ 0 ∷ 0 ∷ 0 ∷ 0 ∷ 0 ∷ 4 ∷ 0x19 ∷ 0x30 ∷ 0x17 ∷ 2 ∷ 1 ∷ 5 ∷ 4 ∷ 0x13 ∷ zeros 18)
+    0 ∷ 0 ∷ 0 ∷ 0 ∷ 0 ∷ 0 ∷ 0 ∷ 0 ∷ 0 ∷ 4 ∷ 0x19 ∷ 0x30 ∷ 0x17 ∷ 2 ∷ 1 ∷ 5 ∷ 4 ∷ 0x13 ∷ zero_octets 18)
     []
 row-broken_11 = row-of_broken _ _ refl refl
 
 -- the only one
-row-broken_12 : AreBroken false (0x24 ∷ 0x1b ∷ 4 ∷ 0x19 ∷ 0x30 ∷ 0x17 ∷ 2 ∷ 1 ∷ 5 ∷ 4 ∷ 0x13 ∷ zeros 18)
+row-broken_12 : AreBroken false (0x24 ∷ 0x1b ∷ 4 ∷ 0x19 ∷ 0x30 ∷ 0x17 ∷ 2 ∷ 1 ∷ 5 ∷ 4 ∷ 0x13 ∷ zero_octets 18)
     (breaks_there 2 Sequence Overrun 10 ∷ [])
 row-broken_12 = row-of_broken _ _ refl refl
 
 -- in a string that is opened
-row-broken_13 : AreBroken false (4 ∷ 0x1d ∷ 0x30 ∷ 0x1b ∷ 4 ∷ 0x19 ∷ 0x30 ∷ 0x17 ∷ 2 ∷ 1 ∷ 5 ∷ 4 ∷ 0x13 ∷ zeros 18)
+row-broken_13 : AreBroken false (4 ∷ 0x1d ∷ 0x30 ∷ 0x1b ∷ 4 ∷ 0x19 ∷ 0x30 ∷ 0x17 ∷ 2 ∷ 1 ∷ 5 ∷ 4 ∷ 0x13 ∷ zero_octets 18)
     (breaks_there 4 Sequence Overrun 12 ∷ [])
 row-broken_13 = row-of_broken _ _ refl refl
 
 -- what it holds is not looked at
-row-broken_14 : AreBroken false (4 ∷ 0x1d ∷ 0x30 ∷ 0x1b ∷ 4 ∷ 2 ∷ 5 ∷ 0 ∷ 4 ∷ 0x16 ∷ zeros 21)
+row-broken_14 : AreBroken false (4 ∷ 0x1d ∷ 0x30 ∷ 0x1b ∷ 4 ∷ 2 ∷ 5 ∷ 0 ∷ 4 ∷ 0x16 ∷ zero_octets 21)
     (breaks_there 0 Sequence Overrun 9 ∷ [])
 row-broken_14 = row-of_broken _ _ refl refl
 
 -- before a damage
-row-broken_15 : AreBroken false (4 ∷ 0x19 ∷ 0x30 ∷ 0x17 ∷ 2 ∷ 1 ∷ 5 ∷ 4 ∷ 0x13 ∷ zeros 19)
+row-broken_15 : AreBroken false (4 ∷ 0x19 ∷ 0x30 ∷ 0x17 ∷ 2 ∷ 1 ∷ 5 ∷ 4 ∷ 0x13 ∷ zero_octets 19)
     (breaks_there 0 Sequence Overrun 8 ∷ [])
 row-broken_15 = row-of_broken _ _ refl refl
 
 -- with octets missing
-row-broken_16 : AreBroken false (4 ∷ 0x19 ∷ 0x30 ∷ 0x17 ∷ 2 ∷ 1 ∷ 5 ∷ 4 ∷ 0x13 ∷ zeros 17)
+row-broken_16 : AreBroken false (4 ∷ 0x19 ∷ 0x30 ∷ 0x17 ∷ 2 ∷ 1 ∷ 5 ∷ 4 ∷ 0x13 ∷ zero_octets 17)
     []
 row-broken_16 = row-of_broken _ _ refl refl
 
@@ -167,7 +167,7 @@ row-broken_28 = row-of_broken _ _ refl refl
 
 -- a SEQUENCE of its size takes precedence
 row-broken_29 : AreBroken false
-    (0x30 ∷ 0x20 ∷ 6 ∷ 3 ∷ 0x55 ∷ 0x1d ∷ 0x0f ∷ 4 ∷ 0x19 ∷ 0x30 ∷ 0x17 ∷ 2 ∷ 1 ∷ 5 ∷ 4 ∷ 0x13 ∷ zeros 18)
+    (0x30 ∷ 0x20 ∷ 6 ∷ 3 ∷ 0x55 ∷ 0x1d ∷ 0x0f ∷ 4 ∷ 0x19 ∷ 0x30 ∷ 0x17 ∷ 2 ∷ 1 ∷ 5 ∷ 4 ∷ 0x13 ∷ zero_octets 18)
     (breaks_there 7 Sequence Overrun 15 ∷ [])
 row-broken_29 = row-of_broken _ _ refl refl
 
@@ -194,17 +194,17 @@ row-broken_33 : AreBroken false
 row-broken_33 = row-of_broken _ _ refl refl
 
 -- the SEQUENCE in the string is the 128th element that holds others, or would be the 129th; and the string would be
-row-broken_deep : AreBroken false (nested 126 (4 ∷ 0x19 ∷ 0x30 ∷ 0x17 ∷ 2 ∷ 1 ∷ 5 ∷ 4 ∷ 0x13 ∷ zeros 18))
+row-broken_deep : AreBroken false (nested 126 (4 ∷ 0x19 ∷ 0x30 ∷ 0x17 ∷ 2 ∷ 1 ∷ 5 ∷ 4 ∷ 0x13 ∷ zero_octets 18))
     (breaks_there 252 Sequence Overrun 260 ∷ [])
 unfolding nested
 row-broken_deep = row-of_broken _ _ refl refl
 
-row-broken_deeper : AreBroken false (nested 127 (4 ∷ 0x19 ∷ 0x30 ∷ 0x17 ∷ 2 ∷ 1 ∷ 5 ∷ 4 ∷ 0x13 ∷ zeros 18))
+row-broken_deeper : AreBroken false (nested 127 (4 ∷ 0x19 ∷ 0x30 ∷ 0x17 ∷ 2 ∷ 1 ∷ 5 ∷ 4 ∷ 0x13 ∷ zero_octets 18))
     (breaks_there 254 Sequence TooDeep 257 ∷ [])
 unfolding nested
 row-broken_deeper = row-of_broken _ _ refl refl
 
-row-broken_too_deep : AreBroken false (nested 128 (4 ∷ 0x19 ∷ 0x30 ∷ 0x17 ∷ 2 ∷ 1 ∷ 5 ∷ 4 ∷ 0x13 ∷ zeros 18))
+row-broken_too_deep : AreBroken false (nested 128 (4 ∷ 0x19 ∷ 0x30 ∷ 0x17 ∷ 2 ∷ 1 ∷ 5 ∷ 4 ∷ 0x13 ∷ zero_octets 18))
     (breaks_there 256 Sequence TooDeep 257 ∷ [])
 unfolding nested
 row-broken_too_deep = row-of_broken _ _ refl refl

@@ -206,10 +206,10 @@ abbrev pub finder_end_step : CheckState → FinderState
 finder_end_step s = finder_primitive_end_step s s.open_primitive
 
 -- where the element begins that ends: its frame has its offset only if it may have findings by this frame
-abbrev pub end_offset : Bool → SetOrderState → Option ℕ → HolderFrame → ℕ
-end_offset true order string w = order.frame.offset
-end_offset false order (Some offset) w = offset
-end_offset false order None w = w.offset
+abbrev pub offset_at_end : Bool → SetOrderState → Option ℕ → HolderFrame → ℕ
+offset_at_end true order string w = order.frame.offset
+offset_at_end false order (Some offset) w = offset
+offset_at_end false order None w = w.offset
 
 -- what is found with its end
 abbrev pub end_findings_with : Wanted → Bool → Option ℕ → HolderFrame → List Finding
@@ -223,7 +223,7 @@ finder_frame_end_step s has_end_octets (w ∷ outer) =
     let seen = seen_closed s.wanted s.seen has_end_octets in
     let string = string_found s.wanted s.seen.strings in
     with_findings (record s { holders = nesting_close_step s.holders; seen = seen }) (length outer)
-    (end_offset (is_misplaced s.wanted seen) seen.order string s.holders.frame)
+    (offset_at_end (is_misplaced s.wanted seen) seen.order string s.holders.frame)
     (end_findings_with s.wanted (is_misplaced s.wanted seen) string s.holders.frame)
 
 -- with end-of-contents octets, or without them

@@ -27,8 +27,8 @@ new_segment_frame h = record {
 }
 
 -- what comes is directly in the string: no element that holds others is open there
-abbrev pub is_direct : SegmentFrame → Bool
-is_direct w = w.open_count == 0
+abbrev pub is_directly_in_string : SegmentFrame → Bool
+is_directly_in_string w = w.open_count == 0
 
 -- octets of the input: they are looked at if they are contents octets of a primitive segment
 abbrev pub segment_after_octets : SegmentFrame → List ℕ → SegmentFrame
@@ -39,7 +39,7 @@ segment_after_octets w octets = record w {
 -- after the header of an element: its contents octets come, and are those of a primitive segment if it is a segment and
 -- is primitive
 abbrev pub segment_begun : SegmentFrame → HeaderValue → SegmentFrame
-segment_begun w h = record w { in_contents = if is_direct w then is_primitive h else w.in_contents }
+segment_begun w h = record w { in_contents = if is_directly_in_string w then is_primitive h else w.in_contents }
 
 -- one more element that holds others is open in the string
 abbrev pub segment_entered : SegmentFrame → SegmentFrame
@@ -47,7 +47,7 @@ segment_entered w = record w { open_count = min (w.open_count + 1) 255 }
 
 -- an element ends
 abbrev pub segment_ended : SegmentFrame → SegmentFrame
-segment_ended w = record w { in_contents = not (is_direct w) && w.in_contents }
+segment_ended w = record w { in_contents = not (is_directly_in_string w) && w.in_contents }
 
 -- an element that holds others ends
 abbrev pub segment_closed : SegmentFrame → SegmentFrame
@@ -82,7 +82,7 @@ segments_opened frames h = segments_entered (segments_after_octets (lead h) (seg
 -- an element that holds others ends: if it is the innermost string, its frame goes
 abbrev pub segments_left : List SegmentFrame → List SegmentFrame
 segments_left [] = []
-segments_left (w ∷ outer) = if is_direct w then outer else w ∷ outer
+segments_left (w ∷ outer) = if is_directly_in_string w then outer else w ∷ outer
 
 -- its last octets are the end-of-contents octets, if any
 abbrev pub segments_closed : List SegmentFrame → List ℕ → List SegmentFrame
@@ -105,7 +105,7 @@ segments_step frames (Pad octets) = frames
 -- an element that holds others ends: it is a string with a wrong octet
 abbrev pub ends_wrong : List SegmentFrame → Bool
 ends_wrong [] = false
-ends_wrong (w ∷ outer) = is_direct w && w.has_wrong
+ends_wrong (w ∷ outer) = is_directly_in_string w && w.has_wrong
 
 -- the offset of the innermost string
 abbrev pub innermost_offset : List SegmentFrame → ℕ

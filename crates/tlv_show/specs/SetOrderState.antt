@@ -18,8 +18,8 @@ use Rattle.tlv_show.specs.SetOrder.{zeros}
 -- ---- One frame
 
 -- as many octets of the present element as are compared have come, or there is none
-abbrev pub is_full : SetFrame → Bool
-is_full w = w.count == compared_count
+abbrev pub has_all_compared : SetFrame → Bool
+has_all_compared w = w.count == compared_count
 
 -- inside a SET, before its first element: all octets come after a neighbour of octets 00, or are equal to it
 abbrev pub new_set_frame : SetFrame

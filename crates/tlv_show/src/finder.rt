@@ -5,7 +5,7 @@ ghost use Rattle.tlv_head.specs.Header.{HasAllContents, octets_of};
 ghost use Rattle.tlv_walk.specs.Events.{event_value_of};
 ghost use Rattle.tlv_show.specs.FinderState.{finder_in_primitive, finder_begin_step, finder_bytes_step};
 ghost use Rattle.tlv_show.specs.FinderState.{finder_close_step, finder_end_step, finder_open_step};
-ghost use Rattle.tlv_show.specs.FinderState.{end_findings_with, end_offset, with_findings, with_header_findings};
+ghost use Rattle.tlv_show.specs.FinderState.{end_findings_with, offset_at_end, with_findings, with_header_findings};
 ghost use Rattle.tlv_show.specs.NestingState.{depth_in};
 ghost use Rattle.tlv_show.specs.Private.FinderState.{PassesOrStays, ReturnsFindings};
 ghost use Rattle.tlv_show.specs.Private.FinderState.{finder_step, new_finder, with_check_state};
@@ -302,7 +302,7 @@ impl Finder {
     ) -> bool
         ensures { ReturnsFindings
             (with_findings self.old.kept (depth_in self.old.kept.holders)
-            (end_offset is_out_of_order self.old.kept.seen.order string closed.now)
+            (offset_at_end is_out_of_order self.old.kept.seen.order string closed.now)
             (end_findings_with self.old.kept.wanted is_out_of_order string closed.now))
             self.new result }
     {

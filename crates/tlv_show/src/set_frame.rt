@@ -3,7 +3,7 @@ ghost use Rattle.std.specs.Prelude.{◌≡◌};
 ghost use Rattle.tlv_head.specs.Header.{class_bits};
 ghost use Rattle.tlv_walk.specs.Forest.{lead};
 ghost use Rattle.tlv_show.specs.SetOrder.{do_octets_decide, is_set};
-ghost use Rattle.tlv_show.specs.SetOrderState.{frame_after_octets, frame_begun, frame_ended, is_full, new_set_frame};
+ghost use Rattle.tlv_show.specs.SetOrderState.{frame_after_octets, frame_begun, frame_ended, has_all_compared, new_set_frame};
 ghost use Rattle.tlv_show.specs.SetOrderState.{is_last_out_of_order, outermost_frame};
 
 use crate::Rules;
@@ -135,8 +135,8 @@ fn do_octets_decide(
 
 /// Whether the frame needs no more octets.
 #[inline(always)]
-pub(crate) fn is_full(frame: &SetFrame) -> bool
-    ensures { result ≡ is_full frame.now }
+pub(crate) fn has_all_compared(frame: &SetFrame) -> bool
+    ensures { result ≡ has_all_compared frame.now }
 {
     frame.count == 64
 }

@@ -1,7 +1,7 @@
 //! Elements of a SET that are out of order, event by event.
 ghost use Rattle.std.specs.Prelude.{◌≡◌, true};
 ghost use Rattle.tlv_head.specs.Header.{octets_of};
-ghost use Rattle.tlv_show.specs.Private.SetOrder.{AreFull, IsUnchangedByPrimitives, frames_after_octets_from};
+ghost use Rattle.tlv_show.specs.Private.SetOrder.{NeedNoOctets, IsUnchangedByPrimitives, frames_after_octets_from};
 ghost use Rattle.tlv_show.specs.SetOrderState.{frames_after_octets};
 ghost use Rattle.tlv_show.specs.SetOrderState.{is_last_out_of_order, new_set_order, set_order_begin_step};
 ghost use Rattle.tlv_show.specs.SetOrderState.{set_order_close_step, set_order_end_step, set_order_entered};
@@ -9,8 +9,8 @@ ghost use Rattle.tlv_show.specs.SetOrderState.{set_order_left, set_order_octets_
 
 use crate::Rules;
 use crate::set_frame::{
-    SetFrame, add_octets, begin_in, end_in, is_full, is_last_out_of_order, is_set, lead_of,
-    new_set_frame, outermost_frame,
+    SetFrame, add_octets, begin_in, end_in, has_all_compared, is_last_out_of_order, is_set,
+    lead_of, new_set_frame, outermost_frame,
 };
 use arrayvec::ArrayVec;
 use std::marker::Model;
@@ -31,14 +31,14 @@ pub(crate) struct SetOrder {
 
 impl Model for SetOrder {
     ghost use Rattle.std.specs.Prelude.{reverse};
-    ghost use Rattle.tlv_show.specs.Private.SetOrder.{AreFull};
+    ghost use Rattle.tlv_show.specs.Private.SetOrder.{NeedNoOctets};
     ghost use Rattle.tlv_show.specs.SetOrderState.{SetOrderState};
 
     ghost Value = { SetOrderState };
 
     ghost view = { λ s. record { frame = s.frame; outer = reverse s.outer.items } };
 
-    ghost invariant = { λ s. AreFull s.full s.outer.items };
+    ghost invariant = { λ s. NeedNoOctets s.full s.outer.items };
 }
 
 impl SetOrder {
@@ -66,7 +66,7 @@ impl SetOrder {
     pub fn passes_primitives(&self) -> bool
         ensures { result ≡ true → IsUnchangedByPrimitives self.now }
     {
-        if self.frame.open_count == 0 || !is_full(&self.frame) {
+        if self.frame.open_count == 0 || !has_all_compared(&self.frame) {
             return false;
         }
         self.full == self.outer.len()
@@ -161,15 +161,15 @@ impl SetOrder {
 /// this is known afterwards.
 #[inline(always)]
 fn add_octets_outside(outer: &mut ArrayVec<SetFrame, 128>, full: usize, octets: &[u8]) -> usize
-    requires { AreFull full outer.old.items }
+    requires { NeedNoOctets full outer.old.items }
     ensures frames { outer.new.items ≡ frames_after_octets octets.now outer.old.items }
-    ensures full { AreFull result outer.new.items }
+    ensures full { NeedNoOctets result outer.new.items }
 {
     if full >= outer.len() {
         return full;
     }
     add_octets_from(outer, full, octets);
-    if is_full(&outer[full]) {
+    if has_all_compared(&outer[full]) {
         full + 1
     } else {
         full

@@ -68,8 +68,8 @@ is_special_form x rest = nat_le 0x40 x && nat_le x 0x43 && length rest == 0
 -- ---- Decimal: 8.5.8. The octets after x are a number as ISO 6093 writes it
 
 -- 20 is the space
-abbrev pub spaces : Form
-spaces text = list_all (λ x. x == 0x20) text
+abbrev pub leading_spaces : Form
+leading_spaces text = list_all (λ x. x == 0x20) text
 
 -- one digit or more: 30 to 39 are the digits
 abbrev pub some_digits : Form
@@ -89,7 +89,7 @@ exponent = (mark 0x45 or mark 0x65) then maybe sign then some_digits
 
 -- spaces and a sign, if there are any
 abbrev pub number_prefix : Form
-number_prefix = spaces then maybe sign
+number_prefix = leading_spaces then maybe sign
 
 -- the forms of ISO 6093: NR1 is a whole number, NR2 one with a mark, NR3 one with an exponent
 abbrev pub nr1_form : Form

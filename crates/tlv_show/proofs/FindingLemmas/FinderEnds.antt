@@ -9,7 +9,7 @@ use Rattle.tlv_show.specs.declared.wanted.Wanted.{Wanted}
 use Rattle.tlv_show.specs.SaturatingSum.{saturating_sum}
 use Rattle.tlv_show.proofs.SaturatingSums.{sum-none}
 use Rattle.tlv_show.specs.declared.holder_frame.HolderFrame.{HolderFrame}
-use Rattle.tlv_show.specs.FinderState.{CheckState, FinderState, SeenState, end_findings_with, end_offset}
+use Rattle.tlv_show.specs.FinderState.{CheckState, FinderState, SeenState, end_findings_with, offset_at_end}
 use Rattle.tlv_show.specs.FinderState.{finder_close_step, finder_frame_end_step, is_misplaced, seen_closed, string_found}
 use Rattle.tlv_show.specs.FinderState.{with_findings, without_findings}
 use Rattle.tlv_show.specs.KeptConditions.{end_findings_in}
@@ -54,7 +54,7 @@ no_string false None e = refl
 -- with the findings of a frame
 abbrev pub ended_with : CheckState → NestingState → ℕ → SeenState → Bool → Option ℕ → HolderFrame → FinderState
 ended_with s holders level seen k string w =
-    with_findings (record s { holders = holders; seen = seen }) level (end_offset k seen.order string w)
+    with_findings (record s { holders = holders; seen = seen }) level (offset_at_end k seen.order string w)
     (end_findings_with s.wanted k string w)
 
 -- what is kept after the end, and found with it
@@ -103,11 +103,11 @@ module _ (s : CheckState) (b : Bool) (holders : NestingState) (seen : SeenState)
       (judged-none (s.holders.frame.has_segments || s.holders.frame.lacks_components) s.holders.frame none)
 
   same-offset : (w t : HolderFrame) → (k || is_some string) ≡ true
-      → end_offset k seen.order string w ≡ end_offset k seen.order string t
+      → offset_at_end k seen.order string w ≡ offset_at_end k seen.order string t
   same-offset w t there = by k string there
     where
       by : (x : Bool) (o : Option ℕ) → (x || is_some o) ≡ true
-          → end_offset x seen.order o w ≡ end_offset x seen.order o t
+          → offset_at_end x seen.order o w ≡ offset_at_end x seen.order o t
       by true o e = refl
       by false (Some offset) e = refl
       by false None e = absurd (cc (e))

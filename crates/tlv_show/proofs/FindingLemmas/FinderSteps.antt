@@ -5,7 +5,7 @@ use Rattle.std.proofs.lemmas.Bool.Decides.{nat_tests}
 use Rattle.std.specs.List.{filter}
 use Rattle.std.specs.Prelude.{Option, Some, None}
 use Rattle.std.specs.Option.{is_some}
-use Rattle.tlv_show.specs.FinderState.{end_offset as end_offset_by, is_misplaced}
+use Rattle.tlv_show.specs.FinderState.{offset_at_end, is_misplaced}
 use Rattle.tlv_show.specs.FinderState.{SeenState}
 use Rattle.tlv_show.specs.ShownFindings.{with_order_if}
 use Rattle.tlv_show.specs.Laws.{whole_primitive}
@@ -249,7 +249,7 @@ module _ (wanted : Wanted) where
       → ObeysGrammar p inside → is_whole inside ≡ true → HasItsOffset h inside n
       → (put : ℕ → List Finding → List T) → ((offset : ℕ) → put offset [] ≡ [])
       → put
-      (end_offset_by (is_holder_found h inside n) (seen_held wanted n.seen h inside).order (string_in n)
+      (offset_at_end (is_holder_found h inside n) (seen_held wanted n.seen h inside).order (string_in n)
       (frame_after_elements (frame_under w h) inside))
       (found_at_end h inside n)
       ≡ put h.offset (found_at_end h inside n)
@@ -261,7 +261,7 @@ module _ (wanted : Wanted) where
 
       IsPut : Bool → Option ℕ → Type 0
       IsPut b o =
-          put (end_offset_by b (seen_held wanted n.seen h inside).order o (frame_after_elements (frame_under w h) inside))
+          put (offset_at_end b (seen_held wanted n.seen h inside).order o (frame_after_elements (frame_under w h) inside))
           (with_found b o others)
           ≡ put h.offset (with_found b o others)
 
@@ -289,7 +289,7 @@ module _ (wanted : Wanted) where
       let c : Option ℕ = string_in n in
       closed-by (check_between f (with_element w ∷ outer) n)
       (end_offset h.size (h.offset + length (opening h) + length (spelling inside))) h.constructed es
-      ∙ ap (λ (fs : List Finding). then_found (finding_items (length outer) (end_offset_by b o.order c f) (with_found b c fs))
+      ∙ ap (λ (fs : List Finding). then_found (finding_items (length outer) (offset_at_end b o.order c f) (with_found b c fs))
       (run_finder
       (check_between (frame_after (with_element w) f.is_primitive f.announced_length false) outer
       (record { count = saturating_sum n.count (length (with_found b c fs)); seen = o }))
@@ -357,7 +357,7 @@ module _ (wanted : Wanted) where
             check_between (frame_after (with_element w) (is_primitive h) (announced_length h.size) false) outer (after_end h inside n);
         level = length outer;
         offset =
-            end_offset_by (is_holder_found h inside n) (seen_held wanted n.seen h inside).order (string_in n)
+            offset_at_end (is_holder_found h inside n) (seen_held wanted n.seen h inside).order (string_in n)
             (frame_after_elements (frame_under w h) inside);
         findings = found_at_end h inside n;
       }
@@ -373,7 +373,7 @@ module _ (wanted : Wanted) where
             (record { count = saturating_sum n.count (length (with_found b c gs)); seen = o });
         level =
             length outer;
-        offset = end_offset_by b o.order c f;
+        offset = offset_at_end b o.order c f;
         findings = with_found b c gs;
       })
       (summed-under wanted p w h inside v whole)
@@ -383,7 +383,7 @@ module _ (wanted : Wanted) where
             check_between t outer (after_end h inside n);
         level =
             length outer;
-        offset = end_offset_by b o.order c f;
+        offset = offset_at_end b o.order c f;
         findings = found_at_end h inside n;
       })
       (after-under (with_element w) h inside)

@@ -18,7 +18,7 @@ use Rattle.tlv_show.specs.declared.segment_frame.SegmentFrame.{SegmentFrame}
 use Rattle.tlv_show.specs.SegmentCharacters.{has_wrong_characters, has_wrong_octet, has_wrong_segment, held_contents}
 use Rattle.tlv_show.specs.SegmentCharacters.{is_tested_string}
 use Rattle.std.specs.Prelude.{Some, None}
-use Rattle.tlv_show.specs.SegmentCharactersState.{at_innermost, closing_offsets, closing_string, is_direct, new_segment_frame}
+use Rattle.tlv_show.specs.SegmentCharactersState.{at_innermost, closing_offsets, closing_string, is_directly_in_string, new_segment_frame}
 use Rattle.tlv_show.specs.SegmentCharactersState.{segment_after_octets, segment_begun, segment_closed, segment_ended}
 use Rattle.tlv_show.specs.SegmentCharactersState.{segment_entered, segments_after_octets, segments_begun}
 use Rattle.tlv_show.specs.SegmentCharactersState.{segments_closed, segments_found, segments_left, segments_opened}
@@ -201,7 +201,7 @@ left-as : (k : Bool) (h : HeaderValue) (inside : Forest) (frames : List SegmentF
 left-as true h inside frames = refl
 left-as false h inside [] = refl
 left-as false h inside (w ∷ outer) =
-    let none : is_direct (segment_entered w) ≡ false = not-direct w.open_count in
+    let none : is_directly_in_string (segment_entered w) ≡ false = not-direct w.open_count in
     let rest : List SegmentFrame = segments_after_octets (spelling inside) outer in
     let v : SegmentFrame = frame_passed (spelling inside) (λ n. has_wrong_segment n inside) (segment_entered w) in
     ap (λ (k : Bool). if k then rest else v ∷ rest) none

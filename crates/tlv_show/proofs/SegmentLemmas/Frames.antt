@@ -11,7 +11,7 @@ use Rattle.tlv_value.specs.Checks.{allows_octet}
 use Rattle.tlv_value.specs.Types.{is_primitive}
 use Rattle.tlv_show.specs.declared.segment_frame.SegmentFrame.{SegmentFrame}
 use Rattle.tlv_show.specs.SegmentCharacters.{has_wrong_octet}
-use Rattle.tlv_show.specs.SegmentCharactersState.{is_direct, segment_after_octets, segment_begun, segment_closed}
+use Rattle.tlv_show.specs.SegmentCharactersState.{is_directly_in_string, segment_after_octets, segment_begun, segment_closed}
 use Rattle.tlv_show.specs.SegmentCharactersState.{segment_ended, segment_entered, segments_after_octets}
 
 -- ---- octets one after another
@@ -68,7 +68,7 @@ abbrev pub frame_passed : List ℕ → (ℕ → Bool) → SegmentFrame → Segme
 frame_passed octets wrong w = record w {
   has_wrong =
       w.has_wrong
-      || (if is_direct w then wrong w.number else (w.in_contents && has_wrong_octet w.number octets));
+      || (if is_directly_in_string w then wrong w.number else (w.in_contents && has_wrong_octet w.number octets));
 }
 
 abbrev pub passed : List ℕ → (ℕ → Bool) → List SegmentFrame → List SegmentFrame
@@ -78,7 +78,7 @@ passed octets wrong (w ∷ outer) = frame_passed octets wrong w ∷ segments_aft
 -- what comes is directly in the innermost string: no contents octets of a segment come
 abbrev pub AreBetweenSegments : List SegmentFrame → Type 0
 AreBetweenSegments [] = ⊤
-AreBetweenSegments (w ∷ outer) = is_direct w ≡ true → w.in_contents ≡ false
+AreBetweenSegments (w ∷ outer) = is_directly_in_string w ≡ true → w.in_contents ≡ false
 
 abbrev pub AreFewOpen : ℕ → List SegmentFrame → Type 0
 AreFewOpen n [] = ⊤
@@ -104,7 +104,7 @@ pub passed-none : (frames : List SegmentFrame) → frames ≡ passed [] (λ n. f
 passed-none [] = refl
 passed-none (w ∷ outer) =
     ap₂ (λ (v : SegmentFrame) (l : List SegmentFrame). v ∷ l)
-    (ap (with_wrong w) (sym (none w.has_wrong (is_direct w) w.in_contents)))
+    (ap (with_wrong w) (sym (none w.has_wrong (is_directly_in_string w) w.in_contents)))
     (sym (all-after-none outer))
   where
     none : (x d i : Bool) → (x || (if d then false else (i && false))) ≡ x
@@ -118,7 +118,7 @@ pub passed-same : (octets : List ℕ) (u v : ℕ → Bool) (frames : List Segmen
 passed-same octets u v [] same = refl
 passed-same octets u v (w ∷ outer) same =
     ap (λ (k : Bool). with_wrong w (w.has_wrong
-    || (if is_direct w then k else (w.in_contents && has_wrong_octet w.number octets)))
+    || (if is_directly_in_string w then k else (w.in_contents && has_wrong_octet w.number octets)))
     ∷ segments_after_octets octets outer)
     (same w.number)
 
@@ -129,8 +129,8 @@ passed-more a b u v (w ∷ outer) =
     let n : ℕ = w.number in
     ap₂ (λ (x : SegmentFrame) (l : List SegmentFrame). x ∷ l)
     (ap (with_wrong w)
-    (more w.has_wrong (is_direct w) w.in_contents (u n) (v n) (has_wrong_octet n a) (has_wrong_octet n b)
-    ∙ ap (λ (k : Bool). w.has_wrong || (if is_direct w then (u n || v n) else (w.in_contents && k)))
+    (more w.has_wrong (is_directly_in_string w) w.in_contents (u n) (v n) (has_wrong_octet n a) (has_wrong_octet n b)
+    ∙ ap (λ (k : Bool). w.has_wrong || (if is_directly_in_string w then (u n || v n) else (w.in_contents && k)))
     (sym (wrong-append n a b))))
     (all-after-append a b outer)
   where
@@ -144,12 +144,12 @@ passed-more a b u v (w ∷ outer) =
 
 -- ---- one element: its header, its contents octets and its end
 
-pub frame-taken : (w : SegmentFrame) (h : HeaderValue) (c : List ℕ) → (is_direct w ≡ true → w.in_contents ≡ false)
+pub frame-taken : (w : SegmentFrame) (h : HeaderValue) (c : List ℕ) → (is_directly_in_string w ≡ true → w.in_contents ≡ false)
     → segment_ended (segment_after_octets (segment_begun (segment_after_octets w (octets_of h)) h) c)
     ≡ frame_passed (octets_of h ++ c) (λ n. is_primitive h && has_wrong_octet n c) w
 frame-taken w h c between =
     let n : ℕ = w.number in
-    let d : Bool = is_direct w in
+    let d : Bool = is_directly_in_string w in
     let p : Bool = is_primitive h in
     ap₂ (λ (i k : Bool). record w { in_contents = i; has_wrong = k })
     (contents d w.in_contents p between)

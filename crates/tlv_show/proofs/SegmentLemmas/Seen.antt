@@ -47,7 +47,7 @@ module _ (wanted : Wanted) where
 
   -- after one element, which has a wrong octet for some types of string
   pub record HasPassed (o : SeenState) (e : Element) (wrong : ℕ → Bool) (t : SeenState) : Type 0 where
-    pub order : order.IsTaken wanted o.order e t.order
+    pub order : order.IsOrderTaken wanted o.order e t.order
     pub strings : wants_characters wanted ≡ true → t.strings ≡ passed e.octets wrong o.strings
 
   wanted-is : (a b : List SegmentFrame) → wants_characters wanted ≡ true → strings_if wanted a b ≡ a

@@ -10,7 +10,7 @@ use Rattle.std.specs.Prelude.{slice_index}
 use Rattle.tlv_show.specs.declared.set_frame.SetFrame.{SetFrame}
 use Rattle.tlv_show.specs.SetOrder.{compared_count, compared_octets, is_smaller, zeros}
 use Rattle.tlv_show.specs.SetOrderState.{frame_after_octet, frame_after_octets, frame_compared, frames_after_octets}
-use Rattle.tlv_show.specs.SetOrderState.{is_full}
+use Rattle.tlv_show.specs.SetOrderState.{has_all_compared}
 
 pub length-zeros : length zeros ≡ 64
 unfolding zeros
@@ -40,7 +40,7 @@ past_stays w [] past = refl
 past_stays w (x ∷ octets) past =
     ap (λ (v : SetFrame). frame_after_octets v octets) (past-stays-one w x past) ∙ past_stays w octets past
 
-pub full-stays : (w : SetFrame) (octets : List ℕ) → is_full w ≡ true → frame_after_octets w octets ≡ w
+pub full-stays : (w : SetFrame) (octets : List ℕ) → has_all_compared w ≡ true → frame_after_octets w octets ≡ w
 full-stays w octets full = past_stays w octets (omega (arith, eqb-true w.count 64 full))
 
 -- ---- the number of open elements does not matter
@@ -123,7 +123,7 @@ all-compared : (w : SetFrame) (p n octets : List ℕ) → w.octets ≡ p ++ n �
     → length p + length n ≡ 64 → length n ≤ length octets
     → IsAllCompared w (frame_after_octets w octets) p n octets
 all-compared w p [] octets o c all enough =
-    let full : is_full w ≡ true = grind (arith, nat_tests) in
+    let full : has_all_compared w ≡ true = grind (arith, nat_tests) in
     let stays : frame_after_octets w octets ≡ w = full-stays w octets full in
     record {
       octets_are = ap (λ (v : SetFrame). v.octets) stays ∙ o;
@@ -170,7 +170,7 @@ length-compared octets =
 -- ---- an element from its first octet to its end
 
 -- a frame with the octets of the neighbour, before the element's first octet
-pub record IsReady (w : SetFrame) : Type 0 where
+pub record IsFrameReady (w : SetFrame) : Type 0 where
   pub all : length w.octets ≡ 64
   pub none_yet : w.count ≡ 0
   pub same : w.differs ≡ false
@@ -181,7 +181,7 @@ pub record IsCompared (w v : SetFrame) (octets : List ℕ) : Type 0 where
   pub smaller : v.is_smaller ≡ is_smaller (compared_octets octets) w.octets
   pub element : SameElement w v
 
-pub element-compared : (w : SetFrame) (octets : List ℕ) → IsReady w
+pub element-compared : (w : SetFrame) (octets : List ℕ) → IsFrameReady w
     → IsCompared w (frame_after_octets (frame_after_octets w octets) zeros) octets
 element-compared w octets r =
     let joined : frame_after_octets w (octets ++ zeros) ≡ frame_after_octets (frame_after_octets w octets) zeros =

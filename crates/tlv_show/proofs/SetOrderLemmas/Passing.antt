@@ -2,14 +2,14 @@
 use Rattle.std.proofs.Common.{◌≡◌, ℕ, true, false, List, length, reverse, sym, ap, ap₂, ◌∙◌}
 use Rattle.tlv_head.specs.Header.{octets_of}
 use Rattle.tlv_show.specs.declared.set_frame.SetFrame.{SetFrame}
-use Rattle.tlv_show.specs.Private.SetOrder.{AreFull, IsUnchangedByPrimitives}
-use Rattle.tlv_show.specs.SetOrderState.{SetOrderState, is_direct, is_full, set_order_end_step, set_order_octets_step}
+use Rattle.tlv_show.specs.Private.SetOrder.{NeedNoOctets, IsUnchangedByPrimitives}
+use Rattle.tlv_show.specs.SetOrderState.{SetOrderState, is_direct, has_all_compared, set_order_end_step, set_order_octets_step}
 use Rattle.tlv_show.proofs.SetOrderLemmas.Compared.{full-stays}
 use Rattle.tlv_show.proofs.SetOrderLemmas.KeptFrames.{after_all_full, reverse_after}
 use Rattle.tlv_show.proofs.SetOrderLemmas.OneElement.{ended-inside, started-inside}
 
-module _ (w : SetFrame) (outer : List SetFrame) (direct : is_direct w ≡ false) (full : is_full w ≡ true)
-    (all : AreFull (length outer) outer) where
+module _ (w : SetFrame) (outer : List SetFrame) (direct : is_direct w ≡ false) (full : has_all_compared w ≡ true)
+    (all : NeedNoOctets (length outer) outer) where
   abbrev kept : SetOrderState
   kept = record { frame = w; outer = reverse outer }
 

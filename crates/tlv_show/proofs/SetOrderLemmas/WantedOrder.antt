@@ -59,15 +59,15 @@ module _ (wanted : Wanted) where
   abbrev pub OrderedAfter : SetOrderState → List ℕ → SetOrderState → Type 0
   OrderedAfter o octets u = wants_order wanted ≡ true → IsAfter wanted.rules o octets u
 
-  abbrev pub IsTaken : SetOrderState → Element → SetOrderState → Type 0
-  IsTaken o e t = wants_order wanted ≡ true → t ≡ element_step wanted.rules o e
+  abbrev pub IsOrderTaken : SetOrderState → Element → SetOrderState → Type 0
+  IsOrderTaken o e t = wants_order wanted ≡ true → t ≡ element_step wanted.rules o e
 
   wanted-is : (a b : SetOrderState) → wants_order wanted ≡ true → order_if wanted a b ≡ a
   wanted-is a b is = ap (λ (k : Bool). if k then a else b) is
 
   -- ---- an element
 
-  pub taken-found : (s : Site) (o : SetOrderState) (e : Element) (t : SetOrderState) → Ordered s o → IsTaken o e t
+  pub taken-found : (s : Site) (o : SetOrderState) (e : Element) (t : SetOrderState) → Ordered s o → IsOrderTaken o e t
       → is_order_found wanted t ≡ (wants_order wanted && is_out_of_order_at wanted.rules s e)
   taken-found s o e t k taken = by (wants_order wanted) refl
     where
@@ -81,7 +81,7 @@ module _ (wanted : Wanted) where
           e.header.offset a.found
       by false is = refl
 
-  pub taken-offset : (s : Site) (o : SetOrderState) (e : Element) (t : SetOrderState) → Ordered s o → IsTaken o e t
+  pub taken-offset : (s : Site) (o : SetOrderState) (e : Element) (t : SetOrderState) → Ordered s o → IsOrderTaken o e t
       → is_order_found wanted t ≡ true → t.frame.offset ≡ e.header.offset
   taken-offset s o e t k taken = by (wants_order wanted) refl
     where
@@ -97,7 +97,7 @@ module _ (wanted : Wanted) where
           e.header.offset a.found same
       by false is found = absurd (true≢false (sym found))
 
-  pub taken-ordered : (s t : Site) (o : SetOrderState) (e : Element) (u : SetOrderState) → Ordered s o → IsTaken o e u
+  pub taken-ordered : (s t : Site) (o : SetOrderState) (e : Element) (u : SetOrderState) → Ordered s o → IsOrderTaken o e u
       → t.holder ≡ s.holder → t.depth ≡ s.depth → neighbour_of t.previous ≡ Some e → Ordered t u
   taken-ordered s t o e u k taken holder depth previous is =
       let a = element-taken wanted.rules o s.holder (neighbour_of s.previous) e (k is).knows in
@@ -114,7 +114,7 @@ module _ (wanted : Wanted) where
       })
 
   pub taken-after : (s : Site) (o : SetOrderState) (e : Element) (t : SetOrderState) (octets : List ℕ) (u : SetOrderState)
-      → Ordered s o → IsTaken o e t → OrderedAfter t octets u → OrderedAfter o (e.octets ++ octets) u
+      → Ordered s o → IsOrderTaken o e t → OrderedAfter t octets u → OrderedAfter o (e.octets ++ octets) u
   taken-after s o e t octets u k taken after is =
       let v : SetOrderState = element_step wanted.rules o e in
       after-more wanted.rules o s.holder (neighbour_of s.previous) e v octets u
@@ -164,7 +164,7 @@ module _ (wanted : Wanted) where
       by false = refl
 
   pub whole-taken : (o : SetOrderState) (h : HeaderValue) (c : List ℕ)
-      → IsTaken o (primitive_element h c) (order_whole o h c)
+      → IsOrderTaken o (primitive_element h c) (order_whole o h c)
   whole-taken o h c is =
       let a : SetOrderState = order_begun o h in
       wanted-is (set_order_end_step (order_filled a c)) (order_filled a c) is
@@ -226,7 +226,7 @@ module _ (wanted : Wanted) where
   pub closed-taken : (s : Site) (o : SetOrderState) (h : HeaderValue) (inside : Forest) (u : SetOrderState)
       → Ordered s o → s.depth < 128 → AllowsSize h.constructed h.size
       → OrderedAfter (order_opened o h) (spelling inside) u
-      → IsTaken o (holder_element h inside) (order_closed u h inside)
+      → IsOrderTaken o (holder_element h inside) (order_closed u h inside)
   closed-taken s o h inside u k low allowed after is =
       let opened : order_opened o h ≡ set_order_open_step wanted.rules o h =
       wanted-is (set_order_open_step wanted.rules o h) o is in

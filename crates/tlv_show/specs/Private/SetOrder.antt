@@ -3,15 +3,15 @@ use Rattle.std.specs.Prelude.{◌≡◌, ℕ, zero, suc, true, false, ⊤, List,
 use Rattle.tlv_head.specs.Header.{HeaderValue}
 use Rattle.tlv_show.specs.declared.rules.Rules.{Rules}
 use Rattle.tlv_show.specs.declared.set_frame.SetFrame.{SetFrame}
-use Rattle.tlv_show.specs.SetOrderState.{SetOrderState, frames_after_octets, is_direct, is_full}
+use Rattle.tlv_show.specs.SetOrderState.{SetOrderState, frames_after_octets, is_direct, has_all_compared}
 use Rattle.tlv_show.specs.SetOrderState.{set_order_begin_step}
 use Rattle.tlv_show.specs.SetOrderState.{set_order_end_step, set_order_octets_step}
 
 -- there are this number of frames, and the first ones need no more octets
-abbrev pub AreFull : ℕ → List SetFrame → Type 0
-AreFull zero outer = ⊤
-AreFull (suc n) [] = ⊥
-AreFull (suc n) (w ∷ outer) = (is_full w ≡ true) × AreFull n outer
+abbrev pub NeedNoOctets : ℕ → List SetFrame → Type 0
+NeedNoOctets zero outer = ⊤
+NeedNoOctets (suc n) [] = ⊥
+NeedNoOctets (suc n) (w ∷ outer) = (has_all_compared w ≡ true) × NeedNoOctets n outer
 
 -- the frames from this one on take octets
 abbrev pub frames_after_octets_from : ℕ → List ℕ → List SetFrame → List SetFrame

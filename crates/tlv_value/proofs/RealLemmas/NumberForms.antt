@@ -4,7 +4,7 @@ use Rattle.std.proofs.Common.{ap₂, ◌∙◌, arith}
 use Rattle.std.proofs.lemmas.Bool.Decides.{nat_tests}
 use Rattle.std.specs.Char.{is_ascii_digit}
 use Rattle.tlv_value.specs.TextForms.{Form, digits, maybe, octet_between, sign, ◌or◌, ◌then◌}
-use Rattle.tlv_value.specs.Real.{decimal_mark, exponent, marked_digits, some_digits, spaces}
+use Rattle.tlv_value.specs.Real.{decimal_mark, exponent, marked_digits, some_digits, leading_spaces}
 use Rattle.tlv_value.specs.RealState.{after_digits, after_fraction, begin_number, exponent_digit, is_decimal_mark}
 use Rattle.tlv_value.specs.RealState.{is_exponent_mark, is_sign, is_whole_number, next_place}
 use Rattle.tlv_value.specs.declared.real.decimal_place.NumberForm.{NumberForm}
@@ -51,7 +51,7 @@ if_nr3 Nr2 form = none
 if_nr3 Nr3 form = form
 
 abbrev pub place_tail : NumberForm → DecimalPlace → Form
-place_tail form Spaces = spaces then (maybe sign then number_tail form)
+place_tail form Spaces = leading_spaces then (maybe sign then number_tail form)
 place_tail form Sign = number_tail form
 place_tail form Digits = digits_tail form
 place_tail form Mark = mark_tail form
@@ -110,10 +110,10 @@ some-then g x xs =
     then-assoc (octet_between 0x30 0x39) digits g (x ∷ xs) ∙ octet-then 0x30 0x39 (digits then g) x xs
 
 spaces-then : (g : Form) (x : ℕ) (xs : List ℕ)
-    → (spaces then g) (x ∷ xs) ≡ (g (x ∷ xs) || (x == 0x20 && (spaces then g) xs))
+    → (leading_spaces then g) (x ∷ xs) ≡ (g (x ∷ xs) || (x == 0x20 && (leading_spaces then g) xs))
 spaces-then g x xs =
-    then-more spaces g x xs
-    ∙ ap (λ (b : Bool). g (x ∷ xs) || b) (if-then (x == 0x20) spaces g xs)
+    then-more leading_spaces g x xs
+    ∙ ap (λ (b : Bool). g (x ∷ xs) || b) (if-then (x == 0x20) leading_spaces g xs)
 
 -- digits before the exponent
 scaled-then : (x : ℕ) (xs : List ℕ)

@@ -5,7 +5,7 @@ use Rattle.std.proofs.lemmas.Bool.Decides.{nat_tests}
 use Rattle.tlv_value.specs.TextForms.{maybe, sign}
 use Rattle.tlv_value.specs.ContentsOctets.{first_octet, is_padded_integer}
 use Rattle.tlv_value.specs.Real.{base_bits, has_size_octet, is_binary_form}
-use Rattle.tlv_value.specs.Real.{is_decimal_form, is_real_form, is_special_form, spaces}
+use Rattle.tlv_value.specs.Real.{is_decimal_form, is_real_form, is_special_form, leading_spaces}
 use Rattle.tlv_value.specs.RealState.{begin_binary, begin_decimal, ends_form}
 use Rattle.tlv_value.specs.RealState.{is_of_form, new_real_check, next_part, real_check_after}
 use Rattle.tlv_value.specs.RealState.{real_check_next}
@@ -100,9 +100,9 @@ decimal-by false false false rest = refl
 decimal-begins : (x : ℕ) (rest : List ℕ) → is_decimal_form x rest ≡ part_form (begin_decimal x) rest
 decimal-begins x rest =
     rw (
-      then-assoc spaces (maybe sign) (number_tail Nr1) rest,
-      then-assoc spaces (maybe sign) (number_tail Nr2) rest,
-      then-assoc spaces (maybe sign) (number_tail Nr3) rest,
+      then-assoc leading_spaces (maybe sign) (number_tail Nr1) rest,
+      then-assoc leading_spaces (maybe sign) (number_tail Nr2) rest,
+      then-assoc leading_spaces (maybe sign) (number_tail Nr3) rest,
     )
     (decimal-by (x == 1) (x == 2) (x == 3) rest)
 

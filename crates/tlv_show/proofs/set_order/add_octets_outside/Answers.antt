@@ -1,9 +1,9 @@
 use Rattle.std.proofs.Common.{◌<◌, List, length, get_or, ap, subst, sym, ◌∙◌, arith}
 use Rattle.tlv_show.specs.declared.set_frame.SetFrame.{SetFrame}
-use Rattle.tlv_show.specs.Private.SetOrder.{AreFull}
+use Rattle.tlv_show.specs.Private.SetOrder.{NeedNoOctets}
 use Rattle.tlv_show.proofs.SetOrderLemmas.KeptFrames.{after_all_full, after_from_full, full_after, full-fewer, full_next}
 use Rattle.tlv_show.proofs.SetOrderLemmas.KeptFrames.{length-after}
-use Rattle.tlv_show.specs.SetOrderState.{is_full}
+use Rattle.tlv_show.specs.SetOrderState.{has_all_compared}
 use Rattle.tlv_show.proofs.set_order.add_octets_outside.Goals as goal
 
 pub returns-then-full-len-clause-frames : goal.returns-then-full-len-clause-frames
@@ -28,10 +28,10 @@ returns-then-is_full-clause-full c =
       ap length c.add_octets_from.ensures,
       length-after c.args.full c.args.octets.now c.args.outer.now.items,
     ) in
-    let rest : AreFull c.args.full outer =
-    subst (λ (l : List SetFrame). AreFull c.args.full l) (sym c.add_octets_from.ensures)
+    let rest : NeedNoOctets c.args.full outer =
+    subst (λ (l : List SetFrame). NeedNoOctets c.args.full l) (sym c.add_octets_from.ensures)
     (full_after c.args.full c.args.octets.now c.args.outer.now.items c.requires) in
-    let one_more = ap (λ (l : List SetFrame). is_full (get_or l c.args.full _)) c.deref.ensures.0 in
+    let one_more = ap (λ (l : List SetFrame). has_all_compared (get_or l c.args.full _)) c.deref.ensures.0 in
     full_next c.args.full outer _ rest few (sym one_more ∙ sym c.if-is_full.ensures)
 
 pub returns-else-is_full-clause-frames : goal.returns-else-is_full-clause-frames
@@ -40,5 +40,5 @@ returns-else-is_full-clause-frames c =
 
 pub returns-else-is_full-clause-full : goal.returns-else-is_full-clause-full
 returns-else-is_full-clause-full c =
-    subst (λ (l : List SetFrame). AreFull c.args.full l) (sym c.add_octets_from.ensures)
+    subst (λ (l : List SetFrame). NeedNoOctets c.args.full l) (sym c.add_octets_from.ensures)
     (full_after c.args.full c.args.octets.now c.args.outer.now.items c.requires)
