@@ -13,12 +13,12 @@ returns-then-full-len-clause-frames c =
     (after_all_full c.args.octets.now outer
     (full-fewer c.args.full _ outer (omega (arith, c.len.ensures.value, c.if-full-len.true)) c.requires))
 
-pub returns-then-is_full-clause-frames : goal.returns-then-is_full-clause-frames
-returns-then-is_full-clause-frames c =
+pub returns-then-has_all_compared-clause-frames : goal.returns-then-has_all_compared-clause-frames
+returns-then-has_all_compared-clause-frames c =
     c.add_octets_from.ensures ∙ after_from_full c.args.full c.args.octets.now c.args.outer.now.items c.requires
 
-pub returns-then-is_full-clause-full : goal.returns-then-is_full-clause-full
-returns-then-is_full-clause-full c =
+pub returns-then-has_all_compared-clause-full : goal.returns-then-has_all_compared-clause-full
+returns-then-has_all_compared-clause-full c =
     let outer = c.add_octets_from.new.outer.items in
     let few : c.args.full < length outer =
     omega (
@@ -32,13 +32,13 @@ returns-then-is_full-clause-full c =
     subst (λ (l : List SetFrame). NeedNoOctets c.args.full l) (sym c.add_octets_from.ensures)
     (full_after c.args.full c.args.octets.now c.args.outer.now.items c.requires) in
     let one_more = ap (λ (l : List SetFrame). has_all_compared (get_or l c.args.full _)) c.deref.ensures.0 in
-    full_next c.args.full outer _ rest few (sym one_more ∙ sym c.if-is_full.ensures)
+    full_next c.args.full outer _ rest few (sym one_more ∙ sym c.if-has_all_compared.ensures)
 
-pub returns-else-is_full-clause-frames : goal.returns-else-is_full-clause-frames
-returns-else-is_full-clause-frames c =
+pub returns-else-has_all_compared-clause-frames : goal.returns-else-has_all_compared-clause-frames
+returns-else-has_all_compared-clause-frames c =
     c.add_octets_from.ensures ∙ after_from_full c.args.full c.args.octets.now c.args.outer.now.items c.requires
 
-pub returns-else-is_full-clause-full : goal.returns-else-is_full-clause-full
-returns-else-is_full-clause-full c =
+pub returns-else-has_all_compared-clause-full : goal.returns-else-has_all_compared-clause-full
+returns-else-has_all_compared-clause-full c =
     subst (λ (l : List SetFrame). NeedNoOctets c.args.full l) (sym c.add_octets_from.ensures)
     (full_after c.args.full c.args.octets.now c.args.outer.now.items c.requires)

@@ -10,7 +10,7 @@ pub returns : goal.returns
 returns c = λ e.
     let s = c.self.inside in
     let direct : is_direct s.frame ≡ false = grind (arith, nat_tests, c.if-self-eq0.false) in
-    let full : has_all_compared s.frame ≡ true = sym c.if-not-is_full.ensures in
+    let full : has_all_compared s.frame ≡ true = sym c.if-not-has_all_compared.ensures in
     let count : s.full ≡ length s.outer.items = eqb-true s.full c.len.result e ∙ c.len.ensures.value in
     subst IsUnchangedByPrimitives c.self.view_is
     (primitives-pass s.frame s.outer.items direct full
