@@ -14,7 +14,7 @@ pub record TypeRow : Type 0 where
   pub number : ℕ
   pub name : List ℕ
   -- whether its encodings are primitive, constructed, or either: a string, which has segments if it is constructed.
-  -- `Unjudged`: tlvdump has no finding on this. 8.21, 8.22 and 8.26 say that encodings of these types are primitive
+  -- `Unjudged`: primitive too (8.21, 8.22, 8.26), but B04 does not judge them. B22, which tlvdump does not list, does
   pub encodings : Encodings
   -- how the contents of a primitive are shown
   pub kind : Kind
