@@ -9,7 +9,7 @@ ghost use Rattle.tlv_run.specs.RunsAndReports.{RunsAndReports};
 
 use crate::report::{Report, cut_report, device_report, indef_report, outcome_report};
 use tlv_cut::{extract, indef};
-use tlv_show::{FiniteNames, Options, Rules, Scope, Wanted, check_with, dump_with};
+use tlv_show::{FiniteNames, Options, Rules, Scope, Wanted, check, check_with, dump, dump_with};
 use tlv_walk::{Drain, Framing, Source};
 
 /// Runs `dump` as [`run`](crate::run) does, with any table of names.
@@ -24,7 +24,10 @@ pub fn run_dump<N: FiniteNames, S: Source, D: Drain>(
         (device_states (S.state source.old) (D.state drain.old))
         (device_states (S.state source.new) (D.state drain.new)) (report_value_of result) }
 {
-    run_dump_with(options, Scope::Listed, false, names, source, drain)
+    match dump(source, drain, options, names) {
+        Ok(outcome) => outcome_report(outcome),
+        Err(fault) => device_report(fault),
+    }
 }
 
 /// The same as [`run_dump`] with the findings of this scope; `with_text` asks for text beside pairs of digits, as in
@@ -59,7 +62,10 @@ pub fn run_check<S: Source, D: Drain>(
         (device_states (S.state source.old) (D.state drain.old))
         (device_states (S.state source.new) (D.state drain.new)) (report_value_of result) }
 {
-    run_check_with(Wanted::listed(rules), framing, source, drain)
+    match check(source, drain, rules, framing) {
+        Ok(outcome) => outcome_report(outcome),
+        Err(fault) => device_report(fault),
+    }
 }
 
 /// The same as [`run_check`] with the findings that are wanted.

@@ -4,4 +4,5 @@ pub mod FinderState
 pub mod Nesting
 pub mod SegmentCharacters
 pub mod SetOrder
+pub mod Suits
 pub mod UsualTypes

@@ -1,5 +1,6 @@
 //! `check`, over a source and a drain.
 ghost use Rattle.tlv_walk.specs.Job.{Runs, device_states};
+ghost use Rattle.tlv_show.specs.Private.Suits.{Suits};
 ghost use Rattle.tlv_show.specs.ShowJob.{check_job, check_job_with};
 
 use crate::outcome::Outcome;
@@ -7,9 +8,9 @@ use crate::{Check, Rules, Wanted};
 use tlv_walk::{DeviceFault, Drain, Framing, Source, drive};
 
 /// Lists what violates the rules in the encodings that the source gives, up to its end or the first octet that is
-/// refused: the listed findings. The lines go to the drain, one for each finding: the offset of the element, the code, and the text.
-/// Returns the ending of the input, the number of findings, and the first named offset at which no string that holds
-/// encodings was found.
+/// refused: the listed findings. The lines go to the drain, one for each finding: the offset of the element, the code,
+/// and the text. Returns the ending of the input, the number of findings, and the first named offset at which no string
+/// that holds encodings was found.
 ///
 /// # Errors
 ///
@@ -25,7 +26,7 @@ pub fn check<S: Source, D: Drain>(
         (device_states (S.state source.old) (D.state drain.old))
         (device_states (S.state source.new) (D.state drain.new)) result }
 {
-    check_with(source, drain, Wanted::listed(rules), framing)
+    check_by::<0, S, D>(source, drain, Wanted::listed(rules), framing)
 }
 
 /// Like [`check`], with the findings that are wanted.
@@ -43,7 +44,22 @@ pub fn check_with<S: Source, D: Drain>(
         (device_states (S.state source.old) (D.state drain.old))
         (device_states (S.state source.new) (D.state drain.new)) result }
 {
-    let mut follower = Check::new_with(wanted);
+    check_by::<1, S, D>(source, drain, wanted, framing)
+}
+
+/// Lists the findings that are wanted. If `TRACKED` is 0, these are listed ones.
+fn check_by<const TRACKED: usize, S: Source, D: Drain>(
+    source: &mut S,
+    drain: &mut D,
+    wanted: Wanted,
+    framing: &Framing<'_>,
+) -> Result<Outcome, DeviceFault>
+    requires { Suits TRACKED wanted }
+    ensures { Runs (check_job_with wanted framing.now)
+        (device_states (S.state source.old) (D.state drain.old))
+        (device_states (S.state source.new) (D.state drain.new)) result }
+{
+    let mut follower: Check<TRACKED> = Check::of(wanted);
     let run = drive(source, &mut follower, drain, framing)?;
     Ok(Outcome {
         ending: run.ending,

@@ -3,6 +3,7 @@ ghost use Rattle.std.specs.Prelude.{◌≡◌, refl};
 ghost use Rattle.tlv_walk.proofs.FollowerLemmas.FollowedEvents.{each_octet-goes_on, each_octet-joins};
 ghost use Rattle.tlv_show.specs.CheckStep.{check_octet_step, check_step};
 ghost use Rattle.tlv_show.specs.FinderState.{new_check};
+ghost use Rattle.tlv_show.specs.Private.Suits.{Suits};
 ghost use Rattle.tlv_show.specs.ShownFindings.{listed_by};
 
 use crate::contents::contents_in;
@@ -15,13 +16,13 @@ use tlv_walk::{Drain, Event, Follow, Go, Out, WriteFault};
 
 /// Lists what violates the rules, a line for each finding: the offset of the element, the code, and the text. A
 /// finding comes with the event that shows it: a header, the end of a primitive, or the end of an element that holds
-/// others.
+/// others. If `TRACKED` is 0, it lists the listed findings, else those that are wanted.
 #[derive(Drop)]
-pub struct Check {
-    finder: Finder,
+pub struct Check<const TRACKED: usize> {
+    finder: Finder<TRACKED>,
 }
 
-impl Model for Check {
+impl<const TRACKED: usize> Model for Check<TRACKED> {
     ghost use Rattle.tlv_show.specs.FinderState.{CheckState};
 
     ghost Value = { CheckState };
@@ -29,16 +30,28 @@ impl Model for Check {
     ghost view = { λ c. c.finder.kept };
 }
 
-impl Check {
+impl Check<0> {
     /// A check of the listed findings by these rules, before the first event.
-    pub fn new(rules: Rules) -> Check
+    pub fn new(rules: Rules) -> Check<0>
         ensures { result ≡ new_check (listed_by rules) }
     {
-        Check::new_with(Wanted::listed(rules))
+        Check::of(Wanted::listed(rules))
     }
+}
 
+impl Check<1> {
     /// A check of the findings that are wanted, before the first event.
-    pub fn new_with(wanted: Wanted) -> Check
+    pub fn new_with(wanted: Wanted) -> Check<1>
+        ensures { result ≡ new_check wanted }
+    {
+        Check::of(wanted)
+    }
+}
+
+impl<const TRACKED: usize> Check<TRACKED> {
+    /// A check of the findings that are wanted. If `TRACKED` is 0, these are listed ones.
+    pub(crate) fn of(wanted: Wanted) -> Check<TRACKED>
+        requires { Suits TRACKED wanted }
         ensures { result ≡ new_check wanted }
     {
         Check {
@@ -54,7 +67,7 @@ impl Check {
     }
 }
 
-impl Follow for Check {
+impl<const TRACKED: usize> Follow for Check<TRACKED> {
     ghost next = { check_step };
 
     ghost bytes_join = { each_octet-joins check_octet_step };

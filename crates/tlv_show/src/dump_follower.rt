@@ -8,6 +8,7 @@ ghost use Rattle.tlv_show.specs.DumpStep.{dump_octet_step, dump_padding_step, du
 ghost use Rattle.tlv_show.specs.DumpStep.{new_dump, new_dump_with};
 ghost use Rattle.tlv_show.specs.FinderState.{finder_open_step};
 ghost use Rattle.tlv_show.specs.LinesStep.{lines_open_step};
+ghost use Rattle.tlv_show.specs.Private.Suits.{Suits};
 ghost use Rattle.tlv_show.specs.ShowJob.{top_layout, wanted_in};
 
 use crate::contents::contents_in;
@@ -17,19 +18,20 @@ use crate::lines::Lines;
 use crate::{FiniteNames, Options, Scope, Wanted};
 use std::marker::Model;
 use tlv_head::{Header, HeaderFields};
-use tlv_value::{Layout, Names};
+use tlv_value::Layout;
 use tlv_walk::{Drain, Event, Follow, Go, Out, WriteFault};
 
 /// Writes the lines that each event allows. An element that holds others has a line with its header and a line with
 /// its end; the lines of a primitive come as [`ValueText`](tlv_value::ValueText) writes them. A finding that the
-/// header shows has its line before the first line of its element; any other finding has it after the last line.
+/// header shows has its line before the first line of its element; any other finding has it after the last line. If
+/// `TRACKED` is 0, it shows the listed findings, else those that are wanted.
 #[derive(Drop)]
-pub struct Dump<'n, N: FiniteNames = Names> {
+pub struct Dump<'n, N: FiniteNames, const TRACKED: usize> {
     lines: Lines<'n, N>,
-    finder: Finder,
+    finder: Finder<TRACKED>,
 }
 
-impl<'n, N: FiniteNames> Model for Dump<'n, N> {
+impl<'n, N: FiniteNames, const TRACKED: usize> Model for Dump<'n, N, TRACKED> {
     ghost use Rattle.std.specs.Coded.{codes};
     ghost use Rattle.tlv_show.specs.DumpStep.{DumpState};
     ghost use Rattle.tlv_value.specs.Names.{table_code};
@@ -41,14 +43,16 @@ impl<'n, N: FiniteNames> Model for Dump<'n, N> {
     ghost view = { λ d. record { lines = d.lines; finder = d.finder.kept } };
 }
 
-impl<'n, N: FiniteNames> Dump<'n, N> {
+impl<'n, N: FiniteNames> Dump<'n, N, 0> {
     /// A dump that has written nothing yet. It reports the listed findings.
-    pub fn new(options: &Options<'_>, names: &'n N) -> Dump<'n, N>
+    pub fn new(options: &Options<'_>, names: &'n N) -> Dump<'n, N, 0>
         ensures { result ≡ new_dump options.now.rules (top_layout options.now) (N.table names.now) }
     {
-        Dump::new_with(options, Scope::Listed, false, names)
+        Dump::of(options, Scope::Listed, false, names)
     }
+}
 
+impl<'n, N: FiniteNames> Dump<'n, N, 1> {
     /// Like `new`, with the findings of this scope, and with text beside pairs of digits if `with_text` is set, as in
     /// [`ValueText::new_with`](tlv_value::ValueText::new_with).
     pub fn new_with(
@@ -56,7 +60,23 @@ impl<'n, N: FiniteNames> Dump<'n, N> {
         scope: Scope,
         with_text: bool,
         names: &'n N,
-    ) -> Dump<'n, N>
+    ) -> Dump<'n, N, 1>
+        ensures { result ≡ new_dump_with with_text
+            (wanted_in scope options.now) (top_layout options.now) (N.table names.now) }
+    {
+        Dump::of(options, scope, with_text, names)
+    }
+}
+
+impl<'n, N: FiniteNames, const TRACKED: usize> Dump<'n, N, TRACKED> {
+    /// A dump with the findings of this scope. If `TRACKED` is 0, these are listed ones.
+    pub(crate) fn of(
+        options: &Options<'_>,
+        scope: Scope,
+        with_text: bool,
+        names: &'n N,
+    ) -> Dump<'n, N, TRACKED>
+        requires { Suits TRACKED (wanted_in scope options.now) }
         ensures { result ≡ new_dump_with with_text
             (wanted_in scope options.now) (top_layout options.now) (N.table names.now) }
     {
@@ -82,7 +102,7 @@ impl<'n, N: FiniteNames> Dump<'n, N> {
     }
 }
 
-impl<N: FiniteNames> Follow for Dump<'_, N> {
+impl<N: FiniteNames, const TRACKED: usize> Follow for Dump<'_, N, TRACKED> {
     ghost next = { dump_step };
 
     ghost bytes_join = { each_octet-joins dump_octet_step };
@@ -141,7 +161,7 @@ impl<N: FiniteNames> Follow for Dump<'_, N> {
     }
 }
 
-impl<N: FiniteNames> Dump<'_, N> {
+impl<N: FiniteNames, const TRACKED: usize> Dump<'_, N, TRACKED> {
     /// Puts the lines that an event allows.
     #[inline(always)]
     fn put_lines<D: Drain>(

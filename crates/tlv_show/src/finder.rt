@@ -7,6 +7,7 @@ ghost use Rattle.tlv_show.specs.FinderState.{finder_in_primitive, finder_begin_s
 ghost use Rattle.tlv_show.specs.FinderState.{finder_close_step, finder_end_step, finder_open_step};
 ghost use Rattle.tlv_show.specs.FinderState.{end_findings_with, offset_at_end, with_findings, with_header_findings};
 ghost use Rattle.tlv_show.specs.NestingState.{depth_in};
+ghost use Rattle.tlv_show.specs.Private.Suits.{Suits};
 ghost use Rattle.tlv_show.specs.Private.FinderState.{PassesOrStays, ReturnsFindings};
 ghost use Rattle.tlv_show.specs.Private.FinderState.{finder_step, new_finder, with_check_state};
 
@@ -35,9 +36,10 @@ use tlv_value::{ValueCheck, is_clear};
 use tlv_walk::Event;
 
 /// Finds what violates the rules, event by event. It keeps what it must know of the open elements that hold others,
-/// and of the open primitive.
+/// and of the open primitive. If `TRACKED` is 0, the listed findings alone may be wanted: the code for the order of
+/// SETs and for the characters of segments is then not there.
 #[derive(Drop)]
-pub(crate) struct Finder {
+pub(crate) struct Finder<const TRACKED: usize> {
     wanted: Wanted,
     /// What must be known of the open elements that hold others.
     holders: Nesting,
@@ -58,9 +60,10 @@ pub(crate) struct Finder {
     last: LastFindings,
 }
 
-impl Model for Finder {
+impl<const TRACKED: usize> Model for Finder<TRACKED> {
     ghost use Rattle.tlv_show.specs.FinderState.{FinderState};
     ghost use Rattle.tlv_show.specs.Private.IfOpen.{if_open};
+    ghost use Rattle.tlv_show.specs.Private.Suits.{Suits};
 
     ghost Value = { FinderState };
 
@@ -76,11 +79,14 @@ impl Model for Finder {
       offset = f.last.offset;
       findings = f.last.findings.items;
     } };
+
+    ghost invariant = { λ f. Suits TRACKED f.wanted };
 }
 
-impl Finder {
+impl<const TRACKED: usize> Finder<TRACKED> {
     /// A finder before its first event.
-    pub fn new(wanted: Wanted) -> Finder
+    pub fn new(wanted: Wanted) -> Finder<TRACKED>
+        requires { Suits TRACKED wanted }
         ensures { result ≡ new_finder wanted }
     {
         Finder {
@@ -155,8 +161,8 @@ impl Finder {
         if header.constructed
             || !has_no_header_findings_if_usual(self.wanted.rules, frame, header)
             || !is_clear(header, contents)
-            || !passes_in_order(&self.order, self.wanted)
-            || !passes_in_strings(&self.strings, self.wanted)
+            || !passes_in_order::<TRACKED>(&self.order, self.wanted)
+            || !passes_in_strings::<TRACKED>(&self.strings, self.wanted)
         {
             return false;
         }
@@ -192,8 +198,8 @@ impl Finder {
         self.offset = header.offset;
         self.is_open = true;
         self.check.restart(header);
-        begin_in_order(&mut self.order, self.wanted, header, header.raw());
-        begin_in_strings(&mut self.strings, self.wanted, header, header.raw());
+        begin_in_order::<TRACKED>(&mut self.order, self.wanted, header, header.raw());
+        begin_in_strings::<TRACKED>(&mut self.strings, self.wanted, header, header.raw());
     }
 
     /// An element that holds others begins, with a header of these octets. The octets are an argument, since a header
@@ -203,8 +209,8 @@ impl Finder {
         requires { octets.now ≡ octets_of header.now }
         ensures { ReturnsFindings (finder_open_step self.old.kept header.now) self.new result }
     {
-        open_in_order(&mut self.order, self.wanted, header, octets);
-        open_in_strings(&mut self.strings, self.wanted, header, octets);
+        open_in_order::<TRACKED>(&mut self.order, self.wanted, header, octets);
+        open_in_strings::<TRACKED>(&mut self.strings, self.wanted, header, octets);
         // Most such elements are not strings, and have no findings.
         if has_no_header_findings(self.wanted.rules, self.holders.frame(), header) {
             self.holders.open_without_frame(header);
@@ -233,8 +239,8 @@ impl Finder {
         if self.is_open && !octets.is_empty() {
             let count = self.check.left().min(octets.len() as u64) as usize;
             self.check.bytes(&octets[..count]);
-            bytes_in_order(&mut self.order, self.wanted, octets);
-            bytes_in_strings(&mut self.strings, self.wanted, octets);
+            bytes_in_order::<TRACKED>(&mut self.order, self.wanted, octets);
+            bytes_in_strings::<TRACKED>(&mut self.strings, self.wanted, octets);
         }
     }
 
@@ -250,8 +256,8 @@ impl Finder {
         self.is_open = false;
         self.holders
             .primitive(check.size(), check.has_unused_bits());
-        let is_out_of_order = end_in_order(&mut self.order, self.wanted);
-        end_in_strings(&mut self.strings, self.wanted);
+        let is_out_of_order = end_in_order::<TRACKED>(&mut self.order, self.wanted);
+        end_in_strings::<TRACKED>(&mut self.strings, self.wanted);
         if check.left() != 0 && !is_out_of_order {
             return false;
         }
@@ -277,8 +283,12 @@ impl Finder {
         if self.holders.depth() == 0 {
             return false;
         }
-        let is_out_of_order = close_in_order(&mut self.order, self.wanted, has_end_octets);
-        let string = close_in_strings(&mut self.strings, self.wanted, has_end_octets);
+        let is_out_of_order = close_in_order::<TRACKED>(
+            &mut self.order,
+            self.wanted,
+            has_end_octets,
+        );
+        let string = close_in_strings::<TRACKED>(&mut self.strings, self.wanted, has_end_octets);
         match self.holders.close() {
             Some(closed) => self.find_with_end(&closed, is_out_of_order, string),
             None => {

@@ -22,10 +22,10 @@ pub(crate) enum Style {
 
 /// Puts a line for each finding of the last event, in order, if there may be any.
 #[inline(always)]
-pub(crate) fn put_findings<D: Drain>(
+pub(crate) fn put_findings<const TRACKED: usize, D: Drain>(
     may_have_findings: bool,
     style: Style,
-    finder: &Finder,
+    finder: &Finder<TRACKED>,
     out: &mut Out<'_, D>,
 ) -> Result<(), WriteFault>
     ensures { Puts D.state out.old out.new

@@ -10,7 +10,7 @@ use Rattle.tlv_show.proofs.FindingLemmas.FinderEnds.{IsClosed, ended_with, ends-
 use Rattle.tlv_show.proofs.finder.Finder.close.Goals as goal
 
 pub returns-in-Some : goal.returns-in-Some
-returns-in-Some c =
+returns-in-Some g c =
     let f = c.self.inside in
     let s : CheckState = record {
       wanted = f.wanted;
@@ -38,7 +38,7 @@ returns-in-Some c =
     c.find_with_end.result c.in-Some.ensures.closed c.find_with_end.ensures)
 
 pub returns-then-has_finding : goal.returns-then-has_finding
-returns-then-has_finding c =
+returns-then-has_finding g c =
     let f = c.self.inside in
     let s : CheckState = record {
       wanted = f.wanted;
@@ -67,7 +67,7 @@ returns-then-has_finding c =
     c.top_frame.ensures r.ensures))
 
 pub returns-else-has_finding : goal.returns-else-has_finding
-returns-else-has_finding c =
+returns-else-has_finding g c =
     let f = c.self.inside in
     let s : CheckState = record {
       wanted = f.wanted;

@@ -6,7 +6,7 @@ use Rattle.tlv_show.proofs.DumpLemmas.ClearPrimitives.{opens-clear}
 use Rattle.tlv_show.proofs.finder.Finder.open.Goals as goal
 
 pub returns-then-has_no_header_findings : goal.returns-then-has_no_header_findings
-returns-then-has_no_header_findings c =
+returns-then-has_no_header_findings g c =
     let f = c.self.inside in
     let h = c.args.header.now in
     let s : CheckState = record {

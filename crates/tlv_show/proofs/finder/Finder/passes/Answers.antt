@@ -4,7 +4,7 @@ use Rattle.tlv_show.specs.KeptConditions.{Surroundings, header_findings_in}
 use Rattle.tlv_show.proofs.finder.Finder.passes.Goals as goal
 
 pub returns : goal.returns
-returns c =
+returns g c =
     let h = c.args.header.now in
     let usual = usual_primitive h (search rules) (c.is_clear.ensures.form (search rules)) in
     let nothing = c.has_no_header_findings_if_usual.ensures in

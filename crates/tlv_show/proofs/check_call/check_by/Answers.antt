@@ -5,7 +5,7 @@ use Rattle.tlv_show.specs.FinderState.{CheckState, new_check}
 use Rattle.tlv_show.specs.Texts.{check_line}
 use Rattle.tlv_show.proofs.FindingLemmas.CheckFolds.{check-shows}
 use Rattle.tlv_show.proofs.DumpLemmas.ShowJob.{shows_err, shows_ok}
-use Rattle.tlv_show.proofs.check_call.check_with.Goals as goal
+use Rattle.tlv_show.proofs.check_call.check_by.Goals as goal
 
 pub returns-in_err-run : goal.returns-in_err-run
 returns-in_err-run g c =
@@ -15,7 +15,7 @@ returns-in_err-run g c =
     (shows_err check_step (new_check wanted) wanted c.args.framing.now check_line
     (λ (s : CheckState). s.finding_count) (check-shows wanted c.args.framing.now)
     _ _ _ _ _ c.in_err-run.field-0.0
-    (rw c.new_with-follower.ensures at c.in_err-run.ensures))
+    (rw c.of-follower.ensures at c.in_err-run.ensures))
 
 pub returns : goal.returns
 returns g c =
@@ -23,4 +23,4 @@ returns g c =
     shows_ok check_step (new_check wanted) wanted c.args.framing.now check_line
     (λ (s : CheckState). s.finding_count) (check-shows wanted c.args.framing.now)
     _ _ _ _ _ c.in_ok-run.run' _ refl c.findings.ensures refl
-    (rw c.new_with-follower.ensures at c.in_ok-run.ensures)
+    (rw c.of-follower.ensures at c.in_ok-run.ensures)

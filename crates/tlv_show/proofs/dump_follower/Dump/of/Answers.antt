@@ -1,5 +1,5 @@
 use Rattle.std.proofs.Common.{rules}
-use Rattle.tlv_show.proofs.dump_follower.Dump.new_with.Goals as goal
+use Rattle.tlv_show.proofs.dump_follower.Dump.of.Goals as goal
 
 pub returns : goal.returns
 returns g c = search rules

@@ -6,7 +6,7 @@ use Rattle.tlv_show.specs.DumpStep.{DumpState, dump_step, new_dump_with}
 use Rattle.tlv_show.specs.Texts.{item_text}
 use Rattle.tlv_show.proofs.DumpLemmas.DumpFolds.{dump-shows}
 use Rattle.tlv_show.proofs.DumpLemmas.ShowJob.{shows_err, shows_ok}
-use Rattle.tlv_show.proofs.dump_call.dump_with.Goals as goal
+use Rattle.tlv_show.proofs.dump_call.dump_by.Goals as goal
 
 pub returns-in_err-run : goal.returns-in_err-run
 returns-in_err-run g c =
@@ -17,7 +17,7 @@ returns-in_err-run g c =
     (shows_err dump_step (new_dump_with c.args.with_text (wanted_in c.args.scope o) (top_layout o) names) (wanted_in c.args.scope o) o.framing
     (item_text c.args.with_text (finite.get names) (top_layout o)) (λ (s : DumpState). s.finder.finding_count) (dump-shows c.args.scope c.args.with_text o names)
     _ _ _ _ _ c.in_err-run.field-0.0
-    (rw c.new_with-follower.ensures at c.in_err-run.ensures))
+    (rw c.of-follower.ensures at c.in_err-run.ensures))
 
 pub returns : goal.returns
 returns g c =
@@ -27,4 +27,4 @@ returns g c =
     (item_text c.args.with_text (finite.get names) (top_layout o)) (λ (s : DumpState). s.finder.finding_count) (dump-shows c.args.scope c.args.with_text o names)
     _ _ _ _ _ c.in_ok-run.run' _ refl
     c.findings.ensures refl
-    (rw c.new_with-follower.ensures at c.in_ok-run.ensures)
+    (rw c.of-follower.ensures at c.in_ok-run.ensures)
