@@ -7,7 +7,7 @@ use Rattle.tlv_head.specs.declared.header.Size.TheVariants.{Definite}
 use Rattle.tlv_value.specs.declared.finding.Finding.TheVariants.{B08, B11, B12, B15, B19, S02, S03, S04}
 use Rattle.tlv_head.specs.declared.kind.Kind.TheVariants.{Integer, Octets, Text, Utf8}
 use Rattle.tlv_value.specs.Arcs.{arcs_of, subidentifiers}
-use Rattle.tlv_value.specs.Checks.{all_contents_findings}
+use Rattle.tlv_value.specs.AllChecks.{all_contents_findings}
 use Rattle.tlv_head.specs.Kind.{kind_of}
 use Rattle.tlv_value.specs.Number.{decimal_of}
 use Rattle.tlv_value.specs.Rows.{rows_of}

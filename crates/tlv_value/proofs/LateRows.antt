@@ -3,7 +3,7 @@ use Rattle.std.proofs.Common.{◌≡◌, [], ◌∷◌, refl}
 use Rattle.std.specs.Prelude.{codes}
 use Rattle.tlv_head.specs.UniversalTypes as universal
 use Rattle.tlv_value.specs.declared.finding.Finding.TheVariants.{B18, B21, B24, B25, B26, S04}
-use Rattle.tlv_value.specs.Checks.{type_findings}
+use Rattle.tlv_value.specs.AllChecks.{type_findings}
 
 seven-digits : type_findings universal.date (codes "2020010") ≡ B21 ∷ []
 seven-digits = refl

@@ -3,7 +3,7 @@ use Rattle.std.proofs.Common.{◌≡◌, ℕ, List, [], ◌∷◌, refl}
 use Rattle.std.specs.Prelude.{codes}
 use Rattle.tlv_head.specs.UniversalTypes as universal
 use Rattle.tlv_value.specs.declared.finding.Finding.TheVariants.{B20, S06}
-use Rattle.tlv_value.specs.Checks.{type_findings}
+use Rattle.tlv_value.specs.AllChecks.{type_findings}
 
 abbrev IsNone : List ℕ → Type 0
 IsNone contents = type_findings universal.real contents ≡ B20 ∷ []

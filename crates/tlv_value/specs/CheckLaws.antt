@@ -4,7 +4,7 @@ use Rattle.std.specs.List.{list_all}
 use Rattle.std.specs.Prelude.{◌≡◌, ◌↔◌, ℕ, true, List, ◌++◌, IsUtf8}
 use Rattle.tlv_head.specs.Header.{HasAllContents, HeaderValue}
 use Rattle.tlv_head.specs.declared.kind.Kind.TheVariants.{Utf8}
-use Rattle.tlv_value.specs.Checks.{all_contents_findings}
+use Rattle.tlv_value.specs.AllChecks.{all_contents_findings}
 use Rattle.tlv_value.specs.ValueCheckState.{ValueCheckState, findings_in, value_check_for}
 use Rattle.tlv_value.specs.ValueCheckState.{value_check_after}
 use Rattle.tlv_value.specs.Rows.{rows_of}

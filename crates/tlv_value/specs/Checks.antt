@@ -1,7 +1,8 @@
--- The findings on the contents of a primitive: X.690 8 and 11. The conditions are at the end, and the terms that they
--- use before them.
+-- The findings on the contents of a primitive: X.690 8 and 11. These are the ones that are listed (`is_listed` in
+-- `ShownFindings` of tlv_show); `AllChecks` has the others. The conditions are at the end, and the terms that they use
+-- before them.
 use Rattle.std.specs.Prelude.{ℕ, ◌%◌, ◌^◌, Bool, true, false, ◌&&◌, ◌||◌, not, ◌==◌, eqb, nat_le, nat_lt}
-use Rattle.std.specs.Prelude.{if◌then◌else◌, List, [], ◌∷◌, flat_map, length, Option, Some, None}
+use Rattle.std.specs.Prelude.{if◌then◌else◌, List, [], ◌∷◌, ◌++◌, flat_map, length, Option, Some, None}
 use Rattle.std.specs.Prelude.{codes}
 use Rattle.std.specs.Char.{is_ascii_alphabetic, is_ascii_digit}
 use Rattle.std.specs.List.{list_all, list_any}
@@ -11,16 +12,11 @@ use Rattle.tlv_head.specs.Header.{HeaderValue, is_universal}
 use Rattle.tlv_head.specs.UniversalTypes as universal
 use Rattle.tlv_value.specs.declared.finding.Finding.{Finding}
 use Rattle.tlv_value.specs.declared.finding.Finding.TheVariants.{B06, B07, B08, B09, B10, B11, B12, B13, B14}
-use Rattle.tlv_value.specs.declared.finding.Finding.TheVariants.{B15, B18, B19, B20, B21, B23, B24, B25, B26}
-use Rattle.tlv_value.specs.declared.finding.Finding.TheVariants.{S02, S03, S04, S06}
+use Rattle.tlv_value.specs.declared.finding.Finding.TheVariants.{B15, B18, B19, S02, S03, S04}
 use Rattle.tlv_value.specs.Arcs.{parts_of}
-use Rattle.tlv_value.specs.Characters.{has_wrong_unit}
-use Rattle.tlv_value.specs.Dates.{is_date_or_time, month_has_day, month_has_day_in_some_century}
 pub use Rattle.tlv_value.specs.ContentsOctets.{first_octet, is_padded_integer, last_octet}
-use Rattle.tlv_value.specs.Real.{is_canonical_real, is_real_form}
 use Rattle.tlv_value.specs.Times as times
-use Rattle.tlv_value.specs.Types.{character_types, date_types, integer_types, iri_types, is_number_of}
-use Rattle.tlv_value.specs.Types.{object_types, time_types, wide_string_types}
+use Rattle.tlv_value.specs.Types.{character_types, integer_types, is_number_of, object_types, time_types}
 use Rattle.tlv_value.specs.Units.{is_printable}
 
 -- 8.6.2.2: the number that the unused bits of the last octet make
@@ -82,18 +78,6 @@ abbrev pub canonical_form : ℕ → times.Form
 canonical_form number =
     if number == universal.utc_time then times.canonical_utc_time_form else times.canonical_generalized_time_form
 
--- X.680 46, 47: the month of the time has its day. The century of a UTCTime is not known
-abbrev pub time_has_day : ℕ → List ℕ → Bool
-time_has_day number contents =
-    if number == universal.utc_time then month_has_day_in_some_century contents else month_has_day contents
-
--- 8.21, 8.22: the contents of an OID-IRI or RELATIVE-OID-IRI, the type with this number, are UTF-8 that begins as it
--- has to: 2f is /
-abbrev pub is_iri : ℕ → List ℕ → Bool
-is_iri number contents =
-    is_utf8 contents
-    && (if number == universal.oid_iri then begins_with 0x2f contents else not (length contents == 0))
-
 -- ---- The findings
 
 -- the finding, if the condition holds
@@ -104,9 +88,10 @@ finding_if there finding = if there then finding ∷ [] else []
 abbrev pub findings_by : List (Bool × Finding) → List Finding
 findings_by rows = flat_map (λ row. finding_if row.0 row.1) rows
 
--- the possible findings on these contents of a primitive of the type with this number, beside their conditions
-abbrev pub type_conditions : ℕ → List ℕ → List (Bool × Finding)
-type_conditions number contents =
+-- the listed findings on these contents of a primitive of the type with this number, beside their conditions: by the
+-- rules of all encodings
+abbrev pub listed_basic_type_conditions : ℕ → List ℕ → List (Bool × Finding)
+listed_basic_type_conditions number contents =
     -- 8.2.1: a BOOLEAN has one octet
     (number == universal.boolean && not (length contents == 1), B06)
     -- 8.3.1, 8.4: an INTEGER or ENUMERATED has one octet or more
@@ -137,24 +122,13 @@ type_conditions number contents =
     ∷ (is_number_of character_types number && not (allows number contents), B18)
     -- X.680 46, 47: a time of at most 64 octets follows the grammar of its type, as `Times` has it
     ∷ (is_short_time number contents && not (times.has_form (time_form number) contents), B19)
-    -- 8.5: a REAL is of a form, as `Real` has it
-    ∷ (number == universal.real && not (is_real_form contents), B20)
-    -- 8.26: a DATE, TIME-OF-DAY or DATE-TIME is one, as `Dates` has it
-    ∷ (is_number_of date_types number && not (is_date_or_time number contents), B21)
-    -- 8.21: an OID-IRI is UTF-8 and begins with /. 8.22: a RELATIVE-OID-IRI is UTF-8, and is not empty
-    ∷ (is_number_of iri_types number && not (is_iri number contents), B23)
-    -- 8.20.2: a RELATIVE-OID has one subidentifier or more
-    ∷ (number == universal.relative_oid && length contents == 0, B24)
-    -- 8.23: each whole unit of a BMPString or UniversalString is a character, as `Characters` has it
-    ∷ (is_number_of wide_string_types number && has_wrong_unit number contents, B25)
-    -- X.680 46, 47: in a time of at most 64 octets that follows the grammar of its type, the month has the day
-    ∷ (
-      is_short_time number contents && times.has_form (time_form number) contents
-          && not (time_has_day number contents),
-      B26,
-    )
+    ∷ []
+
+-- and by the rules of DER, and of CER
+abbrev pub listed_strict_type_conditions : ℕ → List ℕ → List (Bool × Finding)
+listed_strict_type_conditions number contents =
     -- 11.1: TRUE is ff
-    ∷ (
+    (
       number == universal.boolean && length contents == 1
           && not (first_octet contents == 0 || first_octet contents == 0xff),
       S02,
@@ -172,20 +146,14 @@ type_conditions number contents =
           && not (times.has_form (canonical_form number) contents),
       S04,
     )
-    -- 11.3: a REAL of a form is canonical, as `Real` has it
-    ∷ (number == universal.real && is_real_form contents && not (is_canonical_real contents), S06)
     ∷ []
 
--- the possible findings on these contents of a primitive with this header, beside their conditions. There are none if
--- its class is not universal
-abbrev pub contents_conditions : HeaderValue → List ℕ → List (Bool × Finding)
-contents_conditions h contents = if is_universal h.class then type_conditions h.number contents else []
+-- all of these, in the order of the codes
+abbrev pub listed_type_conditions : ℕ → List ℕ → List (Bool × Finding)
+listed_type_conditions number contents =
+    listed_basic_type_conditions number contents ++ listed_strict_type_conditions number contents
 
--- the findings on these contents of a primitive of the type with this number, by the rules of BER, CER or DER, in
--- order
-abbrev pub type_findings : ℕ → List ℕ → List Finding
-type_findings number contents = findings_by (type_conditions number contents)
-
--- the same, of a primitive with this header
-abbrev pub all_contents_findings : HeaderValue → List ℕ → List Finding
-all_contents_findings h contents = findings_by (contents_conditions h contents)
+-- the same, of a primitive with this header. There are none if its class is not universal
+abbrev pub listed_contents_conditions : HeaderValue → List ℕ → List (Bool × Finding)
+listed_contents_conditions h contents =
+    if is_universal h.class then listed_type_conditions h.number contents else []

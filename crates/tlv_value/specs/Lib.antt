@@ -23,6 +23,7 @@ pub mod Dates
 pub mod Characters
 pub mod UnitsSoFar
 pub mod Checks
+pub mod AllChecks
 pub mod ValueCheckState
 pub mod ValueCheckFields
 pub mod CheckLaws

@@ -11,7 +11,8 @@ use Rattle.tlv_value.specs.declared.finding.Finding.TheVariants.{B06, B07, B08, 
 use Rattle.tlv_value.specs.declared.finding.Finding.TheVariants.{B15, B18, B19, B20, B21, B23, B24, B25, B26}
 use Rattle.tlv_value.specs.declared.finding.Finding.TheVariants.{S02, S03, S04, S06}
 use Rattle.tlv_value.specs.Checks.{allows_octet, are_whole_characters, begins_with, canonical_form, findings_by}
-use Rattle.tlv_value.specs.Checks.{first_octet, is_padded_integer, time_form, time_has_day}
+use Rattle.tlv_value.specs.Checks.{first_octet, is_padded_integer, time_form}
+use Rattle.tlv_value.specs.AllChecks.{time_has_day}
 use Rattle.tlv_value.specs.Dates.{is_date_or_time}
 use Rattle.tlv_value.specs.RealState.{is_canonical, is_of_form, new_real_check, real_check_after}
 use Rattle.tlv_value.specs.declared.real.RealCheck.{RealCheck}
@@ -207,7 +208,7 @@ is_kept_iri number s =
 abbrev pub is_kept_time : ℕ → ValueCheckState → Bool
 is_kept_time number s = is_number_of time_types number && nat_le s.size 64
 
--- the conditions of `type_conditions` (Checks.antt), said of what is kept of the contents. The law `FindingsEnd` says
+-- the conditions of `type_conditions` (AllChecks.antt), said of what is kept of the contents. The law `FindingsEnd` says
 -- that the same is found
 abbrev pub kept_conditions : ℕ → ValueCheckState → List (Bool × Finding)
 kept_conditions number s =

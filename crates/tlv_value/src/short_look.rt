@@ -1,8 +1,8 @@
 //! A short look at all of the contents of a primitive.
 ghost use Rattle.std.specs.Prelude.{◌≡◌, ◌||◌, ◌==◌, [], IsTrue, eqb, false, length, nat_le, true};
 ghost use Rattle.tlv_head.specs.UniversalTypes.{bit_string, boolean, generalized_time, utc_time};
-ghost use Rattle.tlv_value.specs.Checks.{all_contents_findings, begins_with, has_padded_part, is_padded_integer};
-ghost use Rattle.tlv_value.specs.Checks.{last_octet, type_findings};
+ghost use Rattle.tlv_value.specs.AllChecks.{all_contents_findings, type_findings};
+ghost use Rattle.tlv_value.specs.Checks.{begins_with, has_padded_part, is_padded_integer, last_octet};
 ghost use Rattle.tlv_value.specs.Private.TimeFindings.{generalized_time_findings, utc_time_findings};
 ghost use Rattle.tlv_head.specs.TypeTable.{are_constructed, has_encodings};
 ghost use Rattle.tlv_value.specs.Types.{has_primitives};

@@ -5,7 +5,8 @@ ghost use Rattle.tlv_value.specs.ValueCheckState.{value_check_after, value_check
 ghost use Rattle.tlv_value.specs.ValueCheckState.{new_value_check, new_value_check_of};
 ghost use Rattle.tlv_value.specs.ValueCheckState.{type_number, with_each_noted, with_first_noted};
 ghost use Rattle.tlv_value.specs.ValueCheckState.{with_iri_noted, with_units_noted};
-ghost use Rattle.tlv_value.specs.Checks.{all_contents_findings, is_padded_integer};
+ghost use Rattle.tlv_value.specs.Checks.{is_padded_integer};
+ghost use Rattle.tlv_value.specs.AllChecks.{all_contents_findings};
 
 mod characters;
 mod findings;

@@ -3,7 +3,8 @@ use Rattle.std.proofs.Common.{◌≡◌, ℕ, ◌%◌, true, false, not, List, [
 use Rattle.std.specs.List.{list_all}
 use Rattle.std.specs.Str.{is_utf8}
 use Rattle.tlv_value.specs.Characters.{has_wrong_unit}
-use Rattle.tlv_value.specs.Checks.{allows_octet, type_findings}
+use Rattle.tlv_value.specs.Checks.{allows_octet}
+use Rattle.tlv_value.specs.AllChecks.{type_findings}
 use Rattle.tlv_value.specs.UnitsSoFar.{are_characters_after}
 use Rattle.tlv_value.proofs.CheckLemmas.UnitsNoted.{fours-same, not-not, twos-same}
 

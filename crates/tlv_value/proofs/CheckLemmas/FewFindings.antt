@@ -7,9 +7,10 @@ use Rattle.tlv_head.specs.Header.{HeaderValue, is_universal}
 use Rattle.tlv_head.specs.UniversalTypes as universal
 use Rattle.tlv_value.specs.declared.finding.Finding.{Finding}
 use Rattle.tlv_value.specs.Characters.{has_wrong_unit}
-use Rattle.tlv_value.specs.Checks.{all_contents_findings, allows, canonical_form, findings_by, first_octet}
-use Rattle.tlv_value.specs.Checks.{has_padded_part, is_iri, is_padded_integer, is_short_time, last_octet, time_form}
-use Rattle.tlv_value.specs.Checks.{time_has_day, type_conditions, unused_bits_value}
+use Rattle.tlv_value.specs.AllChecks.{all_contents_findings, is_iri, time_has_day, type_conditions}
+use Rattle.tlv_value.specs.Checks.{allows, canonical_form, findings_by, first_octet}
+use Rattle.tlv_value.specs.Checks.{has_padded_part, is_padded_integer, is_short_time, last_octet, time_form}
+use Rattle.tlv_value.specs.Checks.{unused_bits_value}
 use Rattle.tlv_value.specs.Dates.{is_date_or_time}
 use Rattle.tlv_value.specs.Real.{is_canonical_real, is_real_form}
 use Rattle.tlv_value.specs.Times.{has_form}

@@ -3,7 +3,8 @@ use Rattle.std.proofs.Common.{◌≡◌, sym, ℕ, Bool, true, false, ◌&&◌, 
 use Rattle.std.proofs.lemmas.Bool.{eqb-true}
 use Rattle.std.specs.Prelude.{◌||◌}
 use Rattle.tlv_value.specs.declared.finding.Finding.TheVariants.{B18, B21, B23}
-use Rattle.tlv_value.specs.Checks.{finding_if, findings_by, type_findings}
+use Rattle.tlv_value.specs.Checks.{finding_if, findings_by}
+use Rattle.tlv_value.specs.AllChecks.{type_findings}
 use Rattle.tlv_value.specs.Dates.{is_date_or_time}
 use Rattle.tlv_value.specs.Types.{character_types, date_types, iri_types, is_number_of, tested_string_types}
 use Rattle.tlv_value.specs.ValueCheckState.{ValueCheckState, is_allowed, is_kept_date, is_kept_iri, kept_conditions}

@@ -11,8 +11,9 @@ use Rattle.tlv_value.specs.declared.finding.Finding.TheVariants.{B20, B21, B23, 
 use Rattle.tlv_value.specs.Characters.{has_wrong_unit}
 use Rattle.tlv_value.specs.Dates.{month_has_day, month_has_day_in_some_century}
 use Rattle.tlv_value.specs.UnitsSoFar.{are_characters_after}
-use Rattle.tlv_value.specs.Checks.{all_contents_findings, allows, allows_octet, are_whole_characters, begins_with}
-use Rattle.tlv_value.specs.Checks.{finding_if, findings_by, is_padded_integer, type_conditions, type_findings}
+use Rattle.tlv_value.specs.AllChecks.{all_contents_findings, type_conditions, type_findings}
+use Rattle.tlv_value.specs.Checks.{allows, allows_octet, are_whole_characters, begins_with}
+use Rattle.tlv_value.specs.Checks.{finding_if, findings_by, is_padded_integer}
 use Rattle.tlv_value.specs.Types.{character_types, is_number_of}
 use Rattle.tlv_value.specs.ValueCheckState.{ValueCheckState, is_allowed, kept_conditions, new_value_check_of}
 use Rattle.tlv_value.specs.ValueCheckState.{notes_each, type_number, with_each_noted, with_octets_noted}

@@ -3,7 +3,7 @@ use Rattle.std.proofs.Common.{◌≡◌, ℕ, zero, suc, ◌+◌, ◌%◌, Bool,
 use Rattle.std.proofs.Common.{if◌then◌else◌, List, [], ◌∷◌, length, take, drop, refl, sym, ap, ◌∙◌, arith}
 use Rattle.std.proofs.lemmas.Bool.Decides.{nat_tests}
 use Rattle.std.proofs.lemmas.Bool.{and_parts}
-use Rattle.tlv_value.specs.Checks.{type_findings}
+use Rattle.tlv_value.specs.AllChecks.{type_findings}
 use Rattle.tlv_value.specs.ContentsOctets.{first_octet, is_padded_integer}
 use Rattle.tlv_value.specs.Real.{base_bits, canonical_nr3_form, has_size_octet, is_canonical_binary}
 use Rattle.tlv_value.specs.Real.{is_canonical_mantissa}

@@ -1,0 +1,79 @@
+-- All findings on the contents of a primitive: the listed ones, which `Checks` has, and the others.
+use Rattle.std.specs.Prelude.{ℕ, Bool, ◌&&◌, not, ◌==◌, if◌then◌else◌, List, [], ◌∷◌, ◌++◌, length}
+use Rattle.std.specs.Str.{is_utf8}
+use Rattle.tlv_head.specs.Header.{HeaderValue, is_universal}
+use Rattle.tlv_head.specs.UniversalTypes as universal
+use Rattle.tlv_value.specs.declared.finding.Finding.{Finding}
+use Rattle.tlv_value.specs.declared.finding.Finding.TheVariants.{B20, B21, B23, B24, B25, B26, S06}
+use Rattle.tlv_value.specs.Characters.{has_wrong_unit}
+use Rattle.tlv_value.specs.Checks.{begins_with, findings_by, is_short_time, listed_basic_type_conditions}
+use Rattle.tlv_value.specs.Checks.{listed_strict_type_conditions, time_form}
+use Rattle.tlv_value.specs.Dates.{is_date_or_time, month_has_day, month_has_day_in_some_century}
+use Rattle.tlv_value.specs.Real.{is_canonical_real, is_real_form}
+use Rattle.tlv_value.specs.Times as times
+use Rattle.tlv_value.specs.Types.{date_types, iri_types, is_number_of, wide_string_types}
+
+-- X.680 46, 47: the month of the time has its day. The century of a UTCTime is not known
+abbrev pub time_has_day : ℕ → List ℕ → Bool
+time_has_day number contents =
+    if number == universal.utc_time then month_has_day_in_some_century contents else month_has_day contents
+
+-- 8.21, 8.22: the contents of an OID-IRI or RELATIVE-OID-IRI, the type with this number, are UTF-8 that begins as it
+-- has to: 2f is /
+abbrev pub is_iri : ℕ → List ℕ → Bool
+is_iri number contents =
+    is_utf8 contents
+    && (if number == universal.oid_iri then begins_with 0x2f contents else not (length contents == 0))
+
+-- ---- The findings
+
+-- the findings on these contents of a primitive of the type with this number that are not listed, beside their
+-- conditions: by the rules of all encodings
+abbrev pub later_basic_type_conditions : ℕ → List ℕ → List (Bool × Finding)
+later_basic_type_conditions number contents =
+    -- 8.5: a REAL is of a form, as `Real` has it
+    (number == universal.real && not (is_real_form contents), B20)
+    -- 8.26: a DATE, TIME-OF-DAY or DATE-TIME is one, as `Dates` has it
+    ∷ (is_number_of date_types number && not (is_date_or_time number contents), B21)
+    -- 8.21: an OID-IRI is UTF-8 and begins with /. 8.22: a RELATIVE-OID-IRI is UTF-8, and is not empty
+    ∷ (is_number_of iri_types number && not (is_iri number contents), B23)
+    -- 8.20.2: a RELATIVE-OID has one subidentifier or more
+    ∷ (number == universal.relative_oid && length contents == 0, B24)
+    -- 8.23: each whole unit of a BMPString or UniversalString is a character, as `Characters` has it
+    ∷ (is_number_of wide_string_types number && has_wrong_unit number contents, B25)
+    -- X.680 46, 47: in a time of at most 64 octets that follows the grammar of its type, the month has the day
+    ∷ (
+      is_short_time number contents && times.has_form (time_form number) contents
+          && not (time_has_day number contents),
+      B26,
+    )
+    ∷ []
+
+-- and by the rules of DER, and of CER
+abbrev pub later_strict_type_conditions : ℕ → List ℕ → List (Bool × Finding)
+later_strict_type_conditions number contents =
+    -- 11.3: a REAL of a form is canonical, as `Real` has it
+    (number == universal.real && is_real_form contents && not (is_canonical_real contents), S06)
+    ∷ []
+
+-- all findings on these contents, listed or not, beside their conditions, in the order of the codes
+abbrev pub type_conditions : ℕ → List ℕ → List (Bool × Finding)
+type_conditions number contents =
+    listed_basic_type_conditions number contents
+    ++ later_basic_type_conditions number contents
+    ++ listed_strict_type_conditions number contents
+    ++ later_strict_type_conditions number contents
+
+-- the possible findings on these contents of a primitive with this header, beside their conditions. There are none if
+-- its class is not universal
+abbrev pub contents_conditions : HeaderValue → List ℕ → List (Bool × Finding)
+contents_conditions h contents = if is_universal h.class then type_conditions h.number contents else []
+
+-- the findings on these contents of a primitive of the type with this number, by the rules of BER, CER or DER, in
+-- order
+abbrev pub type_findings : ℕ → List ℕ → List Finding
+type_findings number contents = findings_by (type_conditions number contents)
+
+-- the same, of a primitive with this header
+abbrev pub all_contents_findings : HeaderValue → List ℕ → List Finding
+all_contents_findings h contents = findings_by (contents_conditions h contents)
