@@ -10,7 +10,9 @@ pub mod FramesAfter
 pub mod FramesAround
 pub mod HeaderFindings
 pub mod KeptFrames
+pub mod KeptRows
 pub mod ListedFindings
+pub mod ListedTables
 pub mod FindingLines
 pub mod LongerHeaders
 pub mod OrderFindings

@@ -5,11 +5,11 @@ use Rattle.tlv_value.specs.declared.layout.Layout.{Layout}
 use Rattle.tlv_value.specs.Value.{no_names}
 use Rattle.tlv_walk.specs.declared.framing.Framing.{Framing}
 use Rattle.tlv_walk.proofs.GrammarLemmas.Readings.{reading}
-use Rattle.tlv_show.specs.ShowJob.{check_job_with, show_job}
+use Rattle.tlv_show.specs.ListedFindings.{ElementFindings, listed_findings}
+use Rattle.tlv_show.specs.ShowJob.{show_job}
 use Rattle.tlv_show.specs.declared.rules.Rules.{Rules}
-use Rattle.tlv_show.specs.declared.wanted.Wanted.{Wanted}
-use Rattle.tlv_show.specs.ShownFindings.{all_by, listed_by}
-use Rattle.tlv_show.specs.Texts.{finding_count, item_text}
+use Rattle.tlv_show.specs.ShownFindings.{all_by, wanted_findings}
+use Rattle.tlv_show.specs.Texts.{check_line, finding_count, item_text}
 
 abbrev pub inside_framing : ℕ → Framing
 inside_framing n = record { inside = n ∷ []; padding = false }
@@ -30,21 +30,21 @@ pub record TextAndCount : Type 0 where
 
 abbrev pub dump : Framing → Layout → Rules → List ℕ → TextAndCount
 dump framing layout rules b = let f = reading framing b in record {
-  text = (show_job (listed_by rules) framing (item_text false no_names layout)).text f;
-  count = finding_count (listed_by rules) f;
+  text = (show_job (listed_findings rules) framing (item_text false no_names layout)).text f;
+  count = finding_count (listed_findings rules) f;
 }
 
-abbrev pub check_wanted : Wanted → Framing → List ℕ → TextAndCount
-check_wanted wanted framing b = let f = reading framing b in record {
-  text = (check_job_with wanted framing).text f;
-  count = finding_count wanted f;
+abbrev pub check_for : ElementFindings → Framing → List ℕ → TextAndCount
+check_for found framing b = let f = reading framing b in record {
+  text = (show_job found framing check_line).text f;
+  count = finding_count found f;
 }
 
 abbrev pub check : Framing → Rules → List ℕ → TextAndCount
-check framing rules b = check_wanted (listed_by rules) framing b
+check framing rules b = check_for (listed_findings rules) framing b
 
 abbrev pub check_all : Framing → Rules → List ℕ → TextAndCount
-check_all framing rules b = check_wanted (all_by rules) framing b
+check_all framing rules b = check_for (wanted_findings (all_by rules)) framing b
 
 -- so many findings, and these lines
 abbrev pub lines : ℕ → List (List ℕ) → TextAndCount

@@ -1,20 +1,16 @@
 -- The findings of a header, and of an end, by the rules of X.690: each finding beside its condition, in the order of
--- the codes.
-use Rattle.std.specs.Prelude.{ℕ, ◌+◌, ◌-◌, ◌%◌, Bool, true, false, ◌&&◌, ◌||◌, not, ◌==◌, nat_le, nat_lt}
+-- the codes. These are the ones that are listed (`is_listed` in `ShownFindings`); `AllConditions` has the others.
+use Rattle.std.specs.Prelude.{ℕ, ◌+◌, ◌-◌, ◌%◌, Bool, false, ◌&&◌, ◌||◌, not, ◌==◌, nat_le, nat_lt}
 use Rattle.std.specs.Prelude.{if◌then◌else◌, List, [], ◌∷◌, ◌++◌, length, Some, sum_by}
 use Rattle.std.specs.List.{list_all}
-use Rattle.tlv_head.specs.Header.{HeaderValue, announced_length, is_universal, second_identifier_octet}
-use Rattle.tlv_head.specs.Header.{second_length_octet}
-use Rattle.tlv_head.specs.TypeTable.{has_encodings}
-use Rattle.tlv_head.specs.declared.type_table.Encodings.{Encodings}
-use Rattle.tlv_head.specs.declared.type_table.Encodings.TheVariants.{Unjudged}
+use Rattle.tlv_head.specs.Header.{HeaderValue, announced_length, second_identifier_octet, second_length_octet}
 use Rattle.tlv_value.specs.declared.finding.Finding.{Finding}
-use Rattle.tlv_value.specs.declared.finding.Finding.TheVariants.{B01, B02, B03, B04, B05, B16, B17, B22, B27}
+use Rattle.tlv_value.specs.declared.finding.Finding.TheVariants.{B01, B02, B03, B04, B05, B16, B17}
 use Rattle.tlv_value.specs.declared.finding.Finding.TheVariants.{S01, D01, D02, C01, C02, C03, C04, C05, C06}
 use Rattle.tlv_head.specs.UniversalTypes as universal
-use Rattle.tlv_value.specs.Types.{has_segments, is_a, is_always_constructed, is_always_primitive, is_number_of}
-use Rattle.tlv_value.specs.Types.{is_primitive}
+use Rattle.tlv_value.specs.Types.{has_segments, is_a, is_always_constructed, is_always_primitive, is_primitive}
 use Rattle.tlv_value.specs.Types.{is_string, is_unassigned}
+use Rattle.tlv_walk.specs.Forest.{Forest, Holder, PaddingOctet, Primitive}
 use Rattle.tlv_walk.specs.Place.{is_indefinite}
 use Rattle.tlv_show.specs.Site.{Previous, Sibling, Site, in_bit_string, in_string}
 
@@ -43,19 +39,6 @@ is_wrongly_constructed h = h.constructed && is_always_primitive h
 -- the element is primitive, and the encodings of its type are constructed
 abbrev pub is_wrongly_primitive : HeaderValue → Bool
 is_wrongly_primitive h = is_primitive h && is_always_constructed h
-
--- 8.21, 8.22, 8.26: the encodings of these types are primitive too
-abbrev pub are_unjudged : Encodings → Bool
-are_unjudged Unjudged = true
-are_unjudged _ = false
-
--- a TIME, DATE, TIME-OF-DAY, DATE-TIME, DURATION, OID-IRI or RELATIVE-OID-IRI
-abbrev pub is_time_or_iri : HeaderValue → Bool
-is_time_or_iri h = is_universal h.class && has_encodings are_unjudged h.number
-
--- the element is constructed, and is one of these
-abbrev pub is_constructed_time_or_iri : HeaderValue → Bool
-is_constructed_time_or_iri h = h.constructed && is_time_or_iri h
 
 -- 8.1.3.5: there are subsequent length octets
 abbrev pub has_long_form : HeaderValue → Bool
@@ -105,16 +88,9 @@ basic_conditions_of_segment s h =
     ∷ (in_string s && not (is_a (segment_type (in_bit_string s)) h), B17)
     ∷ []
 
--- and of any element again
-abbrev pub later_basic_conditions : HeaderValue → List (Bool × Finding)
-later_basic_conditions h =
-    -- 8.21, 8.22, 8.26: the encodings of these types are primitive
-    (is_constructed_time_or_iri h, B22)
-    ∷ []
-
-abbrev pub basic_conditions : Site → HeaderValue → List (Bool × Finding)
-basic_conditions s h =
-    basic_conditions_of_header h ++ basic_conditions_of_segment s h ++ later_basic_conditions h
+-- both
+abbrev pub listed_basic_conditions : Site → HeaderValue → List (Bool × Finding)
+listed_basic_conditions s h = basic_conditions_of_header h ++ basic_conditions_of_segment s h
 
 -- by the rules of DER, and by the rules of CER
 abbrev pub length_conditions : HeaderValue → List (Bool × Finding)
@@ -153,11 +129,22 @@ cer_conditions_of_segment s h =
 abbrev pub cer_conditions : Site → HeaderValue → List (Bool × Finding)
 cer_conditions s h = cer_conditions_of_header h ++ cer_conditions_of_segment s h
 
+-- by the rules of DER, of CER, or of both
+abbrev pub strict_conditions : Site → HeaderValue → List (Bool × Finding)
+strict_conditions s h = length_conditions h ++ der_conditions h ++ cer_conditions s h
+
 -- all of these conditions, in the order of the codes
-abbrev pub header_conditions : Site → HeaderValue → List (Bool × Finding)
-header_conditions s h = basic_conditions s h ++ length_conditions h ++ der_conditions h ++ cer_conditions s h
+abbrev pub listed_header_conditions : Site → HeaderValue → List (Bool × Finding)
+listed_header_conditions s h = listed_basic_conditions s h ++ strict_conditions s h
 
 -- ---- With the end of an element that holds others
+
+-- the headers of whole elements one after another
+abbrev pub headers : Forest → List HeaderValue
+headers (PaddingOctet rest) = headers rest
+headers (Primitive h c rest) = h ∷ headers rest
+headers (Holder h children rest) = h ∷ headers rest
+headers _ = []
 
 -- 8.6.2: the contents of a BIT STRING begin with one octet for unused bits; other strings have no such octet
 abbrev pub bits_octet_count : Bool → ℕ
@@ -176,22 +163,12 @@ ends_empty [] = false
 ends_empty (h ∷ []) = is_primitive h && announced_length h.size == 0
 ends_empty (h ∷ g ∷ hs) = ends_empty (g ∷ hs)
 
--- 8.17, 8.18, 8.24: the types that are encoded as a SEQUENCE with components that have to be there
-abbrev pub component_types : List ℕ
-component_types = universal.external ∷ universal.embedded_pdv ∷ universal.character_string ∷ []
-
--- a constructed element of such a type
-abbrev pub has_components : HeaderValue → Bool
-has_components h = h.constructed && is_universal h.class && is_number_of component_types h.number
-
 -- from the element's header and the headers of what it held
-abbrev pub end_conditions : HeaderValue → List HeaderValue → List (Bool × Finding)
-end_conditions h children =
-    -- 8.17, 8.18, 8.24: an EXTERNAL, EMBEDDED PDV or CHARACTER STRING holds an element or more
-    (has_components h && length children == 0, B27)
+abbrev pub listed_end_conditions : HeaderValue → List HeaderValue → List (Bool × Finding)
+listed_end_conditions h children =
     -- 9.2: a string of at most 1000 contents octets is primitive. If a segment is constructed, C03 says so, and the
     -- contents octets are not counted
-    ∷ (has_segments h && list_all is_primitive children && nat_le (length_as_primitive h children) 1000, C05)
+    (has_segments h && list_all is_primitive children && nat_le (length_as_primitive h children) 1000, C05)
     -- an inference of our own: 9.2 lets the last segment be shorter than 1000 octets, and does not say that it may be
     -- empty. A segment of a BIT STRING that has only its octet for unused bits does not count as empty
     ∷ (has_segments h && ends_empty children, C06)

@@ -1,16 +1,12 @@
 -- What is reported of elements, item by item. A dump and a check write the lines of the items in this order, and
 -- their number of findings is the number of findings here.
-use Rattle.std.specs.Prelude.{ℕ, ◌&&◌, if◌then◌else◌, List, [], ◌∷◌, ◌++◌, map, Option}
+use Rattle.std.specs.Prelude.{ℕ, if◌then◌else◌, List, [], ◌∷◌, ◌++◌, map, Option}
 use Rattle.tlv_head.specs.Header.{HeaderValue}
 use Rattle.tlv_value.specs.declared.finding.Finding.{Finding}
 use Rattle.tlv_walk.specs.Forest.{end_octets_offset}
 use Rattle.tlv_walk.specs.Forest.{Forest, PaddingOctet, Primitive, Holder, OpenPrimitive, OpenHolder}
 use Rattle.tlv_walk.specs.Forest.{OpenBitString}
-use Rattle.tlv_show.specs.declared.wanted.Wanted.{Wanted}
-use Rattle.tlv_show.specs.SegmentCharacters.{has_wrong_characters}
-use Rattle.tlv_show.specs.SetOrder.{holder_element, primitive_element}
-use Rattle.tlv_show.specs.ShownFindings.{contents_findings, end_findings, header_findings, last_findings}
-use Rattle.tlv_show.specs.ShownFindings.{wants_characters, with_characters_if}
+use Rattle.tlv_show.specs.ListedFindings.{ElementFindings}
 use Rattle.tlv_show.specs.Site.{Site, is_padding, site_after_holder, site_after_padding, site_after_primitive}
 use Rattle.tlv_show.specs.Site.{site_of_children}
 
@@ -27,37 +23,22 @@ pub data Item : Type 0 where
   -- padding begins at this offset
   PaddingLine : (depth offset : ℕ) → Item
 
--- the headers of whole elements one after another
-abbrev pub headers : Forest → List HeaderValue
-headers (PaddingOctet rest) = headers rest
-headers (Primitive h c rest) = h ∷ headers rest
-headers (Holder h children rest) = h ∷ headers rest
-headers _ = []
-
 -- findings in an element at this depth and offset, in order
 abbrev pub finding_items : ℕ → ℕ → List Finding → List Item
 finding_items depth offset findings = map (FindingAt depth offset) findings
 
-module _ (wanted : Wanted) where
+-- the argument says what is found in an element
+module _ (found : ElementFindings) where
   -- the findings of the header of an element, on the contents of a primitive, and of the end of an element that held
-  -- others. The last two are with the order of a SET
+  -- others
   abbrev pub header_items : Site → HeaderValue → List Item
-  header_items s h = finding_items s.depth h.offset (header_findings wanted s h)
+  header_items s h = finding_items s.depth h.offset (found.of_header s h)
 
   abbrev pub contents_items : Site → HeaderValue → List ℕ → List Item
-  contents_items s h c =
-      finding_items s.depth h.offset
-      (last_findings wanted s (primitive_element h c) (contents_findings wanted h c))
-
-  abbrev pub held_findings : HeaderValue → Forest → List Finding
-  held_findings h children =
-      with_characters_if (wants_characters wanted && has_wrong_characters h children)
-      (end_findings wanted h (headers children))
+  contents_items s h c = finding_items s.depth h.offset (found.of_primitive s h c)
 
   abbrev pub end_items : Site → HeaderValue → Forest → List Item
-  end_items s h children =
-      finding_items s.depth h.offset
-      (last_findings wanted s (holder_element h children) (held_findings h children))
+  end_items s h children = finding_items s.depth h.offset (found.of_holder s h children)
 
   -- the items of elements, the first of which is at this site. The findings of a header come before the element's
   -- first line, all other findings after its last line

@@ -1,6 +1,6 @@
--- The conditions of a header, and of an end, by what is kept when elements come event by event. `Conditions` has them
--- by the site of an element, and by the headers of what it held: lemmas say that both find the same. Only the rows that
--- depend on what is kept are here again.
+-- The conditions of a header, and of an end, by what is kept when elements come event by event. `AllConditions` has
+-- them by the site of an element, and by the headers of what it held: lemmas say that both find the same. Only the rows
+-- that depend on what is kept are here again.
 use Rattle.std.specs.Prelude.{ℕ, Bool, ◌&&◌, not, nat_le, List, [], ◌∷◌, ◌++◌}
 use Rattle.tlv_head.specs.Header.{HeaderValue}
 use Rattle.tlv_value.specs.declared.finding.Finding.{Finding}
@@ -8,7 +8,8 @@ use Rattle.tlv_value.specs.declared.finding.Finding.TheVariants.{B16, B17, B27, 
 use Rattle.tlv_value.specs.Types.{is_a}
 use Rattle.tlv_show.specs.declared.wanted.Wanted.{Wanted}
 use Rattle.tlv_show.specs.Conditions.{basic_conditions_of_header, cer_conditions_of_header, der_conditions}
-use Rattle.tlv_show.specs.Conditions.{later_basic_conditions, length_conditions, segment_type}
+use Rattle.tlv_show.specs.Conditions.{length_conditions, segment_type}
+use Rattle.tlv_show.specs.AllConditions.{later_basic_conditions}
 use Rattle.tlv_show.specs.ShownFindings.{shown_findings}
 
 -- ---- With the header

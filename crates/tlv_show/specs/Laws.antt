@@ -30,7 +30,9 @@ use Rattle.tlv_show.specs.FindingLines.{styled_lines}
 use Rattle.tlv_show.specs.DumpStep.{DumpState, dump_step, finding_lines}
 use Rattle.tlv_show.specs.FinderState.{CheckState, finder_begin_step, finder_bytes_step, finder_end_step, is_misplaced}
 use Rattle.tlv_show.specs.NestingState.{depth_in}
-use Rattle.tlv_show.specs.ShownFindings.{all_by, contents_findings, is_by, is_listed, listed_by, with_order_if}
+use Rattle.tlv_show.specs.ListedFindings.{is_by, listed_findings}
+use Rattle.tlv_show.specs.ShownFindings.{all_by, contents_findings, is_listed, listed_by, wanted_findings}
+use Rattle.tlv_show.specs.ShownFindings.{with_order_if}
 use Rattle.tlv_head.specs.Limits.{input_limit}
 
 -- the text of a longer input, of at most 2^40 octets, begins with the text of the shorter input
@@ -83,7 +85,7 @@ DumpsMakeTexts =
     → let made =
     effect_of dump_step (new_dump_with with_text (wanted_in scope options) (top_layout options) names) (events f) in
     (made.put ≡ (dump_job_with scope with_text options names).text f)
-    × (made.state.finder.finding_count ≡ finding_count (wanted_in scope options) f)
+    × (made.state.finder.finding_count ≡ finding_count (wanted_findings (wanted_in scope options)) f)
     × (made.goes ≡ On)
 
 -- a `Check` puts the text of the check of such a reading, counts its findings, and always wants more
@@ -92,7 +94,7 @@ ChecksMakeTexts =
     (wanted : Wanted) (framing : Framing) (b : List ℕ) (f : Forest) → length b ≤ input_limit → IsReading framing b f
     → let made = effect_of check_step (new_check wanted) (events f) in
     (made.put ≡ (check_job_with wanted framing).text f)
-    × (made.state.finding_count ≡ finding_count wanted f)
+    × (made.state.finding_count ≡ finding_count (wanted_findings wanted) f)
     × (made.goes ≡ On)
 
 -- a finding of BER
@@ -109,7 +111,8 @@ abbrev pub BasicFindingsStay : Type 0
 BasicFindingsStay =
     (scope : Scope) (rules : Rules) (framing : Framing) (f : Forest)
     → (check_job_with (record { rules = Ber; scope = scope }) framing).text f
-    ≡ flat_map check_line (filter is_basic (items (record { rules = rules; scope = scope }) top_site f))
+    ≡ flat_map check_line
+    (filter is_basic (items (wanted_findings (record { rules = rules; scope = scope })) top_site f))
 
 -- a listed finding, or no finding
 abbrev pub is_listed_item : Item → Bool
@@ -120,8 +123,10 @@ is_listed_item (PrimitiveLines depth h c) = true
 is_listed_item (OpenPrimitiveLines depth h c) = true
 is_listed_item (PaddingLine depth offset) = true
 
--- if the listed findings are wanted, what is reported is what is reported if all are wanted, without the other findings
+-- what is reported with the listed findings is what is reported if all are wanted, without the other findings; and it
+-- is what is reported if the listed ones are wanted
 abbrev pub ListedItemsStay : Type 0
 ListedItemsStay =
     (rules : Rules) (s : Site) (f : Forest)
-    → items (listed_by rules) s f ≡ filter is_listed_item (items (all_by rules) s f)
+    → (items (listed_findings rules) s f ≡ filter is_listed_item (items (wanted_findings (all_by rules)) s f))
+    × (items (wanted_findings (listed_by rules)) s f ≡ items (listed_findings rules) s f)

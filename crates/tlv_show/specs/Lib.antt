@@ -7,6 +7,8 @@ pub mod SetOrderState
 pub mod SegmentCharacters
 pub mod SegmentCharactersState
 pub mod Conditions
+pub mod AllConditions
+pub mod ListedFindings
 pub mod ShownFindings
 pub mod KeptConditions
 pub mod Items

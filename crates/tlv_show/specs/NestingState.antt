@@ -6,7 +6,8 @@ use Rattle.tlv_head.specs.Header.{HeaderValue, announced_length}
 use Rattle.tlv_head.specs.UniversalTypes as universal
 use Rattle.tlv_value.specs.Types.{has_segments, is_a, is_primitive}
 use Rattle.tlv_show.specs.declared.holder_frame.HolderFrame.{HolderFrame}
-use Rattle.tlv_show.specs.Conditions.{bits_octet_count, has_components}
+use Rattle.tlv_show.specs.Conditions.{bits_octet_count}
+use Rattle.tlv_show.specs.AllConditions.{has_components}
 use Rattle.tlv_show.specs.KeptConditions.{Segments, Surroundings}
 
 -- ---- One frame

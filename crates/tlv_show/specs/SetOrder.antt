@@ -2,13 +2,14 @@
 use Rattle.std.specs.Prelude.{ℕ, Bool, false, ◌&&◌, ◌||◌, not, ◌==◌, nat_lt, if◌then◌else◌, List, [], ◌∷◌, ◌++◌}
 use Rattle.std.specs.Prelude.{Option, Some, None, replicate, take}
 use Rattle.tlv_head.specs.declared.header.Class.{Class}
-use Rattle.tlv_head.specs.Header.{HeaderValue, class_bits, octets_of}
+use Rattle.tlv_head.specs.Header.{HeaderValue, class_bits}
 use Rattle.tlv_head.specs.UniversalTypes as universal
 use Rattle.tlv_value.specs.Types.{is_a}
 use Rattle.tlv_walk.specs.Forest.{Forest, Holder, NoMore, OpenBitString, OpenEndOctets, OpenHeader, OpenHolder}
-use Rattle.tlv_walk.specs.Forest.{OpenPrimitive, PaddingOctet, Primitive, end_octets, opening, spelling}
+use Rattle.tlv_walk.specs.Forest.{OpenPrimitive, PaddingOctet, Primitive}
 use Rattle.tlv_show.specs.declared.rules.Rules.{Rules}
 use Rattle.tlv_show.specs.declared.rules.Rules.TheVariants.{Ber, Der, Cer}
+use Rattle.tlv_show.specs.Site.{Padding, Previous, Sibling, Site, Start, holder_octets, primitive_octets}
 
 -- 8.11, 8.12: a constructed element with the tag of SET, which SET OF has too
 abbrev pub is_set : HeaderValue → Bool
@@ -21,13 +22,12 @@ pub record Element : Type 0 where
   pub header : HeaderValue
   pub octets : List ℕ
 
--- 8.1.1.1: a primitive: identifier octets, length octets and contents octets
+-- a primitive, and an element that holds others
 abbrev pub primitive_element : HeaderValue → List ℕ → Element
-primitive_element h c = record { header = h; octets = octets_of h ++ c }
+primitive_element h c = record { header = h; octets = primitive_octets h c }
 
--- 8.1.1.1: an element that holds others, with its end-of-contents octets, if any
 abbrev pub holder_element : HeaderValue → Forest → Element
-holder_element h children = record { header = h; octets = opening h ++ (spelling children ++ end_octets h.size) }
+holder_element h children = record { header = h; octets = holder_octets h children }
 
 -- ---- By octets
 
@@ -86,6 +86,18 @@ is_out_of_order rules neighbour e =
 abbrev pub is_out_of_order_after : Rules → Option HeaderValue → Option Element → Element → Bool
 is_out_of_order_after rules (Some holder) (Some neighbour) e = is_set holder && is_out_of_order rules neighbour e
 is_out_of_order_after rules holder neighbour e = false
+
+-- ---- At a site
+
+-- an element right before, in what holds it
+abbrev pub neighbour_of : Previous → Option Element
+neighbour_of Start = None
+neighbour_of Padding = None
+neighbour_of (Sibling h first octets) = Some (record { header = h; octets = octets })
+
+-- 9.3, 10.3, 11.6: the element is in a SET, and out of order
+abbrev pub is_out_of_order_at : Rules → Site → Element → Bool
+is_out_of_order_at rules s e = is_out_of_order_after rules s.holder (neighbour_of s.previous) e
 
 -- ---- In a forest
 

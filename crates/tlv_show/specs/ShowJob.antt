@@ -7,10 +7,10 @@ use Rattle.tlv_walk.specs.Wrappers.{first_without_wrapper}
 use Rattle.tlv_show.specs.declared.outcome.Outcome.{Outcome}
 use Rattle.tlv_show.specs.declared.rules.Rules.{Rules}
 use Rattle.tlv_show.specs.declared.scope.Scope.{Scope}
-use Rattle.tlv_show.specs.declared.scope.Scope.TheVariants.{Listed}
 use Rattle.tlv_show.specs.declared.wanted.Wanted.{Wanted}
 use Rattle.tlv_show.specs.Items.{Item, items}
-use Rattle.tlv_show.specs.ShownFindings.{listed_by}
+use Rattle.tlv_show.specs.ListedFindings.{ElementFindings, listed_findings}
+use Rattle.tlv_show.specs.ShownFindings.{wanted_findings}
 use Rattle.tlv_show.specs.Site.{top_site}
 use Rattle.tlv_show.specs.Texts.{check_line, finding_count, item_text}
 use Rattle.tlv_value.specs.declared.layout.Layout.{Layout}
@@ -18,15 +18,15 @@ use Rattle.tlv_value.specs.Names.{NamesValue}
 use Rattle.tlv_show.specs.declared.options.Options.{Options}
 
 -- the items of all elements are written, each with this text, and the findings are counted, whether they are written
--- or not
-abbrev pub show_job : Wanted → Framing → (Item → List ℕ) → Job Outcome
-show_job wanted framing text_of = record {
+-- or not. The first argument says what is found in an element
+abbrev pub show_job : ElementFindings → Framing → (Item → List ℕ) → Job Outcome
+show_job found framing text_of = record {
   framing = framing;
-  text = λ f. flat_map text_of (items wanted top_site f);
+  text = λ f. flat_map text_of (items found top_site f);
   is_enough = λ f. false;
   returns = λ f e. record {
     ending = e;
-    findings = finding_count wanted f;
+    findings = finding_count found f;
     unused = first_without_wrapper framing.inside f;
   };
 }
@@ -34,6 +34,20 @@ show_job wanted framing text_of = record {
 -- how the lines of the outermost elements are laid out
 abbrev pub top_layout : Options → Layout
 top_layout options = record { level = 0; limit = options.limit; pure = options.pure }
+
+-- ---- The listed findings
+
+-- all elements, as lines, with the lines of the listed findings, without text beside pairs of digits
+abbrev pub dump_job : Options → NamesValue → Job Outcome
+dump_job options names =
+    show_job (listed_findings options.rules) options.framing
+    (item_text false (finite.get names) (top_layout options))
+
+-- the listed findings of all elements
+abbrev pub check_job : Rules → Framing → Job Outcome
+check_job rules framing = show_job (listed_findings rules) framing check_line
+
+-- ---- The findings that are wanted
 
 -- the findings that the options ask for, in this scope
 abbrev pub wanted_in : Scope → Options → Wanted
@@ -43,17 +57,9 @@ wanted_in scope options = record { rules = options.rules; scope = scope }
 -- pairs of digits
 abbrev pub dump_job_with : Scope → Bool → Options → NamesValue → Job Outcome
 dump_job_with scope with_text options names =
-    show_job (wanted_in scope options) options.framing
+    show_job (wanted_findings (wanted_in scope options)) options.framing
     (item_text with_text (finite.get names) (top_layout options))
 
--- the same with the listed findings, without text
-abbrev pub dump_job : Options → NamesValue → Job Outcome
-dump_job options names = dump_job_with Listed false options names
-
--- the findings that are wanted of all elements, listed
+-- the findings that are wanted of all elements
 abbrev pub check_job_with : Wanted → Framing → Job Outcome
-check_job_with wanted framing = show_job wanted framing check_line
-
--- the same with the listed findings
-abbrev pub check_job : Rules → Framing → Job Outcome
-check_job rules framing = check_job_with (listed_by rules) framing
+check_job_with wanted framing = show_job (wanted_findings wanted) framing check_line

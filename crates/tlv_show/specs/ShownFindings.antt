@@ -1,32 +1,25 @@
--- The findings in an element, by rules, and by which findings are wanted.
-use Rattle.std.specs.Prelude.{ℕ, Bool, true, false, ◌&&◌, if◌then◌else◌, List, [], ◌∷◌, ◌==◌, slice_index, codes}
-use Rattle.std.specs.List.{filter, list_any}
+-- The findings in an element, by which findings are wanted.
+use Rattle.std.specs.Prelude.{ℕ, Bool, true, false, ◌&&◌, if◌then◌else◌, List, [], ◌∷◌}
+use Rattle.std.specs.List.{filter}
 use Rattle.tlv_head.specs.Header.{HeaderValue}
 use Rattle.tlv_value.specs.declared.finding.Finding.{Finding}
 use Rattle.tlv_value.specs.declared.finding.Finding.TheVariants.{B20, B21, B22, B23, B24, B25, B26, B27, B28}
 use Rattle.tlv_value.specs.declared.finding.Finding.TheVariants.{S05, S06, D01, D02, C01, C02, C03, C04, C05, C06}
-use Rattle.tlv_value.specs.Checks.{contents_conditions, findings_by}
-use Rattle.tlv_value.specs.Finding.{finding_code}
+use Rattle.tlv_value.specs.AllChecks.{contents_conditions}
+use Rattle.tlv_value.specs.Checks.{findings_by}
+use Rattle.tlv_walk.specs.Forest.{Forest}
 use Rattle.tlv_show.specs.declared.rules.Rules.{Rules}
-use Rattle.tlv_show.specs.declared.rules.Rules.TheVariants.{Ber, Der, Cer}
 use Rattle.tlv_show.specs.declared.scope.Scope.{Scope}
 use Rattle.tlv_show.specs.declared.scope.Scope.TheVariants.{Listed, All}
 use Rattle.tlv_show.specs.declared.wanted.Wanted.{Wanted}
-use Rattle.tlv_show.specs.Conditions.{end_conditions, header_conditions}
-use Rattle.tlv_show.specs.SetOrder.{Element}
-use Rattle.tlv_show.specs.Site.{Site, is_out_of_order_at}
+use Rattle.tlv_show.specs.AllConditions.{end_conditions, header_conditions}
+use Rattle.tlv_show.specs.Conditions.{headers}
+use Rattle.tlv_show.specs.ListedFindings.{ElementFindings, is_by}
+use Rattle.tlv_show.specs.SegmentCharacters.{has_wrong_characters}
+use Rattle.tlv_show.specs.SetOrder.{Element, holder_element, is_out_of_order_at, primitive_element}
+use Rattle.tlv_show.specs.Site.{Site}
 
 -- ---- Which findings are wanted
-
--- the letters of the codes: B is for all encodings, S for DER and for CER, D for DER alone, C for CER alone
-abbrev pub letters : Rules → List ℕ
-letters Ber = codes "B"
-letters Der = codes "BSD"
-letters Cer = codes "BSC"
-
--- the rules have the finding
-abbrev pub is_by : Rules → Finding → Bool
-is_by rules finding = list_any (λ letter. slice_index (finding_code finding) 0 == letter) (letters rules)
 
 -- whether a finding is listed: all are but these
 abbrev pub is_listed : Finding → Bool
@@ -85,6 +78,12 @@ wants_characters wanted = is_shown wanted B28
 abbrev pub with_characters_if : Bool → List Finding → List Finding
 with_characters_if wrong findings = if wrong then B28 ∷ findings else findings
 
+-- the findings of the end of an element that held others, without the order of a SET
+abbrev pub held_findings : Wanted → HeaderValue → Forest → List Finding
+held_findings wanted h children =
+    with_characters_if (wants_characters wanted && has_wrong_characters h children)
+    (end_findings wanted h (headers children))
+
 -- ---- With the order of a SET
 
 -- the code comes after S05
@@ -116,3 +115,13 @@ wants_order wanted = is_shown wanted S05
 abbrev pub last_findings : Wanted → Site → Element → List Finding → List Finding
 last_findings wanted s e others =
     with_order_if (wants_order wanted && is_out_of_order_at wanted.rules s e) others
+
+-- ---- All that is found
+
+-- what is found of the findings that are wanted
+abbrev pub wanted_findings : Wanted → ElementFindings
+wanted_findings wanted = record {
+  of_header = λ s h. header_findings wanted s h;
+  of_primitive = λ s h c. last_findings wanted s (primitive_element h c) (contents_findings wanted h c);
+  of_holder = λ s h children. last_findings wanted s (holder_element h children) (held_findings wanted h children);
+}

@@ -1,12 +1,10 @@
 -- Where an element is among others: X.690 8.1.1, 8.1.4.
-use Rattle.std.specs.Prelude.{ℕ, ◌+◌, Bool, true, false, ◌&&◌, List, length, Option, Some, None, slice_get}
+use Rattle.std.specs.Prelude.{ℕ, ◌+◌, Bool, true, false, ◌&&◌, List, ◌++◌, length, Option, Some, None, slice_get}
 use Rattle.std.specs.Option.{option_map_or}
-use Rattle.tlv_head.specs.Header.{HeaderValue}
+use Rattle.tlv_head.specs.Header.{HeaderValue, octets_of}
 use Rattle.tlv_head.specs.UniversalTypes as universal
 use Rattle.tlv_value.specs.Types.{has_segments, is_a}
-use Rattle.tlv_walk.specs.Forest.{Forest, extent, opening, primitive_extent}
-use Rattle.tlv_show.specs.declared.rules.Rules.{Rules}
-use Rattle.tlv_show.specs.SetOrder.{Element, holder_element, is_out_of_order_after, primitive_element}
+use Rattle.tlv_walk.specs.Forest.{Forest, end_octets, extent, opening, primitive_extent, spelling}
 
 -- what is right before an element, in what holds it
 pub data Previous : Type 0 where
@@ -14,7 +12,8 @@ pub data Previous : Type 0 where
   Start : Previous
   -- octets 00 between encodings
   Padding : Previous
-  -- an element, with its octets. For a primitive that holds no encodings, also the first contents octet, if there is one
+  -- an element, with its octets. For a primitive that holds no encodings, also the first contents octet, if there is
+  -- one
   Sibling : (header : HeaderValue) (first : Option ℕ) (octets : List ℕ) → Previous
 
 pub record Site : Type 0 where
@@ -43,28 +42,26 @@ site_of_children s h = record {
   previous = Start;
 }
 
+-- 8.1.1.1: the octets of a primitive: identifier octets, length octets and contents octets
+abbrev pub primitive_octets : HeaderValue → List ℕ → List ℕ
+primitive_octets h c = octets_of h ++ c
+
+-- 8.1.1.1: the octets of an element that holds others, with its end-of-contents octets, if any
+abbrev pub holder_octets : HeaderValue → Forest → List ℕ
+holder_octets h children = opening h ++ (spelling children ++ end_octets h.size)
+
 -- after a primitive, after an element that holds others, and after an octet of padding
 abbrev pub site_after_primitive : Site → HeaderValue → List ℕ → Site
 site_after_primitive s h c =
     later_site s (primitive_extent h c)
-    (Sibling h (slice_get c 0) (primitive_element h c).octets)
+    (Sibling h (slice_get c 0) (primitive_octets h c))
 
 abbrev pub site_after_holder : Site → HeaderValue → Forest → Site
 site_after_holder s h children =
-    later_site s (extent h children) (Sibling h None (holder_element h children).octets)
+    later_site s (extent h children) (Sibling h None (holder_octets h children))
 
 abbrev pub site_after_padding : Site → Site
 site_after_padding s = later_site s 1 Padding
-
--- an element right before, in what holds it
-abbrev pub neighbour_of : Previous → Option Element
-neighbour_of Start = None
-neighbour_of Padding = None
-neighbour_of (Sibling h first octets) = Some (record { header = h; octets = octets })
-
--- 9.3, 10.3, 11.6: the element is in a SET, and out of order
-abbrev pub is_out_of_order_at : Rules → Site → Element → Bool
-is_out_of_order_at rules s e = is_out_of_order_after rules s.holder (neighbour_of s.previous) e
 
 abbrev pub is_padding : Previous → Bool
 is_padding Padding = true

@@ -15,7 +15,7 @@ use Rattle.tlv_walk.specs.Reading.{IsReading}
 use Rattle.tlv_walk.specs.Wrappers.{wrapper_offsets}
 use Rattle.tlv_show.specs.declared.rules.Rules.{Rules}
 use Rattle.tlv_show.specs.declared.rules.Rules.TheVariants.{Ber}
-use Rattle.tlv_show.specs.ShownFindings.{header_findings, listed_by}
+use Rattle.tlv_show.specs.ShownFindings.{header_findings, listed_by, wanted_findings}
 use Rattle.tlv_show.specs.Items.{Item, FindingAt, items}
 use Rattle.tlv_show.specs.Site.{Site, top_site}
 
@@ -34,7 +34,7 @@ is_item_on_spelling _ = false
 
 -- such a finding is among the findings of the elements
 abbrev pub is_misspelled : Rules → Forest → Bool
-is_misspelled rules f = list_any is_item_on_spelling (items (listed_by rules) top_site f)
+is_misspelled rules f = list_any is_item_on_spelling (items (wanted_findings (listed_by rules)) top_site f)
 
 -- an input that is sound, with its reading, in which there is no such finding
 pub record IsWellSpelled (rules : Rules) (framing : Framing) (b : List ℕ) (f : Forest) : Type 0 where

@@ -1,7 +1,8 @@
 //! The findings on contents.
 ghost use Rattle.std.specs.Prelude.{◌≡◌, ◌≤◌, [], length};
 ghost use Rattle.tlv_show.specs.FinderState.{contents_findings_in};
-ghost use Rattle.tlv_show.specs.ShownFindings.{is_by, is_listed, is_shown};
+ghost use Rattle.tlv_show.specs.ListedFindings.{is_by};
+ghost use Rattle.tlv_show.specs.ShownFindings.{is_listed, is_shown};
 
 use crate::{Rules, Scope, Wanted};
 use arrayvec::ArrayVec;

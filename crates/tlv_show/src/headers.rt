@@ -6,8 +6,8 @@ ghost use Rattle.tlv_head.specs.UniversalTypes.{bit_string, sequence, set};
 ghost use Rattle.tlv_value.specs.Types.{has_segments, is_a, is_always_constructed, is_always_primitive};
 ghost use Rattle.tlv_value.specs.Types.{is_string, is_unassigned};
 ghost use Rattle.tlv_walk.specs.Place.{is_indefinite};
-ghost use Rattle.tlv_show.specs.Conditions.{has_components, has_high_form, has_long_form, is_length_padded};
-ghost use Rattle.tlv_show.specs.Conditions.{is_time_or_iri, segment_type};
+ghost use Rattle.tlv_show.specs.AllConditions.{has_components, is_time_or_iri};
+ghost use Rattle.tlv_show.specs.Conditions.{has_high_form, has_long_form, is_length_padded, segment_type};
 
 use tlv_head::{Class, Header, Size, universal};
 

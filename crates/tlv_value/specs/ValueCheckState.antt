@@ -208,8 +208,8 @@ is_kept_iri number s =
 abbrev pub is_kept_time : ℕ → ValueCheckState → Bool
 is_kept_time number s = is_number_of time_types number && nat_le s.size 64
 
--- the conditions of `type_conditions` (AllChecks.antt), said of what is kept of the contents. The law `FindingsEnd` says
--- that the same is found
+-- the conditions of `type_conditions` (AllChecks.antt), said of what is kept of the contents. The law `FindingsEnd`
+-- says that the same is found
 abbrev pub kept_conditions : ℕ → ValueCheckState → List (Bool × Finding)
 kept_conditions number s =
     (number == universal.boolean && not (s.size == 1), B06)

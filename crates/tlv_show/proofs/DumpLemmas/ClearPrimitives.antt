@@ -5,7 +5,7 @@ use Rattle.std.specs.Prelude.{None, Ok, ◌&&◌, ◌||◌, not}
 use Rattle.std.specs.List.{filter}
 use Rattle.tlv_head.specs.Header.{HasAllContents, HeaderValue, is_universal}
 use Rattle.tlv_value.specs.declared.finding.Finding.{Finding}
-use Rattle.tlv_value.specs.Checks.{all_contents_findings}
+use Rattle.tlv_value.specs.AllChecks.{all_contents_findings}
 use Rattle.tlv_value.specs.Types.{is_number_of}
 use Rattle.tlv_value.specs.Types.{has_primitives, is_always_constructed, is_always_primitive, is_string, is_unassigned}
 use Rattle.tlv_walk.specs.declared.follow.Go.TheVariants as go
@@ -19,7 +19,7 @@ use Rattle.tlv_io.proofs.Puts.{puts_nothing, puts_text}
 use Rattle.tlv_show.specs.FinderState.{is_misplaced}
 use Rattle.tlv_show.specs.Private.SetOrder.{IsUnchangedByPrimitives}
 use Rattle.tlv_show.specs.FinderState.{SeenState}
-use Rattle.tlv_show.specs.ShownFindings.{contents_findings, wants_characters, wants_order, with_order_if}
+use Rattle.tlv_show.specs.ShownFindings.{contents_findings, is_shown, wants_characters, wants_order, with_order_if}
 use Rattle.tlv_show.proofs.SetOrderLemmas.WantedOrder.{none-passed}
 use Rattle.tlv_show.proofs.SegmentLemmas.Seen.{seen_whole, whole-same}
 use Rattle.tlv_show.specs.Private.SegmentCharacters.{StayAtPrimitives}
@@ -28,13 +28,12 @@ use Rattle.tlv_show.specs.declared.finding_lines.Style.TheVariants.{Check}
 use Rattle.tlv_show.specs.CheckStep.{check_step, findings_effect}
 use Rattle.tlv_show.specs.FindingLines.{styled_lines}
 use Rattle.tlv_show.specs.FinderState.{CheckState, FinderState, finder_begin_step, finder_bytes_step}
-use Rattle.tlv_show.specs.Conditions.{component_types, is_time_or_iri}
+use Rattle.tlv_show.specs.AllConditions.{component_types, is_time_or_iri}
 use Rattle.tlv_show.specs.NestingState.{NestingState, depth_in, surroundings_in, with_element}
 use Rattle.tlv_show.specs.Private.Nesting.{nesting_with_element}
 use Rattle.tlv_show.specs.Private.FinderState.{PassesOrStays, PassesPrimitive, finder_whole_step, with_check_state}
 use Rattle.tlv_show.specs.Private.UsualTypes.{IsUsual}
 use Rattle.tlv_show.specs.KeptConditions.{header_findings_in}
-use Rattle.tlv_show.specs.ShownFindings.{is_shown}
 use Rattle.tlv_show.proofs.FindingLemmas.CheckLaws.{each-found}
 use Rattle.tlv_show.proofs.FindingLemmas.FinderSteps.{after_primitive, primitive-find, check_between}
 use Rattle.tlv_show.specs.SaturatingSum.{saturating_sum}

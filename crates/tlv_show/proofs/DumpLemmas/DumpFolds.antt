@@ -20,6 +20,7 @@ use Rattle.tlv_show.specs.NestingState.{top_frame}
 use Rattle.tlv_show.specs.Private.FinderState.{finder_step}
 use Rattle.tlv_show.specs.Site.{Start}
 use Rattle.tlv_show.specs.Texts.{finding_count, item_text}
+use Rattle.tlv_show.specs.ShownFindings.{wanted_findings}
 use Rattle.tlv_show.proofs.FindingLemmas.CheckFolds.{count-run}
 use Rattle.tlv_show.proofs.DumpLemmas.DumpShown.{shows_forest}
 use Rattle.tlv_show.proofs.DumpLemmas.DumpSteps.{all_on, each-filled, each-shown, one_on}
@@ -57,7 +58,7 @@ module _ (scope : Scope) (with_text : Bool) (options : Options) (names : NamesVa
 
   pub count-made : (effect_of dump_step (new_dump_with with_text (wanted_in scope options) (top_layout options) names)
       (events f)).state.finder.finding_count
-      ≡ finding_count (wanted_in scope options) f
+      ≡ finding_count (wanted_findings (wanted_in scope options)) f
   count-made =
       ap (λ (u : CheckState). u.finding_count)
       (finder-run (new_dump_with with_text (wanted_in scope options) (top_layout options) names) (events f))

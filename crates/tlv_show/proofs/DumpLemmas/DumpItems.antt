@@ -32,6 +32,7 @@ use Rattle.tlv_show.specs.Items.{Item, FindingAt, items, finding_items}
 use Rattle.tlv_show.specs.HolderLines.{closing_line, opening_line, opening_word}
 use Rattle.tlv_show.specs.Site.{Previous, Site, is_padding}
 use Rattle.tlv_show.specs.Texts.{item_text, layout_at}
+use Rattle.tlv_show.specs.ShownFindings.{wanted_findings}
 use Rattle.tlv_show.proofs.DumpLemmas.DumpTexts.{holder_shown, ends_in_padding, primitive_shown}
 use Rattle.tlv_show.proofs.DumpLemmas.DumpTexts.{lines_between, closer_shown}
 use Rattle.tlv_show.proofs.FindingLemmas.FinderFolds.{frame_after_elements}
@@ -77,7 +78,7 @@ module _ (with_text : Bool) (style : Layout) (names : NamesValue) (wanted : Want
       (outer : List HolderFrame) (f : Forest) : Type 0 where
     pub text : (n : Kept) → HasSeen wanted (site p holder previous) n.seen
         → (effect_of dump_step (start p (is_padding previous) w outer n) (events f)).put
-        ≡ item_texts (items wanted (site p holder previous) f)
+        ≡ item_texts (items (wanted_findings wanted) (site p holder previous) f)
     pub after : (n : Kept) → HasSeen wanted (site p holder previous) n.seen → holder ≢ None → is_whole f ≡ true
         → (m : Kept)
         × ((effect_of dump_step (start p (is_padding previous) w outer n) (events f)).state
@@ -96,7 +97,7 @@ module _ (with_text : Bool) (style : Layout) (names : NamesValue) (wanted : Want
       → IsShown q holder previous v outer rest → HasSeen wanted (site q holder previous) m.seen
       → effect_of dump_step (start p padded w outer n) (es ++ events rest)
       ≡ record (effect_of dump_step (start q (is_padding previous) v outer m) (events rest))
-      { put = put ++ item_texts (items wanted (site q holder previous) rest) }
+      { put = put ++ item_texts (items (wanted_findings wanted) (site q holder previous) rest) }
   shown-after p q padded w outer n m v holder previous es put rest d e t o =
       then_shown (start p padded w outer n) (start q (is_padding previous) v outer m) put es (events rest) e
       ∙ ap (λ (l : List ℕ). record (effect_of dump_step (start q (is_padding previous) v outer m) (events rest))

@@ -22,14 +22,13 @@ use Rattle.tlv_walk.specs.Place.{ObeysGrammar, Place, place_after, place_of_chil
 use Rattle.tlv_walk.proofs.GrammarLemmas.Spellings.{length-holder, length-primitive}
 use Rattle.tlv_show.specs.SetOrder.{Element, holder_element, primitive_element}
 use Rattle.tlv_show.specs.FinderState.{SeenState}
-use Rattle.tlv_show.specs.ShownFindings.{last_findings, with_order_if}
+use Rattle.tlv_show.specs.ShownFindings.{contents_findings, end_findings, header_findings, held_findings, last_findings}
+use Rattle.tlv_show.specs.ShownFindings.{wanted_findings, with_characters_if, with_order_if}
 use Rattle.tlv_show.proofs.SegmentLemmas.Seen.{HasPassed, HasSeen, HasSeenAll, after-holder, after-primitive}
 use Rattle.tlv_show.proofs.SegmentLemmas.Seen.{has_wrong_string, holder-seen, is_wrong_held, nothing-seen, opened-seen}
 use Rattle.tlv_show.proofs.SegmentLemmas.Seen.{passed-found, passed-offset, passed-seen, primitive-seen, seen-padding}
 use Rattle.tlv_show.proofs.SegmentLemmas.Seen.{seen_held, seen_whole, some-string, string-seen}
 use Rattle.tlv_show.specs.SegmentCharacters.{has_wrong_octet}
-use Rattle.tlv_show.specs.Items.{held_findings}
-use Rattle.tlv_show.specs.ShownFindings.{with_characters_if}
 use Rattle.std.specs.Option.{is_some}
 use Rattle.tlv_show.proofs.FindingLemmas.FinderSteps.{Kept, found_in_contents}
 use Rattle.tlv_show.specs.declared.holder_frame.HolderFrame.{HolderFrame}
@@ -41,10 +40,9 @@ use Rattle.tlv_show.specs.DumpStep.{DumpState, dump_step}
 use Rattle.tlv_show.specs.NestingState.{frame_after, frame_under, surroundings_in}
 use Rattle.tlv_show.specs.NestingState.{with_element}
 use Rattle.tlv_show.specs.KeptConditions.{header_findings_in}
-use Rattle.tlv_show.specs.ShownFindings.{contents_findings, header_findings, end_findings}
-use Rattle.tlv_show.specs.Items.{Item, OpeningLine, ClosingLine, PrimitiveLines, OpenPrimitiveLines}
-use Rattle.tlv_show.specs.Items.{PaddingLine, headers, items}
-use Rattle.tlv_show.specs.Items.{finding_items}
+use Rattle.tlv_show.specs.Items.{ClosingLine, Item, OpenPrimitiveLines, OpeningLine, PaddingLine, PrimitiveLines}
+use Rattle.tlv_show.specs.Items.{finding_items, items}
+use Rattle.tlv_show.specs.Conditions.{headers}
 use Rattle.tlv_show.specs.HolderLines.{closing_line, opening_line, padding_line, opening_word}
 use Rattle.tlv_show.specs.Site.{Previous, Padding, Sibling, Site, Start, is_padding, site_of_children}
 use Rattle.tlv_show.specs.Site.{site_after_primitive, site_after_holder, site_after_padding}
@@ -101,7 +99,7 @@ module _ (with_text : Bool) (style : Layout) (names : NamesValue) (wanted : Want
       record {
         text =
             λ n o. ap (λ (x : Effect DumpState). x.put) (all n o)
-            ∙ pads (is_padding previous) p.depth p.offset (items wanted (site_after_padding s) rest);
+            ∙ pads (is_padding previous) p.depth p.offset (items (wanted_findings wanted) (site_after_padding s) rest);
         after = λ n o held e. absurd (held (k.2 v.0.0));
       }
     where
@@ -138,7 +136,7 @@ module _ (with_text : Bool) (style : Layout) (names : NamesValue) (wanted : Want
       (primitive-shown with_text style names wanted p (is_padding previous) w outer n h c v.0.0.header.offset size
       (omega (arith, b, length-primitive h c rest)))
       t (next n o) in
-      let others : List Item = items wanted (site_after_primitive s h c) rest in
+      let others : List Item = items (wanted_findings wanted) (site_after_primitive s h c) rest in
       record {
         text = λ n o.
             ap (λ (x : Effect DumpState). x.put) (all n o)
@@ -197,7 +195,7 @@ module _ (with_text : Bool) (style : Layout) (names : NamesValue) (wanted : Want
       (last_findings wanted s (holder_element h inside) (held_findings wanted h inside)) in
       let e : Element = holder_element h inside in
       let wrong : ℕ → Bool = is_wrong_held wanted h inside in
-      let held : List ℕ = item_texts with_text style names wanted (items wanted (site_of_children s h) inside) in
+      let held : List ℕ = item_texts with_text style names wanted (items (wanted_findings wanted) (site_of_children s h) inside) in
       let held-shown : (m : Kept) → HasSeen wanted (site_of_children s h) m.seen
       → (r : Kept)
       × (effect_of dump_step (start with_text style names wanted i_place false (frame_under w h) (with_element w ∷ outer) m) (events inside)
@@ -270,7 +268,7 @@ module _ (with_text : Bool) (style : Layout) (names : NamesValue) (wanted : Want
       ∙ shown-after with_text style names wanted p q (is_padding previous) w outer n (element n o).0
       (frame_after (with_element w) (is_primitive h) (announced_length h.size) false) holder (Sibling h None (holder_element h inside).octets) es
       ((first ++ line) ++ (held ++ (close ++ last))) rest refl (element n o).2 t (next n o) in
-      let others : List Item = items wanted (site_after_holder s h inside) rest in
+      let others : List Item = items (wanted_findings wanted) (site_after_holder s h inside) rest in
       let closing : List Item =
       ClosingLine p.depth (end_octets_offset h inside)
       ∷ (finding_items p.depth h.offset (last_findings wanted s e (held_findings wanted h inside)) ++ others) in
@@ -281,7 +279,7 @@ module _ (with_text : Bool) (style : Layout) (names : NamesValue) (wanted : Want
             ∙ found-first with_text style names wanted (length outer) p.depth h.offset
             (header_findings_in wanted (surroundings_in w) h)
             (header_findings wanted s h)
-            _ (OpeningLine p.depth h ∷ (items wanted (site_of_children s h) inside ++ closing)) k.1
+            _ (OpeningLine p.depth h ∷ (items (wanted_findings wanted) (site_of_children s h) inside ++ closing)) k.1
             (header-same wanted w s h k.0)
             (ap (λ (l : List ℕ). line ++ l)
             (ap (λ (l : List ℕ). held ++ (close ++ l))
@@ -289,7 +287,7 @@ module _ (with_text : Bool) (style : Layout) (names : NamesValue) (wanted : Want
             (last_findings wanted s e (held_findings wanted h inside))
             (last_findings wanted s e (held_findings wanted h inside)) (item_texts with_text style names wanted others) others k.1
             refl refl)
-            ∙ sym (item_texts-append with_text style names wanted (items wanted (site_of_children s h) inside) closing)));
+            ∙ sym (item_texts-append with_text style names wanted (items (wanted_findings wanted) (site_of_children s h) inside) closing)));
         after = λ n o held x.
             let r = t.after (element n o).0 (next n o) held x in (
               r.0,
@@ -345,11 +343,11 @@ module _ (with_text : Bool) (style : Layout) (names : NamesValue) (wanted : Want
             (opened-shown with_text style names wanted p holder previous w outer n h k v.0.0.header.offset v.0.0.shallow
             (omega (arith, b, size))))
             ∙ ap (λ (l : List ℕ). (first ++ line) ++ l) (i.text (later_header wanted w h n) (opened-seen wanted s n.seen h o v.0.0.shallow))
-            ∙ append_assoc first line (item_texts with_text style names wanted (items wanted (site_of_children s h) inside))
+            ∙ append_assoc first line (item_texts with_text style names wanted (items (wanted_findings wanted) (site_of_children s h) inside))
             ∙ found-first with_text style names wanted (length outer) p.depth h.offset
             (header_findings_in wanted (surroundings_in w) h)
             (header_findings wanted s h)
-            _ (OpeningLine p.depth h ∷ items wanted (site_of_children s h) inside) k.1
+            _ (OpeningLine p.depth h ∷ items (wanted_findings wanted) (site_of_children s h) inside) k.1
             (header-same wanted w s h k.0) refl;
         after = λ n o held e. absurd (cc (e));
       }

@@ -21,15 +21,16 @@ use Rattle.tlv_show.specs.declared.wanted.Wanted.{Wanted}
 use Rattle.tlv_show.specs.Items.{Item}
 use Rattle.tlv_show.specs.ShowJob.{show_job}
 use Rattle.tlv_show.specs.Texts.{finding_count}
+use Rattle.tlv_show.specs.ShownFindings.{wanted_findings}
 
 -- a follower, and what it makes of readings: the text of their items, and in its state the number of findings
 pub record Shower {S : Type 0} (next : S → EventValue → Effect S) (first : S) (wanted : Wanted)
     (framing : Framing) (text_of : Item → List ℕ) (count_in : S → ℕ) : Type 0 where
   pub goes_on : (s : S) (es : List EventValue) → (effect_of next s es).goes ≡ go.On
   pub put : (octets : List ℕ) (f : Forest) → length octets ≤ 2 ^ 40 → IsReading framing octets f
-      → (effect_of next first (events f)).put ≡ (show_job wanted framing text_of).text f
+      → (effect_of next first (events f)).put ≡ (show_job (wanted_findings wanted) framing text_of).text f
   pub counts : (octets : List ℕ) (f : Forest) → length octets ≤ 2 ^ 40 → IsReading framing octets f
-      → count_in (effect_of next first (events f)).state ≡ finding_count wanted f
+      → count_in (effect_of next first (events f)).state ≡ finding_count (wanted_findings wanted) f
 
 module _ {S : Type 0} (next : S → EventValue → Effect S) (first : S) (wanted : Wanted) (framing : Framing)
     (text_of : Item → List ℕ) (count_in : S → ℕ)
@@ -59,10 +60,10 @@ module _ {S : Type 0} (next : S → EventValue → Effect S) (first : S) (wanted
   pub shows_ok : (run : Run) (outcome : Outcome) → outcome.ending ≡ run.ending → outcome.findings ≡ count_in t
       → outcome.unused ≡ run.unused
       → Drives next framing (2 ^ 40) (drive_states first old from) (drive_states t new to) (Ok run)
-      → Runs (show_job wanted framing text_of) (device_states old from) (device_states new to) (Ok outcome)
+      → Runs (show_job (wanted_findings wanted) framing text_of) (device_states old from) (device_states new to) (Ok outcome)
   shows_ok run outcome ending findings unused x =
-      jobs.runs_ok next (show_job wanted framing text_of) first w.put goes_on t old new from to run outcome x
-      (λ octets f e few r done state is. outcome_is outcome e (finding_count wanted f)
+      jobs.runs_ok next (show_job (wanted_findings wanted) framing text_of) first w.put goes_on t old new from to run outcome x
+      (λ octets f e few r done state is. outcome_is outcome e (finding_count (wanted_findings wanted) f)
       (first_without_wrapper framing.inside f)
       (ending ∙ ap (λ (k : Run). k.ending) (is ∙ run_on f e))
       (findings ∙ ap count_in state ∙ w.counts octets f few r)
@@ -70,5 +71,5 @@ module _ {S : Type 0} (next : S → EventValue → Effect S) (first : S) (wanted
 
   pub shows_err : (e : DeviceFault)
       → Drives next framing (2 ^ 40) (drive_states first old from) (drive_states t new to) (Err e)
-      → Runs (show_job wanted framing text_of) (device_states old from) (device_states new to) (Err e)
-  shows_err e x = jobs.runs_err next (show_job wanted framing text_of) first w.put goes_on t old new from to e x
+      → Runs (show_job (wanted_findings wanted) framing text_of) (device_states old from) (device_states new to) (Err e)
+  shows_err e x = jobs.runs_err next (show_job (wanted_findings wanted) framing text_of) first w.put goes_on t old new from to e x

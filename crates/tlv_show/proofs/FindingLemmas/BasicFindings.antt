@@ -4,31 +4,33 @@ use Rattle.std.proofs.lemmas.List.Elements.{filter-append}
 use Rattle.std.specs.List.{filter}
 use Rattle.std.specs.Prelude.{◌||◌, ◌&&◌, flat_map}
 use Rattle.tlv_value.specs.declared.finding.Finding.{Finding}
-use Rattle.tlv_value.specs.Checks.{findings_by, all_contents_findings}
+use Rattle.tlv_value.specs.Checks.{findings_by}
+use Rattle.tlv_value.specs.AllChecks.{all_contents_findings}
 use Rattle.tlv_walk.specs.Forest.{end_octets_offset}
 use Rattle.tlv_walk.specs.Forest.{Forest, NoMore, PaddingOctet, Primitive, Holder, OpenPrimitive, OpenHolder}
 use Rattle.tlv_walk.specs.Forest.{OpenBitString, OpenHeader, OpenEndOctets}
-use Rattle.tlv_show.specs.SetOrder.{Element, holder_element, primitive_element}
+use Rattle.tlv_show.specs.SetOrder.{Element, holder_element, is_out_of_order_at, primitive_element}
 use Rattle.tlv_value.specs.declared.finding.Finding.TheVariants.{B28}
 use Rattle.tlv_show.specs.SegmentCharacters.{has_wrong_characters}
-use Rattle.tlv_show.specs.ShownFindings.{last_findings, wants_characters, wants_order, with_characters_if}
-use Rattle.tlv_show.specs.Site.{is_out_of_order_at}
+use Rattle.tlv_show.specs.ShownFindings.{all_by, is_listed, is_shown, is_within, last_findings, listed_by}
+use Rattle.tlv_show.specs.ShownFindings.{wanted_findings, wants_characters, wants_order, with_characters_if}
 use Rattle.tlv_show.proofs.FindingLemmas.OrderFindings.{none-listed, without-order_if}
 use Rattle.tlv_show.specs.declared.rules.Rules.{Rules}
 use Rattle.tlv_show.specs.declared.scope.Scope.{Scope}
 use Rattle.tlv_show.specs.declared.wanted.Wanted.{Wanted}
 use Rattle.tlv_show.specs.declared.rules.Rules.TheVariants.{Ber, Der, Cer}
-use Rattle.tlv_show.specs.Conditions.{end_conditions, header_conditions}
-use Rattle.tlv_show.specs.ShownFindings.{all_by, is_by, is_listed, is_shown, is_within, listed_by}
-use Rattle.tlv_show.specs.Items.{Item, FindingAt, OpeningLine, ClosingLine, PrimitiveLines, OpenPrimitiveLines}
-use Rattle.tlv_show.specs.Items.{PaddingLine, headers, items}
-use Rattle.tlv_show.specs.Items.{contents_items, end_items, finding_items}
+use Rattle.tlv_show.specs.AllConditions.{end_conditions, header_conditions}
+use Rattle.tlv_show.specs.ListedFindings.{ElementFindings, is_by, listed_findings}
+use Rattle.tlv_show.specs.Items.{ClosingLine, FindingAt, Item, OpenPrimitiveLines, OpeningLine, PaddingLine}
+use Rattle.tlv_show.specs.Items.{PrimitiveLines, contents_items, end_items, finding_items, items}
+use Rattle.tlv_show.specs.Conditions.{headers}
 use Rattle.tlv_show.specs.Laws.{BasicFindingsStay, ListedItemsStay, is_basic, is_listed_item}
 use Rattle.tlv_show.specs.Site.{Site, is_padding, site_of_children, top_site}
 use Rattle.tlv_show.specs.Site.{site_after_primitive, site_after_holder, site_after_padding}
 use Rattle.tlv_show.specs.Texts.{check_line}
 use Rattle.tlv_show.proofs.FindingLemmas.CheckFolds.{only-written}
 use Rattle.tlv_show.proofs.FindingLemmas.FinderItems.{only, only-finding_items}
+use Rattle.tlv_show.proofs.FindingLemmas.ListedTables.{listed-same}
 
 -- each letter of BER is one of the other rules
 among-more : (k others : Bool) → (k || false) ≡ true → (k || others) ≡ true
@@ -142,37 +144,37 @@ module _ (scope : Scope) (rules : Rules) where
   same-pads true level offset xs ys e = e
   same-pads false level offset xs ys e = e
 
-  basic_items-same : (s : Site) (f : Forest) → only (items few s f) ≡ basic (items many s f)
+  basic_items-same : (s : Site) (f : Forest) → only (items (wanted_findings few) s f) ≡ basic (items (wanted_findings many) s f)
   basic_items-same s NoMore = refl
   basic_items-same s (PaddingOctet rest) = same-pads (is_padding s.previous) s.depth s.offset _ _
       (basic_items-same (site_after_padding s) rest)
   basic_items-same s (Primitive h c rest) =
       same-found s.depth h.offset (findings_by (header_conditions s h))
       (PrimitiveLines s.depth h c
-      ∷ (contents_items few s h c ++ items few (site_after_primitive s h c) rest))
+      ∷ (contents_items (wanted_findings few) s h c ++ items (wanted_findings few) (site_after_primitive s h c) rest))
       (PrimitiveLines s.depth h c
-      ∷ (contents_items many s h c ++ items many (site_after_primitive s h c) rest))
+      ∷ (contents_items (wanted_findings many) s h c ++ items (wanted_findings many) (site_after_primitive s h c) rest))
       (same-last s.depth h.offset s (primitive_element h c) (all_contents_findings h c) _ _ (basic_items-same (site_after_primitive s h c) rest))
   basic_items-same s (Holder h inside rest) =
       let last : Wanted
       → List Item =
       λ r. ClosingLine s.depth (end_octets_offset h inside)
-      ∷ (end_items r s h inside ++ items r (site_after_holder s h inside) rest) in
+      ∷ (end_items (wanted_findings r) s h inside ++ items (wanted_findings r) (site_after_holder s h inside) rest) in
       same-found s.depth h.offset (findings_by (header_conditions s h))
-      (OpeningLine s.depth h ∷ (items few (site_of_children s h) inside ++ last few))
-      (OpeningLine s.depth h ∷ (items many (site_of_children s h) inside ++ last many))
-      (filter-append _ (items few (site_of_children s h) inside) (last few)
+      (OpeningLine s.depth h ∷ (items (wanted_findings few) (site_of_children s h) inside ++ last few))
+      (OpeningLine s.depth h ∷ (items (wanted_findings many) (site_of_children s h) inside ++ last many))
+      (filter-append _ (items (wanted_findings few) (site_of_children s h) inside) (last few)
       ∙ ap₂ (λ (a b : List Item). a ++ b) (basic_items-same (site_of_children s h) inside)
       (same-held s.depth h.offset s (holder_element h inside) (has_wrong_characters h inside) (findings_by (end_conditions h (headers inside)))
       _ _ (basic_items-same (site_after_holder s h inside) rest))
-      ∙ sym (filter-append is_basic (items many (site_of_children s h) inside) (last many)))
+      ∙ sym (filter-append is_basic (items (wanted_findings many) (site_of_children s h) inside) (last many)))
   basic_items-same s (OpenPrimitive h c) =
       same-found s.depth h.offset (findings_by (header_conditions s h))
       (OpenPrimitiveLines s.depth h c ∷ []) (OpenPrimitiveLines s.depth h c ∷ []) refl
   basic_items-same s (OpenHolder h inside) =
       same-found s.depth h.offset (findings_by (header_conditions s h))
-      (OpeningLine s.depth h ∷ items few (site_of_children s h) inside)
-      (OpeningLine s.depth h ∷ items many (site_of_children s h) inside)
+      (OpeningLine s.depth h ∷ items (wanted_findings few) (site_of_children s h) inside)
+      (OpeningLine s.depth h ∷ items (wanted_findings many) (site_of_children s h) inside)
       (basic_items-same (site_of_children s h) inside)
   basic_items-same s (OpenBitString h) =
       same-found s.depth h.offset (findings_by (header_conditions s h)) (OpeningLine s.depth h ∷ [])
@@ -182,7 +184,7 @@ module _ (scope : Scope) (rules : Rules) where
 
 pub basic_stay : BasicFindingsStay
 basic_stay scope rules framing f =
-    sym (only-written (items (record { rules = Ber; scope = scope }) top_site f))
+    sym (only-written (items (wanted_findings (record { rules = Ber; scope = scope })) top_site f))
     ∙ ap (flat_map check_line) (basic_items-same scope rules top_site f)
 
 -- ---- the listed findings
@@ -238,7 +240,8 @@ module _ (rules : Rules) where
   listed-pads true level offset xs ys e = e
   listed-pads false level offset xs ys e = ap (λ (l : List Item). PaddingLine level offset ∷ l) e
 
-  listed_items-same : (s : Site) (f : Forest) → items (listed_by rules) s f ≡ listed (items (all_by rules) s f)
+  listed_items-same : (s : Site) (f : Forest)
+      → items (wanted_findings (listed_by rules)) s f ≡ listed (items (wanted_findings (all_by rules)) s f)
   listed_items-same s NoMore = refl
   listed_items-same s (PaddingOctet rest) = listed-pads (is_padding s.previous) s.depth s.offset _ _
       (listed_items-same (site_after_padding s) rest)
@@ -249,8 +252,8 @@ module _ (rules : Rules) where
       (listed_items-same (site_after_primitive s h c) rest)))
   listed_items-same s (Holder h inside rest) =
       let last : Wanted → List Item = λ r. ClosingLine s.depth (end_octets_offset h inside)
-      ∷ (end_items r s h inside ++ items r (site_after_holder s h inside) rest) in
-      let held : Wanted → List Item = λ r. items r (site_of_children s h) inside in
+      ∷ (end_items (wanted_findings r) s h inside ++ items (wanted_findings r) (site_after_holder s h inside) rest) in
+      let held : Wanted → List Item = λ r. items (wanted_findings r) (site_of_children s h) inside in
       let ends : last (listed_by rules) ≡ listed (last (all_by rules)) =
       ap (λ (l : List Item). ClosingLine s.depth (end_octets_offset h inside) ∷ l)
       (listed-held s.depth h.offset s (holder_element h inside) (has_wrong_characters h inside) (findings_by (end_conditions h (headers inside)))
@@ -272,4 +275,7 @@ module _ (rules : Rules) where
   listed_items-same s OpenEndOctets = refl
 
 pub listed_stay : ListedItemsStay
-listed_stay rules s f = listed_items-same rules s f
+listed_stay rules s f =
+    let same : items (wanted_findings (listed_by rules)) s f ≡ items (listed_findings rules) s f =
+    ap (λ (found : ElementFindings). items found s f) (listed-same rules) in
+    (sym same ∙ listed_items-same rules s f, same)

@@ -10,7 +10,8 @@ use Rattle.std.specs.List.{filter}
 use Rattle.std.specs.Prelude.{flat_map, Option, Some, None}
 use Rattle.tlv_head.specs.Header.{HeaderValue, is_universal, octets_of}
 use Rattle.tlv_value.specs.declared.finding.Finding.{Finding}
-use Rattle.tlv_value.specs.Checks.{findings_by, type_conditions}
+use Rattle.tlv_value.specs.Checks.{findings_by}
+use Rattle.tlv_value.specs.AllChecks.{type_conditions}
 use Rattle.tlv_walk.specs.declared.follow.Go.TheVariants as go
 use Rattle.tlv_walk.specs.declared.framing.Framing.{Framing}
 use Rattle.tlv_walk.specs.Events.{Begin, Bytes, Close, End, Enter, EventValue, Leave, Open, Pad, Unused}
@@ -29,15 +30,17 @@ use Rattle.tlv_show.specs.declared.finding_lines.Style.TheVariants.{Check}
 use Rattle.tlv_show.specs.ShowJob.{check_job_with}
 use Rattle.tlv_show.specs.CheckStep.{check_step}
 use Rattle.tlv_show.specs.FindingLines.{styled_lines}
-use Rattle.tlv_show.specs.Conditions.{end_conditions, header_conditions}
+use Rattle.tlv_show.specs.AllConditions.{end_conditions, header_conditions}
 use Rattle.tlv_show.specs.FinderState.{CheckState, FinderState, OpenPrimitiveState, finder_frame_end_step}
 use Rattle.tlv_show.specs.FinderState.{finder_primitive_end_step, new_check, open_primitive_after}
 use Rattle.tlv_show.specs.NestingState.{top_frame}
 use Rattle.tlv_show.specs.Private.FinderState.{finder_step}
-use Rattle.tlv_show.specs.ShownFindings.{contents_findings, header_findings, is_shown, end_findings, shown_findings}
-use Rattle.tlv_show.specs.Items.{Item, FindingAt, OpeningLine, ClosingLine, PrimitiveLines, OpenPrimitiveLines}
-use Rattle.tlv_show.specs.Items.{PaddingLine, headers, items}
-use Rattle.tlv_show.specs.Items.{contents_items, end_items, finding_items}
+use Rattle.tlv_show.specs.ShownFindings.{comes_after_order, contents_findings, end_findings, header_findings}
+use Rattle.tlv_show.specs.ShownFindings.{held_findings, is_shown, last_findings, shown_findings, wanted_findings}
+use Rattle.tlv_show.specs.ShownFindings.{wants_characters, wants_order, with_characters_if, with_order, with_order_if}
+use Rattle.tlv_show.specs.Items.{ClosingLine, FindingAt, Item, OpenPrimitiveLines, OpeningLine, PaddingLine}
+use Rattle.tlv_show.specs.Items.{PrimitiveLines, contents_items, end_items, finding_items, items}
+use Rattle.tlv_show.specs.Conditions.{headers}
 use Rattle.tlv_show.specs.Site.{Site, is_padding, site_of_children, top_site}
 use Rattle.tlv_show.specs.Site.{site_after_primitive, site_after_holder, site_after_padding}
 use Rattle.tlv_show.specs.Texts.{check_line, finding_count, is_finding}
@@ -46,13 +49,9 @@ use Rattle.std.specs.Option.{is_some}
 use Rattle.tlv_show.proofs.SegmentLemmas.Seen.{top-seen}
 use Rattle.tlv_value.specs.declared.finding.Finding.TheVariants.{S05}
 use Rattle.tlv_show.specs.FinderState.{seen_after}
-use Rattle.tlv_show.specs.Items.{held_findings}
 use Rattle.tlv_show.specs.SegmentCharacters.{has_wrong_characters}
-use Rattle.tlv_show.specs.ShownFindings.{wants_characters, with_characters_if}
-use Rattle.tlv_show.specs.SetOrder.{Element, holder_element, primitive_element}
+use Rattle.tlv_show.specs.SetOrder.{Element, holder_element, is_out_of_order_at, primitive_element}
 use Rattle.tlv_show.specs.FinderState.{new_seen}
-use Rattle.tlv_show.specs.ShownFindings.{comes_after_order, last_findings, wants_order, with_order, with_order_if}
-use Rattle.tlv_show.specs.Site.{is_out_of_order_at}
 use Rattle.tlv_show.proofs.FindingLemmas.CheckLaws.{step-is}
 use Rattle.tlv_show.proofs.FindingLemmas.FinderItems.{finds_forest, only}
 use Rattle.tlv_show.proofs.FindingLemmas.FinderSteps.{FinderRun, found_items, run_finder}
@@ -227,21 +226,21 @@ module _ (wanted : Wanted) where
 
   -- at most 64 findings for each octet
   pub findings-within : (p : Place) (s : Site) (f : Forest) → ObeysGrammar p f
-      → length (only (items wanted s f)) ≤ 64 * length (spelling f)
+      → length (only (items (wanted_findings wanted) s f)) ≤ 64 * length (spelling f)
   findings-within p s NoMore v = omega arith
   findings-within p s (PaddingOctet rest) v =
       omega (
         arith,
-        few-pads (is_padding s.previous) s.depth s.offset (items wanted (site_after_padding s) rest),
+        few-pads (is_padding s.previous) s.depth s.offset (items (wanted_findings wanted) (site_after_padding s) rest),
         findings-within (place_after p 1) (site_after_padding s) rest v.1,
       )
   findings-within p s (Primitive h c rest) v =
       let r = findings-within (place_after p (length (octets_of h) + length c)) (site_after_primitive s h c) rest v.1 in
       let inner : List Item =
-      contents_items wanted s h c ++ items wanted (site_after_primitive s h c) rest in
+      contents_items (wanted_findings wanted) s h c ++ items (wanted_findings wanted) (site_after_primitive s h c) rest in
       let b =
       few-at s.depth h.offset (last_findings wanted s (primitive_element h c) (contents_findings wanted h c))
-      (items wanted (site_after_primitive s h c) rest) 41
+      (items (wanted_findings wanted) (site_after_primitive s h c) rest) 41
       _ (few-last s (primitive_element h c) (contents_findings wanted h c) 40 (few-contents h c)) r in
       let a =
       few-at s.depth h.offset (header_findings wanted s h) (PrimitiveLines s.depth h c ∷ inner)
@@ -251,18 +250,18 @@ module _ (wanted : Wanted) where
       let i = findings-within (place_of_children p h) (site_of_children s h) inside v.1 in
       let r = findings-within (place_after p (extent h inside)) (site_after_holder s h inside) rest v.2 in
       let last : List Item =
-      end_items wanted s h inside ++ items wanted (site_after_holder s h inside) rest in
+      end_items (wanted_findings wanted) s h inside ++ items (wanted_findings wanted) (site_after_holder s h inside) rest in
       let b =
       few-at s.depth h.offset (last_findings wanted s (holder_element h inside) (held_findings wanted h inside))
-      (items wanted (site_after_holder s h inside) rest) 11
+      (items (wanted_findings wanted) (site_after_holder s h inside) rest) 11
       _ (few-last s (holder_element h inside) (held_findings wanted h inside) 10 (few-held h inside)) r in
       let m =
-      few-both (items wanted (site_of_children s h) inside)
+      few-both (items (wanted_findings wanted) (site_of_children s h) inside)
       (ClosingLine s.depth (end_octets_offset h inside) ∷ last) _ _ i b in
       let a =
       few-at s.depth h.offset (header_findings wanted s h)
       (OpeningLine s.depth h
-      ∷ (items wanted (site_of_children s h) inside
+      ∷ (items (wanted_findings wanted) (site_of_children s h) inside
       ++ ClosingLine s.depth (end_octets_offset h inside) ∷ last))
       20 _ (few-header s h) m in
       omega (arith, a, header-two h v.0.0.header.valid, length-holder h inside rest, length-opening h)
@@ -280,7 +279,7 @@ module _ (wanted : Wanted) where
       let i = findings-within (place_of_children p h) (site_of_children s h) inside v.1 in
       let a =
       few-at s.depth h.offset (header_findings wanted s h)
-      (OpeningLine s.depth h ∷ items wanted (site_of_children s h) inside) 20 _ (few-header s h) i in
+      (OpeningLine s.depth h ∷ items (wanted_findings wanted) (site_of_children s h) inside) 20 _ (few-header s h) i in
       omega
       (arith, a, header-two h v.0.0.header.valid, length-append (opening h) (spelling inside), length-opening h)
   findings-within p s (OpenBitString h) v =
@@ -298,7 +297,7 @@ module _ (wanted : Wanted) where
 
   module _ (framing : Framing) (octets : List ℕ) (f : Forest) (short : length octets ≤ 2 ^ 40)
       (r : IsReading framing octets f) where
-    put-is : (run_finder start (events f)).put ≡ only (items wanted top_site f)
+    put-is : (run_finder start (events f)).put ≡ only (items (wanted_findings wanted) top_site f)
     put-is =
         (finds_forest wanted (top_place framing) top_site top_frame [] f r.obeys_grammar refl refl refl
         (λ e. refl)).put (record { count = 0; seen = new_seen })
@@ -307,11 +306,11 @@ module _ (wanted : Wanted) where
     pub text-made : (effect_of check_step start (events f)).put ≡ (check_job_with wanted framing).text f
     text-made =
         ap (λ (t : Effect CheckState). t.put) (followed-run start (events f)) ∙ ap (flat_map check_line) put-is
-        ∙ only-written (items wanted top_site f)
+        ∙ only-written (items (wanted_findings wanted) top_site f)
 
-    pub count-run : (run_finder start (events f)).state.finding_count ≡ finding_count wanted f
+    pub count-run : (run_finder start (events f)).state.finding_count ≡ finding_count (wanted_findings wanted) f
     count-run =
-        let n = length-filter is_finding (items wanted top_site f) in
+        let n = length-filter is_finding (items (wanted_findings wanted) top_site f) in
         counted-all start (events f)
         ∙ ap (λ (l : List Item). saturating_sum 0 (length l)) put-is
         ∙ omega (
@@ -323,7 +322,7 @@ module _ (wanted : Wanted) where
           length-append (spelling f) r.is_prefix.0,
         )
 
-    pub count-made : (effect_of check_step start (events f)).state.finding_count ≡ finding_count wanted f
+    pub count-made : (effect_of check_step start (events f)).state.finding_count ≡ finding_count (wanted_findings wanted) f
     count-made = ap (λ (t : Effect CheckState). t.state.finding_count) (followed-run start (events f)) ∙ count-run
 
 -- a check always wants more

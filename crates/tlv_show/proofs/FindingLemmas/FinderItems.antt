@@ -20,23 +20,21 @@ use Rattle.tlv_show.specs.FinderState.{CheckState}
 use Rattle.tlv_show.specs.NestingState.{frame_after, frame_under, surroundings_in}
 use Rattle.tlv_show.specs.NestingState.{with_element}
 use Rattle.tlv_show.specs.KeptConditions.{header_findings_in}
-use Rattle.tlv_show.specs.ShownFindings.{contents_findings, header_findings, end_findings}
-use Rattle.tlv_show.specs.Items.{Item, FindingAt, OpeningLine, ClosingLine, PrimitiveLines, OpenPrimitiveLines}
-use Rattle.tlv_show.specs.Items.{PaddingLine, headers, items}
-use Rattle.tlv_show.specs.Items.{contents_items, end_items, finding_items, header_items}
+use Rattle.tlv_show.specs.ShownFindings.{contents_findings, end_findings, header_findings, held_findings, last_findings}
+use Rattle.tlv_show.specs.ShownFindings.{wanted_findings, with_characters_if, with_order_if}
+use Rattle.tlv_show.specs.Items.{ClosingLine, FindingAt, Item, OpenPrimitiveLines, OpeningLine, PaddingLine}
+use Rattle.tlv_show.specs.Items.{PrimitiveLines, contents_items, end_items, finding_items, header_items, items}
+use Rattle.tlv_show.specs.Conditions.{headers}
 use Rattle.tlv_show.specs.Site.{Site, is_padding, site_of_children}
 use Rattle.tlv_show.specs.Site.{site_after_primitive, site_after_holder, site_after_padding}
 use Rattle.std.proofs.Common.{◌≢◌}
 use Rattle.tlv_show.specs.SetOrder.{Element, holder_element, primitive_element}
 use Rattle.tlv_show.specs.FinderState.{SeenState}
-use Rattle.tlv_show.specs.ShownFindings.{last_findings, with_order_if}
 use Rattle.tlv_show.proofs.SegmentLemmas.Seen.{HasPassed, HasSeen, HasSeenAll, after-holder, after-primitive}
 use Rattle.tlv_show.proofs.SegmentLemmas.Seen.{has_wrong_string, holder-seen, is_wrong_held, nothing-seen, opened-seen}
 use Rattle.tlv_show.proofs.SegmentLemmas.Seen.{passed-found, passed-offset, passed-seen, primitive-seen, seen-padding}
 use Rattle.tlv_show.proofs.SegmentLemmas.Seen.{seen_held, seen_whole, some-string, string-seen}
 use Rattle.tlv_show.specs.SegmentCharacters.{has_wrong_octet}
-use Rattle.tlv_show.specs.Items.{held_findings}
-use Rattle.tlv_show.specs.ShownFindings.{with_characters_if}
 use Rattle.std.specs.Option.{is_some}
 use Rattle.tlv_show.proofs.FindingLemmas.FinderSteps.{Kept}
 use Rattle.tlv_show.proofs.FindingLemmas.SiteWords.{first_contents_octet}
@@ -68,7 +66,7 @@ module _ (wanted : Wanted) where
   -- what was reported of elements: the findings of their items; and if they are whole, the frame after them
   pub record IsFoundAs (s : Site) (w : HolderFrame) (outer : List HolderFrame) (f : Forest) : Type 0 where
     pub put : (n : Kept) → HasSeen wanted s n.seen
-        → (run_finder (check_between wanted w outer n) (events f)).put ≡ only (items wanted s f)
+        → (run_finder (check_between wanted w outer n) (events f)).put ≡ only (items (wanted_findings wanted) s f)
     pub after : (n : Kept) → HasSeen wanted s n.seen → s.holder ≢ None → is_whole f ≡ true
         → (m : Kept)
         × ((run_finder (check_between wanted w outer n) (events f)).state
@@ -79,10 +77,10 @@ module _ (wanted : Wanted) where
   header-items : (s : Site) (w : HolderFrame) (outer : List HolderFrame) (h : HeaderValue) (found rest : List Item)
       → Knows w s → length outer ≡ s.depth → found ≡ only rest
       → finding_items (length outer) h.offset (header_findings_in wanted (surroundings_in w) h) ++ found
-      ≡ only (header_items wanted s h ++ rest)
+      ≡ only (header_items (wanted_findings wanted) s h ++ rest)
   header-items s w outer h found rest k l e =
       ap₂ (λ (n : ℕ) (fs : List Finding). finding_items n h.offset fs ++ found) l (header-same wanted w s h k)
-      ∙ ap (λ (t : List Item). header_items wanted s h ++ t) e
+      ∙ ap (λ (t : List Item). header_items (wanted_findings wanted) s h ++ t) e
       ∙ sym (only-finding_items s.depth h.offset (header_findings wanted s h) rest)
 
   -- other findings, and then other items
@@ -105,7 +103,7 @@ module _ (wanted : Wanted) where
       record {
         put =
             λ n o. r.put n (seen-padding wanted s n.seen o (free v.0.0))
-            ∙ sym (only-pads (is_padding s.previous) s.depth s.offset (items wanted (site_after_padding s) rest));
+            ∙ sym (only-pads (is_padding s.previous) s.depth s.offset (items (wanted_findings wanted) (site_after_padding s) rest));
         after = λ n o held e. absurd (held (free v.0.0));
       }
   finds_forest p s w outer (Primitive h c rest) v k l d free =
@@ -132,14 +130,14 @@ module _ (wanted : Wanted) where
             ap (λ (t : FinderRun). t.put) (run-primitive wanted w outer n h c (events rest) size)
             ∙ header-items s w outer h
             _ (PrimitiveLines s.depth h c
-            ∷ (contents_items wanted s h c ++ items wanted (site_after_primitive s h c) rest))
+            ∷ (contents_items (wanted_findings wanted) s h c ++ items (wanted_findings wanted) (site_after_primitive s h c) rest))
             k l
             (ap (λ (b : Bool). finding_items (length outer) h.offset (with_order_if b (contents_findings wanted h c))
             ++ (run_finder (check_between wanted (after_primitive wanted w h c) outer (after_contents wanted w h c n))
             (events rest)).put)
             (passed-found wanted s n.seen e wrong (seen_whole wanted n.seen h c) o (primitive-seen wanted s n.seen h c o form))
             ∙ more-items s outer h.offset (last_findings wanted s e (contents_findings wanted h c))
-            _ (items wanted (site_after_primitive s h c) rest) l
+            _ (items (wanted_findings wanted) (site_after_primitive s h c) rest) l
             (r.put (after_contents wanted w h c n) (next n o)));
         after = λ n o held x.
             let t = r.after (after_contents wanted w h c n) (next n o) held x in (
@@ -166,7 +164,7 @@ module _ (wanted : Wanted) where
       let all : (n : Kept) → HasSeen wanted s n.seen → (m : Kept) × HasPassed wanted n.seen e wrong m.seen
       × (run_finder (check_between wanted w outer n) (events (Holder h inside rest))
       ≡ then_found (finding_items (length outer) h.offset (header_findings_in wanted (surroundings_in w) h))
-      (then_found (only (items wanted (site_of_children s h) inside))
+      (then_found (only (items (wanted_findings wanted) (site_of_children s h) inside))
       (then_found (finding_items (length outer) h.offset (last_findings wanted s e (held_findings wanted h inside)))
       (run_finder (check_between wanted (frame_after (with_element w) (is_primitive h) (announced_length h.size) false) outer m)
       (events rest))))) =
@@ -184,7 +182,7 @@ module _ (wanted : Wanted) where
             ∙ ap (then_found put)
             (run-more (check_between wanted (frame_under w h) (with_element w ∷ outer) a) (events inside) es
             ∙ ap₂ (λ (l : List Item) (x : CheckState). then_found l (run_finder x es)) (i.put a opened) t.1
-            ∙ ap (then_found (only (items wanted (site_of_children s h) inside)))
+            ∙ ap (then_found (only (items (wanted_findings wanted) (site_of_children s h) inside)))
             (run-closing wanted (place_of_children p h) w outer t.0 h inside (events rest) v.1 v.0.1
             (passed-offset wanted s n.seen e wrong closed o taken, has_wrong_string wanted h inside, string)
             ∙ ap₂ (λ (b k : Bool). then_found
@@ -199,7 +197,7 @@ module _ (wanted : Wanted) where
       ) in
       let last : List Item =
       ClosingLine s.depth (end_octets_offset h inside)
-      ∷ (end_items wanted s h inside ++ items wanted (site_after_holder s h inside) rest) in
+      ∷ (end_items (wanted_findings wanted) s h inside ++ items (wanted_findings wanted) (site_after_holder s h inside) rest) in
       let next : (n : Kept) (o : HasSeen wanted s n.seen)
       → HasSeen wanted (site_after_holder s h inside) (all n o).0.seen =
       λ n o. passed-seen wanted s (site_after_holder s h inside) n.seen e wrong (all n o).0.seen o (all n o).1 refl refl
@@ -208,12 +206,12 @@ module _ (wanted : Wanted) where
         put = λ n o.
             let a = all n o in
             ap (λ (t : FinderRun). t.put) a.2
-            ∙ header-items s w outer h _ (OpeningLine s.depth h ∷ (items wanted (site_of_children s h) inside ++ last))
+            ∙ header-items s w outer h _ (OpeningLine s.depth h ∷ (items (wanted_findings wanted) (site_of_children s h) inside ++ last))
             k l
-            (ap (λ (t : List Item). only (items wanted (site_of_children s h) inside) ++ t)
+            (ap (λ (t : List Item). only (items (wanted_findings wanted) (site_of_children s h) inside) ++ t)
             (more-items s outer h.offset (last_findings wanted s e (held_findings wanted h inside))
-            _ (items wanted (site_after_holder s h inside) rest) l (r.put a.0 (next n o)))
-            ∙ sym (filter-append is_finding (items wanted (site_of_children s h) inside) last));
+            _ (items (wanted_findings wanted) (site_after_holder s h inside) rest) l (r.put a.0 (next n o)))
+            ∙ sym (filter-append is_finding (items (wanted_findings wanted) (site_of_children s h) inside) last));
         after = λ n o held x.
             let a = all n o in
             let t = r.after a.0 (next n o) held x in (
@@ -234,7 +232,7 @@ module _ (wanted : Wanted) where
       record {
         put = λ n o.
             ap (λ (t : FinderRun). t.put) (run-opening wanted w outer n h (events inside) few)
-            ∙ header-items s w outer h _ (OpeningLine s.depth h ∷ items wanted (site_of_children s h) inside) k l
+            ∙ header-items s w outer h _ (OpeningLine s.depth h ∷ items (wanted_findings wanted) (site_of_children s h) inside) k l
             (i.put (later_header wanted w h n)
             (opened-seen wanted s n.seen h o (omega (arith, d, v.0.0.shallow))));
         after = λ n o held e. absurd (cc (e));

@@ -7,12 +7,11 @@ use Rattle.std.specs.Prelude.{Option, Some, None}
 use Rattle.std.specs.Option.{is_some}
 use Rattle.tlv_show.specs.FinderState.{offset_at_end, is_misplaced}
 use Rattle.tlv_show.specs.FinderState.{SeenState}
-use Rattle.tlv_show.specs.ShownFindings.{with_order_if}
+use Rattle.tlv_show.specs.ShownFindings.{contents_findings, end_findings, is_shown, with_characters_if, with_order_if}
 use Rattle.tlv_show.specs.Laws.{whole_primitive}
 use Rattle.tlv_show.proofs.SetOrderLemmas.WantedOrder.{ends_with_octets}
 use Rattle.tlv_show.proofs.SegmentLemmas.Seen.{filled-none, seen_held, seen_whole}
 use Rattle.tlv_show.specs.FinderState.{seen_begun, seen_filled, seen_opened, string_found}
-use Rattle.tlv_show.specs.ShownFindings.{with_characters_if}
 use Rattle.tlv_head.specs.Header.{HasAllContents, HeaderValue, announced_length}
 use Rattle.tlv_value.specs.declared.finding.Finding.{Finding}
 use Rattle.tlv_value.specs.ValueCheckState.{ValueCheckState, findings_in, has_unused_bits, value_check_for}
@@ -34,10 +33,8 @@ use Rattle.tlv_show.specs.NestingState.{depth_in, frame_after, frame_under, nest
 use Rattle.tlv_show.specs.NestingState.{with_element}
 use Rattle.tlv_show.specs.Private.FinderState.{finder_step}
 use Rattle.tlv_show.specs.KeptConditions.{header_findings_in}
-use Rattle.tlv_show.specs.ShownFindings.{contents_findings, is_shown, end_findings}
-use Rattle.tlv_show.specs.Items.{Item}
-use Rattle.tlv_show.specs.Items.{headers}
-use Rattle.tlv_show.specs.Items.{finding_items}
+use Rattle.tlv_show.specs.Items.{Item, finding_items}
+use Rattle.tlv_show.specs.Conditions.{headers}
 use Rattle.tlv_show.proofs.FindingLemmas.CheckLaws.{one-or-more}
 use Rattle.tlv_show.proofs.FindingLemmas.FinderFolds.{offset-under, after-under, frame_after_elements}
 use Rattle.tlv_show.proofs.FindingLemmas.FinderFolds.{summed-under}

@@ -6,7 +6,7 @@ use Rattle.tlv_head.specs.Header.{HeaderValue}
 use Rattle.tlv_value.specs.declared.finding.Finding.{Finding}
 use Rattle.tlv_value.specs.Checks.{findings_by}
 use Rattle.tlv_show.specs.declared.wanted.Wanted.{Wanted}
-use Rattle.tlv_show.specs.Conditions.{header_conditions}
+use Rattle.tlv_show.specs.AllConditions.{header_conditions}
 use Rattle.tlv_show.specs.ShownFindings.{header_findings, is_shown}
 use Rattle.tlv_show.specs.Site.{Site}
 

@@ -10,7 +10,8 @@ use Rattle.tlv_head.specs.UniversalTypes.{bit_string, octet_string}
 use Rattle.tlv_value.specs.Types.{has_segments, is_a, is_primitive}
 use Rattle.tlv_value.proofs.CheckLemmas.CheckPieces.{checked-none}
 use Rattle.tlv_show.specs.declared.holder_frame.HolderFrame.{HolderFrame}
-use Rattle.tlv_show.specs.Conditions.{has_components, leaves_unused_bits, is_not_full}
+use Rattle.tlv_show.specs.Conditions.{leaves_unused_bits, is_not_full}
+use Rattle.tlv_show.specs.AllConditions.{has_components}
 use Rattle.tlv_show.specs.KeptConditions.{Surroundings}
 use Rattle.tlv_show.specs.NestingState.{frame_after, frame_after_segment, frame_of, frame_under, top_frame}
 use Rattle.tlv_show.specs.NestingState.{surroundings_in}

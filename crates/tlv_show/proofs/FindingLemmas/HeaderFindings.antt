@@ -3,7 +3,6 @@ use Rattle.std.proofs.Common.{◌≡◌, ℕ, ◌+◌, ◌≤◌, ◌&&◌, Bool
 use Rattle.std.proofs.Common.{◌++◌, refl, ap, ◌∙◌, arith}
 use Rattle.std.proofs.lemmas.Bool.Decides.{nat_tests}
 use Rattle.std.proofs.lemmas.Grind.{flat_map-append}
-use Rattle.std.specs.List.{filter}
 use Rattle.tlv_head.specs.Header.{HeaderValue}
 use Rattle.tlv_value.specs.declared.finding.Finding.{Finding}
 use Rattle.tlv_value.specs.declared.finding.Finding.TheVariants.{B27, C05, C06}
@@ -21,6 +20,7 @@ use Rattle.tlv_show.specs.declared.scope.Scope.{Scope}
 use Rattle.tlv_show.specs.declared.scope.Scope.TheVariants.{Listed, All}
 use Rattle.tlv_show.specs.Private.UsualTypes.{later_basic_conditions_in}
 use Rattle.tlv_show.specs.Site.{Site, in_bit_string, in_string}
+use Rattle.tlv_show.proofs.FindingLemmas.KeptRows.{kept-found, kept_rows}
 
 -- what would be kept of what is around an element, by its site
 abbrev surroundings_of : Site → Surroundings
@@ -37,23 +37,10 @@ Knows w s = surroundings_in w ≡ surroundings_of s
 
 -- ---- what the rules show
 
--- the conditions whose findings the rules show
-abbrev pub shown_conditions : Wanted → List (Bool × Finding) → List (Bool × Finding)
-shown_conditions wanted conditions = filter (λ row. is_shown wanted row.1) conditions
-
-one-shown : (wanted : Wanted) (there shown : Bool) (f : Finding) (rows : List (Bool × Finding)) → is_shown wanted f ≡ shown
-    → shown_findings wanted rows ≡ findings_by (shown_conditions wanted rows)
-    → shown_findings wanted ((there, f) ∷ rows) ≡ findings_by (shown_conditions wanted ((there, f) ∷ rows))
-one-shown wanted true true f rows e h = rw e (ap (λ (l : List Finding). f ∷ l) h)
-one-shown wanted true false f rows e h = rw e h
-one-shown wanted false true f rows e h = rw e h
-one-shown wanted false false f rows e h = rw e h
-
 -- what is found by conditions, of which the rules show some
-pub by-shown : (wanted : Wanted) (rows : List (Bool × Finding))
-    → shown_findings wanted rows ≡ findings_by (shown_conditions wanted rows)
-by-shown wanted [] = refl
-by-shown wanted (row ∷ rows) = one-shown wanted row.0 (is_shown wanted row.1) row.1 rows refl (by-shown wanted rows)
+by-shown : (wanted : Wanted) (rows : List (Bool × Finding))
+    → shown_findings wanted rows ≡ findings_by (kept_rows (is_shown wanted) rows)
+by-shown wanted rows = kept-found (is_shown wanted) rows
 
 -- ---- with a header: list by list
 

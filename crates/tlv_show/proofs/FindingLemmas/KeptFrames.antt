@@ -9,7 +9,7 @@ use Rattle.tlv_show.specs.declared.holder_frame.KeptFrame.{KeptFrame}
 use Rattle.tlv_show.specs.NestingState.{NestingState, depth_in, frame_after, frame_of, frame_under}
 use Rattle.tlv_show.specs.NestingState.{nesting_around, nesting_close_step, nesting_open_step, surroundings_in}
 use Rattle.tlv_show.specs.NestingState.{has_frame, nesting_primitive_step, top_frame, with_element}
-use Rattle.tlv_show.specs.Conditions.{has_components}
+use Rattle.tlv_show.specs.AllConditions.{has_components}
 use Rattle.tlv_show.specs.Private.Nesting.{SaysTheSame, HaveRisingFloors, TakesBack, all_frames, frames_with}
 use Rattle.tlv_show.specs.Private.Nesting.{innermost_frame, nesting_with_element}
 use Rattle.tlv_show.specs.Private.Nesting.{outer_frames, closed_frame_inside, closed_frame}

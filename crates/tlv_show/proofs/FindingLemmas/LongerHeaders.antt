@@ -11,11 +11,11 @@ use Rattle.tlv_head.proofs.ShortestLemmas.OneShortest.{identifier-from, lengths-
 use Rattle.tlv_head.proofs.ShortestLemmas.ShortestSpelling.{no-shorter_identifier, no-shorter_length}
 use Rattle.tlv_head.proofs.ShortestLemmas.ShortestSpelling.{shorter-identifier, shorter-length}
 use Rattle.tlv_show.specs.declared.rules.Rules.{Rules}
-use Rattle.tlv_show.specs.ShownFindings.{listed_by}
+use Rattle.tlv_show.specs.ShownFindings.{header_findings, listed_by}
 use Rattle.tlv_show.specs.declared.rules.Rules.TheVariants.{Ber, Der, Cer}
 use Rattle.tlv_show.specs.Conditions.{begins_with_zero_bits, is_high_form_needless, is_length_padded}
-use Rattle.tlv_show.specs.Conditions.{has_high_form, has_long_form, header_conditions, number_bits}
-use Rattle.tlv_show.specs.ShownFindings.{header_findings}
+use Rattle.tlv_show.specs.Conditions.{has_high_form, has_long_form, number_bits}
+use Rattle.tlv_show.specs.AllConditions.{header_conditions}
 use Rattle.tlv_show.specs.Site.{Site}
 use Rattle.tlv_show.specs.Spellings.{LongerIdentifiersAreFound, LongerLengthsAreFound, is_on_identifier, is_on_lengths}
 use Rattle.tlv_show.proofs.FindingLemmas.FindingsOfHeaders.{any_of, found-with_header}

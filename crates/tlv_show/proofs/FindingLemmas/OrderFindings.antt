@@ -5,10 +5,11 @@ use Rattle.tlv_value.specs.declared.finding.Finding.{Finding}
 use Rattle.tlv_value.specs.declared.finding.Finding.TheVariants.{B28, S05}
 use Rattle.tlv_show.specs.declared.rules.Rules.{Rules}
 use Rattle.tlv_show.specs.Items.{FindingAt, Item, finding_items}
-use Rattle.tlv_show.specs.SetOrder.{Element}
-use Rattle.tlv_show.specs.ShownFindings.{comes_after_order, is_by, last_findings, listed_by, with_order, with_order_if}
+use Rattle.tlv_show.specs.SetOrder.{Element, is_out_of_order_at}
+use Rattle.tlv_show.specs.ShownFindings.{comes_after_order, last_findings, listed_by, with_order, with_order_if}
+use Rattle.tlv_show.specs.ListedFindings.{is_by}
 use Rattle.tlv_show.specs.ShownFindings.{wants_characters, with_characters_if}
-use Rattle.tlv_show.specs.Site.{Site, is_out_of_order_at}
+use Rattle.tlv_show.specs.Site.{Site}
 
 module _ (test : Item → Bool) (hidden : (level offset : ℕ) → test (FindingAt level offset S05) ≡ false) where
   without-order : (level offset : ℕ) (gs : List Finding) (ys : List Item)

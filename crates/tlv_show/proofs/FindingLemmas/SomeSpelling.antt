@@ -9,7 +9,7 @@ use Rattle.std.proofs.lemmas.List.Folds.{list_any-append}
 use Rattle.std.specs.List.{list_any}
 use Rattle.std.specs.Prelude.{if◌then◌else◌}
 use Rattle.tlv_head.specs.Header.{HeaderValue, is_universal, octets_of}
-use Rattle.tlv_value.specs.Checks.{contents_conditions, type_conditions}
+use Rattle.tlv_value.specs.AllChecks.{contents_conditions, type_conditions}
 use Rattle.tlv_walk.specs.declared.framing.Framing.{Framing}
 use Rattle.tlv_walk.specs.AlikeElements.{AreAlike, holders, nothing, padding, primitives}
 use Rattle.tlv_walk.specs.Forest.{end_octets_offset}
@@ -27,19 +27,18 @@ use Rattle.tlv_walk.proofs.GrammarLemmas.PlacedSpelling.{SpelledAt, Spelling}
 use Rattle.tlv_walk.proofs.GrammarLemmas.RespelledElements.{sound-spelling}
 use Rattle.tlv_walk.proofs.EventLemmas.Wrappers.{AreNamed, Rise, wrapper_offsets-named, wrapper_offsets-rise}
 use Rattle.tlv_value.specs.declared.finding.Finding.{Finding}
-use Rattle.tlv_show.specs.Items.{finding_items}
-use Rattle.tlv_show.specs.Items.{held_findings}
+use Rattle.tlv_show.specs.Items.{ClosingLine, Item, OpeningLine, PaddingLine, PrimitiveLines, contents_items, end_items}
+use Rattle.tlv_show.specs.Items.{finding_items, header_items, items}
+use Rattle.tlv_show.specs.ShownFindings.{contents_findings, end_findings, header_findings, held_findings, listed_by}
+use Rattle.tlv_show.specs.ShownFindings.{wanted_findings}
 use Rattle.tlv_show.specs.SegmentCharacters.{has_wrong_characters}
 use Rattle.tlv_show.specs.SetOrder.{holder_element, primitive_element}
 use Rattle.tlv_show.proofs.FindingLemmas.OrderFindings.{no-characters, none-listed}
 use Rattle.tlv_show.specs.declared.rules.Rules.{Rules}
-use Rattle.tlv_show.specs.ShownFindings.{listed_by}
 use Rattle.tlv_show.specs.declared.rules.Rules.TheVariants.{Ber, Der, Cer}
-use Rattle.tlv_show.specs.Conditions.{begins_with_zero_bits, is_high_form_needless, is_length_padded}
-use Rattle.tlv_show.specs.Conditions.{end_conditions, header_conditions}
-use Rattle.tlv_show.specs.ShownFindings.{contents_findings, header_findings, end_findings}
-use Rattle.tlv_show.specs.Items.{Item, OpeningLine, ClosingLine, PrimitiveLines, PaddingLine, headers, items}
-use Rattle.tlv_show.specs.Items.{contents_items, end_items, header_items}
+use Rattle.tlv_show.specs.Conditions.{begins_with_zero_bits, headers, is_high_form_needless, is_length_padded}
+use Rattle.tlv_show.specs.AllConditions.{end_conditions, header_conditions}
+use Rattle.tlv_show.specs.ListedFindings.{ElementFindings}
 use Rattle.tlv_show.specs.Site.{Site, is_padding, site_of_children, top_site}
 use Rattle.tlv_show.specs.Site.{site_after_primitive, site_after_holder, site_after_padding}
 use Rattle.tlv_show.specs.Spellings.{SomeSpelling, is_item_on_spelling, is_on_spelling}
@@ -104,14 +103,17 @@ padding-none true level offset = refl
 padding-none false level offset = refl
 
 module _ (rules : Rules) (strict : rules ≢ Ber) where
+  abbrev found : ElementFindings
+  found = wanted_findings (listed_by rules)
+
   header-none : (s : Site) (h : HeaderValue) → IsRegular (form_by rules) h
-      → list_any is_item_on_spelling (header_items (listed_by rules) s h) ≡ false
+      → list_any is_item_on_spelling (header_items found s h) ≡ false
   header-none s h r =
       items-found s.depth h.offset (header_findings (listed_by rules) s h)
       ∙ found-with_header is_on_spelling (listed_by rules) s h ∙ header-absent rules s h strict r
 
   contents-none : (s : Site) (h : HeaderValue) (c : List ℕ)
-      → list_any is_item_on_spelling (contents_items (listed_by rules) s h c) ≡ false
+      → list_any is_item_on_spelling (contents_items found s h c) ≡ false
   contents-none s h c =
       ap (λ (fs : List Finding). list_any is_item_on_spelling (finding_items s.depth h.offset fs))
       (none-listed rules s (primitive_element h c) (contents_findings (listed_by rules) h c))
@@ -120,7 +122,7 @@ module _ (rules : Rules) (strict : rules ≢ Ber) where
       ∙ contents-absent rules h c
 
   end-none : (s : Site) (h : HeaderValue) (inside : Forest)
-      → list_any is_item_on_spelling (end_items (listed_by rules) s h inside) ≡ false
+      → list_any is_item_on_spelling (end_items found s h inside) ≡ false
   end-none s h inside =
       ap (λ (fs : List Finding). list_any is_item_on_spelling (finding_items s.depth h.offset fs))
       (none-listed rules s (holder_element h inside) (held_findings (listed_by rules) h inside)
@@ -130,29 +132,29 @@ module _ (rules : Rules) (strict : rules ≢ Ber) where
       ∙ end-absent rules h (headers inside)
 
   none-found : (p : Place) (s : Site) (f : Forest) → IsSound p f → AreRegular (form_by rules) f
-      → list_any is_item_on_spelling (items (listed_by rules) s f) ≡ false
+      → list_any is_item_on_spelling (items found s f) ≡ false
   none-found p s NoMore u r = refl
   none-found p s (PaddingOctet rest) u r =
       both-none (if is_padding s.previous then [] else PaddingLine s.depth s.offset ∷ [])
-      (items (listed_by rules) (site_after_padding s) rest)
+      (items found (site_after_padding s) rest)
       (padding-none (is_padding s.previous) s.depth s.offset)
       (none-found (place_after p 1) (site_after_padding s) rest u.1 r)
   none-found p s (Primitive h c rest) u r =
-      both-none (header_items (listed_by rules) s h)
-      (PrimitiveLines s.depth h c ∷ (contents_items (listed_by rules) s h c ++ items (listed_by rules) (site_after_primitive s h c) rest))
+      both-none (header_items found s h)
+      (PrimitiveLines s.depth h c ∷ (contents_items found s h c ++ items found (site_after_primitive s h c) rest))
       (header-none s h r.0)
-      (both-none (contents_items (listed_by rules) s h c) (items (listed_by rules) (site_after_primitive s h c) rest) (contents-none s h c)
+      (both-none (contents_items found s h c) (items found (site_after_primitive s h c) rest) (contents-none s h c)
       (none-found (place_after p (length (octets_of h) + length c)) (site_after_primitive s h c) rest u.1 r.1))
   none-found p s (Holder h inside rest) u r =
-      let last : List Item = end_items (listed_by rules) s h inside ++ items (listed_by rules) (site_after_holder s h inside) rest in
-      let held : List Item = items (listed_by rules) (site_of_children s h) inside in
-      both-none (header_items (listed_by rules) s h)
+      let last : List Item = end_items found s h inside ++ items found (site_after_holder s h inside) rest in
+      let held : List Item = items found (site_of_children s h) inside in
+      both-none (header_items found s h)
       (OpeningLine s.depth h
       ∷ (held ++ ClosingLine s.depth (end_octets_offset h inside) ∷ last))
       (header-none s h r.0)
       (both-none held (ClosingLine s.depth (end_octets_offset h inside) ∷ last)
       (none-found (place_of_children p h) (site_of_children s h) inside u.1 r.1)
-      (both-none (end_items (listed_by rules) s h inside) (items (listed_by rules) (site_after_holder s h inside) rest) (end-none s h inside)
+      (both-none (end_items found s h inside) (items found (site_after_holder s h inside) rest) (end-none s h inside)
       (none-found (place_after p (extent h inside)) (site_after_holder s h inside) rest u.2 r.2)))
   none-found p s (OpenPrimitive h c) u r = absurd u
   none-found p s (OpenHolder h inside) u r = absurd u

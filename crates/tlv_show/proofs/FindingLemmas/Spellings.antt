@@ -24,13 +24,13 @@ use Rattle.tlv_walk.proofs.GrammarLemmas.AlikeSpellings.{AreRegular, IsRegular, 
 use Rattle.tlv_walk.proofs.GrammarLemmas.Endings.{done-sound, sound-reading}
 use Rattle.tlv_walk.proofs.GrammarLemmas.Readings.{reading-unique}
 use Rattle.tlv_show.specs.declared.rules.Rules.{Rules}
-use Rattle.tlv_show.specs.ShownFindings.{listed_by}
+use Rattle.tlv_show.specs.ShownFindings.{header_findings, listed_by, wanted_findings}
 use Rattle.tlv_show.specs.declared.rules.Rules.TheVariants.{Ber, Der, Cer}
-use Rattle.tlv_show.specs.Conditions.{begins_with_zero_bits, is_high_form_needless, is_length_padded}
-use Rattle.tlv_show.specs.Conditions.{header_conditions, number_bits}
-use Rattle.tlv_show.specs.ShownFindings.{header_findings}
+use Rattle.tlv_show.specs.Conditions.{begins_with_zero_bits, is_high_form_needless, is_length_padded, number_bits}
+use Rattle.tlv_show.specs.AllConditions.{header_conditions}
 use Rattle.tlv_show.specs.Items.{Item, OpeningLine, ClosingLine, PrimitiveLines, PaddingLine, items}
 use Rattle.tlv_show.specs.Items.{finding_items, contents_items, end_items, header_items}
+use Rattle.tlv_show.specs.ListedFindings.{ElementFindings}
 use Rattle.tlv_show.specs.Site.{Site, is_padding, site_of_children, top_site}
 use Rattle.tlv_show.specs.Site.{site_after_primitive, site_after_holder, site_after_padding}
 use Rattle.tlv_show.specs.Spellings.{OneSpelling, is_item_on_spelling, is_on_spelling}
@@ -44,7 +44,7 @@ items-found level offset [] = refl
 items-found level offset (f ∷ fs) = ap (λ (b : Bool). is_on_spelling f || b) (items-found level offset fs)
 
 none-by_conditions : (rules : Rules) (s : Site) (h : HeaderValue)
-    → list_any is_item_on_spelling (header_items (listed_by rules) s h) ≡ false
+    → list_any is_item_on_spelling (header_items (wanted_findings (listed_by rules)) s h) ≡ false
     → any_of is_on_spelling (listed_by rules) (header_conditions s h) ≡ false
 none-by_conditions rules s h e =
     sym (found-with_header is_on_spelling (listed_by rules) s h)
@@ -106,7 +106,7 @@ by-form false (Definite n) a e = refl
 by-form false Indefinite a e = absurd (cc (a))
 
 no_findings-regular : (rules : Rules) (s : Site) (h : HeaderValue) → rules ≢ Ber → IsHeader h
-    → list_any is_item_on_spelling (header_items (listed_by rules) s h) ≡ false
+    → list_any is_item_on_spelling (header_items (wanted_findings (listed_by rules)) s h) ≡ false
     → IsRegular (form_by rules) h
 no_findings-regular Ber s h strict valid e = absurd (strict refl)
 no_findings-regular Der s h strict valid e =
@@ -130,31 +130,34 @@ none-in : (xs ys : List Item) → list_any is_item_on_spelling (xs ++ ys) ≡ fa
 none-in xs ys e = or_parts _ _ (sym (list_any-append is_item_on_spelling xs ys) ∙ e)
 
 module _ (rules : Rules) (strict : rules ≢ Ber) where
+  abbrev found : ElementFindings
+  found = wanted_findings (listed_by rules)
+
   all-regular : (p : Place) (s : Site) (f : Forest) → IsSound p f
-      → list_any is_item_on_spelling (items (listed_by rules) s f) ≡ false → AreRegular (form_by rules) f
+      → list_any is_item_on_spelling (items found s f) ≡ false → AreRegular (form_by rules) f
   all-regular p s NoMore u e = tt
   all-regular p s (PaddingOctet rest) u e =
       all-regular (place_after p 1) (site_after_padding s) rest u.1
       (none-in (if is_padding s.previous then [] else PaddingLine s.depth s.offset ∷ [])
-      (items (listed_by rules) (site_after_padding s) rest) e).1
+      (items found (site_after_padding s) rest) e).1
   all-regular p s (Primitive h c rest) u e =
       let header =
-      none-in (header_items (listed_by rules) s h)
-      (PrimitiveLines s.depth h c ∷ (contents_items (listed_by rules) s h c ++ items (listed_by rules) (site_after_primitive s h c) rest)) e in
-      let others = none-in (contents_items (listed_by rules) s h c) (items (listed_by rules) (site_after_primitive s h c) rest) header.1 in (
+      none-in (header_items found s h)
+      (PrimitiveLines s.depth h c ∷ (contents_items found s h c ++ items found (site_after_primitive s h c) rest)) e in
+      let others = none-in (contents_items found s h c) (items found (site_after_primitive s h c) rest) header.1 in (
         no_findings-regular rules s h strict u.0.0.valid header.0,
         all-regular (place_after p (length (octets_of h) + length c)) (site_after_primitive s h c) rest u.1 others.1,
       )
   all-regular p s (Holder h inside rest) u e =
-      let last : List Item = end_items (listed_by rules) s h inside ++ items (listed_by rules) (site_after_holder s h inside) rest in
+      let last : List Item = end_items found s h inside ++ items found (site_after_holder s h inside) rest in
       let held_and_last : List Item =
-      items (listed_by rules) (site_of_children s h) inside
+      items found (site_of_children s h) inside
       ++ ClosingLine s.depth (end_octets_offset h inside) ∷ last in
-      let header = none-in (header_items (listed_by rules) s h) (OpeningLine s.depth h ∷ held_and_last) e in
+      let header = none-in (header_items found s h) (OpeningLine s.depth h ∷ held_and_last) e in
       let held =
-      none-in (items (listed_by rules) (site_of_children s h) inside)
+      none-in (items found (site_of_children s h) inside)
       (ClosingLine s.depth (end_octets_offset h inside) ∷ last) header.1 in
-      let others = none-in (end_items (listed_by rules) s h inside) (items (listed_by rules) (site_after_holder s h inside) rest) held.1 in (
+      let others = none-in (end_items found s h inside) (items found (site_after_holder s h inside) rest) held.1 in (
         no_findings-regular rules s h strict u.0.0.valid header.0,
         all-regular (place_of_children p h) (site_of_children s h) inside u.1 held.0,
         all-regular (place_after p (extent h inside)) (site_after_holder s h inside) rest u.2 others.1,

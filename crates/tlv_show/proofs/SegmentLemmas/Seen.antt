@@ -16,10 +16,10 @@ use Rattle.tlv_show.specs.Private.SetOrder.{IsUnchangedByPrimitives}
 use Rattle.tlv_show.specs.SegmentCharacters.{has_wrong_characters, has_wrong_octet, has_wrong_segment, held_contents}
 use Rattle.tlv_show.specs.SegmentCharactersState.{at_innermost, closing_string, segment_ended, segments_after_octets}
 use Rattle.tlv_show.specs.SegmentCharactersState.{segments_begun, segments_closed, segments_opened}
-use Rattle.tlv_show.specs.SetOrder.{Element, holder_element, primitive_element}
+use Rattle.tlv_show.specs.SetOrder.{Element, holder_element, is_out_of_order_at, neighbour_of, primitive_element}
 use Rattle.tlv_show.specs.SetOrderState.{SetOrderState}
 use Rattle.tlv_show.specs.ShownFindings.{wants_characters, wants_order}
-use Rattle.tlv_show.specs.Site.{Site, is_out_of_order_at, neighbour_of, site_after_padding, site_of_children, top_site}
+use Rattle.tlv_show.specs.Site.{Site, site_after_padding, site_of_children, top_site}
 use Rattle.tlv_show.proofs.SegmentLemmas.Events.{closing-string, held_passed, holder-passed, opened-between, opened-few}
 use Rattle.tlv_show.proofs.SegmentLemmas.Events.{opened-length, primitive-passed}
 use Rattle.tlv_show.proofs.SegmentLemmas.Forests.{few-more}

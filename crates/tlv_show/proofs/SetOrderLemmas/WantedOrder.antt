@@ -14,15 +14,15 @@ use Rattle.tlv_walk.specs.Forest.{Forest, end_octets, opening, spelling}
 use Rattle.tlv_show.specs.declared.set_frame.SetFrame.{SetFrame}
 use Rattle.tlv_show.specs.declared.wanted.Wanted.{Wanted}
 use Rattle.tlv_show.specs.FinderState.{end_octets_if, is_order_found, order_if}
-use Rattle.tlv_show.specs.SetOrder.{Element, holder_element, offset_if, primitive_element}
+use Rattle.tlv_show.specs.SetOrder.{Element, holder_element, is_out_of_order_at, is_set, neighbour_of, offset_if}
+use Rattle.tlv_show.specs.SetOrder.{primitive_element}
 use Rattle.tlv_show.specs.SetOrderState.{SetOrderState, frame_after_octets, is_last_out_of_order, set_order_begin_step}
 use Rattle.tlv_show.specs.SetOrderState.{set_order_close_step, set_order_end_step, set_order_octets_step}
 use Rattle.tlv_show.specs.SetOrderState.{set_order_open_step}
 use Rattle.tlv_show.specs.ShownFindings.{wants_order}
 use Rattle.tlv_show.specs.Private.SetOrder.{IsUnchangedByPrimitives}
-use Rattle.tlv_show.specs.Site.{Site, is_out_of_order_at, neighbour_of, site_after_padding, site_of_children, top_site}
+use Rattle.tlv_show.specs.Site.{Site, site_after_padding, site_of_children, top_site}
 use Rattle.tlv_show.specs.SetOrderState.{new_set_order}
-use Rattle.tlv_show.specs.SetOrder.{is_set}
 use Rattle.tlv_show.specs.SetOrderState.{is_direct}
 use Rattle.tlv_show.proofs.FindingLemmas.SiteWords.{is_held_by}
 use Rattle.tlv_show.proofs.SetOrderLemmas.Events.{IsAfter, closed-is, opened-knows}

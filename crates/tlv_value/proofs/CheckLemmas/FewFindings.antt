@@ -8,9 +8,8 @@ use Rattle.tlv_head.specs.UniversalTypes as universal
 use Rattle.tlv_value.specs.declared.finding.Finding.{Finding}
 use Rattle.tlv_value.specs.Characters.{has_wrong_unit}
 use Rattle.tlv_value.specs.AllChecks.{all_contents_findings, is_iri, time_has_day, type_conditions}
-use Rattle.tlv_value.specs.Checks.{allows, canonical_form, findings_by, first_octet}
-use Rattle.tlv_value.specs.Checks.{has_padded_part, is_padded_integer, is_short_time, last_octet, time_form}
-use Rattle.tlv_value.specs.Checks.{unused_bits_value}
+use Rattle.tlv_value.specs.Checks.{allows, canonical_form, findings_by, first_octet, has_padded_part, is_padded_integer}
+use Rattle.tlv_value.specs.Checks.{is_short_time, last_octet, time_form, unused_bits_value}
 use Rattle.tlv_value.specs.Dates.{is_date_or_time}
 use Rattle.tlv_value.specs.Real.{is_canonical_real, is_real_form}
 use Rattle.tlv_value.specs.Times.{has_form}

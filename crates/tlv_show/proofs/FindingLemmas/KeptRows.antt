@@ -1,0 +1,44 @@
+-- Findings of which a test keeps some.
+use Rattle.std.proofs.Common.{◌≡◌, ◌&&◌, Bool, true, false, List, [], ◌∷◌, refl, ap, ◌∙◌}
+use Rattle.std.specs.List.{filter}
+use Rattle.tlv_value.specs.declared.finding.Finding.{Finding}
+use Rattle.tlv_value.specs.Checks.{findings_by}
+use Rattle.tlv_show.specs.declared.rules.Rules.{Rules}
+use Rattle.tlv_show.specs.ListedFindings.{findings_under, is_by}
+use Rattle.tlv_show.specs.ShownFindings.{is_listed, listed_by, shown_findings}
+
+-- the rows whose findings are kept
+abbrev pub kept_rows : (Finding → Bool) → List (Bool × Finding) → List (Bool × Finding)
+kept_rows keeps rows = filter (λ row. keeps row.1) rows
+
+-- of the findings by conditions those are kept that the kept rows have
+pub kept-found : (keeps : Finding → Bool) (rows : List (Bool × Finding))
+    → filter keeps (findings_by rows) ≡ findings_by (kept_rows keeps rows)
+kept-found keeps [] = refl
+kept-found keeps (row ∷ rows) = by row.0 (keeps row.1) refl (kept-found keeps rows)
+  where
+    by : (there kept : Bool) → keeps row.1 ≡ kept
+        → filter keeps (findings_by rows) ≡ findings_by (kept_rows keeps rows)
+        → filter keeps (findings_by ((there, row.1) ∷ rows)) ≡ findings_by (kept_rows keeps ((there, row.1) ∷ rows))
+    by true true e h = rw e (ap (λ (l : List Finding). row.1 ∷ l) h)
+    by true false e h = rw e h
+    by false true e h = rw e h
+    by false false e h = rw e h
+
+-- two tests, one after the other
+both-kept : (p q : Finding → Bool) (fs : List Finding) → filter (λ x. p x && q x) fs ≡ filter p (filter q fs)
+both-kept p q [] = refl
+both-kept p q (f ∷ fs) = by (p f) (q f) refl refl (both-kept p q fs)
+  where
+    by : (a b : Bool) → p f ≡ a → q f ≡ b → filter (λ x. p x && q x) fs ≡ filter p (filter q fs)
+        → filter (λ x. p x && q x) (f ∷ fs) ≡ filter p (filter q (f ∷ fs))
+    by true true d e h = rw (e, d) (ap (λ (l : List Finding). f ∷ l) h)
+    by true false d e h = rw (e, d) h
+    by false true d e h = rw (e, d) h
+    by false false d e h = rw (e, d) h
+
+-- the findings by the rules, of the rows whose findings are listed
+pub listed-found : (rules : Rules) (rows : List (Bool × Finding))
+    → shown_findings (listed_by rules) rows ≡ findings_under rules (kept_rows is_listed rows)
+listed-found rules rows =
+    both-kept (is_by rules) is_listed (findings_by rows) ∙ ap (filter (is_by rules)) (kept-found is_listed rows)

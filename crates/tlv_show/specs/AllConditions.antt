@@ -1,0 +1,56 @@
+-- All findings of a header, and of an end: the listed ones, which `Conditions` has, and the others, each finding beside
+-- its condition, in the order of the codes.
+use Rattle.std.specs.Prelude.{ℕ, Bool, true, false, ◌&&◌, ◌==◌, List, [], ◌∷◌, ◌++◌, length}
+use Rattle.tlv_head.specs.Header.{HeaderValue, is_universal}
+use Rattle.tlv_head.specs.TypeTable.{has_encodings}
+use Rattle.tlv_head.specs.UniversalTypes as universal
+use Rattle.tlv_head.specs.declared.type_table.Encodings.{Encodings}
+use Rattle.tlv_head.specs.declared.type_table.Encodings.TheVariants.{Unjudged}
+use Rattle.tlv_value.specs.declared.finding.Finding.{Finding}
+use Rattle.tlv_value.specs.declared.finding.Finding.TheVariants.{B22, B27}
+use Rattle.tlv_value.specs.Types.{is_number_of}
+use Rattle.tlv_show.specs.Conditions.{listed_basic_conditions, listed_end_conditions, strict_conditions}
+use Rattle.tlv_show.specs.Site.{Site}
+
+-- ---- With the header
+
+-- 8.21, 8.22, 8.26: the encodings of these types are primitive too
+abbrev pub are_unjudged : Encodings → Bool
+are_unjudged Unjudged = true
+are_unjudged _ = false
+
+-- a TIME, DATE, TIME-OF-DAY, DATE-TIME, DURATION, OID-IRI or RELATIVE-OID-IRI
+abbrev pub is_time_or_iri : HeaderValue → Bool
+is_time_or_iri h = is_universal h.class && has_encodings are_unjudged h.number
+
+-- the element is constructed, and is one of these
+abbrev pub is_constructed_time_or_iri : HeaderValue → Bool
+is_constructed_time_or_iri h = h.constructed && is_time_or_iri h
+
+-- by the rules of all encodings
+abbrev pub later_basic_conditions : HeaderValue → List (Bool × Finding)
+later_basic_conditions h =
+    -- 8.21, 8.22, 8.26: the encodings of these types are primitive
+    (is_constructed_time_or_iri h, B22)
+    ∷ []
+
+-- all conditions of a header, listed or not
+abbrev pub header_conditions : Site → HeaderValue → List (Bool × Finding)
+header_conditions s h = listed_basic_conditions s h ++ later_basic_conditions h ++ strict_conditions s h
+
+-- ---- With the end of an element that holds others
+
+-- 8.17, 8.18, 8.24: the types that are encoded as a SEQUENCE with components that have to be there
+abbrev pub component_types : List ℕ
+component_types = universal.external ∷ universal.embedded_pdv ∷ universal.character_string ∷ []
+
+-- a constructed element of such a type
+abbrev pub has_components : HeaderValue → Bool
+has_components h = h.constructed && is_universal h.class && is_number_of component_types h.number
+
+-- all conditions of an end, listed or not
+abbrev pub end_conditions : HeaderValue → List HeaderValue → List (Bool × Finding)
+end_conditions h children =
+    -- 8.17, 8.18, 8.24: an EXTERNAL, EMBEDDED PDV or CHARACTER STRING holds an element or more
+    (has_components h && length children == 0, B27)
+    ∷ listed_end_conditions h children
