@@ -6,9 +6,7 @@ use Rattle.tlv_cut.proofs.ExtractLemmas.LongerInputs.{extract_text_goes_on, same
 use Rattle.tlv_cut.proofs.IndefLemmas.LongerInputs.{indef_text_goes_on}
 use Rattle.tlv_cut.proofs.IndefLemmas.SecondReading.{indef_text_is_done, indef_text_is_read_back}
 use Rattle.tlv_cut.specs.Indef.{indef_framing, indef_reading, indef_text}
-use Rattle.tlv_show.specs.ShownFindings.{listed_by}
-use Rattle.tlv_show.specs.declared.scope.Scope.TheVariants.{Listed}
-use Rattle.tlv_show.proofs.DumpLemmas.LongerInputs.{checks_on, dumps_on}
+use Rattle.tlv_show.proofs.DumpLemmas.LongerInputs.{listed-checks_on, listed-dumps_on}
 use Rattle.tlv_value.specs.Names.{NamesValue}
 use Rattle.tlv_walk.proofs.FollowerLemmas.Enough.{ends_as_octets, ends_done, ends_without}
 use Rattle.tlv_walk.proofs.GrammarLemmas.Endings.{ending, is-ending}
@@ -169,8 +167,8 @@ pub text_on : (command : Command) (names : NamesValue) (b c : List ℕ) (f g : F
     → length (b ++ c) ≤ input_limit
     → IsReading (command_job command names).framing b f → IsReading (command_job command names).framing (b ++ c) g
     → IsPrefixOf ((command_job command names).text f) ((command_job command names).text g)
-text_on (Dump options names_file file) names b c f g few r s = dumps_on Listed false options names b c f g few r s
-text_on (Check rules framing file) names b c f g few r s = checks_on (listed_by rules) framing b c f g few r s
+text_on (Dump options names_file file) names b c f g few r s = listed-dumps_on options names b c f g few r s
+text_on (Check rules framing file) names b c f g few r s = listed-checks_on rules framing b c f g few r s
 text_on (Extract offset contents framing file) names b c f g few r s =
     extract_text_goes_on framing b c f g r s offset contents
 text_on (Indef padding file) names b c f g few r s = indef_text_goes_on _ b c f g r s

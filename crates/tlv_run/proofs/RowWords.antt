@@ -7,8 +7,8 @@ use Rattle.std.specs.FinMap as finite
 use Rattle.std.specs.Ordering.{nat_cmp}
 use Prim.Native.String.{String}
 use Rattle.tlv_head.specs.declared.fault.FaultCode.{FaultCode}
+use Rattle.tlv_show.specs.ListedFindings.{listed_findings}
 use Rattle.tlv_show.specs.ShowJob.{top_layout, show_job}
-use Rattle.tlv_show.specs.ShownFindings.{listed_by}
 use Rattle.tlv_show.specs.Texts.{item_text}
 use Rattle.tlv_show.specs.declared.options.Options.{Options}
 use Rattle.tlv_show.specs.declared.rules.Rules.{Rules}
@@ -98,7 +98,8 @@ fault_result findings code offset message output =
 -- a dump, by the names themselves in place of the table of names
 abbrev dump_result : Rules → Option ℕ → Bool → Framing → NameOf → List ℕ → CommandResult
 dump_result rules limit pure framing name_of octets =
-    let show = show_job (listed_by rules) framing (item_text false name_of (top_layout (options_of rules limit pure framing))) in
+    let text_of = item_text false name_of (top_layout (options_of rules limit pure framing)) in
+    let show = show_job (listed_findings rules) framing text_of in
     record (result (dump rules limit pure framing) octets) { output = show.text (reading framing octets) }
 
 by_names : (rules : Rules) (limit : Option ℕ) (pure : Bool) (framing : Framing) (names : NamesValue) (name_of : NameOf)
