@@ -4,7 +4,7 @@ use Rattle.std.specs.Prelude.{if◌then◌else◌}
 use Rattle.tlv_head.specs.Limits.{depth_limit}
 use Rattle.tlv_head.specs.Header.{HeaderValue, is_universal}
 use Rattle.tlv_head.specs.UniversalTypes as universal
-use Rattle.tlv_show.specs.ShownFindings.{contents_findings, header_findings, listed_by}
+use Rattle.tlv_show.specs.ListedFindings.{listed_findings}
 use Rattle.tlv_show.specs.Site.{top_site}
 use Rattle.tlv_show.specs.declared.rules.Rules.TheVariants.{Ber}
 use Rattle.tlv_value.specs.Types.{is_a}
@@ -37,8 +37,8 @@ place_by_itself depth = record {
 -- a primitive of the universal class that has no findings under BER: random octets are seldom one
 pub record IsClearPrimitive (h : HeaderValue) (contents : List ℕ) : Type 0 where
   pub in_universal_class : is_universal h.class ≡ true
-  pub no_header_findings : header_findings (listed_by Ber) top_site h ≡ []
-  pub no_contents_findings : contents_findings (listed_by Ber) h contents ≡ []
+  pub no_header_findings : (listed_findings Ber).of_header top_site h ≡ []
+  pub no_contents_findings : (listed_findings Ber).of_primitive top_site h contents ≡ []
 
 -- each of the outermost elements is constructed, or such a primitive
 abbrev pub AreLikely : Forest → Type 0

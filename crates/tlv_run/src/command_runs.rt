@@ -1,7 +1,8 @@
 //! The run of each command by itself. It takes what the command says, without the names of files.
 ghost use Rattle.tlv_cut.specs.Extract.{extract_job};
 ghost use Rattle.tlv_cut.specs.Indef.{indef_job};
-ghost use Rattle.tlv_show.specs.ShowJob.{check_job, check_job_with, dump_job, dump_job_with};
+ghost use Rattle.tlv_show.specs.ShowJob.{check_job, dump_job};
+ghost use Rattle.tlv_show.specs.WantedJobs.{check_job_with, dump_job_with};
 ghost use Rattle.tlv_walk.specs.Job.{device_states};
 ghost use Rattle.tlv_run.specs.Report.{cut_report, indef_report, outcome_report, report_value_of};
 ghost use Rattle.tlv_run.specs.Results.{job_with_report};

@@ -6,7 +6,8 @@ use Rattle.tlv_show.specs.Items.{Item, FindingAt, OpeningLine, ClosingLine, Prim
 use Rattle.tlv_show.specs.Items.{OpenPrimitiveLines, PaddingLine, items}
 use Rattle.tlv_show.specs.Site.{Site, top_site}
 use Rattle.tlv_show.specs.declared.rules.Rules.TheVariants.{Ber}
-use Rattle.tlv_show.specs.ShowJob.{check_job_with, dump_job_with, top_layout, wanted_in}
+use Rattle.tlv_show.specs.ShowJob.{top_layout}
+use Rattle.tlv_show.specs.WantedJobs.{check_job_with, dump_job_with, wanted_in}
 use Rattle.tlv_show.specs.FinderState.{new_check}
 use Rattle.tlv_show.specs.Texts.{check_line, finding_count}
 use Rattle.tlv_show.specs.CheckStep.{check_step}

@@ -1,16 +1,13 @@
--- What a call of `dump` or of `check` is to do.
-use Rattle.std.specs.Prelude.{ℕ, false, List, flat_map, Bool}
+-- What a call of `dump` or of `check` is to do. `WantedJobs` has what calls with other findings are to do.
+use Rattle.std.specs.Prelude.{ℕ, false, List, flat_map}
 use Rattle.std.specs.FinMap as finite
 use Rattle.tlv_walk.specs.declared.framing.Framing.{Framing}
 use Rattle.tlv_walk.specs.Job.{Job}
 use Rattle.tlv_walk.specs.Wrappers.{first_without_wrapper}
 use Rattle.tlv_show.specs.declared.outcome.Outcome.{Outcome}
 use Rattle.tlv_show.specs.declared.rules.Rules.{Rules}
-use Rattle.tlv_show.specs.declared.scope.Scope.{Scope}
-use Rattle.tlv_show.specs.declared.wanted.Wanted.{Wanted}
 use Rattle.tlv_show.specs.Items.{Item, items}
 use Rattle.tlv_show.specs.ListedFindings.{ElementFindings, listed_findings}
-use Rattle.tlv_show.specs.ShownFindings.{wanted_findings}
 use Rattle.tlv_show.specs.Site.{top_site}
 use Rattle.tlv_show.specs.Texts.{check_line, finding_count, item_text}
 use Rattle.tlv_value.specs.declared.layout.Layout.{Layout}
@@ -35,8 +32,6 @@ show_job found framing text_of = record {
 abbrev pub top_layout : Options → Layout
 top_layout options = record { level = 0; limit = options.limit; pure = options.pure }
 
--- ---- The listed findings
-
 -- all elements, as lines, with the lines of the listed findings, without text beside pairs of digits
 abbrev pub dump_job : Options → NamesValue → Job Outcome
 dump_job options names =
@@ -46,20 +41,3 @@ dump_job options names =
 -- the listed findings of all elements
 abbrev pub check_job : Rules → Framing → Job Outcome
 check_job rules framing = show_job (listed_findings rules) framing check_line
-
--- ---- The findings that are wanted
-
--- the findings that the options ask for, in this scope
-abbrev pub wanted_in : Scope → Options → Wanted
-wanted_in scope options = record { rules = options.rules; scope = scope }
-
--- all elements, as lines, with the lines of the findings in this scope. The second argument says whether text is beside
--- pairs of digits
-abbrev pub dump_job_with : Scope → Bool → Options → NamesValue → Job Outcome
-dump_job_with scope with_text options names =
-    show_job (wanted_findings (wanted_in scope options)) options.framing
-    (item_text with_text (finite.get names) (top_layout options))
-
--- the findings that are wanted of all elements
-abbrev pub check_job_with : Wanted → Framing → Job Outcome
-check_job_with wanted framing = show_job (wanted_findings wanted) framing check_line

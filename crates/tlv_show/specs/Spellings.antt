@@ -15,7 +15,7 @@ use Rattle.tlv_walk.specs.Reading.{IsReading}
 use Rattle.tlv_walk.specs.Wrappers.{wrapper_offsets}
 use Rattle.tlv_show.specs.declared.rules.Rules.{Rules}
 use Rattle.tlv_show.specs.declared.rules.Rules.TheVariants.{Ber}
-use Rattle.tlv_show.specs.ShownFindings.{header_findings, listed_by, wanted_findings}
+use Rattle.tlv_show.specs.ListedFindings.{listed_findings}
 use Rattle.tlv_show.specs.Items.{Item, FindingAt, items}
 use Rattle.tlv_show.specs.Site.{Site, top_site}
 
@@ -34,7 +34,7 @@ is_item_on_spelling _ = false
 
 -- such a finding is among the findings of the elements
 abbrev pub is_misspelled : Rules → Forest → Bool
-is_misspelled rules f = list_any is_item_on_spelling (items (wanted_findings (listed_by rules)) top_site f)
+is_misspelled rules f = list_any is_item_on_spelling (items (listed_findings rules) top_site f)
 
 -- an input that is sound, with its reading, in which there is no such finding
 pub record IsWellSpelled (rules : Rules) (framing : Framing) (b : List ℕ) (f : Forest) : Type 0 where
@@ -77,10 +77,10 @@ abbrev pub LongerIdentifiersAreFound : Type 0
 LongerIdentifiersAreFound =
     (rules : Rules) (s : Site) (h : HeaderValue)
     → IsHeader h → identifier_octet h.class h.constructed h.number ≢ 0
-    → (list_any is_on_identifier (header_findings (listed_by rules) s h) ≡ true) ↔ HasShorter (λ k. k.identifier) h
+    → (list_any is_on_identifier ((listed_findings rules).of_header s h) ≡ true) ↔ HasShorter (λ k. k.identifier) h
 
 -- by DER and by CER, S01 is found if and only if fewer length octets say the same
 abbrev pub LongerLengthsAreFound : Type 0
 LongerLengthsAreFound =
     (rules : Rules) (s : Site) (h : HeaderValue) → rules ≢ Ber → IsHeader h
-    → (list_any is_on_lengths (header_findings (listed_by rules) s h) ≡ true) ↔ HasShorter (λ k. k.lengths) h
+    → (list_any is_on_lengths ((listed_findings rules).of_header s h) ≡ true) ↔ HasShorter (λ k. k.lengths) h

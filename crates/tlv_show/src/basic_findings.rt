@@ -1,7 +1,7 @@
 //! The listed findings of BER in a primitive by itself.
 ghost use Rattle.std.specs.Prelude.{◌≡◌, ◌↔◌, [], false};
 ghost use Rattle.tlv_head.specs.Header.{HasAllContents};
-ghost use Rattle.tlv_show.specs.ShownFindings.{contents_findings, header_findings, listed_by};
+ghost use Rattle.tlv_show.specs.ListedFindings.{listed_findings};
 ghost use Rattle.tlv_show.specs.Site.{top_site};
 
 use crate::contents_findings::add_contents_findings;
@@ -17,8 +17,8 @@ use tlv_value::ValueCheck;
 pub fn has_basic_findings(header: &Header, contents: &[u8]) -> bool
     requires { HasAllContents header.now contents.now }
     ensures { (result ≡ false)
-        ↔ ((header_findings (listed_by Rules.Ber) top_site header.now ≡ [])
-        × (contents_findings (listed_by Rules.Ber) header.now contents.now ≡ [])) }
+        ↔ (((listed_findings Rules.Ber).of_header top_site header.now ≡ [])
+        × ((listed_findings Rules.Ber).of_primitive top_site header.now contents.now ≡ [])) }
 {
     let wanted = Wanted::listed(Rules::Ber);
     let mut found = ArrayVec::new();

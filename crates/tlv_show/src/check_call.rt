@@ -1,7 +1,8 @@
 //! `check`, over a source and a drain.
 ghost use Rattle.tlv_walk.specs.Job.{Runs, device_states};
 ghost use Rattle.tlv_show.specs.Private.Suits.{Suits};
-ghost use Rattle.tlv_show.specs.ShowJob.{check_job, check_job_with};
+ghost use Rattle.tlv_show.specs.ShowJob.{check_job};
+ghost use Rattle.tlv_show.specs.WantedJobs.{check_job_with};
 
 use crate::outcome::Outcome;
 use crate::{Check, Rules, Wanted};

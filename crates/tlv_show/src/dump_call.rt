@@ -1,7 +1,8 @@
 //! `dump`, over a source and a drain.
 ghost use Rattle.tlv_walk.specs.Job.{Runs, device_states};
 ghost use Rattle.tlv_show.specs.Private.Suits.{Suits};
-ghost use Rattle.tlv_show.specs.ShowJob.{dump_job, dump_job_with, wanted_in};
+ghost use Rattle.tlv_show.specs.ShowJob.{dump_job};
+ghost use Rattle.tlv_show.specs.WantedJobs.{dump_job_with, wanted_in};
 
 use crate::{Dump, FiniteNames, Options, Outcome, Scope};
 use tlv_walk::{DeviceFault, Drain, Source, drive};

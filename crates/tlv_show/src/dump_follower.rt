@@ -9,7 +9,8 @@ ghost use Rattle.tlv_show.specs.DumpStep.{new_dump, new_dump_with};
 ghost use Rattle.tlv_show.specs.FinderState.{finder_open_step};
 ghost use Rattle.tlv_show.specs.LinesStep.{lines_open_step};
 ghost use Rattle.tlv_show.specs.Private.Suits.{Suits};
-ghost use Rattle.tlv_show.specs.ShowJob.{top_layout, wanted_in};
+ghost use Rattle.tlv_show.specs.ShowJob.{top_layout};
+ghost use Rattle.tlv_show.specs.WantedJobs.{wanted_in};
 
 use crate::contents::contents_in;
 use crate::finder::Finder;

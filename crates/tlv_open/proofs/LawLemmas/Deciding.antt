@@ -4,7 +4,7 @@ use Rattle.std.proofs.Common.{◌++◌, length, Some, refl, sym, ap, ◌∙◌, 
 use Rattle.std.proofs.Common.{eq-eqb, eqb-true, length-append, lt-ltb, ltb-true}
 use Rattle.std.proofs.lemmas.Bool.{and_parts}
 use Rattle.tlv_head.specs.Header.{HeaderValue, is_universal}
-use Rattle.tlv_show.specs.ShownFindings.{contents_findings, header_findings, listed_by}
+use Rattle.tlv_show.specs.ListedFindings.{listed_findings}
 use Rattle.tlv_show.specs.Site.{top_site}
 use Rattle.tlv_show.specs.declared.rules.Rules.TheVariants.{Ber}
 use Rattle.tlv_value.specs.declared.finding.Finding.{Finding}
@@ -102,7 +102,7 @@ is-nil found e = rw e refl
 abbrev pub is_clear : HeaderValue → List ℕ → Bool
 is_clear h c =
     is_universal h.class
-    && (is_nil (header_findings (listed_by Ber) top_site h) && is_nil (contents_findings (listed_by Ber) h c))
+    && (is_nil ((listed_findings Ber).of_header top_site h) && is_nil ((listed_findings Ber).of_primitive top_site h c))
 
 abbrev pub are_likely : Forest → Bool
 are_likely (Primitive h c rest) = is_clear h c && are_likely rest
@@ -119,9 +119,9 @@ clear-from u a b e =
 likely-from : (f : Forest) → are_likely f ≡ true → AreLikely f
 likely-from (Primitive h c rest) e =
     let parts : (is_clear h c ≡ true) × (are_likely rest ≡ true) = and_parts _ _ e in
-    let clear : (is_universal h.class ≡ true) × (header_findings (listed_by Ber) top_site h ≡ [])
-    × (contents_findings (listed_by Ber) h c ≡ []) =
-    clear-from (is_universal h.class) (header_findings (listed_by Ber) top_site h) (contents_findings (listed_by Ber) h c)
+    let clear : (is_universal h.class ≡ true) × ((listed_findings Ber).of_header top_site h ≡ [])
+    × ((listed_findings Ber).of_primitive top_site h c ≡ []) =
+    clear-from (is_universal h.class) ((listed_findings Ber).of_header top_site h) ((listed_findings Ber).of_primitive top_site h c)
     parts.0 in (
       record { in_universal_class = clear.0; no_header_findings = clear.1; no_contents_findings = clear.2 },
       likely-from rest parts.1,
@@ -139,8 +139,8 @@ likely-is : (f : Forest) → AreLikely f → are_likely f ≡ true
 likely-is (Primitive h c rest) s =
     and-true _ _
     (and-true _ _ s.0.in_universal_class
-    (and-true _ _ (is-nil (header_findings (listed_by Ber) top_site h) s.0.no_header_findings)
-    (is-nil (contents_findings (listed_by Ber) h c) s.0.no_contents_findings)))
+    (and-true _ _ (is-nil ((listed_findings Ber).of_header top_site h) s.0.no_header_findings)
+    (is-nil ((listed_findings Ber).of_primitive top_site h c) s.0.no_contents_findings)))
     (likely-is rest s.1)
 likely-is (Holder h inside rest) s = likely-is rest s
 likely-is NoMore s = refl

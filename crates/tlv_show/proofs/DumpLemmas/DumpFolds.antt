@@ -13,7 +13,8 @@ use Rattle.tlv_show.specs.FinderState.{new_seen}
 use Rattle.tlv_show.proofs.SegmentLemmas.Seen.{top-seen}
 use Rattle.tlv_show.specs.declared.options.Options.{Options}
 use Rattle.tlv_show.specs.declared.scope.Scope.{Scope}
-use Rattle.tlv_show.specs.ShowJob.{dump_job_with, top_layout, wanted_in}
+use Rattle.tlv_show.specs.ShowJob.{top_layout}
+use Rattle.tlv_show.specs.WantedJobs.{dump_job_with, wanted_in}
 use Rattle.tlv_show.specs.DumpStep.{DumpState, dump_step, new_dump_with}
 use Rattle.tlv_show.specs.FinderState.{CheckState}
 use Rattle.tlv_show.specs.NestingState.{top_frame}

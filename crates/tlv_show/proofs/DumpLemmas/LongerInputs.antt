@@ -9,7 +9,8 @@ use Rattle.tlv_walk.proofs.FollowerLemmas.FollowedEvents.{each_octet-goes_on, ea
 use Rattle.tlv_walk.proofs.FollowerLemmas.FollowedEvents.{followed-more}
 use Rattle.tlv_walk.proofs.EventLemmas.LongerInputs.{events-prefix}
 use Rattle.tlv_show.specs.CheckStep.{check_octet_step, check_step}
-use Rattle.tlv_show.specs.ShowJob.{check_job, dump_job, show_job, top_layout, wanted_in}
+use Rattle.tlv_show.specs.ShowJob.{check_job, dump_job, show_job, top_layout}
+use Rattle.tlv_show.specs.WantedJobs.{wanted_in}
 use Rattle.tlv_show.specs.DumpStep.{DumpState, dump_octet_step, dump_padding_step, dump_step, new_dump_with}
 use Rattle.tlv_show.specs.FinderState.{CheckState, new_check}
 use Rattle.tlv_show.specs.Items.{Item}

@@ -27,7 +27,7 @@ use Rattle.tlv_walk.proofs.GrammarLemmas.Spellings.{length-holder, length-openin
 use Rattle.tlv_show.specs.declared.holder_frame.HolderFrame.{HolderFrame}
 use Rattle.tlv_show.specs.declared.wanted.Wanted.{Wanted}
 use Rattle.tlv_show.specs.declared.finding_lines.Style.TheVariants.{Check}
-use Rattle.tlv_show.specs.ShowJob.{check_job_with}
+use Rattle.tlv_show.specs.WantedJobs.{check_job_with}
 use Rattle.tlv_show.specs.CheckStep.{check_step}
 use Rattle.tlv_show.specs.FindingLines.{styled_lines}
 use Rattle.tlv_show.specs.AllConditions.{end_conditions, header_conditions}

@@ -21,43 +21,47 @@ use Rattle.tlv_show.specs.Conditions.{headers}
 use Rattle.tlv_show.specs.ListedFindings.{ElementFindings, findings_under, listed_findings}
 use Rattle.tlv_show.specs.SegmentCharacters.{has_wrong_characters}
 use Rattle.tlv_show.specs.SetOrder.{holder_element, primitive_element}
-use Rattle.tlv_show.specs.ShowJob.{check_job, check_job_with, dump_job, dump_job_with, show_job, top_layout}
-use Rattle.tlv_show.specs.ShownFindings.{contents_findings, end_findings, held_findings, listed_by, shown_findings}
-use Rattle.tlv_show.specs.ShownFindings.{wanted_findings}
+use Rattle.tlv_show.specs.ShowJob.{check_job, dump_job, show_job, top_layout}
+use Rattle.tlv_show.specs.WantedJobs.{check_job_with, dump_job_with}
+use Rattle.tlv_show.specs.ShownFindings.{contents_findings, end_findings, header_findings, held_findings, listed_by}
+use Rattle.tlv_show.specs.ShownFindings.{shown_findings, wanted_findings}
 use Rattle.tlv_show.specs.Site.{Site}
 use Rattle.tlv_show.specs.Texts.{check_line, item_text}
 use Rattle.tlv_show.proofs.FindingLemmas.KeptRows.{listed-found}
 use Rattle.tlv_show.proofs.FindingLemmas.OrderFindings.{no-characters, none-listed}
 
 module _ (rules : Rules) where
-  header-listed : (s : Site) (h : HeaderValue)
-      → (wanted_findings (listed_by rules)).of_header s h ≡ (listed_findings rules).of_header s h
-  header-listed s h = listed-found rules (header_conditions s h)
+  pub header-same : (s : Site) (h : HeaderValue)
+      → header_findings (listed_by rules) s h ≡ (listed_findings rules).of_header s h
+  header-same s h = listed-found rules (header_conditions s h)
 
-  contents-listed : (universal : Bool) (number : ℕ) (c : List ℕ)
+  class-same : (universal : Bool) (number : ℕ) (c : List ℕ)
       → shown_findings (listed_by rules) (if universal then type_conditions number c else [])
       ≡ findings_under rules (if universal then listed_type_conditions number c else [])
-  contents-listed true number c = listed-found rules (type_conditions number c)
-  contents-listed false number c = refl
+  class-same true number c = listed-found rules (type_conditions number c)
+  class-same false number c = refl
 
-  primitive-listed : (s : Site) (h : HeaderValue) (c : List ℕ)
+  pub contents-same : (s : Site) (h : HeaderValue) (c : List ℕ)
+      → contents_findings (listed_by rules) h c ≡ (listed_findings rules).of_primitive s h c
+  contents-same s h c = class-same (is_universal h.class) h.number c
+
+  primitive-same : (s : Site) (h : HeaderValue) (c : List ℕ)
       → (wanted_findings (listed_by rules)).of_primitive s h c ≡ (listed_findings rules).of_primitive s h c
-  primitive-listed s h c =
-      none-listed rules s (primitive_element h c) (contents_findings (listed_by rules) h c)
-      ∙ contents-listed (is_universal h.class) h.number c
+  primitive-same s h c =
+      none-listed rules s (primitive_element h c) (contents_findings (listed_by rules) h c) ∙ contents-same s h c
 
-  holder-listed : (s : Site) (h : HeaderValue) (children : Forest)
+  holder-same : (s : Site) (h : HeaderValue) (children : Forest)
       → (wanted_findings (listed_by rules)).of_holder s h children ≡ (listed_findings rules).of_holder s h children
-  holder-listed s h children =
+  holder-same s h children =
       none-listed rules s (holder_element h children) (held_findings (listed_by rules) h children)
       ∙ no-characters rules (has_wrong_characters h children) (end_findings (listed_by rules) h (headers children))
       ∙ listed-found rules (end_conditions h (headers children))
 
   pub listed-same : wanted_findings (listed_by rules) ≡ listed_findings rules
   listed-same = λ i. record {
-    of_header = λ s h. header-listed s h i;
-    of_primitive = λ s h c. primitive-listed s h c i;
-    of_holder = λ s h children. holder-listed s h children i;
+    of_header = λ s h. header-same s h i;
+    of_primitive = λ s h c. primitive-same s h c i;
+    of_holder = λ s h children. holder-same s h children i;
   }
 
 -- ---- jobs

@@ -11,11 +11,10 @@ use Rattle.tlv_head.proofs.ShortestLemmas.OneShortest.{identifier-from, lengths-
 use Rattle.tlv_head.proofs.ShortestLemmas.ShortestSpelling.{no-shorter_identifier, no-shorter_length}
 use Rattle.tlv_head.proofs.ShortestLemmas.ShortestSpelling.{shorter-identifier, shorter-length}
 use Rattle.tlv_show.specs.declared.rules.Rules.{Rules}
-use Rattle.tlv_show.specs.ShownFindings.{header_findings, listed_by}
 use Rattle.tlv_show.specs.declared.rules.Rules.TheVariants.{Ber, Der, Cer}
 use Rattle.tlv_show.specs.Conditions.{begins_with_zero_bits, is_high_form_needless, is_length_padded}
-use Rattle.tlv_show.specs.Conditions.{has_high_form, has_long_form, number_bits}
-use Rattle.tlv_show.specs.AllConditions.{header_conditions}
+use Rattle.tlv_show.specs.Conditions.{has_high_form, has_long_form, listed_header_conditions, number_bits}
+use Rattle.tlv_show.specs.ListedFindings.{listed_findings}
 use Rattle.tlv_show.specs.Site.{Site}
 use Rattle.tlv_show.specs.Spellings.{LongerIdentifiersAreFound, LongerLengthsAreFound, is_on_identifier, is_on_lengths}
 use Rattle.tlv_show.proofs.FindingLemmas.FindingsOfHeaders.{any_of, found-with_header}
@@ -37,7 +36,7 @@ abbrev pub longer_identifier : HeaderValue → Bool
 longer_identifier h = is_high_form_needless h || begins_with_zero_bits h
 
 on-identifier : (rules : Rules) (s : Site) (h : HeaderValue)
-    → any_of is_on_identifier (listed_by rules) (header_conditions s h) ≡ longer_identifier h
+    → any_of is_on_identifier rules (listed_header_conditions s h) ≡ longer_identifier h
 on-identifier Ber s h =
     ap (λ (b : Bool). is_high_form_needless h || b) (or-false (begins_with_zero_bits h))
 on-identifier Der s h =
@@ -71,8 +70,8 @@ identifier-shortest h valid e =
 
 pub identifiers-found : LongerIdentifiersAreFound
 identifiers-found rules s h valid nonzero =
-    let same : list_any is_on_identifier (header_findings (listed_by rules) s h) ≡ longer_identifier h =
-    found-with_header is_on_identifier (listed_by rules) s h ∙ on-identifier rules s h in (
+    let same : list_any is_on_identifier ((listed_findings rules).of_header s h) ≡ longer_identifier h =
+    found-with_header is_on_identifier rules s h ∙ on-identifier rules s h in (
       (λ e. shorter-identifier h valid nonzero (λ t. true≢false (sym e ∙ same ∙ longer_identifier-absent h t))),
       (λ r. same
           ∙ from-absurd (longer_identifier h) (λ e. no-shorter_identifier h valid (identifier-shortest h valid e) r)),
@@ -81,7 +80,7 @@ identifiers-found rules s h valid nonzero =
 -- ---- length octets
 
 on-lengths : (rules : Rules) (s : Site) (h : HeaderValue) → rules ≢ Ber
-    → any_of is_on_lengths (listed_by rules) (header_conditions s h) ≡ is_length_padded h
+    → any_of is_on_lengths rules (listed_header_conditions s h) ≡ is_length_padded h
 on-lengths Ber s h strict = absurd (strict refl)
 on-lengths Der s h strict = or-false (is_length_padded h)
 on-lengths Cer s h strict = or-false (is_length_padded h)
@@ -103,8 +102,8 @@ length-not_padded h s = elim (cases_lt 1 (length h.lengths)) [
 
 pub lengths-found : LongerLengthsAreFound
 lengths-found rules s h strict valid =
-    let same : list_any is_on_lengths (header_findings (listed_by rules) s h) ≡ is_length_padded h =
-    found-with_header is_on_lengths (listed_by rules) s h ∙ on-lengths rules s h strict in (
+    let same : list_any is_on_lengths ((listed_findings rules).of_header s h) ≡ is_length_padded h =
+    found-with_header is_on_lengths rules s h ∙ on-lengths rules s h strict in (
       (λ e. shorter-length h valid (λ t. true≢false (sym e ∙ same ∙ length-not_padded h t))),
       (λ r. same
           ∙ from-absurd (is_length_padded h) (λ e. no-shorter_length h valid (lengths-from h valid (long-form h e)) r)),

@@ -9,7 +9,7 @@ use Rattle.std.proofs.lemmas.List.Folds.{list_any-append}
 use Rattle.std.specs.List.{list_any}
 use Rattle.std.specs.Prelude.{if◌then◌else◌}
 use Rattle.tlv_head.specs.Header.{HeaderValue, is_universal, octets_of}
-use Rattle.tlv_value.specs.AllChecks.{contents_conditions, type_conditions}
+use Rattle.tlv_value.specs.Checks.{listed_contents_conditions, listed_type_conditions}
 use Rattle.tlv_walk.specs.declared.framing.Framing.{Framing}
 use Rattle.tlv_walk.specs.AlikeElements.{AreAlike, holders, nothing, padding, primitives}
 use Rattle.tlv_walk.specs.Forest.{end_octets_offset}
@@ -26,19 +26,13 @@ use Rattle.tlv_walk.proofs.GrammarLemmas.Readings.{reading-unique}
 use Rattle.tlv_walk.proofs.GrammarLemmas.PlacedSpelling.{SpelledAt, Spelling}
 use Rattle.tlv_walk.proofs.GrammarLemmas.RespelledElements.{sound-spelling}
 use Rattle.tlv_walk.proofs.EventLemmas.Wrappers.{AreNamed, Rise, wrapper_offsets-named, wrapper_offsets-rise}
-use Rattle.tlv_value.specs.declared.finding.Finding.{Finding}
 use Rattle.tlv_show.specs.Items.{ClosingLine, Item, OpeningLine, PaddingLine, PrimitiveLines, contents_items, end_items}
-use Rattle.tlv_show.specs.Items.{finding_items, header_items, items}
-use Rattle.tlv_show.specs.ShownFindings.{contents_findings, end_findings, header_findings, held_findings, listed_by}
-use Rattle.tlv_show.specs.ShownFindings.{wanted_findings}
-use Rattle.tlv_show.specs.SegmentCharacters.{has_wrong_characters}
-use Rattle.tlv_show.specs.SetOrder.{holder_element, primitive_element}
-use Rattle.tlv_show.proofs.FindingLemmas.OrderFindings.{no-characters, none-listed}
+use Rattle.tlv_show.specs.Items.{header_items, items}
 use Rattle.tlv_show.specs.declared.rules.Rules.{Rules}
 use Rattle.tlv_show.specs.declared.rules.Rules.TheVariants.{Ber, Der, Cer}
 use Rattle.tlv_show.specs.Conditions.{begins_with_zero_bits, headers, is_high_form_needless, is_length_padded}
-use Rattle.tlv_show.specs.AllConditions.{end_conditions, header_conditions}
-use Rattle.tlv_show.specs.ListedFindings.{ElementFindings}
+use Rattle.tlv_show.specs.Conditions.{listed_end_conditions, listed_header_conditions}
+use Rattle.tlv_show.specs.ListedFindings.{ElementFindings, listed_findings}
 use Rattle.tlv_show.specs.Site.{Site, is_padding, site_of_children, top_site}
 use Rattle.tlv_show.specs.Site.{site_after_primitive, site_after_holder, site_after_padding}
 use Rattle.tlv_show.specs.Spellings.{SomeSpelling, is_item_on_spelling, is_on_spelling}
@@ -62,7 +56,7 @@ constructed-absent true false e = absurd (cc (e))
 constructed-absent false indefinite e = refl
 
 header-absent : (rules : Rules) (s : Site) (h : HeaderValue) → rules ≢ Ber → IsRegular (form_by rules) h
-    → any_of is_on_spelling (listed_by rules) (header_conditions s h) ≡ false
+    → any_of is_on_spelling rules (listed_header_conditions s h) ≡ false
 header-absent Ber s h strict r = absurd (strict refl)
 header-absent Der s h strict r =
     four-absent (is_high_form_needless h) (begins_with_zero_bits h) (is_length_padded h)
@@ -75,18 +69,18 @@ header-absent Cer s h strict r =
     (constructed-absent h.constructed (is_indefinite h.size) r.by_form)
 
 absent-by : (rules : Rules) (universal : Bool) (n : ℕ) (c : List ℕ)
-    → any_of is_on_spelling (listed_by rules) (if universal then type_conditions n c else []) ≡ false
+    → any_of is_on_spelling rules (if universal then listed_type_conditions n c else []) ≡ false
 absent-by Ber true n c = refl
 absent-by Der true n c = refl
 absent-by Cer true n c = refl
 absent-by rules false n c = refl
 
 contents-absent : (rules : Rules) (h : HeaderValue) (c : List ℕ)
-    → any_of is_on_spelling (listed_by rules) (contents_conditions h c) ≡ false
+    → any_of is_on_spelling rules (listed_contents_conditions h c) ≡ false
 contents-absent rules h c = absent-by rules (is_universal h.class) h.number c
 
 end-absent : (rules : Rules) (h : HeaderValue) (children : List HeaderValue)
-    → any_of is_on_spelling (listed_by rules) (end_conditions h children) ≡ false
+    → any_of is_on_spelling rules (listed_end_conditions h children) ≡ false
 end-absent Ber h children = refl
 end-absent Der h children = refl
 end-absent Cer h children = refl
@@ -104,31 +98,25 @@ padding-none false level offset = refl
 
 module _ (rules : Rules) (strict : rules ≢ Ber) where
   abbrev found : ElementFindings
-  found = wanted_findings (listed_by rules)
+  found = listed_findings rules
 
   header-none : (s : Site) (h : HeaderValue) → IsRegular (form_by rules) h
       → list_any is_item_on_spelling (header_items found s h) ≡ false
   header-none s h r =
-      items-found s.depth h.offset (header_findings (listed_by rules) s h)
-      ∙ found-with_header is_on_spelling (listed_by rules) s h ∙ header-absent rules s h strict r
+      items-found s.depth h.offset (found.of_header s h) ∙ found-with_header is_on_spelling rules s h ∙ header-absent rules s h strict r
 
   contents-none : (s : Site) (h : HeaderValue) (c : List ℕ)
       → list_any is_item_on_spelling (contents_items found s h c) ≡ false
   contents-none s h c =
-      ap (λ (fs : List Finding). list_any is_item_on_spelling (finding_items s.depth h.offset fs))
-      (none-listed rules s (primitive_element h c) (contents_findings (listed_by rules) h c))
-      ∙ items-found s.depth h.offset (contents_findings (listed_by rules) h c)
-      ∙ all-found is_on_spelling (listed_by rules) (contents_conditions h c)
+      items-found s.depth h.offset (found.of_primitive s h c)
+      ∙ all-found is_on_spelling rules (listed_contents_conditions h c)
       ∙ contents-absent rules h c
 
   end-none : (s : Site) (h : HeaderValue) (inside : Forest)
       → list_any is_item_on_spelling (end_items found s h inside) ≡ false
   end-none s h inside =
-      ap (λ (fs : List Finding). list_any is_item_on_spelling (finding_items s.depth h.offset fs))
-      (none-listed rules s (holder_element h inside) (held_findings (listed_by rules) h inside)
-      ∙ no-characters rules (has_wrong_characters h inside) (end_findings (listed_by rules) h (headers inside)))
-      ∙ items-found s.depth h.offset (end_findings (listed_by rules) h (headers inside))
-      ∙ all-found is_on_spelling (listed_by rules) (end_conditions h (headers inside))
+      items-found s.depth h.offset (found.of_holder s h inside)
+      ∙ all-found is_on_spelling rules (listed_end_conditions h (headers inside))
       ∙ end-absent rules h (headers inside)
 
   none-found : (p : Place) (s : Site) (f : Forest) → IsSound p f → AreRegular (form_by rules) f

@@ -24,13 +24,12 @@ use Rattle.tlv_walk.proofs.GrammarLemmas.AlikeSpellings.{AreRegular, IsRegular, 
 use Rattle.tlv_walk.proofs.GrammarLemmas.Endings.{done-sound, sound-reading}
 use Rattle.tlv_walk.proofs.GrammarLemmas.Readings.{reading-unique}
 use Rattle.tlv_show.specs.declared.rules.Rules.{Rules}
-use Rattle.tlv_show.specs.ShownFindings.{header_findings, listed_by, wanted_findings}
 use Rattle.tlv_show.specs.declared.rules.Rules.TheVariants.{Ber, Der, Cer}
-use Rattle.tlv_show.specs.Conditions.{begins_with_zero_bits, is_high_form_needless, is_length_padded, number_bits}
-use Rattle.tlv_show.specs.AllConditions.{header_conditions}
+use Rattle.tlv_show.specs.Conditions.{begins_with_zero_bits, is_high_form_needless, is_length_padded}
+use Rattle.tlv_show.specs.Conditions.{listed_header_conditions, number_bits}
 use Rattle.tlv_show.specs.Items.{Item, OpeningLine, ClosingLine, PrimitiveLines, PaddingLine, items}
 use Rattle.tlv_show.specs.Items.{finding_items, contents_items, end_items, header_items}
-use Rattle.tlv_show.specs.ListedFindings.{ElementFindings}
+use Rattle.tlv_show.specs.ListedFindings.{ElementFindings, listed_findings}
 use Rattle.tlv_show.specs.Site.{Site, is_padding, site_of_children, top_site}
 use Rattle.tlv_show.specs.Site.{site_after_primitive, site_after_holder, site_after_padding}
 use Rattle.tlv_show.specs.Spellings.{OneSpelling, is_item_on_spelling, is_on_spelling}
@@ -44,11 +43,11 @@ items-found level offset [] = refl
 items-found level offset (f ∷ fs) = ap (λ (b : Bool). is_on_spelling f || b) (items-found level offset fs)
 
 none-by_conditions : (rules : Rules) (s : Site) (h : HeaderValue)
-    → list_any is_item_on_spelling (header_items (wanted_findings (listed_by rules)) s h) ≡ false
-    → any_of is_on_spelling (listed_by rules) (header_conditions s h) ≡ false
+    → list_any is_item_on_spelling (header_items (listed_findings rules) s h) ≡ false
+    → any_of is_on_spelling rules (listed_header_conditions s h) ≡ false
 none-by_conditions rules s h e =
-    sym (found-with_header is_on_spelling (listed_by rules) s h)
-    ∙ sym (items-found s.depth h.offset (header_findings (listed_by rules) s h)) ∙ e
+    sym (found-with_header is_on_spelling rules s h)
+    ∙ sym (items-found s.depth h.offset ((listed_findings rules).of_header s h)) ∙ e
 
 -- of four tests none holds
 none-of_four : (a b c d : Bool) → (a || (b || (c || (d || false)))) ≡ false
@@ -106,7 +105,7 @@ by-form false (Definite n) a e = refl
 by-form false Indefinite a e = absurd (cc (a))
 
 no_findings-regular : (rules : Rules) (s : Site) (h : HeaderValue) → rules ≢ Ber → IsHeader h
-    → list_any is_item_on_spelling (header_items (wanted_findings (listed_by rules)) s h) ≡ false
+    → list_any is_item_on_spelling (header_items (listed_findings rules) s h) ≡ false
     → IsRegular (form_by rules) h
 no_findings-regular Ber s h strict valid e = absurd (strict refl)
 no_findings-regular Der s h strict valid e =
@@ -131,7 +130,7 @@ none-in xs ys e = or_parts _ _ (sym (list_any-append is_item_on_spelling xs ys) 
 
 module _ (rules : Rules) (strict : rules ≢ Ber) where
   abbrev found : ElementFindings
-  found = wanted_findings (listed_by rules)
+  found = listed_findings rules
 
   all-regular : (p : Place) (s : Site) (f : Forest) → IsSound p f
       → list_any is_item_on_spelling (items found s f) ≡ false → AreRegular (form_by rules) f

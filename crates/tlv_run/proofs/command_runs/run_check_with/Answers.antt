@@ -1,4 +1,4 @@
-use Rattle.tlv_show.specs.ShowJob.{check_job_with}
+use Rattle.tlv_show.specs.WantedJobs.{check_job_with}
 use Rattle.tlv_run.specs.Report.{outcome_report}
 use Rattle.tlv_run.proofs.JobReports.{reported_runs}
 use Rattle.tlv_run.proofs.command_runs.run_check_with.Goals as goal

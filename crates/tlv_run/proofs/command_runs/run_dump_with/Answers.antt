@@ -1,4 +1,4 @@
-use Rattle.tlv_show.specs.ShowJob.{dump_job_with}
+use Rattle.tlv_show.specs.WantedJobs.{dump_job_with}
 use Rattle.tlv_run.specs.Report.{outcome_report}
 use Rattle.tlv_run.proofs.JobReports.{reported_runs}
 use Rattle.tlv_run.proofs.command_runs.run_dump_with.Goals as goal

@@ -8,9 +8,11 @@ use Rattle.tlv_show.specs.declared.wanted.Wanted.{Wanted}
 use Rattle.tlv_show.specs.NestingState.{surroundings_in}
 use Rattle.tlv_show.specs.KeptConditions.{header_findings_in}
 use Rattle.tlv_show.specs.FinderState.{contents_findings_in}
-use Rattle.tlv_show.specs.ShownFindings.{contents_findings, header_findings, listed_by}
+use Rattle.tlv_show.specs.ListedFindings.{listed_findings}
+use Rattle.tlv_show.specs.ShownFindings.{listed_by}
 use Rattle.tlv_show.specs.Site.{top_site}
 use Rattle.tlv_show.proofs.FindingLemmas.FinderSteps.{contents_findings-at_end}
+use Rattle.tlv_show.proofs.FindingLemmas.ListedTables.{contents-same, header-same}
 use Rattle.tlv_show.proofs.basic_findings.has_basic_findings.Goals as goal
 
 empty-nil : (xs : List Finding) (b : Bool) → b ≡ eqb (length xs) 0 → b ≡ true → xs ≡ []
@@ -31,18 +33,36 @@ both-empty : (b : Bool) (header found contents : List Finding) → header ≡ []
 both-empty b header found contents none same e =
     (λ t. (none, sym same ∙ empty-nil found b e (not-back b t)), λ r. nil-empty found b e (same ∙ r.1))
 
+not-empty : (b : Bool) (header found contents : List Finding) → found ≡ header → b ≡ eqb (length found) 0 → b ≡ false
+    → (true ≡ false → (header ≡ []) × (contents ≡ [])) × ((header ≡ []) × (contents ≡ []) → true ≡ false)
+not-empty b header found contents same e some =
+    ((λ t. absurd (cc (t))), λ r. sym (e ∙ ap (λ (l : List Finding). eqb (length l) 0) (same ∙ r.0)) ∙ some)
+
+pub returns-then-not-is_empty : goal.returns-then-not-is_empty
+returns-then-not-is_empty c =
+    let header : c.add_header_findings.new.found.items ≡ (listed_findings Ber).of_header top_site c.args.header.now =
+    c.add_header_findings.ensures
+    ∙ ap₂ (λ (v : Wanted) (w : HolderFrame). header_findings_in v (surroundings_in w) c.args.header.now)
+    c.listed-wanted.ensures c.top_frame.ensures
+    ∙ header-same Ber top_site c.args.header.now in
+    not-empty c.is_empty.result _ c.add_header_findings.new.found.items _ header c.is_empty.ensures
+    c.if-not-is_empty.true
+
 pub returns : goal.returns
 returns c =
-    let header : header_findings (listed_by Ber) top_site c.args.header.now ≡ [] =
-    ap₂ (λ (v : Wanted) (w : HolderFrame). header_findings_in v (surroundings_in w) c.args.header.now)
+    let header : (listed_findings Ber).of_header top_site c.args.header.now ≡ [] =
+    sym (header-same Ber top_site c.args.header.now)
+    ∙ ap₂ (λ (v : Wanted) (w : HolderFrame). header_findings_in v (surroundings_in w) c.args.header.now)
     (sym c.listed-wanted.ensures) (sym c.top_frame.ensures)
     ∙ sym c.add_header_findings.ensures
     ∙ empty-nil c.add_header_findings.new.found.items c.is_empty.result c.is_empty.ensures c.if-not-is_empty.false in
     let found :
-    c.add_contents_findings.new.found.items ≡ contents_findings (listed_by Ber) c.args.header.now c.args.contents.now =
+    c.add_contents_findings.new.found.items
+    ≡ (listed_findings Ber).of_primitive top_site c.args.header.now c.args.contents.now =
     c.add_contents_findings.ensures.found ∙
     (ap₂ contents_findings_in c.listed-wanted.ensures
     (c.bytes.ensures.state
     ∙ ap (λ (s : ValueCheckState). value_check_after s c.args.contents.now) c.new-check.ensures)
-    ∙ contents_findings-at_end (listed_by Ber) c.args.header.now c.args.contents.now c.requires) in
+    ∙ contents_findings-at_end (listed_by Ber) c.args.header.now c.args.contents.now c.requires
+    ∙ contents-same Ber top_site c.args.header.now c.args.contents.now) in
     both-empty c.is_empty-2.result _ c.add_contents_findings.new.found.items _ header found c.is_empty-2.ensures

@@ -1,7 +1,8 @@
 use Rattle.std.proofs.Common.{refl}
 use Rattle.std.specs.FinMap as finite
 use Rattle.std.proofs.lemmas.Result.{err_from_is_err_and}
-use Rattle.tlv_show.specs.ShowJob.{top_layout, wanted_in}
+use Rattle.tlv_show.specs.ShowJob.{top_layout}
+use Rattle.tlv_show.specs.WantedJobs.{wanted_in}
 use Rattle.tlv_show.specs.DumpStep.{DumpState, dump_step, new_dump_with}
 use Rattle.tlv_show.specs.Texts.{item_text}
 use Rattle.tlv_show.proofs.DumpLemmas.DumpFolds.{dump-shows}

@@ -1,5 +1,6 @@
 use Rattle.tlv_walk.specs.Events.{events}
-use Rattle.tlv_show.specs.ShowJob.{top_layout, wanted_in}
+use Rattle.tlv_show.specs.ShowJob.{top_layout}
+use Rattle.tlv_show.specs.WantedJobs.{wanted_in}
 use Rattle.tlv_show.specs.DumpStep.{new_dump_with}
 use Rattle.tlv_show.proofs.DumpLemmas.DumpFolds.{count-made, text-made}
 use Rattle.tlv_show.proofs.DumpLemmas.DumpSteps.{all_on}
