@@ -8,7 +8,7 @@ use Rattle.tlv_open.specs.Laws.{opened_framing}
 use Rattle.tlv_open.specs.Breaks.{AreBroken}
 use Rattle.tlv_open.specs.Opens.{AreOpened}
 use Rattle.tlv_open.specs.declared.strings.BrokenString.{BrokenString}
-use Rattle.tlv_show.specs.ShowJob.{check_job_with, dump_job_with}
+use Rattle.tlv_show.specs.WantedJobs.{check_job_with, dump_job_with}
 use Rattle.tlv_show.specs.ShownFindings.{all_by}
 use Rattle.tlv_show.specs.declared.options.Options.{Options}
 use Rattle.tlv_show.specs.declared.rules.Rules.{Rules}
