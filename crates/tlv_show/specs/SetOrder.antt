@@ -9,7 +9,7 @@ use Rattle.tlv_walk.specs.Forest.{Forest, Holder, NoMore, OpenBitString, OpenEnd
 use Rattle.tlv_walk.specs.Forest.{OpenPrimitive, PaddingOctet, Primitive}
 use Rattle.tlv_show.specs.declared.rules.Rules.{Rules}
 use Rattle.tlv_show.specs.declared.rules.Rules.TheVariants.{Ber, Der, Cer}
-use Rattle.tlv_show.specs.Site.{Padding, Previous, Sibling, Site, Start, holder_octets, primitive_octets}
+use Rattle.tlv_show.specs.Site.{Padding, Previous, Sibling, Site, Start, octets_of_holder, octets_of_primitive}
 
 -- 8.11, 8.12: a constructed element with the tag of SET, which SET OF has too
 abbrev pub is_set : HeaderValue → Bool
@@ -24,10 +24,10 @@ pub record Element : Type 0 where
 
 -- a primitive, and an element that holds others
 abbrev pub primitive_element : HeaderValue → List ℕ → Element
-primitive_element h c = record { header = h; octets = primitive_octets h c }
+primitive_element h c = record { header = h; octets = octets_of_primitive h c }
 
 abbrev pub holder_element : HeaderValue → Forest → Element
-holder_element h children = record { header = h; octets = holder_octets h children }
+holder_element h children = record { header = h; octets = octets_of_holder h children }
 
 -- ---- By octets
 

@@ -43,22 +43,22 @@ site_of_children s h = record {
 }
 
 -- 8.1.1.1: the octets of a primitive: identifier octets, length octets and contents octets
-abbrev pub primitive_octets : HeaderValue → List ℕ → List ℕ
-primitive_octets h c = octets_of h ++ c
+abbrev pub octets_of_primitive : HeaderValue → List ℕ → List ℕ
+octets_of_primitive h c = octets_of h ++ c
 
 -- 8.1.1.1: the octets of an element that holds others, with its end-of-contents octets, if any
-abbrev pub holder_octets : HeaderValue → Forest → List ℕ
-holder_octets h children = opening h ++ (spelling children ++ end_octets h.size)
+abbrev pub octets_of_holder : HeaderValue → Forest → List ℕ
+octets_of_holder h children = opening h ++ (spelling children ++ end_octets h.size)
 
 -- after a primitive, after an element that holds others, and after an octet of padding
 abbrev pub site_after_primitive : Site → HeaderValue → List ℕ → Site
 site_after_primitive s h c =
     later_site s (primitive_extent h c)
-    (Sibling h (slice_get c 0) (primitive_octets h c))
+    (Sibling h (slice_get c 0) (octets_of_primitive h c))
 
 abbrev pub site_after_holder : Site → HeaderValue → Forest → Site
 site_after_holder s h children =
-    later_site s (extent h children) (Sibling h None (holder_octets h children))
+    later_site s (extent h children) (Sibling h None (octets_of_holder h children))
 
 abbrev pub site_after_padding : Site → Site
 site_after_padding s = later_site s 1 Padding

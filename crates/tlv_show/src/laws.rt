@@ -41,8 +41,8 @@ pub fn basic_findings_stay()
     ensures { BasicFindingsStay }
 {}
 
-/// What is reported in the scope of the listed findings is what is reported in the scope of all of them, in the same
-/// order, without the findings that are not listed.
+/// What is reported with the listed findings is what is reported in the scope of all findings, in the same order,
+/// without those that are not listed. It is also what is reported in the scope of the listed findings.
 pub fn listed_items_stay()
     ensures { ListedItemsStay }
 {}
