@@ -29,8 +29,8 @@ use Rattle.tlv_value.specs.ValueLines.{value_lines, whole_lines_with}
 use Rattle.tlv_show.specs.ShowJob.{top_layout}
 use Rattle.tlv_show.specs.HolderLines.{closing_line, opening_line, opening_word, padding_line, size_text}
 use Rattle.tlv_show.specs.Items.{ClosingLine, FindingAt, Item, OpenPrimitiveLines, OpeningLine, PaddingLine}
-use Rattle.tlv_show.specs.Items.{PrimitiveLines, contents_items, end_items, finding_items, header_items, held_findings}
-use Rattle.tlv_show.specs.Items.{items}
+use Rattle.tlv_show.specs.Items.{PrimitiveLines, contents_items, end_items, finding_items, header_items, items}
+use Rattle.tlv_show.specs.ShownFindings.{held_findings, wanted_findings}
 use Rattle.tlv_show.specs.SetOrder.{holder_element, primitive_element}
 use Rattle.tlv_show.specs.ShownFindings.{all_by, contents_findings, header_findings, last_findings}
 use Rattle.tlv_show.specs.Site.{Site, is_padding, site_after_holder, site_after_padding, site_after_primitive}
@@ -183,12 +183,12 @@ padding-of false level offset = All-cons IsOfOctets (PaddingLine level offset) [
 
 module _ (wanted : Wanted) where
   header-of : (s : Site) (h : HeaderValue) (more : List Item) → All IsOfOctets more
-      → All IsOfOctets (header_items wanted s h ++ more)
+      → All IsOfOctets (header_items (wanted_findings wanted) s h ++ more)
   header-of s h more all =
-      All-append IsOfOctets (header_items wanted s h) more
+      All-append IsOfOctets (header_items (wanted_findings wanted) s h) more
       (findings-of s.depth h.offset (header_findings wanted s h)) all
 
-  items-of : (s : Site) (f : Forest) → AreOctets (spelling f) → All IsOfOctets (items wanted s f)
+  items-of : (s : Site) (f : Forest) → AreOctets (spelling f) → All IsOfOctets (items (wanted_findings wanted) s f)
   items-of s (PaddingOctet rest) o =
       All-append IsOfOctets (if is_padding s.previous then [] else PaddingLine s.depth s.offset ∷ []) _
       (padding-of (is_padding s.previous) s.depth s.offset)
@@ -197,7 +197,7 @@ module _ (wanted : Wanted) where
       let after : AreOctets (c ++ spelling rest) = right-octets (octets_of h) (c ++ spelling rest) o in
       header-of s h _
       (All-cons IsOfOctets (PrimitiveLines s.depth h c) _ (left-octets c (spelling rest) after)
-      (All-append IsOfOctets (contents_items wanted s h c) _
+      (All-append IsOfOctets (contents_items (wanted_findings wanted) s h c) _
       (findings-of s.depth h.offset (last_findings wanted s (primitive_element h c) (contents_findings wanted h c)))
       (items-of (site_after_primitive s h c) rest (right-octets c (spelling rest) after))))
   items-of s (Holder h children rest) o =
@@ -205,12 +205,12 @@ module _ (wanted : Wanted) where
       right-octets (opening h) (spelling children ++ (end_octets h.size ++ spelling rest)) o in
       header-of s h _
       (All-cons IsOfOctets (OpeningLine s.depth h) _ tt
-      (All-append IsOfOctets (items wanted (site_of_children s h) children) _
+      (All-append IsOfOctets (items (wanted_findings wanted) (site_of_children s h) children) _
       (items-of (site_of_children s h) children
       (left-octets (spelling children) (end_octets h.size ++ spelling rest) after))
       (All-cons IsOfOctets
       (ClosingLine s.depth (end_octets_offset h children)) _ tt
-      (All-append IsOfOctets (end_items wanted s h children) _
+      (All-append IsOfOctets (end_items (wanted_findings wanted) s h children) _
       (findings-of s.depth h.offset
       (last_findings wanted s (holder_element h children) (held_findings wanted h children)))
       (items-of (site_after_holder s h children) rest
@@ -248,7 +248,7 @@ dumps-shown rules limit pure with_text closed padding table octets old new repor
     let spelled : AreOctets (spelling run.reading) =
     left-octets (spelling run.reading) run.is_reading.is_prefix.0
     (subst (λ (l : List ℕ). AreOctets l) (sym run.is_reading.is_prefix.1) read) in
-    sends-shown old new (flat_map (item_text with_text (finite.get table) layout) (items (all_by rules) top_site run.reading)) _
-    (flat-shown (item_text with_text (finite.get table) layout) IsOfOctets (items (all_by rules) top_site run.reading)
+    sends-shown old new (flat_map (item_text with_text (finite.get table) layout) (items (wanted_findings (all_by rules)) top_site run.reading)) _
+    (flat-shown (item_text with_text (finite.get table) layout) IsOfOctets (items (wanted_findings (all_by rules)) top_site run.reading)
     (λ item is. item-shown with_text (finite.get table) layout item names is)
     (items-of (all_by rules) top_site run.reading spelled)) run.sends

@@ -12,7 +12,7 @@ use Rattle.tlv_value.specs.declared.finding.Finding.{Finding}
 use Rattle.tlv_value.specs.declared.finding.Finding.TheVariants as finding
 use Rattle.tlv_show.specs.Items.{ClosingLine, FindingAt, Item, OpenPrimitiveLines, OpeningLine, PaddingLine}
 use Rattle.tlv_show.specs.Items.{PrimitiveLines, items}
-use Rattle.tlv_show.specs.ShownFindings.{all_by}
+use Rattle.tlv_show.specs.ShownFindings.{all_by, wanted_findings}
 use Rattle.tlv_show.specs.Site.{top_site}
 use Rattle.tlv_show.specs.Texts.{check_line}
 use Rattle.tlv_show.specs.declared.rules.Rules.{Rules}
@@ -116,7 +116,7 @@ check-takes : (rules : Rules) (names : NamesValue) (closed padding : Bool) (octe
     (report : ReportValue)
     → Views (view.Check rules) names closed padding octets old new report → TakesShown old new
 check-takes rules names closed padding octets old new report x =
-    sends-shown old new _ _ (check_lines-shown (items (all_by rules) top_site x.runs.runs.reading)) x.runs.runs.sends
+    sends-shown old new _ _ (check_lines-shown (items (wanted_findings (all_by rules)) top_site x.runs.runs.reading)) x.runs.runs.sends
 
 -- the view of octets of which a list is wanted is a check
 list-view : (w : Wanted) (v : View) → wants_list w ≡ true → view_of w ≡ Some v

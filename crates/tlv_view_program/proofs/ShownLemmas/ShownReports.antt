@@ -19,7 +19,7 @@ use Rattle.tlv_open.specs.BrokenLine.{broken_line, suspicion_text}
 use Rattle.tlv_open.specs.declared.strings.BrokenString.{BrokenString}
 use Rattle.tlv_open.specs.declared.strings.Suspicion.{Suspicion}
 use Rattle.tlv_open.specs.declared.strings.Suspicion.TheVariants as suspicion
-use Rattle.tlv_show.specs.ShowJob.{check_job_with, dump_job_with}
+use Rattle.tlv_show.specs.WantedJobs.{check_job_with, dump_job_with}
 use Rattle.tlv_show.specs.ShownFindings.{all_by}
 use Rattle.tlv_show.specs.declared.scope.Scope.TheVariants.{All}
 use Rattle.tlv_show.specs.declared.outcome.Outcome.{Outcome}
