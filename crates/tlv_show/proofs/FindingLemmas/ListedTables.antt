@@ -31,37 +31,37 @@ use Rattle.tlv_show.proofs.FindingLemmas.KeptRows.{listed-found}
 use Rattle.tlv_show.proofs.FindingLemmas.OrderFindings.{no-characters, none-listed}
 
 module _ (rules : Rules) where
-  pub header-same : (s : Site) (h : HeaderValue)
+  pub listed-header : (s : Site) (h : HeaderValue)
       → header_findings (listed_by rules) s h ≡ (listed_findings rules).of_header s h
-  header-same s h = listed-found rules (header_conditions s h)
+  listed-header s h = listed-found rules (header_conditions s h)
 
-  class-same : (universal : Bool) (number : ℕ) (c : List ℕ)
+  listed-class : (universal : Bool) (number : ℕ) (c : List ℕ)
       → shown_findings (listed_by rules) (if universal then type_conditions number c else [])
       ≡ findings_under rules (if universal then listed_type_conditions number c else [])
-  class-same true number c = listed-found rules (type_conditions number c)
-  class-same false number c = refl
+  listed-class true number c = listed-found rules (type_conditions number c)
+  listed-class false number c = refl
 
-  pub contents-same : (s : Site) (h : HeaderValue) (c : List ℕ)
+  pub listed-contents : (s : Site) (h : HeaderValue) (c : List ℕ)
       → contents_findings (listed_by rules) h c ≡ (listed_findings rules).of_primitive s h c
-  contents-same s h c = class-same (is_universal h.class) h.number c
+  listed-contents s h c = listed-class (is_universal h.class) h.number c
 
-  primitive-same : (s : Site) (h : HeaderValue) (c : List ℕ)
+  listed-primitive : (s : Site) (h : HeaderValue) (c : List ℕ)
       → (wanted_findings (listed_by rules)).of_primitive s h c ≡ (listed_findings rules).of_primitive s h c
-  primitive-same s h c =
-      none-listed rules s (primitive_element h c) (contents_findings (listed_by rules) h c) ∙ contents-same s h c
+  listed-primitive s h c =
+      none-listed rules s (primitive_element h c) (contents_findings (listed_by rules) h c) ∙ listed-contents s h c
 
-  holder-same : (s : Site) (h : HeaderValue) (children : Forest)
+  listed-holder : (s : Site) (h : HeaderValue) (children : Forest)
       → (wanted_findings (listed_by rules)).of_holder s h children ≡ (listed_findings rules).of_holder s h children
-  holder-same s h children =
+  listed-holder s h children =
       none-listed rules s (holder_element h children) (held_findings (listed_by rules) h children)
       ∙ no-characters rules (has_wrong_characters h children) (end_findings (listed_by rules) h (headers children))
       ∙ listed-found rules (end_conditions h (headers children))
 
   pub listed-same : wanted_findings (listed_by rules) ≡ listed_findings rules
   listed-same = λ i. record {
-    of_header = λ s h. header-same s h i;
-    of_primitive = λ s h c. primitive-same s h c i;
-    of_holder = λ s h children. holder-same s h children i;
+    of_header = λ s h. listed-header s h i;
+    of_primitive = λ s h c. listed-primitive s h c i;
+    of_holder = λ s h children. listed-holder s h children i;
   }
 
 -- ---- jobs

@@ -12,7 +12,7 @@ use Rattle.tlv_show.specs.ListedFindings.{listed_findings}
 use Rattle.tlv_show.specs.ShownFindings.{listed_by}
 use Rattle.tlv_show.specs.Site.{top_site}
 use Rattle.tlv_show.proofs.FindingLemmas.FinderSteps.{contents_findings-at_end}
-use Rattle.tlv_show.proofs.FindingLemmas.ListedTables.{contents-same, header-same}
+use Rattle.tlv_show.proofs.FindingLemmas.ListedTables.{listed-contents, listed-header}
 use Rattle.tlv_show.proofs.basic_findings.has_basic_findings.Goals as goal
 
 empty-nil : (xs : List Finding) (b : Bool) → b ≡ eqb (length xs) 0 → b ≡ true → xs ≡ []
@@ -44,14 +44,14 @@ returns-then-not-is_empty c =
     c.add_header_findings.ensures
     ∙ ap₂ (λ (v : Wanted) (w : HolderFrame). header_findings_in v (surroundings_in w) c.args.header.now)
     c.listed-wanted.ensures c.top_frame.ensures
-    ∙ header-same Ber top_site c.args.header.now in
+    ∙ listed-header Ber top_site c.args.header.now in
     not-empty c.is_empty.result _ c.add_header_findings.new.found.items _ header c.is_empty.ensures
     c.if-not-is_empty.true
 
 pub returns : goal.returns
 returns c =
     let header : (listed_findings Ber).of_header top_site c.args.header.now ≡ [] =
-    sym (header-same Ber top_site c.args.header.now)
+    sym (listed-header Ber top_site c.args.header.now)
     ∙ ap₂ (λ (v : Wanted) (w : HolderFrame). header_findings_in v (surroundings_in w) c.args.header.now)
     (sym c.listed-wanted.ensures) (sym c.top_frame.ensures)
     ∙ sym c.add_header_findings.ensures
@@ -64,5 +64,5 @@ returns c =
     (c.bytes.ensures.state
     ∙ ap (λ (s : ValueCheckState). value_check_after s c.args.contents.now) c.new-check.ensures)
     ∙ contents_findings-at_end (listed_by Ber) c.args.header.now c.args.contents.now c.requires
-    ∙ contents-same Ber top_site c.args.header.now c.args.contents.now) in
+    ∙ listed-contents Ber top_site c.args.header.now c.args.contents.now) in
     both-empty c.is_empty-2.result _ c.add_contents_findings.new.found.items _ header found c.is_empty-2.ensures
