@@ -1,7 +1,11 @@
 //! The follower that lists what violates the rules.
 ghost use Rattle.std.specs.Prelude.{◌≡◌, refl};
+ghost use Rattle.tlv_head.specs.Header.{octets_of};
 ghost use Rattle.tlv_walk.proofs.FollowerLemmas.FollowedEvents.{each_octet-goes_on, each_octet-joins};
-ghost use Rattle.tlv_show.specs.CheckStep.{check_octet_step, check_step};
+ghost use Rattle.tlv_walk.specs.Events.{event_value_of};
+ghost use Rattle.tlv_walk.specs.Follow.{HasEffect};
+ghost use Rattle.tlv_show.specs.CheckStep.{check_octet_step, check_step, findings_effect};
+ghost use Rattle.tlv_show.specs.FinderState.{finder_begin_step, finder_close_step, finder_end_step, finder_open_step};
 ghost use Rattle.tlv_show.specs.FinderState.{new_check};
 ghost use Rattle.tlv_show.specs.Private.Suits.{Suits};
 ghost use Rattle.tlv_show.specs.ShownFindings.{listed_by};
@@ -84,8 +88,7 @@ impl<const TRACKED: usize> Follow for Check<TRACKED> {
 
     #[inline(always)]
     fn on<D: Drain>(&mut self, event: &Event<'_>, out: &mut Out<'_, D>) -> Result<Go, WriteFault> {
-        let may_have_findings = self.finder.find(event);
-        put_findings(may_have_findings, Style::Check, &self.finder, out)?;
+        self.put_lines(event, out)?;
         Ok(Go::On)
     }
 
@@ -106,8 +109,7 @@ impl<const TRACKED: usize> Follow for Check<TRACKED> {
         octets: &[u8],
         out: &mut Out<'_, D>,
     ) -> Result<Go, WriteFault> {
-        let may_have_findings = self.finder.open(&Header::new(fields, octets), octets);
-        put_findings(may_have_findings, Style::Check, &self.finder, out)?;
+        Check::open(self, &Header::new(fields, octets), octets, out)?;
         Ok(Go::On)
     }
 
@@ -118,8 +120,97 @@ impl<const TRACKED: usize> Follow for Check<TRACKED> {
         octets: &[u8],
         out: &mut Out<'_, D>,
     ) -> Result<Go, WriteFault> {
-        let may_have_findings = self.finder.open(&Header::new(fields, octets), octets);
-        put_findings(may_have_findings, Style::Check, &self.finder, out)?;
+        Check::open(self, &Header::new(fields, octets), octets, out)?;
         Ok(Go::On)
+    }
+}
+
+impl<const TRACKED: usize> Check<TRACKED> {
+    /// Puts the lines that an event allows.
+    #[inline(always)]
+    fn put_lines<D: Drain>(
+        &mut self,
+        event: &Event<'_>,
+        out: &mut Out<'_, D>,
+    ) -> Result<(), WriteFault>
+        ensures { HasEffect D.state (check_step self.old (event_value_of event.now))
+            out.old out.new self.new result }
+    {
+        match event {
+            Event::Open(header) => self.open(header, header.raw(), out),
+            Event::Enter(header) => self.open_wrapper(header, out),
+            Event::Begin(header) => self.begin(header, out),
+            Event::Bytes(octets) => {
+                self.finder.bytes(octets);
+                Ok(())
+            }
+            Event::End => self.end(out),
+            Event::Close(offset) => self.close(offset.is_some(), out),
+            Event::Leave => self.close(false, out),
+            Event::Unused | Event::Pad(_) => Ok(()),
+        }
+    }
+
+    /// An element that holds others begins, with a header of these octets.
+    #[inline(always)]
+    fn open<D: Drain>(
+        &mut self,
+        header: &Header,
+        octets: &[u8],
+        out: &mut Out<'_, D>,
+    ) -> Result<(), WriteFault>
+        requires { octets.now ≡ octets_of header.now }
+        ensures { HasEffect D.state (findings_effect (finder_open_step self.old header.now))
+            out.old out.new self.new result }
+    {
+        let may_have_findings = self.finder.open(header, octets);
+        put_findings(may_have_findings, Style::Check, &self.finder, out)
+    }
+
+    /// A string that holds encodings begins. Separate: with it [`Check::put_lines`] would be too large to be inlined.
+    #[inline(never)]
+    fn open_wrapper<D: Drain>(
+        &mut self,
+        header: &Header,
+        out: &mut Out<'_, D>,
+    ) -> Result<(), WriteFault>
+        ensures { HasEffect D.state (findings_effect (finder_open_step self.old header.now))
+            out.old out.new self.new result }
+    {
+        self.open(header, header.raw(), out)
+    }
+
+    /// A primitive begins whose octets are not all available, or that may have findings.
+    #[inline(never)]
+    fn begin<D: Drain>(&mut self, header: &Header, out: &mut Out<'_, D>) -> Result<(), WriteFault>
+        ensures { HasEffect D.state (findings_effect (finder_begin_step self.old header.now))
+            out.old out.new self.new result }
+    {
+        self.finder.begin(header);
+        put_findings(true, Style::Check, &self.finder, out)
+    }
+
+    /// A primitive ends.
+    #[inline]
+    fn end<D: Drain>(&mut self, out: &mut Out<'_, D>) -> Result<(), WriteFault>
+        ensures { HasEffect D.state (findings_effect (finder_end_step self.old))
+            out.old out.new self.new result }
+    {
+        let may_have_findings = self.finder.end();
+        put_findings(may_have_findings, Style::Check, &self.finder, out)
+    }
+
+    /// An element that holds others ends, with end-of-contents octets or without them.
+    #[inline]
+    fn close<D: Drain>(
+        &mut self,
+        has_end_octets: bool,
+        out: &mut Out<'_, D>,
+    ) -> Result<(), WriteFault>
+        ensures { HasEffect D.state (findings_effect (finder_close_step self.old has_end_octets))
+            out.old out.new self.new result }
+    {
+        let may_have_findings = self.finder.close(has_end_octets);
+        put_findings(may_have_findings, Style::Check, &self.finder, out)
     }
 }

@@ -2,14 +2,13 @@
 ghost use Rattle.std.specs.Option.{is_some};
 ghost use Rattle.std.specs.Prelude.{◌≡◌, ◌||◌};
 ghost use Rattle.tlv_head.specs.Header.{HasAllContents, octets_of};
-ghost use Rattle.tlv_walk.specs.Events.{event_value_of};
 ghost use Rattle.tlv_show.specs.FinderState.{finder_in_primitive, finder_begin_step, finder_bytes_step};
 ghost use Rattle.tlv_show.specs.FinderState.{finder_close_step, finder_end_step, finder_open_step};
 ghost use Rattle.tlv_show.specs.FinderState.{end_findings_with, offset_at_end, with_findings, with_header_findings};
 ghost use Rattle.tlv_show.specs.NestingState.{depth_in};
 ghost use Rattle.tlv_show.specs.Private.Suits.{Suits};
 ghost use Rattle.tlv_show.specs.Private.FinderState.{PassesOrStays, ReturnsFindings};
-ghost use Rattle.tlv_show.specs.Private.FinderState.{finder_step, new_finder, with_check_state};
+ghost use Rattle.tlv_show.specs.Private.FinderState.{new_finder, with_check_state};
 
 use crate::Wanted;
 use crate::contents_findings::add_contents_findings;
@@ -33,7 +32,6 @@ use arrayvec::ArrayVec;
 use std::marker::Model;
 use tlv_head::Header;
 use tlv_value::{ValueCheck, is_clear};
-use tlv_walk::Event;
 
 /// Finds what violates the rules, event by event. It keeps what it must know of the open elements that hold others,
 /// and of the open primitive. If `TRACKED` is 0, the listed findings alone may be wanted: the code for the order of
@@ -123,31 +121,6 @@ impl<const TRACKED: usize> Finder<TRACKED> {
         &self.last
     }
 
-    /// Takes an event. Returns whether there may be findings. If not, there are none, and the last findings are still
-    /// the findings of an earlier event.
-    #[inline(always)]
-    pub fn find(&mut self, event: &Event<'_>) -> bool
-        ensures { ReturnsFindings
-            (finder_step self.old.kept (event_value_of event.now)) self.new result }
-    {
-        match event {
-            Event::Open(header) => self.open(header, header.raw()),
-            Event::Enter(header) => self.open(header, header.raw()),
-            Event::Begin(header) => {
-                self.begin(header);
-                true
-            }
-            Event::Bytes(octets) => {
-                self.bytes(octets);
-                false
-            }
-            Event::End => self.end(),
-            Event::Close(offset) => self.close(offset.is_some()),
-            Event::Leave => self.close(false),
-            Event::Unused | Event::Pad(_) => false,
-        }
-    }
-
     /// Takes a primitive whose contents are all available: its header, its contents and its end. Returns whether a
     /// short look shows that it has no findings. If it may have findings, takes nothing.
     #[inline(always)]
@@ -202,8 +175,9 @@ impl<const TRACKED: usize> Finder<TRACKED> {
         begin_in_strings::<TRACKED>(&mut self.strings, self.wanted, header, header.raw());
     }
 
-    /// An element that holds others begins, with a header of these octets. The octets are an argument, since a header
-    /// whose own are not used need not be made in memory.
+    /// An element that holds others begins, with a header of these octets. Returns whether there may be findings. If not,
+    /// there are none, and the last findings are still the findings of an earlier event. The octets are an argument, since
+    /// a header whose own are not used need not be made in memory.
     #[inline(always)]
     pub fn open(&mut self, header: &Header, octets: &[u8]) -> bool
         requires { octets.now ≡ octets_of header.now }
@@ -244,7 +218,7 @@ impl<const TRACKED: usize> Finder<TRACKED> {
         }
     }
 
-    /// A primitive ends.
+    /// A primitive ends. Returns whether there may be findings, as [`Finder::open`] does.
     #[inline(always)]
     pub fn end(&mut self) -> bool
         ensures { ReturnsFindings (finder_end_step self.old.kept) self.new result }
@@ -275,7 +249,8 @@ impl<const TRACKED: usize> Finder<TRACKED> {
         true
     }
 
-    /// An element that holds others ends, with end-of-contents octets or without them.
+    /// An element that holds others ends, with end-of-contents octets or without them. Returns whether there may be
+    /// findings, as [`Finder::open`] does.
     #[inline(always)]
     pub fn close(&mut self, has_end_octets: bool) -> bool
         ensures { ReturnsFindings (finder_close_step self.old.kept has_end_octets) self.new result }

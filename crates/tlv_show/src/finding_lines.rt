@@ -100,11 +100,10 @@ fn write_check_finding(held: &mut HeldOctets, offset: u64, finding: Finding)
     requires { HasRoomFor held.old line_room }
     ensures { held.new ≡ held.old ++ check_finding_line offset finding }
 {
-    let (wording, count) = finding.wording_block();
+    let (line, count) = finding.line_block();
     held.number(offset);
     held.add(b" ");
-    held.add_prefix(wording, count);
-    held.add(b"\n");
+    held.add_prefix(line, count);
 }
 
 /// Adds the line of a finding in a dump; adds nothing if first columns are left out.
@@ -115,9 +114,9 @@ fn write_dump_finding(held: &mut HeldOctets, layout: Layout, offset: u64, findin
     if layout.pure {
         return;
     }
+    let (text, count) = finding.text_block();
     begin_word(held, layout, offset, &code_columns(finding.code()));
-    held.add(finding.text());
-    held.add(b"\n");
+    held.add_prefix(text, count);
 }
 
 /// A code, right-aligned in six places.

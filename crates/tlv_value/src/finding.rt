@@ -93,76 +93,90 @@ pub enum Finding {
 }
 
 impl Finding {
-    ghost use Rattle.std.specs.Prelude.{◌≡◌, ◌≤◌, take};
+    ghost use Rattle.std.specs.Prelude.{◌≡◌, ◌≤◌, ◌++◌, ◌∷◌, [], take};
     ghost use Rattle.tlv_value.specs.Finding.{finding_code, finding_text, finding_wording};
 
     /// The three-character code of the finding, such as `B01`.
     pub fn code(self) -> &'static [u8]
         ensures { result.now ≡ finding_code self }
     {
-        let (wording, _) = self.wording_block();
-        &wording[..3]
+        let (line, _) = self.line_block();
+        &line[..3]
     }
 
     /// The description of the finding, in ASCII.
     pub fn text(self) -> &'static [u8]
         ensures { result.now ≡ finding_text self }
     {
-        let (wording, count) = self.wording_block();
-        &wording[4..count]
+        let (line, count) = self.line_block();
+        &line[4..count - 1]
     }
 
-    /// A block of the code, a space and the text, filled up with spaces so that it can be copied at once; and the
-    /// number of octets before these spaces.
-    pub fn wording_block(self) -> (&'static [u8; 48], usize)
-        ensures wording { take result.1 result.0.now ≡ finding_wording self }
+    /// A block of the text and a line feed, filled up with spaces so that it can be copied at once; and the number of
+    /// octets before these spaces.
+    #[inline]
+    pub fn text_block(self) -> (&'static [u8; 44], usize)
+        ensures text { take result.1 result.0.now ≡ finding_text self ++ 10 ∷ [] }
+        ensures count { result.1 ≤ 41 }
+    {
+        let (line, count) = self.line_block();
+        match line.last_chunk() {
+            Some(text) => (text, count - 4),
+            None => unreachable!(),
+        }
+    }
+
+    /// A block of the code, a space, the text and a line feed, filled up with spaces so that it can be copied at once;
+    /// and the number of octets before these spaces.
+    pub fn line_block(self) -> (&'static [u8; 48], usize)
+        ensures line { take result.1 result.0.now ≡ finding_wording self ++ 10 ∷ [] }
 
         // Code and space are 4 octets, and no text has more than 40.
-        ensures count { (4 ≤ result.1) × (result.1 ≤ 44) }
+        ensures count { (5 ≤ result.1) × (result.1 ≤ 45) }
     {
         match self {
-            Finding::B01 => (b"B01 high form for a number below 31             ", 35),
-            Finding::B02 => (b"B02 tag number begins with zero bits            ", 36),
-            Finding::B03 => (b"B03 unassigned universal number                 ", 31),
-            Finding::B04 => (b"B04 type must be primitive                      ", 26),
-            Finding::B05 => (b"B05 type must be constructed                    ", 28),
-            Finding::B06 => (b"B06 BOOLEAN is not one octet                    ", 28),
-            Finding::B07 => (b"B07 no contents of an integer                   ", 29),
-            Finding::B08 => (b"B08 integer is padded                           ", 21),
-            Finding::B09 => (b"B09 NULL has contents                           ", 21),
-            Finding::B10 => (b"B10 no contents of an object identifier         ", 39),
-            Finding::B11 => (b"B11 subidentifier is padded                     ", 27),
-            Finding::B12 => (b"B12 last subidentifier is unfinished            ", 36),
-            Finding::B13 => (b"B13 no first octet of a bit string              ", 34),
-            Finding::B14 => (b"B14 more than 7 unused bits                     ", 27),
-            Finding::B15 => (b"B15 unused bits of no octet                     ", 27),
-            Finding::B16 => (b"B16 segment follows unused bits                 ", 31),
-            Finding::B17 => (b"B17 segment has another tag                     ", 27),
-            Finding::B18 => (b"B18 characters not of the type                  ", 30),
-            Finding::B19 => (b"B19 time not of its grammar                     ", 27),
-            Finding::B20 => (b"B20 REAL of no form                             ", 19),
-            Finding::B21 => (b"B21 no such date or time                        ", 24),
-            Finding::B22 => (b"B22 time or IRI must be primitive               ", 33),
-            Finding::B23 => (b"B23 IRI not of its grammar                      ", 26),
-            Finding::B24 => (b"B24 no contents of a relative identifier        ", 40),
-            Finding::B25 => (b"B25 surrogate, or number above 10ffff           ", 37),
-            Finding::B26 => (b"B26 month has no such day                       ", 25),
-            Finding::B27 => (b"B27 components are missing                      ", 26),
-            Finding::B28 => (b"B28 segments have characters not of the type    ", 44),
-            Finding::S01 => (b"S01 length is not the shortest                  ", 30),
-            Finding::S02 => (b"S02 TRUE is not ff                              ", 18),
-            Finding::S03 => (b"S03 unused bits are set                         ", 23),
-            Finding::S04 => (b"S04 time is not canonical                       ", 25),
-            Finding::S05 => (b"S05 element of a SET is out of order            ", 36),
-            Finding::S06 => (b"S06 REAL is not canonical                       ", 25),
-            Finding::D01 => (b"D01 indefinite length                           ", 21),
-            Finding::D02 => (b"D02 constructed string                          ", 22),
-            Finding::C01 => (b"C01 definite length of a constructed element    ", 44),
-            Finding::C02 => (b"C02 primitive string above 1000 octets          ", 38),
-            Finding::C03 => (b"C03 segment is constructed                      ", 26),
-            Finding::C04 => (b"C04 segment follows one not of 1000 octets      ", 42),
-            Finding::C05 => (b"C05 constructed string fits in 1000 octets      ", 42),
-            Finding::C06 => (b"C06 last segment is empty                       ", 25),
+            Finding::B01 => (b"B01 high form for a number below 31\n            ", 36),
+            Finding::B02 => (b"B02 tag number begins with zero bits\n           ", 37),
+            Finding::B03 => (b"B03 unassigned universal number\n                ", 32),
+            Finding::B04 => (b"B04 type must be primitive\n                     ", 27),
+            Finding::B05 => (b"B05 type must be constructed\n                   ", 29),
+            Finding::B06 => (b"B06 BOOLEAN is not one octet\n                   ", 29),
+            Finding::B07 => (b"B07 no contents of an integer\n                  ", 30),
+            Finding::B08 => (b"B08 integer is padded\n                          ", 22),
+            Finding::B09 => (b"B09 NULL has contents\n                          ", 22),
+            Finding::B10 => (b"B10 no contents of an object identifier\n        ", 40),
+            Finding::B11 => (b"B11 subidentifier is padded\n                    ", 28),
+            Finding::B12 => (b"B12 last subidentifier is unfinished\n           ", 37),
+            Finding::B13 => (b"B13 no first octet of a bit string\n             ", 35),
+            Finding::B14 => (b"B14 more than 7 unused bits\n                    ", 28),
+            Finding::B15 => (b"B15 unused bits of no octet\n                    ", 28),
+            Finding::B16 => (b"B16 segment follows unused bits\n                ", 32),
+            Finding::B17 => (b"B17 segment has another tag\n                    ", 28),
+            Finding::B18 => (b"B18 characters not of the type\n                 ", 31),
+            Finding::B19 => (b"B19 time not of its grammar\n                    ", 28),
+            Finding::B20 => (b"B20 REAL of no form\n                            ", 20),
+            Finding::B21 => (b"B21 no such date or time\n                       ", 25),
+            Finding::B22 => (b"B22 time or IRI must be primitive\n              ", 34),
+            Finding::B23 => (b"B23 IRI not of its grammar\n                     ", 27),
+            Finding::B24 => (b"B24 no contents of a relative identifier\n       ", 41),
+            Finding::B25 => (b"B25 surrogate, or number above 10ffff\n          ", 38),
+            Finding::B26 => (b"B26 month has no such day\n                      ", 26),
+            Finding::B27 => (b"B27 components are missing\n                     ", 27),
+            Finding::B28 => (b"B28 segments have characters not of the type\n   ", 45),
+            Finding::S01 => (b"S01 length is not the shortest\n                 ", 31),
+            Finding::S02 => (b"S02 TRUE is not ff\n                             ", 19),
+            Finding::S03 => (b"S03 unused bits are set\n                        ", 24),
+            Finding::S04 => (b"S04 time is not canonical\n                      ", 26),
+            Finding::S05 => (b"S05 element of a SET is out of order\n           ", 37),
+            Finding::S06 => (b"S06 REAL is not canonical\n                      ", 26),
+            Finding::D01 => (b"D01 indefinite length\n                          ", 22),
+            Finding::D02 => (b"D02 constructed string\n                         ", 23),
+            Finding::C01 => (b"C01 definite length of a constructed element\n   ", 45),
+            Finding::C02 => (b"C02 primitive string above 1000 octets\n         ", 39),
+            Finding::C03 => (b"C03 segment is constructed\n                     ", 27),
+            Finding::C04 => (b"C04 segment follows one not of 1000 octets\n     ", 43),
+            Finding::C05 => (b"C05 constructed string fits in 1000 octets\n     ", 43),
+            Finding::C06 => (b"C06 last segment is empty\n                      ", 26),
         }
     }
 }

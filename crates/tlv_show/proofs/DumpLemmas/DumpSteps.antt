@@ -1,6 +1,6 @@
 -- What a dump makes of an event: what its lines and its finder make of it.
 use Rattle.std.proofs.Common.{◌≡◌, ℕ, Bool, List, [], ◌∷◌, ◌++◌, refl, sym, ap, ◌∙◌}
-use Rattle.std.specs.Prelude.{Err, IsErr, Ok, OnOk, Result}
+use Rattle.std.specs.Prelude.{Err, IsErr, Ok, Result}
 use Rattle.tlv_io.specs.declared.out.Out.{Out}
 use Rattle.tlv_io.specs.Device.{DrainState}
 use Rattle.tlv_io.specs.Out.{Puts}
@@ -104,7 +104,3 @@ module _ {D : Type 0} (taken : D → DrainState) (s : DumpState) (f last : Finde
         → Puts taken a c (put ++ finding_lines s f) r
     found_after a b c put x r is says lines found =
         puts_then taken a b c put _ x r lines (puts_text taken b c _ _ r (lines-last is says) found)
-
-pub where_ok : {T E P Q : Type 0} (r : Result T E) → (P → Q) → OnOk r P → OnOk r Q
-where_ok (Ok x) f p = f p
-where_ok (Err e) f p = tt

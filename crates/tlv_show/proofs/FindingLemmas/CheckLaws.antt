@@ -2,12 +2,17 @@
 use Rattle.std.proofs.Common.{◌≡◌, ◌-◌, ◌==◌, Bool, true, false, ℕ, List, [], ◌∷◌, ◌++◌, length, take, refl, sym, ap}
 use Rattle.std.proofs.Common.{◌∙◌, ap₂, arith, append-nil, if◌then◌else◌}
 use Rattle.std.proofs.lemmas.Bool.Decides.{nat_tests}
-use Rattle.std.specs.Prelude.{Option, Some, None}
+use Rattle.std.specs.Prelude.{Option, Some, None, Result, Ok, Err, OnOk}
 use Rattle.tlv_value.specs.ValueCheckState.{ValueCheckState, value_check_after}
 use Rattle.tlv_value.proofs.CheckLemmas.CheckPieces.{checks-join}
 use Rattle.tlv_walk.specs.declared.follow.Go.TheVariants as go
 use Rattle.tlv_walk.specs.Events.{Begin, Bytes, Close, End, Enter, EventValue, Leave, Open, Pad, Unused}
-use Rattle.tlv_walk.specs.Follow.{Effect, each_octet, no_effect}
+use Rattle.tlv_io.proofs.Puts.{puts_text}
+use Rattle.tlv_io.specs.declared.drain.WriteFault.{WriteFault}
+use Rattle.tlv_io.specs.declared.out.Out.{Out}
+use Rattle.tlv_io.specs.Device.{DrainState}
+use Rattle.tlv_io.specs.Out.{Puts}
+use Rattle.tlv_walk.specs.Follow.{Effect, HasEffect, each_octet, no_effect}
 use Rattle.tlv_show.specs.declared.finding_lines.Style.{Style}
 use Rattle.tlv_show.specs.declared.finding_lines.Style.TheVariants.{Check}
 use Rattle.tlv_show.specs.CheckStep.{check_octet_step, check_step, findings_effect}
@@ -101,15 +106,20 @@ pub last-state : (f v : FinderState) (may_have_findings : Bool) → ReturnsFindi
 last-state f v true e = ap (λ (u : FinderState). u.kept) e
 last-state f v false e = e.0
 
--- what was reported and put is what the step says
-module _ (s t : CheckState) (v : FinderState) (may_have_findings : Bool) (e : EventValue) where
-  pub step-text : s ≡ t → ReturnsFindings (finder_step t e) v may_have_findings
-      → last_finding_lines Check (with_findings_if may_have_findings v) ≡ (check_step s e).put
-  step-text i f =
-      rw i
-      (last-same Check (finder_step t e) v may_have_findings f
-      ∙ ap (λ (k : Effect CheckState). k.put) (sym (step-is t e)))
+stays : {T E P : Type 0} (r : Result T E) → P → OnOk r P
+stays (Ok x) p = p
+stays (Err e) p = tt
 
-  pub step-state : s ≡ t → ReturnsFindings (finder_step t e) v may_have_findings
-      → (v.kept ≡ (check_step s e).state) × (go.On ≡ (check_step s e).goes)
-  step-state i f = rw i (rw (step-is t e) (last-state (finder_step t e) v may_have_findings f, refl))
+-- what was found and put is the effect of what the finder makes of an event
+pub lists : {T D : Type 0} (state_of : D → DrainState) (a b : Out D) (f v : FinderState) (may_have_findings : Bool)
+    (r : Result T WriteFault) → ReturnsFindings f v may_have_findings
+    → Puts state_of a b (last_finding_lines Check (with_findings_if may_have_findings v)) r
+    → HasEffect state_of (findings_effect f) a b v.kept r
+lists state_of a b f v may_have_findings r says puts = record {
+  puts = puts_text state_of a b _ _ r (last-same Check f v may_have_findings says) puts;
+  state = stays r (last-state f v may_have_findings says);
+}
+
+-- a check always wants more
+pub one_on : (s : CheckState) (e : EventValue) → go.On ≡ (check_step s e).goes
+one_on s e = sym (ap (λ (k : Effect CheckState). k.goes) (step-is s e))

@@ -126,10 +126,13 @@ fn findings_have_texts(rt: HostRuntime) {
     expect_eq(&rt, Finding::B08.text(), b"integer is padded".as_slice());
 }
 
-/// The block of a finding begins with its code and its text, and the count is their length.
+/// The blocks of a finding begin with its code and its text, or with its text, and a line feed. The count is their length.
 #[test]
 fn a_block_begins_with_the_text_of_its_finding(rt: HostRuntime) {
-    let (wording, count) = Finding::D01.wording_block();
-    expect_eq(&rt, &wording[..count], b"D01 indefinite length".as_slice());
-    expect_eq(&rt, count, 21);
+    let (line, count) = Finding::D01.line_block();
+    expect_eq(&rt, &line[..count], b"D01 indefinite length\n".as_slice());
+    expect_eq(&rt, count, 22);
+    let (text, count) = Finding::D01.text_block();
+    expect_eq(&rt, &text[..count], b"indefinite length\n".as_slice());
+    expect_eq(&rt, count, 18);
 }

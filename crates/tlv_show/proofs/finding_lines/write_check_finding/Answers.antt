@@ -1,6 +1,6 @@
 use Rattle.std.proofs.Common.{◌∷◌, [], arith}
 use Rattle.tlv_io.proofs.HeldTexts.{length-added}
-use Rattle.tlv_value.proofs.TextLemmas.LineLengths.{prefix_short, number_short}
+use Rattle.tlv_value.proofs.TextLemmas.LineLengths.{number_short}
 use Rattle.tlv_show.proofs.finding_lines.write_check_finding.Goals as goal
 
 pub add-requires : goal.add-requires
@@ -10,11 +10,4 @@ pub add_prefix-requires : goal.add_prefix-requires
 add_prefix-requires c =
     let first = number_short _ _ _ c.ranges.offset.fits c.number.ensures in
     let second = length-added _ _ (32 ∷ []) c.add.ensures in
-    (omega arith, (omega (arith, c.wording_block-count.ensures.count), omega (arith, first, second, c.requires)))
-
-pub add-requires-2 : goal.add-requires-2
-add-requires-2 c =
-    let first = number_short _ _ _ c.ranges.offset.fits c.number.ensures in
-    let second = length-added _ _ (32 ∷ []) c.add.ensures in
-    let third = prefix_short _ _ _ c.wording_block-count.result.1 c.add_prefix.ensures in
-    omega (arith, first, second, third, c.wording_block-count.ensures.count, c.requires)
+    (omega arith, (omega (arith, c.line_block-count.ensures.count), omega (arith, first, second, c.requires)))

@@ -1,7 +1,8 @@
 use Rattle.std.proofs.Common.{ap, rules}
+use Rattle.std.proofs.lemmas.Result.{on_ok_weaker}
 use Rattle.tlv_show.specs.LinesStep.{LinesState}
 use Rattle.tlv_show.specs.DumpStep.{DumpState}
-use Rattle.tlv_show.proofs.DumpLemmas.DumpSteps.{each-filled, where_ok}
+use Rattle.tlv_show.proofs.DumpLemmas.DumpSteps.{each-filled}
 use Rattle.tlv_show.proofs.dump_follower.Dump.put_lines.Goals as goal
 
 pub returns-in-Pad : goal.returns-in-Pad
@@ -11,7 +12,7 @@ returns-in-Pad g c =
     (record {
       puts = c.pad.ensures.puts;
       state =
-          where_ok c.pad.result (ap (λ (l : LinesState). record { lines = l; finder = s.finder })) c.pad.ensures.state;
+          on_ok_weaker c.pad.result (ap (λ (l : LinesState). record { lines = l; finder = s.finder })) c.pad.ensures.state;
     })
 
 pub returns-in-End : goal.returns-in-End
