@@ -16,12 +16,13 @@ use tlv_walk::Frames;
 pub(crate) struct Nesting {
     /// The number of open elements that hold others.
     depth: u8,
+    /// The number of elements that hold what is directly in the element of `frame`: its floor. The `depth - floor`
+    /// elements that are open inside of that element have no frame.
+    floor: u8,
     /// The innermost frame that is kept, or the frame of the top.
     frame: HolderFrame,
-    /// Its floor: the number of elements that hold what is directly in its element. The `depth - floor` elements that
-    /// are open inside of that element have no frame.
-    floor: u8,
-    /// The frames outside of it that are kept.
+    /// The frames outside of it that are kept. No padding is before them: with it, the compiler would clear their room
+    /// elsewhere and copy it.
     outer: Frames<KeptFrame>,
 }
 
@@ -54,8 +55,8 @@ impl Nesting {
     {
         Nesting {
             depth: 0,
-            frame: top_frame(),
             floor: 0,
+            frame: top_frame(),
             outer: Frames::new(),
         }
     }

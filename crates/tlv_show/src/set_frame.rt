@@ -36,7 +36,7 @@ pub(crate) struct SetFrame {
     pub is_smaller: bool,
 }
 
-/// Only for filling arrays: the frame of the outside of all SETs.
+/// Only for filling arrays: all octets of it are zero, so that the compiler clears an array of frames at once.
 impl Default for SetFrame {
     fn default() -> SetFrame {
         SetFrame {
@@ -44,8 +44,8 @@ impl Default for SetFrame {
             offset: 0,
             number: 0,
             class: Class::Universal,
-            count: 64,
-            open_count: 1,
+            count: 0,
+            open_count: 0,
             octets_decide: false,
             differs: false,
             is_smaller: false,

@@ -1,19 +1,16 @@
 //! Octets in base64.
-ghost use Rattle.std.specs.Prelude.{◌≡◌, ◌<◌, ◌≤◌, ◌+◌, ◌%◌, [], IfErr, IfOk, OnErr, OnOk, length, slice_index, true, false};
+ghost use Rattle.std.specs.Prelude.{◌≡◌, ◌<◌, ◌≤◌, ◌%◌, [], IfErr, IfOk, OnErr, OnOk, length, true, false};
 ghost use Rattle.tlv_text.specs.Base64.{ReadsBase64, fits_after, is_escaped_line_end};
-ghost use Rattle.tlv_text.specs.Base64.{is_escaped_slash, is_left_out, is_symbol, no_symbols, padding_of, symbols_read};
+ghost use Rattle.tlv_text.specs.Base64.{is_escaped_slash, is_left_out, no_symbols, padding_of, symbols_read};
 ghost use Rattle.tlv_text.specs.Private.SymbolSteps.{AreAdded, AreSymbols, IsAtEnd, IsFailure, IsOfNone};
 ghost use Rattle.tlv_text.specs.Private.SymbolSteps.{PaddingFits, symbols_then};
 
 use crate::Decoded;
-use crate::symbols::symbols_before;
+use crate::symbols::{SYMBOLS, take_run};
 use arrayvec::ArrayVec;
 use base64::DecodeAllocError;
 use base64::engine::general_purpose::{STANDARD_NO_PAD, URL_SAFE_NO_PAD};
 use std::alloc::{AllocError, Global};
-
-/// The number of symbols that are decoded at once: whole groups of four.
-const SYMBOLS: usize = 4096;
 
 /// The last two of the 64 symbols.
 #[derive(Clone, Copy, Debug, PartialEq, Eq)]
@@ -72,26 +69,6 @@ fn take_symbols(alphabet: Alphabet, rest: &mut &[u8], symbols: &mut ArrayVec<u8,
             _ => return,
         }
     }
-}
-
-/// Takes the leading symbols of a text, as many as there is room for.
-fn take_run(alphabet: Alphabet, rest: &mut &[u8], symbols: &mut ArrayVec<u8, SYMBOLS>)
-    requires symbols { AreSymbols alphabet symbols.old.items }
-    requires few { length symbols.old.items ≤ 4096 }
-    ensures symbols { AreSymbols alphabet symbols.new.items }
-    ensures read { symbols_then symbols.old.items (symbols_read alphabet rest.old.now)
-        ≡ symbols_then symbols.new.items (symbols_read alphabet rest.new.now) }
-    ensures few { length symbols.new.items ≤ 4096 }
-    ensures last { length symbols.new.items < 4096 → 0 < length rest.new.now
-        → is_symbol alphabet (slice_index rest.new.now 0) ≡ false }
-    ensures moved { length rest.new.now + length symbols.new.items
-        ≡ length rest.old.now + length symbols.old.items }
-    ensures less { length rest.new.now ≤ length rest.old.now }
-{
-    let room = rest.len().min(SYMBOLS - symbols.len());
-    let count = symbols_before(alphabet, &rest[..room]);
-    let _ = symbols.try_extend_from_slice(&rest[..count]);
-    *rest = &rest[count..];
 }
 
 /// Whether this character is left out.

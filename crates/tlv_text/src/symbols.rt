@@ -1,36 +1,66 @@
 //! Symbols of base64.
-ghost use Rattle.std.specs.List.{list_all, prefix_len};
-ghost use Rattle.std.specs.Prelude.{◌≡◌, ◌≤◌, ◌+◌, length};
+ghost use Rattle.std.specs.List.{list_all};
+ghost use Rattle.std.specs.Prelude.{◌≡◌, ◌<◌, ◌≤◌, false, length, slice_index};
 ghost use Rattle.tlv_text.specs.Base64.{is_letter_or_digit, is_symbol};
+ghost use Rattle.tlv_text.specs.Private.SymbolSteps.{AreSymbols, TakesSymbols};
 
 use crate::Alphabet;
+use arrayvec::ArrayVec;
+
+/// The number of symbols that are decoded at once: whole groups of four.
+pub(crate) const SYMBOLS: usize = 4096;
 
 /// The number of characters that are tested at once.
 const BLOCK: usize = 32;
 
-/// The number of symbols at the start of a text.
-pub(crate) fn symbols_before(alphabet: Alphabet, text: &[u8]) -> usize
-    ensures count { result ≡ prefix_len (is_symbol alphabet) text.now }
-    ensures within { result ≤ length text.now }
+/// Takes the leading symbols of a text, as many as there is room for.
+pub(crate) fn take_run(alphabet: Alphabet, rest: &mut &[u8], symbols: &mut ArrayVec<u8, SYMBOLS>)
+    requires symbols { AreSymbols alphabet symbols.old.items }
+    requires few { length symbols.old.items ≤ 4096 }
+    ensures takes { TakesSymbols alphabet rest.old.now symbols.old.items rest.new.now symbols.new.items }
+    ensures few { length symbols.new.items ≤ 4096 }
+    ensures last { length symbols.new.items < 4096 → 0 < length rest.new.now
+        → is_symbol alphabet (slice_index rest.new.now 0) ≡ false }
 {
-    text.len() - after_symbols(alphabet, after_blocks(alphabet, text)).len()
+    take_blocks(alphabet, rest, symbols);
+    take_few(alphabet, rest, symbols);
 }
 
-/// The text after its leading blocks of symbols: a block at a time costs less than one by one.
-fn after_blocks(alphabet: Alphabet, text: &[u8]) -> &[u8]
-    ensures symbols { length text.now + prefix_len (is_symbol alphabet) result.now
-        ≡ length result.now + prefix_len (is_symbol alphabet) text.now }
-    ensures less { length result.now ≤ length text.now }
+/// Takes leading blocks of symbols of a text, while there is room for them: a block at a time costs less than one by
+/// one.
+fn take_blocks(alphabet: Alphabet, rest: &mut &[u8], symbols: &mut ArrayVec<u8, SYMBOLS>)
+    requires symbols { AreSymbols alphabet symbols.old.items }
+    requires few { length symbols.old.items ≤ 4096 }
+    ensures takes { TakesSymbols alphabet rest.old.now symbols.old.items rest.new.now symbols.new.items }
+    ensures few { length symbols.new.items ≤ 4096 }
 {
-    let mut rest = text;
-    while rest.len() >= BLOCK {
+    while rest.len() >= BLOCK && symbols.len() <= SYMBOLS - BLOCK {
         let (block, more) = rest.split_at(BLOCK);
-        if !are_symbols(alphabet, block) {
+        // Most runs end with a line, and a line end is below all symbols.
+        if block[0] < b'+' || !are_symbols(alphabet, block) {
             break;
         }
-        rest = more;
+        let _ = symbols.try_extend_from_slice(block);
+        *rest = more;
     }
-    rest
+}
+
+/// Takes the leading symbols of a text one by one, as many as there is room for.
+fn take_few(alphabet: Alphabet, rest: &mut &[u8], symbols: &mut ArrayVec<u8, SYMBOLS>)
+    requires symbols { AreSymbols alphabet symbols.old.items }
+    requires few { length symbols.old.items ≤ 4096 }
+    ensures takes { TakesSymbols alphabet rest.old.now symbols.old.items rest.new.now symbols.new.items }
+    ensures few { length symbols.new.items ≤ 4096 }
+    ensures last { length symbols.new.items < 4096 → 0 < length rest.new.now
+        → is_symbol alphabet (slice_index rest.new.now 0) ≡ false }
+{
+    while let [x, more @ ..] = *rest {
+        if symbols.len() == SYMBOLS || !is_symbol(alphabet, *x) {
+            break;
+        }
+        symbols.push(*x);
+        *rest = more;
+    }
 }
 
 /// Whether all of these are symbols. None is passed over, so that many are tested at a time.
@@ -42,20 +72,6 @@ fn are_symbols(alphabet: Alphabet, text: &[u8]) -> bool
         all &= is_symbol(alphabet, *character);
     }
     all
-}
-
-/// The text after its leading symbols.
-fn after_symbols(alphabet: Alphabet, text: &[u8]) -> &[u8]
-    ensures symbols { length text.now ≡ length result.now + prefix_len (is_symbol alphabet) text.now }
-{
-    let mut rest = text;
-    while let [x, more @ ..] = rest {
-        if !is_symbol(alphabet, *x) {
-            break;
-        }
-        rest = more;
-    }
-    rest
 }
 
 /// Whether this is a symbol of the alphabet.

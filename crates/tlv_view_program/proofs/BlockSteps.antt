@@ -1,7 +1,6 @@
 -- The blocks that are shown, one after another.
-use Rattle.std.proofs.Common.{◌≡◌, ◌+◌, ◌<◌, ◌≤◌, ℕ, true, false, List, arith, drop, get_or, length, map, subst, sym}
+use Rattle.std.proofs.Common.{◌≡◌, ◌+◌, ℕ, true, false, List, [], ◌∷◌, arith, map, subst, sym}
 use Rattle.std.specs.Prelude.{max}
-use Rattle.std.proofs.lemmas.List.{drop_all, drop_more}
 use Rattle.tlv_value.specs.Names.{NamesValue}
 use Rattle.tlv_view_words.specs.declared.request.Request.{Request}
 use Rattle.tlv_view_program.specs.Private.BlockParts.{input_block}
@@ -22,40 +21,41 @@ max-three a b c = omega arith
 
 module _ {S : Type 0} (request : Request) (table : NamesValue) (p : BlocksPlace) (blocks : List InputBlock)
     (first : StreamsValue S) where
-  -- what comes of the blocks that are left comes of all of them, with the status so far
-  abbrev pub ShowsRest : ℕ → StreamsValue S → ℕ → Type 0
-  ShowsRest i now status = (new : StreamsValue S) (rest : ℕ)
-      → ShowsBlocks request table p (i + 1) (map input_block (drop i blocks)) now new rest
+  -- what comes of the blocks that are left, after so many, comes of all of them, with the status so far
+  abbrev pub ShowsRest : ℕ → List InputBlock → StreamsValue S → ℕ → Type 0
+  ShowsRest count left now status = (new : StreamsValue S) (rest : ℕ)
+      → ShowsBlocks request table p (count + 1) (map input_block left) now new rest
       → ShowsBlocks request table p 1 (map input_block blocks) first new (max status rest)
 
-  pub block-stops : (i : ℕ) (d : InputBlock) (now new : StreamsValue S) (status more : ℕ) → i < length blocks
-      → ShowsRest i now status
-      → ShowsBlock request table (block_place p (i + 1)) (input_block (get_or blocks i d)) now new true more
-      → ShowsBlocks request table p 1 (map input_block blocks) first new (max status more)
-  block-stops i d now new status more some so x =
-      so new more
-      (subst (λ (l : List InputBlock). ShowsBlocks request table p (i + 1) (map input_block l) now new more)
-      (sym (drop_more blocks i d some)) (stops x))
+  pub block-stops : (count : ℕ) (b : InputBlock) (more left : List InputBlock) (now new : StreamsValue S)
+      (status worst : ℕ) → left ≡ b ∷ more → ShowsRest count left now status
+      → ShowsBlock request table (block_place p (count + 1)) (input_block b) now new true worst
+      → ShowsBlocks request table p 1 (map input_block blocks) first new (max status worst)
+  block-stops count b more left now new status worst is so x =
+      so new worst
+      (subst (λ (l : List InputBlock). ShowsBlocks request table p (count + 1) (map input_block l) now new worst)
+      (sym is) (stops x))
 
-  pub block-goes_on : (i : ℕ) (d : InputBlock) (now between : StreamsValue S) (status more : ℕ) → i < length blocks
-      → ShowsRest i now status
-      → ShowsBlock request table (block_place p (i + 1)) (input_block (get_or blocks i d)) now between false more
-      → ShowsRest (i + 1) between (max status more)
-  block-goes_on i d now between status more some so x new rest others =
+  pub block-goes_on : (count : ℕ) (b : InputBlock) (more left : List InputBlock) (now between : StreamsValue S)
+      (status worst : ℕ) → left ≡ b ∷ more → ShowsRest count left now status
+      → ShowsBlock request table (block_place p (count + 1)) (input_block b) now between false worst
+      → ShowsRest (count + 1) more between (max status worst)
+  block-goes_on count b more left now between status worst is so x new rest others =
       subst (λ (n : ℕ). ShowsBlocks request table p 1 (map input_block blocks) first new n)
-      (sym (max-three status more rest))
-      (so new (max more rest)
-      (subst (λ (l : List InputBlock). ShowsBlocks request table p (i + 1) (map input_block l) now new (max more rest))
-      (sym (drop_more blocks i d some)) (goes_on between x others)))
+      (sym (max-three status worst rest))
+      (so new (max worst rest)
+      (subst
+      (λ (l : List InputBlock). ShowsBlocks request table p (count + 1) (map input_block l) now new (max worst rest))
+      (sym is) (goes_on between x others)))
 
-  pub blocks-end : (i : ℕ) (now : StreamsValue S) (status : ℕ) → length blocks ≤ i → ShowsRest i now status
-      → ShowsBlocks request table p 1 (map input_block blocks) first now status
-  blocks-end i now status none so =
+  pub blocks-end : (count : ℕ) (left : List InputBlock) (now : StreamsValue S) (status : ℕ) → left ≡ []
+      → ShowsRest count left now status → ShowsBlocks request table p 1 (map input_block blocks) first now status
+  blocks-end count left now status is so =
       subst (λ (n : ℕ). ShowsBlocks request table p 1 (map input_block blocks) first now n) (max-none status)
       (so now 0
-      (subst (λ (l : List InputBlock). ShowsBlocks request table p (i + 1) (map input_block l) now now 0)
-      (sym (drop_all i blocks none)) no_more))
+      (subst (λ (l : List InputBlock). ShowsBlocks request table p (count + 1) (map input_block l) now now 0)
+      (sym is) no_more))
 
-  pub blocks-begin : ShowsRest 0 first 0
+  pub blocks-begin : ShowsRest 0 blocks first 0
   blocks-begin new rest x =
       subst (λ (n : ℕ). ShowsBlocks request table p 1 (map input_block blocks) first new n) (sym (max-first rest)) x

@@ -38,25 +38,28 @@ pub(crate) fn show_files<S: System, I: Source, O: Drain, M: Drain>(
         count: blocks.len(),
         several_files: request.files.as_slice().len() > 1,
     };
-    show_blocks(&task, blocks.as_slice(), streams)
+    show_blocks(&task, blocks, streams)
 }
 
-/// Shows blocks in order. Returns the highest status.
+/// Shows blocks in order, and drops each before the next is shown. Returns the highest status.
 fn show_blocks<S: System, I: Source, O: Drain, M: Drain>(
     task: &Task<'_>,
-    blocks: &[InputBlock<'_>],
+    blocks: Vec<InputBlock<'_>>,
     streams: &mut Streams<S, I, O, M>,
 ) -> u8
-    requires { all_fit blocks.now }
-    ensures { ShowsBlocks task.now.request.now task.now.names.now (blocks_place task.now) 1 (map input_block blocks.now)
+    requires { all_fit blocks.items }
+    ensures { ShowsBlocks task.now.request.now task.now.names.now (blocks_place task.now) 1
+        (map input_block blocks.entry.items)
         (streams_value I.state O.state M.state streams.old) (streams_value I.state O.state M.state streams.new)
         result }
 {
     let mut status = 0;
-    for i in 0..blocks.len() {
-        let block = task.block(i + 1, &blocks[i], streams);
-        status = highest(status, block.status);
-        if block.has_failed {
+    let mut number = 0;
+    for block in blocks {
+        number += 1;
+        let shown = task.block(number, &block, streams);
+        status = highest(status, shown.status);
+        if shown.has_failed {
             return status;
         }
     }

@@ -1,5 +1,5 @@
 -- Symbols of base64, without what is left out between them.
-use Rattle.std.specs.Prelude.{◌≡◌, ℕ, ◌%◌, ◌≤◌, List, ◌++◌, length, true}
+use Rattle.std.specs.Prelude.{◌≡◌, ℕ, ◌+◌, ◌%◌, ◌≤◌, List, ◌++◌, length, true}
 use Rattle.std.specs.List.{AllPass}
 use Rattle.base64.specs.GeneralPurpose.{IsBytes}
 use Rattle.base64.specs.declared.decode.DecodeAllocError.{DecodeAllocError}
@@ -14,6 +14,13 @@ AreSymbols alphabet symbols = AllPass (is_symbol alphabet) symbols
 -- symbols, and then what is read after them
 abbrev pub symbols_then : List ℕ → SymbolsRead → SymbolsRead
 symbols_then symbols more = record more { symbols = symbols ++ more.symbols }
+
+-- the symbols with which a text begins, or the first of them, were taken, and come after others
+pub record TakesSymbols (alphabet : Alphabet) (text taken rest symbols : List ℕ) : Type 0 where
+  pub are_symbols : AreSymbols alphabet symbols
+  pub read : symbols_then taken (symbols_read alphabet text) ≡ symbols_then symbols (symbols_read alphabet rest)
+  pub moved : length rest + length symbols ≡ length text + length taken
+  pub less : length rest ≤ length text
 
 -- the octets that these symbols encode come after the others
 pub record AreAdded (alphabet : Alphabet) (symbols old new : List ℕ) : Type 0 where

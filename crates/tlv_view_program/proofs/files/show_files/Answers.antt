@@ -26,15 +26,15 @@ place-of-all words blocks count several c s =
     ap counted (c ∙ sym (length-map blocks input_block)) ∙ ap in_files (s ∙ several-words words)
 
 shown-in-place : {S : Type 0} (request : Request) (table : NamesValue) (words : List (List ℕ))
-    (blocks slice : List InputBlock) (count : ℕ) (several : Bool) (old new : StreamsValue S) (status : ℕ)
-    → slice ≡ blocks → count ≡ length blocks → several ≡ nat_lt 1 (length words)
-    → ShowsBlocks request table (record { count = count; several_files = several }) 1 (map input_block slice) old new
+    (blocks : List InputBlock) (count : ℕ) (several : Bool) (old new : StreamsValue S) (status : ℕ)
+    → count ≡ length blocks → several ≡ nat_lt 1 (length words)
+    → ShowsBlocks request table (record { count = count; several_files = several }) 1 (map input_block blocks) old new
     status
     → ShowsBlocks request table (places_of (files_of_words words) (map input_block blocks)) 1 (map input_block blocks)
     old new status
-shown-in-place request table words blocks slice count several old new status same c s x =
+shown-in-place request table words blocks count several old new status c s x =
     subst (λ (p : BlocksPlace). ShowsBlocks request table p 1 (map input_block blocks) old new status)
-    (place-of-all words blocks count several c s) (rw (← same) x)
+    (place-of-all words blocks count several c s) x
 
 pub returns-in_default : goal.returns-in_default
 returns-in_default g c =
@@ -48,6 +48,5 @@ pub returns : goal.returns
 returns g c =
     had (streams_value g.I.Source.state g.O.Drain.state g.M.Drain.state c.blocks_of_files.new.streams)
     (map input_block c.in-Some.blocks.items) c.show_blocks.result c.in-Some.ensures.gets
-    (shown-in-place c.args.request.now c.args.names.now c.args.request.now.files c.in-Some.blocks.items _ _ _ _ _ _
-    c.as_slice-2.ensures.value (search rules) (ap (λ (l : List (List ℕ)). nat_lt 1 (length l)) c.as_slice.ensures)
-    c.show_blocks.ensures)
+    (shown-in-place c.args.request.now c.args.names.now c.args.request.now.files c.in-Some.blocks.items _ _ _ _ _
+    (search rules) (ap (λ (l : List (List ℕ)). nat_lt 1 (length l)) c.as_slice.ensures) c.show_blocks.ensures)
