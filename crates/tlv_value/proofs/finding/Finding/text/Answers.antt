@@ -1,4 +1,4 @@
-use Rattle.std.proofs.Common.{arith, rules}
+use Rattle.std.proofs.Common.{arith}
 use Rattle.tlv_value.proofs.Wordings.{code_size, text_alone}
 use Rattle.tlv_value.proofs.finding.Finding.text.Goals as goal
 
