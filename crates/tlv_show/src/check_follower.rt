@@ -167,7 +167,7 @@ impl<const TRACKED: usize> Check<TRACKED> {
         put_findings(may_have_findings, Style::Check, &self.finder, out)
     }
 
-    /// A string that holds encodings begins. Separate: with it [`Check::put_lines`] would be too large to be inlined.
+    /// A string that holds encodings begins. Separate, so that [`Check::put_lines`] stays small, and is inlined.
     #[inline(never)]
     fn open_wrapper<D: Drain>(
         &mut self,

@@ -175,9 +175,9 @@ impl<const TRACKED: usize> Finder<TRACKED> {
         begin_in_strings::<TRACKED>(&mut self.strings, self.wanted, header, header.raw());
     }
 
-    /// An element that holds others begins, with a header of these octets. Returns whether there may be findings. If not,
-    /// there are none, and the last findings are still the findings of an earlier event. The octets are an argument, since
-    /// a header whose own are not used need not be made in memory.
+    /// An element that holds others begins, with a header of these octets. Returns whether there may be findings. If
+    /// not, there are none, and the last findings are still the findings of an earlier event. The octets are an argument,
+    /// since a header whose own are not used need not be made in memory.
     #[inline(always)]
     pub fn open(&mut self, header: &Header, octets: &[u8]) -> bool
         requires { octets.now ≡ octets_of header.now }

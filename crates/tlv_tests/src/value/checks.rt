@@ -126,7 +126,8 @@ fn findings_have_texts(rt: HostRuntime) {
     expect_eq(&rt, Finding::B08.text(), b"integer is padded".as_slice());
 }
 
-/// The blocks of a finding begin with its code and its text, or with its text, and a line feed. The count is their length.
+/// The blocks of a finding begin with its code and its text, or with its text alone, and a line feed. The count is the
+/// length of these.
 #[test]
 fn a_block_begins_with_the_text_of_its_finding(rt: HostRuntime) {
     let (line, count) = Finding::D01.line_block();
