@@ -4,6 +4,7 @@ pub mod CheckLaws
 pub mod FinderEnds
 pub mod FinderFolds
 pub mod FinderItems
+pub mod FinderStep
 pub mod FinderSteps
 pub mod FindingsOfHeaders
 pub mod FramesAfter

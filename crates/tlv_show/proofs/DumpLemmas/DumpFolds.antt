@@ -18,7 +18,7 @@ use Rattle.tlv_show.specs.WantedJobs.{dump_job_with, wanted_in}
 use Rattle.tlv_show.specs.DumpStep.{DumpState, dump_step, new_dump_with}
 use Rattle.tlv_show.specs.FinderState.{CheckState}
 use Rattle.tlv_show.specs.NestingState.{top_frame}
-use Rattle.tlv_show.specs.Private.FinderState.{finder_step}
+use Rattle.tlv_show.proofs.FindingLemmas.FinderStep.{finder_step}
 use Rattle.tlv_show.specs.Site.{Start}
 use Rattle.tlv_show.specs.Texts.{finding_count, item_text}
 use Rattle.tlv_show.specs.ShownFindings.{wanted_findings}

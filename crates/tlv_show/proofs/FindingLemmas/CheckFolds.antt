@@ -34,7 +34,7 @@ use Rattle.tlv_show.specs.AllConditions.{end_conditions, header_conditions}
 use Rattle.tlv_show.specs.FinderState.{CheckState, FinderState, OpenPrimitiveState, finder_frame_end_step}
 use Rattle.tlv_show.specs.FinderState.{finder_primitive_end_step, new_check, open_primitive_after}
 use Rattle.tlv_show.specs.NestingState.{top_frame}
-use Rattle.tlv_show.specs.Private.FinderState.{finder_step}
+use Rattle.tlv_show.proofs.FindingLemmas.FinderStep.{finder_step}
 use Rattle.tlv_show.specs.ShownFindings.{comes_after_order, contents_findings, end_findings, header_findings}
 use Rattle.tlv_show.specs.ShownFindings.{held_findings, is_shown, last_findings, shown_findings, wanted_findings}
 use Rattle.tlv_show.specs.ShownFindings.{wants_characters, wants_order, with_characters_if, with_order, with_order_if}

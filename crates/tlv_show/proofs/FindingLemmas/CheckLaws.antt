@@ -28,7 +28,8 @@ use Rattle.tlv_show.specs.ShownFindings.{wants_characters}
 use Rattle.tlv_show.proofs.SegmentLemmas.Frames.{all-after-append}
 use Rattle.tlv_show.specs.ShownFindings.{wants_order}
 use Rattle.tlv_show.proofs.SetOrderLemmas.OneElement.{octets_step-append}
-use Rattle.tlv_show.specs.Private.FinderState.{ReturnsFindings, finder_step, with_findings_if}
+use Rattle.tlv_show.specs.Private.FinderState.{ReturnsFindings, with_findings_if}
+use Rattle.tlv_show.proofs.FindingLemmas.FinderStep.{finder_step}
 use Rattle.tlv_show.proofs.DumpLemmas.OctetPieces.{take-both}
 
 primitive-join : (v : Option OpenPrimitiveState) (x y : List ℕ)

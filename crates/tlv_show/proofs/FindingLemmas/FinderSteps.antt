@@ -31,7 +31,7 @@ use Rattle.tlv_show.specs.FinderState.{CheckState, FinderState, contents_finding
 use Rattle.tlv_show.specs.FinderState.{finder_bytes_step, finder_close_step, finder_end_step, finder_open_step}
 use Rattle.tlv_show.specs.NestingState.{depth_in, frame_after, frame_under, nesting_primitive_step, surroundings_in}
 use Rattle.tlv_show.specs.NestingState.{with_element}
-use Rattle.tlv_show.specs.Private.FinderState.{finder_step}
+use Rattle.tlv_show.proofs.FindingLemmas.FinderStep.{finder_step}
 use Rattle.tlv_show.specs.KeptConditions.{header_findings_in}
 use Rattle.tlv_show.specs.Items.{Item, finding_items}
 use Rattle.tlv_show.specs.Conditions.{headers}

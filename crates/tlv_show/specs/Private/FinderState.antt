@@ -1,12 +1,9 @@
--- What a `Finder` does with an event, and what it returns.
-use Rattle.std.specs.Option.{is_some}
+-- What a `Finder` returns.
 use Rattle.std.specs.Prelude.{ℕ, ◌≡◌, Bool, true, false, if◌then◌else◌, List, []}
 use Rattle.tlv_head.specs.Header.{HeaderValue}
-use Rattle.tlv_walk.specs.Events.{Begin, Bytes, Close, End, Enter, EventValue, Leave, Open, Pad, Unused}
 use Rattle.tlv_show.specs.declared.wanted.Wanted.{Wanted}
 use Rattle.tlv_show.specs.FinderState.{CheckState, FinderState, new_check, without_findings}
-use Rattle.tlv_show.specs.FinderState.{finder_open_step, finder_begin_step, finder_bytes_step}
-use Rattle.tlv_show.specs.FinderState.{finder_end_step, finder_close_step}
+use Rattle.tlv_show.specs.FinderState.{finder_begin_step, finder_bytes_step, finder_end_step}
 
 -- a finder before its first event
 abbrev pub new_finder : Wanted → FinderState
@@ -24,18 +21,6 @@ ReturnsFindings f new false = (new.kept ≡ f.kept) × (f.findings ≡ [])
 -- the findings, if the finder says that there may be findings
 abbrev pub with_findings_if : Bool → FinderState → FinderState
 with_findings_if may_have_findings f = if may_have_findings then f else without_findings f.kept
-
--- an event
-abbrev pub finder_step : CheckState → EventValue → FinderState
-finder_step s (Open h) = finder_open_step s h
-finder_step s (Begin h) = finder_begin_step s h
-finder_step s (Bytes octets) = without_findings (finder_bytes_step s octets)
-finder_step s End = finder_end_step s
-finder_step s (Close offset) = finder_close_step s (is_some offset)
-finder_step s (Enter h) = finder_open_step s h
-finder_step s Unused = without_findings s
-finder_step s Leave = finder_close_step s false
-finder_step s (Pad octets) = without_findings s
 
 -- all of a primitive: its header, its contents and its end. The result has the findings of its end
 abbrev pub finder_whole_step : CheckState → HeaderValue → List ℕ → FinderState
