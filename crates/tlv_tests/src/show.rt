@@ -1,6 +1,7 @@
 //! Tests of `tlv_show`: dumps and checks.
 mod calls;
 mod primitives;
+mod scope_rows;
 mod scopes;
 mod segments;
 mod set_order;

@@ -2,6 +2,7 @@
 //! depend on the pieces in which the contents come.
 mod beside;
 mod checks;
+mod decimal_rows;
 mod drains;
 mod found_dates;
 mod found_rows;

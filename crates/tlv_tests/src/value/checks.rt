@@ -1,8 +1,9 @@
 //! Tests of the findings on contents, whatever the pieces.
+use super::decimal_rows::DECIMALS;
 use super::found_dates::{CLOCKS, DATES, DAYS};
 use super::found_rows::{BITS, Found, NUMBERS, OBJECTS, STRINGS, TIMES};
 use super::found_units::{FOURS, IRIS, TWOS};
-use super::real_rows::{BINARIES, DECIMALS, SPECIALS};
+use super::real_rows::{BINARIES, SPECIALS};
 use crate::expect::{expect_eq, expect_of};
 use crate::inputs::element_at;
 use arrayvec::ArrayVec;
