@@ -6,7 +6,6 @@ use Rattle.std.proofs.Math.Seq.{drop-append-add, drop-append_seam, take-add, tak
 use Rattle.std.proofs.lemmas.Fmt.{length-decimal-le}
 use Rattle.std.proofs.lemmas.List.{drop-drop, length-replicate, length-take-le, replicate-append-replicate}
 use Rattle.std.proofs.lemmas.List.{set-append_right, take-append-le, take-replicate, take-take, take_all, take_more}
-use Rattle.std.proofs.lemmas.List.{take_more_set}
 use Rattle.hex.specs.Hex.{encode_lower, lower_digits}
 use Rattle.hex.proofs.HexLemmas.{length-encode_with}
 use Rattle.itoa.proofs.Decimal.{length_one, length_step_wide}
@@ -274,30 +273,40 @@ pairs-size (x ∷ xs) =
       pairs-size xs,
     )
 
+-- the octets of a list of two
+two-octets : (l : List ℕ) → length l ≡ 2 → get_or l 0 0 ∷ get_or l 1 0 ∷ [] ≡ l
+two-octets (x ∷ y ∷ []) e = refl
+two-octets [] e = absurd (omega (arith, e))
+two-octets (x ∷ []) e = absurd (omega (arith, e))
+two-octets (x ∷ y ∷ z ∷ l) e = absurd (omega (arith, e))
+
 -- the pair of octet i, in place of the spaces after the one before it
-pub row_step : (octets to new pair rest : List ℕ) (i : ℕ) → i < 16 → length octets ≡ 16
+pub row_step : (octets to pair rest : List ℕ) (i : ℕ) → i < 16 → length octets ≡ 16
     → to ≡ spaced_pairs (take i octets) ++ (spaces (48 - 3 * i) ++ rest)
     → pair ≡ encode_lower (get_or octets i 0 ∷ [])
-    → new ≡ take (3 * i + 1) to ++ (pair ++ drop (3 * i + 3 - (3 * i + 1)) (drop (3 * i + 1) to))
-    → new ≡ spaced_pairs (take (i + 1) octets) ++ (spaces (48 - 3 * (i + 1)) ++ rest)
-row_step octets to new pair rest i few whole is p e =
+    → set (set to (3 * i + 1) (get_or pair 0 0)) (3 * i + 2) (get_or pair 1 0)
+    ≡ spaced_pairs (take (i + 1) octets) ++ (spaces (48 - 3 * (i + 1)) ++ rest)
+row_step octets to pair rest i few whole is p =
     let prefix : List ℕ = spaced_pairs (take i octets) in
     let tail : List ℕ = spaces (48 - 3 * (i + 1)) ++ rest in
+    let high : ℕ = get_or pair 0 0 in
+    let low : ℕ = get_or pair 1 0 in
     let size : length prefix ≡ 3 * i =
     pairs-size (take i octets) ∙ ap (λ (n : ℕ). 3 * n) (length-take-le i octets (omega arith)) in
     let three : 48 - 3 * i ≡ suc (suc (suc (48 - 3 * (i + 1)))) = omega (arith, few) in
     let t : to ≡ prefix ++ (32 ∷ 32 ∷ 32 ∷ tail) = is ∙ ap (λ (n : ℕ). prefix ++ (spaces n ++ rest)) three in
-    let taken : take (3 * i + 1) to ≡ prefix ++ 32 ∷ [] =
-    ap₂ (λ (n : ℕ) (l : List ℕ). take (n + 1) l) (sym size) t ∙ take-append-add prefix (32 ∷ 32 ∷ 32 ∷ tail) 1 in
-    let dropped : drop (3 * i + 3 - (3 * i + 1)) (drop (3 * i + 1) to) ≡ tail =
-    drop-drop (3 * i + 3 - (3 * i + 1)) (3 * i + 1) to
-    ∙ ap₂ (λ (n : ℕ) (l : List ℕ). drop n l) (omega (arith, size)) t
-    ∙ drop-append-add prefix (32 ∷ 32 ∷ 32 ∷ tail) 3 in
-    e
-    ∙ ap₂ (λ (k l : List ℕ). k ++ (pair ++ l)) taken dropped
-    ∙ ap (λ (l : List ℕ). (prefix ++ 32 ∷ []) ++ (l ++ tail)) p
-    ∙ append_assoc prefix (32 ∷ []) (encode_lower (get_or octets i 0 ∷ []) ++ tail)
-    ∙ sym (append_assoc prefix (32 ∷ encode_lower (get_or octets i 0 ∷ [])) tail)
+    let place : 3 * i + 1 - 3 * i ≡ 1 = omega arith in
+    let next_place : 3 * i + 2 - 3 * i ≡ 2 = omega arith in
+    let one : set to (3 * i + 1) high ≡ prefix ++ (32 ∷ high ∷ 32 ∷ tail) =
+    ap (λ (l : List ℕ). set l (3 * i + 1) high) t
+    ∙ set-append_right prefix (32 ∷ 32 ∷ 32 ∷ tail) (3 * i) (3 * i + 1) high size (omega arith)
+    ∙ ap (λ (n : ℕ). prefix ++ set (32 ∷ 32 ∷ 32 ∷ tail) n high) place in
+    let two : length pair ≡ 2 = ap length p ∙ length-encode_with lower_digits (get_or octets i 0 ∷ []) in
+    ap (λ (l : List ℕ). set l (3 * i + 2) low) one
+    ∙ set-append_right prefix (32 ∷ high ∷ 32 ∷ tail) (3 * i) (3 * i + 2) low size (omega arith)
+    ∙ ap (λ (n : ℕ). prefix ++ set (32 ∷ high ∷ 32 ∷ tail) n low) next_place
+    ∙ sym (append_assoc prefix (32 ∷ high ∷ low ∷ []) tail)
+    ∙ ap (λ (l : List ℕ). (prefix ++ 32 ∷ l) ++ tail) (two-octets pair two ∙ p)
     ∙ ap (λ (l : List ℕ). l ++ tail) (sym (pairs-more octets i (omega arith)))
 
 -- all 16
@@ -309,23 +318,3 @@ row_whole octets to rest i last whole is =
     let size : length (spaced_pairs octets) ≡ 48 = omega (arith, pairs-size octets, whole) in
     ap₂ take (sym size) (is ∙ ap₂ (λ (l : List ℕ) (n : ℕ). spaced_pairs l ++ (spaces n ++ rest)) all none)
     ∙ take-append_seam (spaced_pairs octets) rest
-
--- the pair of octet i, after the pairs before it
-pub pairs_step : (octets to pair tail : List ℕ) (i : ℕ) → i < length octets → 3 * i + 3 ≤ length to
-    → take (3 * i) to ≡ spaced_pairs (take i octets) → pair ≡ encode_lower (get_or octets i 0 ∷ [])
-    → take (3 * (i + 1)) (take (3 * i + 1) (set to (3 * i) 32) ++ (pair ++ tail)) ≡ spaced_pairs (take (i + 1) octets)
-pairs_step octets to pair tail i more within t e =
-    let prefix : List ℕ = spaced_pairs (take i octets) in
-    let taken : take (3 * i + 1) (set to (3 * i) 32) ≡ prefix ++ 32 ∷ [] =
-    take_more_set to (3 * i) 32 (omega (arith, within)) ∙ ap (λ (l : List ℕ). l ++ 32 ∷ []) t in
-    let size : length (take (3 * i + 1) (set to (3 * i) 32)) ≡ 3 * i + 1 =
-    ap length taken ∙ length-append prefix (32 ∷ []) ∙ ap (λ (l : List ℕ). length l + 1) (sym t)
-    ∙ ap (λ (n : ℕ). n + 1) (length-take-le (3 * i) to (omega (arith, within))) in
-    let two : length pair ≡ 2 = ap length e ∙ length-encode_with lower_digits (get_or octets i 0 ∷ []) in
-    let whole : 3 * (i + 1) ≡ length (take (3 * i + 1) (set to (3 * i) 32)) + length pair = omega (arith, size, two) in
-    ap (λ (n : ℕ). take n (take (3 * i + 1) (set to (3 * i) 32) ++ (pair ++ tail))) whole
-    ∙ take-append-add (take (3 * i + 1) (set to (3 * i) 32)) (pair ++ tail) (length pair)
-    ∙ ap₂ (λ (k l : List ℕ). k ++ l) taken (take-append_seam pair tail)
-    ∙ append_assoc prefix (32 ∷ []) pair
-    ∙ ap (λ (l : List ℕ). prefix ++ 32 ∷ l) e
-    ∙ sym (pairs-more octets i more)

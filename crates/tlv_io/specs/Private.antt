@@ -1,2 +1,3 @@
+pub mod PairTable
 pub mod ReadLog
 pub mod WritesOver

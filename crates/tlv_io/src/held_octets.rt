@@ -4,8 +4,10 @@ ghost use Rattle.tlv_io.specs.OutLimits.{held_limit};
 ghost use Rattle.tlv_io.specs.LineTexts.{AddsIfRoom, HasRoomFor, spaced_pairs, spaces};
 
 mod numbers;
+mod pair_table;
 mod texts;
 
+use pair_table::PairTable;
 use std::marker::Model;
 use texts::{fill_spaces, write_spaced_pairs, write_spaced_row};
 
@@ -20,6 +22,8 @@ pub(crate) const CAPACITY: usize = 4096;
 pub struct HeldOctets {
     len: usize,
     octets: [u8; CAPACITY],
+    /// Made once, so that no pair of digits costs a call of `hex`.
+    pairs: PairTable,
 }
 
 impl Model for HeldOctets {
@@ -38,9 +42,12 @@ impl HeldOctets {
     pub fn new() -> HeldOctets
         ensures { result ≡ [] }
     {
+        // First, so that the octets are cleared at their place.
+        let pairs = PairTable::new();
         HeldOctets {
             len: 0,
             octets: [0; CAPACITY],
+            pairs,
         }
     }
 
@@ -130,7 +137,7 @@ impl HeldOctets {
         ensures { self.new ≡ self.old ++ spaced_pairs octets.now }
     {
         let len = self.len();
-        write_spaced_pairs(octets, &mut self.octets[len..]);
+        write_spaced_pairs(octets, &self.pairs, &mut self.octets[len..]);
         self.len = len + 3 * octets.len();
     }
 
@@ -141,7 +148,7 @@ impl HeldOctets {
         ensures { self.new ≡ self.old ++ spaced_pairs octets.now }
     {
         let len = self.len();
-        write_spaced_row(octets, &mut self.octets[len..]);
+        write_spaced_row(octets, &self.pairs, &mut self.octets[len..]);
         self.len = len + 48;
     }
 

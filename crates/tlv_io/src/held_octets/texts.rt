@@ -3,6 +3,8 @@ ghost use Rattle.std.specs.Prelude.{◌+◌, ◌*◌, ◌≤◌, length};
 ghost use Rattle.tlv_io.specs.LineTexts.{spaced_pairs, spaces};
 ghost use Rattle.tlv_io.specs.Private.WritesOver.{WritesOver};
 
+use super::pair_table::PairTable;
+
 /// Writes spaces, and up to 32 more after them.
 #[inline(always)]
 pub(super) fn fill_spaces(to: &mut [u8], count: usize)
@@ -30,24 +32,28 @@ fn fill_more_spaces(to: &mut [u8], count: usize)
 
 /// Writes octets as pairs of digits, each pair after a space.
 #[inline(always)]
-pub(super) fn write_spaced_pairs(octets: &[u8], to: &mut [u8])
+pub(super) fn write_spaced_pairs(octets: &[u8], pairs: &PairTable, to: &mut [u8])
     requires { 3 * length octets.now ≤ length to.old }
     ensures { WritesOver (3 * length octets.now) to.old to.new (spaced_pairs octets.now) }
 {
     for i in 0..octets.len() {
         to[3 * i] = b' ';
-        let _ = hex::encode_to_slice([octets[i]], &mut to[3 * i + 1..3 * i + 3]);
+        let [high, low] = pairs.pair(octets[i]);
+        to[3 * i + 1] = high;
+        to[3 * i + 2] = low;
     }
 }
 
 /// Writes 16 octets as pairs of digits, each pair after a space. All the spaces are copied first, at once.
 #[inline(always)]
-pub(super) fn write_spaced_row(octets: &[u8; 16], to: &mut [u8])
+pub(super) fn write_spaced_row(octets: &[u8; 16], pairs: &PairTable, to: &mut [u8])
     requires { 48 ≤ length to.old }
     ensures { WritesOver 48 to.old to.new (spaced_pairs octets.now) }
 {
     to[..48].copy_from_slice(&[b' '; 48]);
     for i in 0..16 {
-        let _ = hex::encode_to_slice([octets[i]], &mut to[3 * i + 1..3 * i + 3]);
+        let [high, low] = pairs.pair(octets[i]);
+        to[3 * i + 1] = high;
+        to[3 * i + 2] = low;
     }
 }

@@ -1,5 +1,4 @@
-use Rattle.std.proofs.Common.{rules, ◌≡◌, ℕ, ◌++◌, [], ◌∷◌, List, ap, drop, get_or, refl, arith}
-use Rattle.hex.specs.Hex.{encode_lower}
+use Rattle.std.proofs.Common.{rules, ℕ, ◌++◌, List, ap, drop, refl, arith}
 use Rattle.tlv_io.proofs.HeldTexts.{row_step, row_whole}
 use Rattle.tlv_io.proofs.held_octets.texts.write_spaced_row.Goals as goal
 
@@ -12,12 +11,10 @@ loop-i-init c = record {
 pub loop-i-preserved : goal.loop-i-preserved
 loop-i-preserved c =
     let i : ℕ = c.loop-i.i in
-    let pair : c.encode_to_slice.new.output ≡ encode_lower (get_or c.args.octets.now i 0 ∷ []) = search rules in
     let p = c.loop-i.invariant.pairs in record {
       pairs = (
         p.0,
-        row_step c.args.octets.now c.loop-i.to _ c.encode_to_slice.new.output p.0 i c.loop-i-test.true
-            c.told-octets p.1 pair refl,
+        row_step c.args.octets.now c.loop-i.to c.pair.result p.0 i c.loop-i-test.true c.told-octets p.1 c.pair.ensures,
       );
       size = search rules;
     }
