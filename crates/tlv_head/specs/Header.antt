@@ -1,6 +1,6 @@
 -- The identifier and length octets of an element: X.690 8.1.2 and 8.1.3.
 use Rattle.std.specs.Prelude.{◌≡◌, ◌≢◌, ◌⊎◌, ℕ, ◌+◌, ◌*◌, ◌^◌, ◌<◌, ◌≤◌, Bool, true, false, not, ◌&&◌, ◌||◌, eqb}
-use Rattle.std.specs.Prelude.{if◌then◌else◌, List, [], ◌∷◌, ◌++◌, length, slice_index, map, All, Option, Some, None}
+use Rattle.std.specs.Prelude.{if◌then◌else◌, List, [], ◌∷◌, ◌++◌, length, map, All, Option, Some, None}
 use Rattle.std.specs.Option.{is_some, unwrap_or}
 use Rattle.tlv_head.specs.UniversalTypes as universal
 use Rattle.tlv_head.specs.declared.header.Class.{Class}
@@ -83,29 +83,18 @@ pub record HeaderValue : Type 0 where
 abbrev pub octets_of : HeaderValue → List ℕ
 octets_of h = h.identifier ++ h.lengths
 
--- 8.1.2.4.2: the first subsequent identifier octet, which is the second identifier octet, or 0 if there is none
-abbrev pub second_identifier_octet : HeaderValue → ℕ
-second_identifier_octet h = slice_index h.identifier 1
-
--- 8.1.3.5: the first subsequent length octet, which is the second length octet, or 0 if there is none
-abbrev pub second_length_octet : HeaderValue → ℕ
-second_length_octet h = slice_index h.lengths 1
-
 -- 8.1.3.3: the length, if it is definite
 abbrev pub definite_length : Size → Option ℕ
 definite_length (Definite n) = Some n
 definite_length Indefinite = None
-
--- 8.1.3.2 a): a primitive has a definite length
-abbrev pub AllowsSize : Bool → Size → Type 0
-AllowsSize constructed size = (constructed || is_some (definite_length size)) ≡ true
 
 -- 8.1.2, 8.1.3: `class`, `constructed` and `number` are those of the identifier octets, and `size` is that of the length
 -- octets. `offset` and `named` are not in the octets: `IsHeaderAt` of tlv_walk says what they are
 pub record IsHeader (h : HeaderValue) : Type 0 where
   pub identifier : IsIdentifier h.class h.constructed h.number h.identifier
   pub lengths : IsLength h.size h.lengths
-  pub allowed : AllowsSize h.constructed h.size
+  -- 8.1.3.2 a): a primitive has a definite length
+  pub allowed : (h.constructed || is_some (definite_length h.size)) ≡ true
 
 -- 8.1.3.3: the number of contents octets that the header announces: its length, or 0 if the length is indefinite,
 -- since then it announces none

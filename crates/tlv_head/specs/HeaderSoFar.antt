@@ -1,12 +1,18 @@
 -- What a `HeadReader` keeps about the octets so far.
-use Rattle.std.specs.Prelude.{◌≡◌, ℕ, ◌+◌, ◌^◌, ◌-◌, ◌<◌, ◌≤◌, Bool, true, false, List, [], length}
-use Rattle.tlv_head.specs.Header.{IsIdentifier, value_of}
+use Rattle.std.specs.Prelude.{◌≡◌, ℕ, ◌+◌, ◌^◌, ◌-◌, ◌<◌, ◌≤◌, Bool, true, false, ◌||◌, List, [], length}
+use Rattle.std.specs.Option.{is_some}
+use Rattle.tlv_head.specs.declared.header.Size.{Size}
+use Rattle.tlv_head.specs.Header.{IsIdentifier, definite_length, value_of}
 use Rattle.tlv_head.specs.Refusal.{IsLengthPrefix, IsNumberPrefix}
 use Rattle.tlv_head.specs.HeadReader.{HeadReaderState}
 use Rattle.tlv_head.specs.declared.next_octet.IdentifierFields.{IdentifierFields}
 use Rattle.tlv_head.specs.declared.next_octet.Part.{Part}
 use Rattle.tlv_head.specs.declared.next_octet.Part.TheVariants.{Start, Number, Identifier, Length, Whole}
 use Rattle.tlv_head.specs.declared.head_reader.HeadReader.TheInside.{Inside}
+
+-- 8.1.3.2 a): an element of this form may have a length of this size: a primitive has a definite length
+abbrev pub AllowsSize : Bool → Size → Type 0
+AllowsSize constructed size = (constructed || is_some (definite_length size)) ≡ true
 
 -- the identifier octets so far are in the high form
 pub record CarriesNumber (id : IdentifierFields) (octets : List ℕ) : Type 0 where

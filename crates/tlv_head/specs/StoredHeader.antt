@@ -1,7 +1,7 @@
 -- The meaning of the fields of a `Header`.
 use Rattle.std.specs.Prelude.{◌≡◌, take, drop, length, slice_index}
 use Rattle.tlv_head.specs.HeaderFields.{IsHeaderSized, new_header}
-use Rattle.tlv_head.specs.Header.{HeaderValue, octets_of, second_identifier_octet, second_length_octet}
+use Rattle.tlv_head.specs.Header.{HeaderValue, octets_of}
 use Rattle.tlv_head.specs.declared.header.Header.TheInside.{Inside}
 use Rattle.tlv_head.specs.declared.header.HeaderFields.{HeaderFields}
 
@@ -16,8 +16,8 @@ stored_header h = record {
   raw = record { items = octets_of h };
   id_len = length h.identifier;
   named = h.named;
-  second_identifier_octet = second_identifier_octet h;
-  second_length_octet = second_length_octet h;
+  second_identifier_octet = slice_index h.identifier 1;
+  second_length_octet = slice_index h.lengths 1;
 }
 
 -- the fields that are stored beside the octets of a header

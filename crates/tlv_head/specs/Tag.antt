@@ -1,21 +1,18 @@
 -- The texts of tags: X.680, table 1.
-use Rattle.std.specs.Prelude.{ℕ, List, [], ◌∷◌, ◌++◌, codes, decimal, Option}
+use Rattle.std.specs.Prelude.{ℕ, List, [], ◌++◌, codes, decimal}
 use Rattle.std.specs.Option.{option_map, unwrap_or}
 use Rattle.tlv_head.specs.TypeTable.{type_at}
 use Rattle.tlv_head.specs.declared.header.Class.{Class}
 use Rattle.tlv_head.specs.declared.header.Class.TheVariants.{Universal, Application, Context, Private}
 
--- the name of the type with this number, if any
-abbrev pub type_name : ℕ → Option (List ℕ)
-type_name number = option_map (λ t. t.name) (type_at number)
-
 -- the text of a tag without a name, by its class and number
 abbrev pub bracketed_tag : List ℕ → ℕ → List ℕ
-bracketed_tag class number = 91 ∷ class ++ decimal number ++ 93 ∷ []
+bracketed_tag class number = codes "[" ++ class ++ decimal number ++ codes "]"
 
+-- the name of a universal type, or such a text
 abbrev pub tag_text : Class → ℕ → List ℕ
 tag_text Universal number =
-    unwrap_or (type_name number) (bracketed_tag (codes "UNIVERSAL ") number)
+    unwrap_or (option_map (λ t. t.name) (type_at number)) (bracketed_tag (codes "UNIVERSAL ") number)
 tag_text Application number = bracketed_tag (codes "APPLICATION ") number
 tag_text Context number = bracketed_tag [] number
 tag_text Private number = bracketed_tag (codes "PRIVATE ") number

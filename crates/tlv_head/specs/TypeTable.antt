@@ -1,8 +1,6 @@
 -- The table of the universal types: X.680, table 1, with what X.690 says about each.
 use Rattle.std.specs.Prelude.{ℕ, eqb, Bool, true, false, List, [], ◌∷◌, codes, Option}
 use Rattle.std.specs.List.{find}
-use Rattle.std.specs.Option.{option_map_or}
-use Rattle.tlv_head.specs.UniversalTypes as universal
 use Rattle.tlv_head.specs.declared.kind.Kind.{Kind}
 use Rattle.tlv_head.specs.declared.kind.Kind.TheVariants.{Octets, Boolean, Integer, Bits, Object, Relative}
 use Rattle.tlv_head.specs.declared.kind.Kind.TheVariants.{Text, Utf8, Ucs2, Ucs4}
@@ -29,59 +27,51 @@ row number name encodings kind = record { number = number; name = name; encoding
 -- times
 abbrev pub type_table : List TypeRow
 type_table =
-    row universal.boolean (codes "BOOLEAN") Primitive Boolean
-    ∷ row universal.integer (codes "INTEGER") Primitive Integer
-    ∷ row universal.bit_string (codes "BIT STRING") Segmented Bits
-    ∷ row universal.octet_string (codes "OCTET STRING") Segmented Octets
-    ∷ row universal.null (codes "NULL") Primitive Octets
-    ∷ row universal.object_identifier (codes "OBJECT IDENTIFIER") Primitive Object
-    ∷ row universal.object_descriptor (codes "ObjectDescriptor") Segmented Text
-    ∷ row universal.external (codes "EXTERNAL") Constructed Octets
-    ∷ row universal.real (codes "REAL") Primitive Octets
-    ∷ row universal.enumerated (codes "ENUMERATED") Primitive Integer
-    ∷ row universal.embedded_pdv (codes "EMBEDDED PDV") Constructed Octets
-    ∷ row universal.utf8_string (codes "UTF8String") Segmented Utf8
-    ∷ row universal.relative_oid (codes "RELATIVE-OID") Primitive Relative
-    ∷ row universal.time (codes "TIME") Unjudged Octets
-    ∷ row universal.sequence (codes "SEQUENCE") Constructed Octets
-    ∷ row universal.set (codes "SET") Constructed Octets
-    ∷ row universal.numeric_string (codes "NumericString") Segmented Text
-    ∷ row universal.printable_string (codes "PrintableString") Segmented Text
-    ∷ row universal.teletex_string (codes "TeletexString") Segmented Text
-    ∷ row universal.videotex_string (codes "VideotexString") Segmented Text
-    ∷ row universal.ia5_string (codes "IA5String") Segmented Text
-    ∷ row universal.utc_time (codes "UTCTime") Segmented Text
-    ∷ row universal.generalized_time (codes "GeneralizedTime") Segmented Text
-    ∷ row universal.graphic_string (codes "GraphicString") Segmented Text
-    ∷ row universal.visible_string (codes "VisibleString") Segmented Text
-    ∷ row universal.general_string (codes "GeneralString") Segmented Text
-    ∷ row universal.universal_string (codes "UniversalString") Segmented Ucs4
-    ∷ row universal.character_string (codes "CHARACTER STRING") Constructed Octets
-    ∷ row universal.bmp_string (codes "BMPString") Segmented Ucs2
-    ∷ row universal.date (codes "DATE") Unjudged Octets
-    ∷ row universal.time_of_day (codes "TIME-OF-DAY") Unjudged Octets
-    ∷ row universal.date_time (codes "DATE-TIME") Unjudged Octets
-    ∷ row universal.duration (codes "DURATION") Unjudged Octets
-    ∷ row universal.oid_iri (codes "OID-IRI") Unjudged Octets
-    ∷ row universal.relative_oid_iri (codes "RELATIVE-OID-IRI") Unjudged Octets
+    row 1 (codes "BOOLEAN") Primitive Boolean
+    ∷ row 2 (codes "INTEGER") Primitive Integer
+    ∷ row 3 (codes "BIT STRING") Segmented Bits
+    ∷ row 4 (codes "OCTET STRING") Segmented Octets
+    ∷ row 5 (codes "NULL") Primitive Octets
+    ∷ row 6 (codes "OBJECT IDENTIFIER") Primitive Object
+    ∷ row 7 (codes "ObjectDescriptor") Segmented Text
+    ∷ row 8 (codes "EXTERNAL") Constructed Octets
+    ∷ row 9 (codes "REAL") Primitive Octets
+    ∷ row 10 (codes "ENUMERATED") Primitive Integer
+    ∷ row 11 (codes "EMBEDDED PDV") Constructed Octets
+    ∷ row 12 (codes "UTF8String") Segmented Utf8
+    ∷ row 13 (codes "RELATIVE-OID") Primitive Relative
+    ∷ row 14 (codes "TIME") Unjudged Octets
+    ∷ row 16 (codes "SEQUENCE") Constructed Octets
+    ∷ row 17 (codes "SET") Constructed Octets
+    ∷ row 18 (codes "NumericString") Segmented Text
+    ∷ row 19 (codes "PrintableString") Segmented Text
+    ∷ row 20 (codes "TeletexString") Segmented Text
+    ∷ row 21 (codes "VideotexString") Segmented Text
+    ∷ row 22 (codes "IA5String") Segmented Text
+    ∷ row 23 (codes "UTCTime") Segmented Text
+    ∷ row 24 (codes "GeneralizedTime") Segmented Text
+    ∷ row 25 (codes "GraphicString") Segmented Text
+    ∷ row 26 (codes "VisibleString") Segmented Text
+    ∷ row 27 (codes "GeneralString") Segmented Text
+    ∷ row 28 (codes "UniversalString") Segmented Ucs4
+    ∷ row 29 (codes "CHARACTER STRING") Constructed Octets
+    ∷ row 30 (codes "BMPString") Segmented Ucs2
+    ∷ row 31 (codes "DATE") Unjudged Octets
+    ∷ row 32 (codes "TIME-OF-DAY") Unjudged Octets
+    ∷ row 33 (codes "DATE-TIME") Unjudged Octets
+    ∷ row 34 (codes "DURATION") Unjudged Octets
+    ∷ row 35 (codes "OID-IRI") Unjudged Octets
+    ∷ row 36 (codes "RELATIVE-OID-IRI") Unjudged Octets
     ∷ []
 
 -- the row with this number, if any
 abbrev pub type_at : ℕ → Option TypeRow
 type_at number = find (λ t. eqb number t.number) type_table
 
--- the type with this number has these encodings
-abbrev pub has_encodings : (Encodings → Bool) → ℕ → Bool
-has_encodings test number = option_map_or (λ t. test t.encodings) (type_at number) false
-
-abbrev pub are_primitive : Encodings → Bool
-are_primitive Primitive = true
-are_primitive _ = false
-
-abbrev pub are_constructed : Encodings → Bool
-are_constructed Constructed = true
-are_constructed _ = false
-
-abbrev pub are_segmented : Encodings → Bool
-are_segmented Segmented = true
-are_segmented _ = false
+-- whether both are the same
+abbrev pub are_same_encodings : Encodings → Encodings → Bool
+are_same_encodings Primitive Primitive = true
+are_same_encodings Constructed Constructed = true
+are_same_encodings Segmented Segmented = true
+are_same_encodings Unjudged Unjudged = true
+are_same_encodings _ _ = false

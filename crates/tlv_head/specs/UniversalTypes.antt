@@ -1,4 +1,4 @@
--- The universal types by their numbers: X.680, table 1.
+-- Numbers of universal types that definitions name: X.680, table 1. All types are in `TypeTable`.
 use Rattle.std.specs.Prelude.{ℕ}
 
 abbrev pub boolean : ℕ
@@ -19,9 +19,6 @@ null = 5
 abbrev pub object_identifier : ℕ
 object_identifier = 6
 
-abbrev pub object_descriptor : ℕ
-object_descriptor = 7
-
 abbrev pub external : ℕ
 external = 8
 
@@ -40,9 +37,6 @@ utf8_string = 12
 abbrev pub relative_oid : ℕ
 relative_oid = 13
 
-abbrev pub time : ℕ
-time = 14
-
 abbrev pub sequence : ℕ
 sequence = 16
 
@@ -55,12 +49,6 @@ numeric_string = 18
 abbrev pub printable_string : ℕ
 printable_string = 19
 
-abbrev pub teletex_string : ℕ
-teletex_string = 20
-
-abbrev pub videotex_string : ℕ
-videotex_string = 21
-
 abbrev pub ia5_string : ℕ
 ia5_string = 22
 
@@ -70,14 +58,8 @@ utc_time = 23
 abbrev pub generalized_time : ℕ
 generalized_time = 24
 
-abbrev pub graphic_string : ℕ
-graphic_string = 25
-
 abbrev pub visible_string : ℕ
 visible_string = 26
-
-abbrev pub general_string : ℕ
-general_string = 27
 
 abbrev pub universal_string : ℕ
 universal_string = 28
@@ -96,9 +78,6 @@ time_of_day = 32
 
 abbrev pub date_time : ℕ
 date_time = 33
-
-abbrev pub duration : ℕ
-duration = 34
 
 abbrev pub oid_iri : ℕ
 oid_iri = 35

@@ -131,9 +131,8 @@ impl HeaderFields {
 }
 
 impl Header {
-    ghost use Rattle.std.specs.Prelude.{◌≤◌, length};
+    ghost use Rattle.std.specs.Prelude.{◌≤◌, length, slice_index};
     ghost use Rattle.tlv_head.specs.Header.{octets_of, wraps};
-    ghost use Rattle.tlv_head.specs.Header.{second_identifier_octet, second_length_octet};
     ghost use Rattle.tlv_head.specs.HeaderFields.{IsHeaderSized, fields_of, new_header};
 
     /// The header with these fields and octets. Requires at most 137 octets, of which at most ten, and not all, are
@@ -220,7 +219,7 @@ impl Header {
     /// The first subsequent identifier octet (8.1.2.4.2), or 0 if there is none.
     #[inline]
     pub fn second_identifier_octet(&self) -> u8
-        ensures { result ≡ second_identifier_octet self.now }
+        ensures { result ≡ slice_index self.now.identifier 1 }
     {
         self.second_identifier_octet
     }
@@ -228,7 +227,7 @@ impl Header {
     /// The first subsequent length octet (8.1.3.5), or 0 if there is none.
     #[inline]
     pub fn second_length_octet(&self) -> u8
-        ensures { result ≡ second_length_octet self.now }
+        ensures { result ≡ slice_index self.now.lengths 1 }
     {
         self.second_length_octet
     }

@@ -1,7 +1,8 @@
 //! The texts of tags.
 ghost use Rattle.std.specs.Prelude.{◌≡◌, ◌≤◌, IfSome, length, take};
 ghost use Rattle.std.specs.Option.{option_copied, option_map};
-ghost use Rattle.tlv_head.specs.Tag.{tag_text, type_name};
+ghost use Rattle.tlv_head.specs.Tag.{tag_text};
+ghost use Rattle.tlv_head.specs.TypeTable.{type_at};
 
 use crate::{Class, universal};
 use arrayvec::ArrayVec;
@@ -10,7 +11,7 @@ use itoa::Buffer;
 /// The name of a universal type (X.680, table 1), in ASCII, such as `INTEGER`: at most 17 octets. `None` if no type
 /// has the number.
 pub fn type_name(number: u64) -> Option<&'static [u8]>
-    ensures name { option_copied result ≡ type_name number }
+    ensures name { option_copied result ≡ option_map (λ t. t.name) (type_at number) }
     ensures short { IfSome result (λ name. length name.now ≤ 17) }
 {
     let (name, size) = type_name_block(number)?;
@@ -22,7 +23,7 @@ pub fn type_name(number: u64) -> Option<&'static [u8]>
 /// `None` if no type has the number.
 #[inline(always)]
 pub fn type_name_block(number: u64) -> Option<(&'static [u8; 32], usize)>
-    ensures name { option_map (λ (block, size). take size block.now) result ≡ type_name number }
+    ensures name { option_map (λ (block, size). take size block.now) result ≡ option_map (λ t. t.name) (type_at number) }
     ensures within { IfSome result (λ (block, size). size ≤ 17) }
 {
     Some(match number {

@@ -1,27 +1,20 @@
 -- All findings of a header, and of an end: the listed ones, which `Conditions` has, and the others, each finding beside
 -- its condition, in the order of the codes.
-use Rattle.std.specs.Prelude.{ℕ, Bool, true, false, ◌&&◌, ◌==◌, List, [], ◌∷◌, ◌++◌, length}
+use Rattle.std.specs.Prelude.{ℕ, Bool, ◌&&◌, ◌==◌, List, [], ◌∷◌, ◌++◌, length}
 use Rattle.tlv_head.specs.Header.{HeaderValue, is_universal}
-use Rattle.tlv_head.specs.TypeTable.{has_encodings}
 use Rattle.tlv_head.specs.UniversalTypes as universal
-use Rattle.tlv_head.specs.declared.type_table.Encodings.{Encodings}
 use Rattle.tlv_head.specs.declared.type_table.Encodings.TheVariants.{Unjudged}
 use Rattle.tlv_value.specs.declared.finding.Finding.{Finding}
 use Rattle.tlv_value.specs.declared.finding.Finding.TheVariants.{B22, B27}
-use Rattle.tlv_value.specs.Types.{is_number_of}
+use Rattle.tlv_value.specs.Types.{has_encodings, is_number_of}
 use Rattle.tlv_show.specs.Conditions.{listed_basic_conditions, listed_end_conditions, strict_conditions}
 use Rattle.tlv_show.specs.Site.{Site}
 
 -- ---- With the header
 
--- 8.21, 8.22, 8.26: the encodings of these types are primitive too
-abbrev pub are_unjudged : Encodings → Bool
-are_unjudged Unjudged = true
-are_unjudged _ = false
-
--- a TIME, DATE, TIME-OF-DAY, DATE-TIME, DURATION, OID-IRI or RELATIVE-OID-IRI
+-- 8.21, 8.22, 8.26: a TIME, DATE, TIME-OF-DAY, DATE-TIME, DURATION, OID-IRI or RELATIVE-OID-IRI
 abbrev pub is_time_or_iri : HeaderValue → Bool
-is_time_or_iri h = is_universal h.class && has_encodings are_unjudged h.number
+is_time_or_iri h = has_encodings Unjudged h
 
 -- the element is constructed, and is one of these
 abbrev pub is_constructed_time_or_iri : HeaderValue → Bool

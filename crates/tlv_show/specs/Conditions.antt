@@ -1,28 +1,24 @@
 -- The findings of a header, and of an end, by the rules of X.690: each finding beside its condition, in the order of
 -- the codes. These are the ones that are listed (`is_listed` in `ShownFindings`); `AllConditions` has the others.
 use Rattle.std.specs.Prelude.{ℕ, ◌+◌, ◌-◌, ◌%◌, Bool, false, ◌&&◌, ◌||◌, not, ◌==◌, nat_le, nat_lt}
-use Rattle.std.specs.Prelude.{if◌then◌else◌, List, [], ◌∷◌, ◌++◌, length, Some, sum_by}
+use Rattle.std.specs.Prelude.{if◌then◌else◌, List, [], ◌∷◌, ◌++◌, length, slice_index, Some, sum_by}
 use Rattle.std.specs.List.{list_all}
-use Rattle.tlv_head.specs.Header.{HeaderValue, announced_length, second_identifier_octet, second_length_octet}
+use Rattle.tlv_head.specs.Header.{HeaderValue, announced_length}
 use Rattle.tlv_value.specs.declared.finding.Finding.{Finding}
 use Rattle.tlv_value.specs.declared.finding.Finding.TheVariants.{B01, B02, B03, B04, B05, B16, B17}
 use Rattle.tlv_value.specs.declared.finding.Finding.TheVariants.{S01, D01, D02, C01, C02, C03, C04, C05, C06}
 use Rattle.tlv_head.specs.UniversalTypes as universal
-use Rattle.tlv_value.specs.Types.{has_segments, is_a, is_always_constructed, is_always_primitive, is_primitive}
-use Rattle.tlv_value.specs.Types.{is_string, is_unassigned}
+use Rattle.tlv_head.specs.declared.type_table.Encodings.TheVariants as encodings
+use Rattle.tlv_value.specs.Types.{has_encodings, has_segments, is_a, is_primitive, is_string, is_unassigned}
 use Rattle.tlv_walk.specs.Forest.{Forest, Holder, PaddingOctet, Primitive}
 use Rattle.tlv_walk.specs.Place.{is_indefinite}
 use Rattle.tlv_show.specs.Site.{Previous, Sibling, Site, in_bit_string, in_string}
 
 -- ---- With the header
 
--- 8.1.2.4: there are subsequent identifier octets
+-- 8.1.2.4: there are subsequent identifier octets: those after the first one
 abbrev pub has_high_form : HeaderValue → Bool
 has_high_form h = nat_lt 1 (length h.identifier)
-
--- 8.1.2.4.2: bits 7 to 1 of the first of them
-abbrev pub number_bits : HeaderValue → ℕ
-number_bits h = second_identifier_octet h % 128
 
 -- 8.1.2.2: the number is in subsequent octets, though it is below 31
 abbrev pub is_high_form_needless : HeaderValue → Bool
@@ -30,24 +26,24 @@ is_high_form_needless h = has_high_form h && nat_lt h.number 31
 
 -- 8.1.2.4.2 c): there are subsequent octets, and bits 7 to 1 of the first are all 0
 abbrev pub begins_with_zero_bits : HeaderValue → Bool
-begins_with_zero_bits h = has_high_form h && number_bits h == 0
+begins_with_zero_bits h = has_high_form h && slice_index h.identifier 1 % 128 == 0
 
 -- the element is constructed, and the encodings of its type are primitive
 abbrev pub is_wrongly_constructed : HeaderValue → Bool
-is_wrongly_constructed h = h.constructed && is_always_primitive h
+is_wrongly_constructed h = h.constructed && has_encodings encodings.Primitive h
 
 -- the element is primitive, and the encodings of its type are constructed
 abbrev pub is_wrongly_primitive : HeaderValue → Bool
-is_wrongly_primitive h = is_primitive h && is_always_constructed h
+is_wrongly_primitive h = is_primitive h && has_encodings encodings.Constructed h
 
--- 8.1.3.5: there are subsequent length octets
+-- 8.1.3.5: there are subsequent length octets: those after the first one
 abbrev pub has_long_form : HeaderValue → Bool
 has_long_form h = nat_lt 1 (length h.lengths)
 
 -- 9.1, 10.1: the length has more octets than it needs: the long form is for 128 and more, and does not begin with 00
 abbrev pub is_length_padded : HeaderValue → Bool
 is_length_padded h =
-    has_long_form h && (nat_lt (announced_length h.size) 128 || second_length_octet h == 0)
+    has_long_form h && (nat_lt (announced_length h.size) 128 || slice_index h.lengths 1 == 0)
 
 -- 8.6.2.2: what is right before is a primitive BIT STRING with unused bits
 abbrev pub leaves_unused_bits : Previous → Bool

@@ -3,8 +3,8 @@
 ghost use Rattle.std.specs.Prelude.{◌≡◌, ◌&&◌, ◌||◌, ◌==◌};
 ghost use Rattle.tlv_head.specs.Header.{announced_length, is_universal};
 ghost use Rattle.tlv_head.specs.UniversalTypes.{bit_string, sequence, set};
-ghost use Rattle.tlv_value.specs.Types.{has_segments, is_a, is_always_constructed, is_always_primitive};
-ghost use Rattle.tlv_value.specs.Types.{is_string, is_unassigned};
+ghost use Rattle.tlv_head.specs.declared.type_table.Encodings.TheVariants.{Constructed, Primitive};
+ghost use Rattle.tlv_value.specs.Types.{has_encodings, has_segments, is_a, is_string, is_unassigned};
 ghost use Rattle.tlv_walk.specs.Place.{is_indefinite};
 ghost use Rattle.tlv_show.specs.AllConditions.{has_components, is_time_or_iri};
 ghost use Rattle.tlv_show.specs.Conditions.{has_high_form, has_long_form, is_length_padded, segment_type};
@@ -71,7 +71,7 @@ pub(crate) fn is_unassigned(header: &Header) -> bool
 /// Whether the encodings of the type are primitive.
 #[inline(always)]
 pub(crate) fn is_always_primitive(header: &Header) -> bool
-    ensures { result ≡ is_always_primitive header.now }
+    ensures { result ≡ has_encodings Primitive header.now }
 {
     is_universal(header)
         && matches!(
@@ -89,7 +89,7 @@ pub(crate) fn is_always_primitive(header: &Header) -> bool
 /// Whether the encodings of the type are constructed.
 #[inline(always)]
 pub(crate) fn is_always_constructed(header: &Header) -> bool
-    ensures { result ≡ is_always_constructed header.now }
+    ensures { result ≡ has_encodings Constructed header.now }
 {
     is_universal(header)
         && matches!(

@@ -12,7 +12,7 @@ use Rattle.tlv_head.specs.Kind.{kind_of}
 use Rattle.tlv_value.specs.Number.{decimal_of}
 use Rattle.tlv_value.specs.Rows.{rows_of}
 use Rattle.tlv_value.specs.Times.{canonical_generalized_time_form, canonical_utc_time_form, generalized_time_form}
-use Rattle.tlv_value.specs.Times.{has_form, utc_time_form}
+use Rattle.tlv_value.specs.Times.{utc_time_form}
 use Rattle.tlv_value.specs.Value.{used_digits}
 
 enumerated-kind : kind_of Universal 10 ≡ Integer
@@ -58,19 +58,19 @@ cut-apart : rows_of Text characters ≡ (replicate 62 97 ++ (0xe2 ∷ 0x82 ∷ [
 unfolding characters
 cut-apart = refl
 
-utc : has_form utc_time_form (codes "910506234540+0000") ≡ true
+utc : utc_time_form (codes "910506234540+0000") ≡ true
 utc = refl
 
-utc-not-canonical : has_form canonical_utc_time_form (codes "910506234540+0000") ≡ false
+utc-not-canonical : canonical_utc_time_form (codes "910506234540+0000") ≡ false
 utc-not-canonical = refl
 
-general : has_form generalized_time_form (codes "1992072213") ≡ true
+general : generalized_time_form (codes "1992072213") ≡ true
 general = refl
 
-general-without-digits : has_form generalized_time_form (codes "19920722132100.Z") ≡ false
+general-without-digits : generalized_time_form (codes "19920722132100.Z") ≡ false
 general-without-digits = refl
 
-general-canonical : has_form canonical_generalized_time_form (codes "19920722132100.3Z") ≡ true
+general-canonical : canonical_generalized_time_form (codes "19920722132100.3Z") ≡ true
 general-canonical = refl
 
 -- a primitive of the universal type with this number

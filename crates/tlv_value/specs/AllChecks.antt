@@ -43,7 +43,7 @@ later_basic_type_conditions number contents =
     ∷ (is_number_of wide_string_types number && has_wrong_unit number contents, B25)
     -- X.680 46, 47: in a time of at most 64 octets that follows the grammar of its type, the month has the day
     ∷ (
-      is_short_time number contents && times.has_form (time_form number) contents
+      is_short_time number contents && time_form number contents
           && not (time_has_day number contents),
       B26,
     )

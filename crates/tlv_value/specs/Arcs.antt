@@ -1,5 +1,5 @@
 -- Object identifiers: X.690 8.19 and 8.20.
-use Rattle.std.specs.Prelude.{ℕ, ◌-◌, ◌%◌, ◌^◌, Bool, ◌&&◌, nat_lt, nat_le, if◌then◌else◌, List}
+use Rattle.std.specs.Prelude.{ℕ, ◌-◌, ◌%◌, ◌^◌, Bool, true, false, ◌&&◌, nat_lt, nat_le, if◌then◌else◌, List}
 use Rattle.std.specs.Prelude.{[], ◌∷◌, ◌++◌, length, map, slice_index, Option, Some, None, codes, decimal}
 use Rattle.std.specs.List.{join_by, list_all, onto_first}
 use Rattle.tlv_head.specs.Header.{value_of}
@@ -23,14 +23,12 @@ first_arcs v =
     else if nat_lt v 80 then 1 ∷ (v - 40) ∷ []
     else 2 ∷ (v - 80) ∷ []
 
--- 8.19.3 to 8.19.5: the arcs that the subidentifiers of an object identifier stand for
-abbrev pub absolute_arcs : List ℕ → List ℕ
-absolute_arcs [] = []
-absolute_arcs (v ∷ vs) = first_arcs v ++ vs
-
--- 8.20.3, 8.20.4: the arcs; for a relative object identifier they are the subidentifiers
+-- the arcs that subidentifiers stand for. 8.20.3, 8.20.4: in a relative object identifier each stands for one. 8.19.3 to
+-- 8.19.5: in any other, the first stands for two
 abbrev pub arcs_of : Bool → List ℕ → List ℕ
-arcs_of relative vs = if relative then vs else absolute_arcs vs
+arcs_of true vs = vs
+arcs_of false [] = []
+arcs_of false (v ∷ vs) = first_arcs v ++ vs
 
 -- there are octets, and bit 8 of the last is clear
 abbrev pub is_finished : List ℕ → Bool

@@ -1,12 +1,11 @@
 -- The findings on the contents of a primitive: X.690 8 and 11. These are the ones that are listed (`is_listed` in
 -- `ShownFindings` of tlv_show); `AllChecks` has the others. The conditions are at the end, and the terms that they use
 -- before them.
-use Rattle.std.specs.Prelude.{ℕ, ◌%◌, ◌^◌, Bool, true, false, ◌&&◌, ◌||◌, not, ◌==◌, eqb, nat_le, nat_lt}
-use Rattle.std.specs.Prelude.{if◌then◌else◌, List, [], ◌∷◌, ◌++◌, flat_map, length, Option, Some, None}
+use Rattle.std.specs.Prelude.{ℕ, ◌%◌, ◌^◌, Bool, false, ◌&&◌, ◌||◌, not, ◌==◌, eqb, nat_le, nat_lt}
+use Rattle.std.specs.Prelude.{if◌then◌else◌, List, [], ◌∷◌, ◌++◌, flat_map, length}
 use Rattle.std.specs.Prelude.{codes}
 use Rattle.std.specs.Char.{is_ascii_alphabetic, is_ascii_digit}
 use Rattle.std.specs.List.{list_all, list_any}
-use Rattle.std.specs.Option.{option_map_or}
 use Rattle.std.specs.Str.{is_utf8}
 use Rattle.tlv_head.specs.Header.{HeaderValue, is_universal}
 use Rattle.tlv_head.specs.UniversalTypes as universal
@@ -16,21 +15,13 @@ use Rattle.tlv_value.specs.declared.finding.Finding.TheVariants.{B15, B18, B19, 
 use Rattle.tlv_value.specs.Arcs.{parts_of}
 pub use Rattle.tlv_value.specs.ContentsOctets.{first_octet, is_padded_integer, last_octet}
 use Rattle.tlv_value.specs.Times as times
-use Rattle.tlv_value.specs.Types.{character_types, integer_types, is_number_of, object_types, time_types}
+use Rattle.tlv_value.specs.Types.{integer_types, is_number_of, object_types, time_types}
 use Rattle.tlv_value.specs.Units.{is_printable}
-
--- 8.6.2.2: the number that the unused bits of the last octet make
-abbrev pub unused_bits_value : List ℕ → ℕ
-unused_bits_value contents = last_octet contents % 2 ^ first_octet contents
 
 -- the first octet is this one
 abbrev pub begins_with : ℕ → List ℕ → Bool
 begins_with octet [] = false
 begins_with octet (x ∷ xs) = eqb x octet
-
--- 8.19.2, 8.20.2: a subidentifier begins with 80
-abbrev pub has_padded_part : List ℕ → Bool
-has_padded_part contents = list_any (begins_with 0x80) (parts_of contents)
 
 abbrev pub is_digit_or_space : ℕ → Bool
 is_digit_or_space x = eqb x 0x20 || is_ascii_digit x
@@ -40,32 +31,22 @@ abbrev pub is_printable_string_octet : ℕ → Bool
 is_printable_string_octet x =
     is_digit_or_space x || is_ascii_alphabetic x || list_any (eqb x) (codes "'()+,-./:=?")
 
--- the test that each octet of a string of the type with this number passes: NumericString, PrintableString, IA5String,
--- VisibleString. Other types have none
-abbrev pub octet_test : ℕ → Option (ℕ → Bool)
-octet_test number =
-    if eqb number universal.numeric_string then Some is_digit_or_space
-    else if eqb number universal.printable_string then Some is_printable_string_octet
-    else if eqb number universal.ia5_string then Some (λ x. nat_lt x 128)
-    else if eqb number universal.visible_string then Some is_printable
-    else None
+-- X.680 41: the contents that a type of characters allows, a row for each type that is looked at. A BMPString has two
+-- octets for each character, a UniversalString four
+abbrev pub allowed_characters : List (ℕ × (List ℕ → Bool))
+allowed_characters =
+    (universal.utf8_string, is_utf8)
+    ∷ (universal.numeric_string, list_all is_digit_or_space)
+    ∷ (universal.printable_string, list_all is_printable_string_octet)
+    ∷ (universal.ia5_string, list_all (λ x. nat_lt x 128))
+    ∷ (universal.visible_string, list_all is_printable)
+    ∷ (universal.universal_string, λ contents. length contents % 4 == 0)
+    ∷ (universal.bmp_string, λ contents. length contents % 2 == 0)
+    ∷ []
 
-abbrev pub allows_octet : ℕ → ℕ → Bool
-allows_octet number x = option_map_or (λ test. test x) (octet_test number) true
-
--- this number of octets makes whole characters: BMPString has two octets for each, UniversalString four
-abbrev pub are_whole_characters : ℕ → ℕ → Bool
-are_whole_characters number size =
-    if eqb number universal.bmp_string then eqb (size % 2) 0
-    else if eqb number universal.universal_string then eqb (size % 4) 0
-    else true
-
--- the type with this number allows the characters of the contents
+-- the type with this number allows the contents, or has no row
 abbrev pub allows : ℕ → List ℕ → Bool
-allows number octets =
-    (if eqb number universal.utf8_string then is_utf8 octets
-    else are_whole_characters number (length octets))
-    && list_all (allows_octet number) octets
+allows number contents = list_all (λ row. not (number == row.0) || row.1 contents) allowed_characters
 
 -- 8.25: a UTCTime or GeneralizedTime of at most 64 octets; the form of a longer one is not checked
 abbrev pub is_short_time : ℕ → List ℕ → Bool
@@ -80,13 +61,9 @@ canonical_form number =
 
 -- ---- The findings
 
--- the finding, if the condition holds
-abbrev pub finding_if : Bool → Finding → List Finding
-finding_if there finding = if there then finding ∷ [] else []
-
 -- from findings beside their conditions: the findings whose conditions hold, in the same order
 abbrev pub findings_by : List (Bool × Finding) → List Finding
-findings_by rows = flat_map (λ row. finding_if row.0 row.1) rows
+findings_by rows = flat_map (λ row. if row.0 then row.1 ∷ [] else []) rows
 
 -- the listed findings on these contents of a primitive of the type with this number, beside their conditions: by the
 -- rules of all encodings
@@ -103,7 +80,7 @@ listed_basic_type_conditions number contents =
     -- 8.19.2: an OBJECT IDENTIFIER has one subidentifier or more
     ∷ (number == universal.object_identifier && length contents == 0, B10)
     -- 8.19.2, 8.20.2: no subidentifier begins with 80
-    ∷ (is_number_of object_types number && has_padded_part contents, B11)
+    ∷ (is_number_of object_types number && list_any (begins_with 0x80) (parts_of contents), B11)
     -- 8.19.2, 8.20.2: bit 8 is clear in the last octet of a subidentifier
     ∷ (is_number_of object_types number && nat_le 128 (last_octet contents), B12)
     -- 8.6.2: a BIT STRING has a first octet, the number of unused bits
@@ -119,9 +96,9 @@ listed_basic_type_conditions number contents =
     -- X.680 41: a string of characters has only characters that its type allows. Of a BMPString and a UniversalString
     -- only the length is looked at here: it is that of whole characters. Strings of registered characters are not
     -- looked at
-    ∷ (is_number_of character_types number && not (allows number contents), B18)
+    ∷ (not (allows number contents), B18)
     -- X.680 46, 47: a time of at most 64 octets follows the grammar of its type, as `Times` has it
-    ∷ (is_short_time number contents && not (times.has_form (time_form number) contents), B19)
+    ∷ (is_short_time number contents && not (time_form number contents), B19)
     ∷ []
 
 -- and by the rules of DER, and of CER
@@ -133,17 +110,17 @@ listed_strict_type_conditions number contents =
           && not (first_octet contents == 0 || first_octet contents == 0xff),
       S02,
     )
-    -- 11.2.1: unused bits are 0
+    -- 11.2.1: unused bits, the last bits of the last octet, are 0
     ∷ (
       number == universal.bit_string && nat_le 2 (length contents) && nat_le (first_octet contents) 7
-          && not (unused_bits_value contents == 0),
+          && not (last_octet contents % 2 ^ first_octet contents == 0),
       S03,
     )
     -- 11.7, 11.8: a time of at most 64 octets that follows the grammar of its type is in the canonical form, as `Times`
     -- has it
     ∷ (
-      is_short_time number contents && times.has_form (time_form number) contents
-          && not (times.has_form (canonical_form number) contents),
+      is_short_time number contents && time_form number contents
+          && not (canonical_form number contents),
       S04,
     )
     ∷ []

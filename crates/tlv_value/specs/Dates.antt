@@ -2,7 +2,7 @@
 use Rattle.std.specs.Prelude.{ℕ, ◌+◌, ◌*◌, ◌%◌, Bool, false, ◌&&◌, ◌||◌, not, ◌==◌, nat_le}
 use Rattle.std.specs.Prelude.{if◌then◌else◌, List, ◌∷◌}
 use Rattle.tlv_head.specs.UniversalTypes as universal
-use Rattle.tlv_value.specs.Times.{Form, has_form, minute, month_and_day, two_digit_number, two_digits, ◌then◌}
+use Rattle.tlv_value.specs.Times.{Form, minute, month_and_day, two_digit_number, two_digits, year_digits, ◌then◌}
 
 -- the Gregorian calendar: 4 divides a leap year, and 100 does not, or 400 does
 abbrev pub is_leap_year : ℕ → Bool
@@ -39,7 +39,7 @@ time_of_day_form = two_digits 0 23 then minute then two_digits 0 59
 
 -- YYYYMMDD
 abbrev pub date_form : Form
-date_form = two_digits 0 99 then two_digits 0 99 then month_and_day
+date_form = year_digits then year_digits then month_and_day
 
 -- YYYYMMDDhhmmss
 abbrev pub date_time_form : Form
@@ -48,6 +48,6 @@ date_time_form = date_form then time_of_day_form
 -- 8.26: the contents of a DATE, TIME-OF-DAY or DATE-TIME, the type with this number, are such a date or time
 abbrev pub is_date_or_time : ℕ → List ℕ → Bool
 is_date_or_time number contents =
-    if number == universal.time_of_day then has_form time_of_day_form contents
-    else if number == universal.date then has_form date_form contents && month_has_day contents
-    else has_form date_time_form contents && month_has_day contents
+    if number == universal.time_of_day then time_of_day_form contents
+    else if number == universal.date then date_form contents && month_has_day contents
+    else date_time_form contents && month_has_day contents

@@ -4,7 +4,7 @@ use Rattle.std.specs.Prelude.{ℕ, ◌+◌, ◌/◌, ◌%◌, Bool, true, ◌&&�
 use Rattle.std.specs.Prelude.{if◌then◌else◌, List, [], ◌∷◌, length, take, drop}
 use Rattle.std.specs.List.{list_all}
 use Rattle.tlv_value.specs.ContentsOctets.{first_octet, is_padded_integer, last_octet}
-use Rattle.tlv_value.specs.TextForms.{Form, digits, has_form, mark, maybe, octet_between, sign, ◌or◌, ◌then◌}
+use Rattle.tlv_value.specs.TextForms.{Form, digits, mark, maybe, octet_between, sign, ◌or◌, ◌then◌}
 
 -- ---- Binary: 8.5.7
 
@@ -104,9 +104,9 @@ nr3_form = number_prefix then (some_digits or marked_digits) then exponent
 -- 8.5.8: the first octet says which form it is; no other octet below 40 is allowed
 abbrev pub is_decimal_form : ℕ → List ℕ → Bool
 is_decimal_form x rest =
-    if x == 1 then has_form nr1_form rest
-    else if x == 2 then has_form nr2_form rest
-    else x == 3 && has_form nr3_form rest
+    if x == 1 then nr1_form rest
+    else if x == 2 then nr2_form rest
+    else x == 3 && nr3_form rest
 
 -- a digit that is not 0: 31 to 39
 abbrev pub nonzero_digit : Form
@@ -141,4 +141,4 @@ is_canonical_real [] = true
 is_canonical_real (x ∷ rest) =
     if nat_le 0x80 x then is_canonical_binary x rest
     else if nat_le 0x40 x then is_special_form x rest
-    else x == 3 && has_form canonical_nr3_form rest
+    else x == 3 && canonical_nr3_form rest

@@ -7,10 +7,6 @@ use Rattle.std.specs.Char.{is_ascii_digit}
 abbrev pub Form : Type 0
 Form = List ℕ → Bool
 
--- the text has the form
-abbrev pub has_form : Form → List ℕ → Bool
-has_form form text = form text
-
 -- each way to split a text into a first part and the rest, where either may be empty
 abbrev pub splits : List ℕ → List (List ℕ × List ℕ)
 splits [] = ([], []) ∷ []

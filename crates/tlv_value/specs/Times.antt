@@ -1,7 +1,7 @@
 -- Times as texts: X.680 46 and 47, X.690 11.7 and 11.8.
 use Rattle.std.specs.Prelude.{ℕ, ◌+◌, ◌-◌, ◌*◌, false, ◌&&◌, nat_le, ◌∷◌, []}
 use Rattle.std.specs.Char.{is_ascii_digit}
-pub use Rattle.tlv_value.specs.TextForms.{Form, digits, has_form, mark, maybe, no_octets, octet_between, sign, splits}
+pub use Rattle.tlv_value.specs.TextForms.{Form, digits, mark, maybe, no_octets, octet_between, sign, splits}
 pub use Rattle.tlv_value.specs.TextForms.{◌or◌, ◌then◌}
 
 -- the number that two digits stand for: 30 is the digit 0
@@ -17,6 +17,11 @@ two_digits low high text = false
 -- ---- The grammars. Each number of two digits is looked at by itself, so ranges are lenient: each month has 31 days,
 -- hour 24 is allowed with any minute, also in a difference, and second 60 in any minute
 
+-- YY: two digits of a year. A year of four digits is two of these
+abbrev pub year_digits : Form
+year_digits = two_digits 0 99
+
+-- MMDD
 abbrev pub month_and_day : Form
 month_and_day = two_digits 1 12 then two_digits 1 31
 
@@ -29,21 +34,13 @@ minute = two_digits 0 59
 abbrev pub second : Form
 second = two_digits 0 60
 
--- year to minute
-abbrev pub utc_minute : Form
-utc_minute = two_digits 0 99 then month_and_day then hour then minute
-
 -- 5a is Z
 abbrev pub utc_zone : Form
 utc_zone = mark 0x5a or (sign then hour then minute)
 
 -- X.680 47.3
 abbrev pub utc_time_form : Form
-utc_time_form = utc_minute then maybe second then utc_zone
-
--- year to hour
-abbrev pub generalized_hour : Form
-generalized_hour = two_digits 0 99 then two_digits 0 99 then month_and_day then hour
+utc_time_form = year_digits then month_and_day then hour then minute then maybe second then utc_zone
 
 -- one digit or more after a point or a comma: 2e is the point, 2c the comma, 30 to 39 are the digits
 abbrev pub fraction : Form
@@ -52,34 +49,29 @@ fraction = (mark 0x2e or mark 0x2c) then octet_between 0x30 0x39 then digits
 abbrev pub generalized_zone : Form
 generalized_zone = mark 0x5a or (sign then hour then maybe minute)
 
--- what follows the hour, minute or second
-abbrev pub generalized_tail : Form
-generalized_tail = maybe fraction then maybe generalized_zone
-
--- X.680 46.3
+-- X.680 46.3: the fraction is that of the hour, minute or second before it
 abbrev pub generalized_time_form : Form
 generalized_time_form =
-    generalized_hour then maybe (minute then maybe second) then generalized_tail
+    year_digits then year_digits then month_and_day then hour then maybe (minute then maybe second)
+    then maybe fraction then maybe generalized_zone
 
 -- ---- The canonical forms: X.690 11.7, 11.8
 
--- 11.7.5, 11.8.3: midnight is hour 0 of the following day, so no hour is 24
+-- hour, minute and second. 11.7.2, 11.8.2: the second is always present. 11.7.5, 11.8.3: midnight is hour 0 of the
+-- following day, so no hour is 24
 abbrev pub canonical_clock : Form
 canonical_clock = two_digits 0 23 then minute then second
 
--- year of two digits to second. 11.7.2, 11.8.2: the second is always present
-abbrev pub canonical_second : Form
-canonical_second = two_digits 0 99 then month_and_day then canonical_clock
-
 -- 11.8.1: the time ends with Z
 abbrev pub canonical_utc_time_form : Form
-canonical_utc_time_form = canonical_second then mark 0x5a
+canonical_utc_time_form = year_digits then month_and_day then canonical_clock then mark 0x5a
 
 -- 11.7.4: the mark of a fraction is the point. 11.7.3: the last digit is not 0, and the point is left out with the
 -- digits: 31 to 39 are the digits 1 to 9
 abbrev pub canonical_fraction : Form
 canonical_fraction = mark 0x2e then digits then octet_between 0x31 0x39
 
--- year of four digits to second, and a fraction if there is one. 11.7.1: the time ends with Z
+-- 11.7.1: the time ends with Z
 abbrev pub canonical_generalized_time_form : Form
-canonical_generalized_time_form = (two_digits 0 99 then canonical_second) then maybe canonical_fraction then mark 0x5a
+canonical_generalized_time_form =
+    year_digits then year_digits then month_and_day then canonical_clock then maybe canonical_fraction then mark 0x5a

@@ -1,10 +1,12 @@
 -- What a tag says of an element, by the table of the universal types.
-use Rattle.std.specs.Prelude.{ℕ, Bool, ◌&&◌, ◌||◌, not, ◌==◌, eqb, List, [], ◌∷◌, ◌++◌}
+use Rattle.std.specs.Prelude.{ℕ, Bool, false, ◌&&◌, ◌||◌, not, ◌==◌, eqb, List, [], ◌∷◌, ◌++◌}
 use Rattle.std.specs.List.{list_any}
-use Rattle.std.specs.Option.{is_some}
+use Rattle.std.specs.Option.{is_none, option_map_or}
 use Rattle.tlv_head.specs.UniversalTypes as universal
 use Rattle.tlv_head.specs.Header.{HeaderValue, is_universal}
-use Rattle.tlv_head.specs.TypeTable.{are_constructed, are_primitive, are_segmented, has_encodings, type_at}
+use Rattle.tlv_head.specs.TypeTable.{are_same_encodings, type_at}
+use Rattle.tlv_head.specs.declared.type_table.Encodings.{Encodings}
+use Rattle.tlv_head.specs.declared.type_table.Encodings.TheVariants.{Constructed, Segmented}
 
 -- the tag is the tag of this type
 abbrev pub is_a : ℕ → HeaderValue → Bool
@@ -22,7 +24,7 @@ integer_types = universal.integer ∷ universal.enumerated ∷ []
 abbrev pub object_types : List ℕ
 object_types = universal.object_identifier ∷ universal.relative_oid ∷ []
 
--- X.680 41: strings whose octets are checked one by one
+-- X.680 41: strings whose octets are checked one by one: `allowed_characters` of `Checks` says how
 abbrev pub tested_string_types : List ℕ
 tested_string_types =
     universal.numeric_string
@@ -52,17 +54,15 @@ iri_types = universal.oid_iri ∷ universal.relative_oid_iri ∷ []
 abbrev pub wide_string_types : List ℕ
 wide_string_types = universal.universal_string ∷ universal.bmp_string ∷ []
 
--- its encodings are always primitive
-abbrev pub is_always_primitive : HeaderValue → Bool
-is_always_primitive h = is_universal h.class && has_encodings are_primitive h.number
-
--- its encodings are always constructed
-abbrev pub is_always_constructed : HeaderValue → Bool
-is_always_constructed h = is_universal h.class && has_encodings are_constructed h.number
+-- the tag is the tag of a universal type, and the table has these encodings for it
+abbrev pub has_encodings : Encodings → HeaderValue → Bool
+has_encodings encodings h =
+    is_universal h.class
+    && option_map_or (λ t. are_same_encodings encodings t.encodings) (type_at h.number) false
 
 -- a string; the two times are strings too
 abbrev pub is_string : HeaderValue → Bool
-is_string h = is_universal h.class && has_encodings are_segmented h.number
+is_string h = has_encodings Segmented h
 
 -- 8.1.2.5: the element is primitive, as a string that holds encodings is
 abbrev pub is_primitive : HeaderValue → Bool
@@ -72,14 +72,10 @@ is_primitive h = not h.constructed
 abbrev pub has_segments : HeaderValue → Bool
 has_segments h = h.constructed && is_string h
 
--- no universal type has the number
-abbrev pub is_unassigned_number : ℕ → Bool
-is_unassigned_number number = not (is_some (type_at number))
-
 -- the tag is universal, and no type has its number
 abbrev pub is_unassigned : HeaderValue → Bool
-is_unassigned h = is_universal h.class && is_unassigned_number h.number
+is_unassigned h = is_universal h.class && is_none (type_at h.number)
 
 -- a primitive may have the tag: if it is universal, its type has primitives
 abbrev pub has_primitives : HeaderValue → Bool
-has_primitives h = not (is_unassigned h || is_always_constructed h)
+has_primitives h = not (is_unassigned h || has_encodings Constructed h)

@@ -42,15 +42,14 @@ utf8_number _ = 0
 abbrev pub three_octets : ℕ → List ℕ
 three_octets n = n / 65536 % 256 ∷ n / 256 % 256 ∷ n % 256 ∷ []
 
--- RFC 3629, 4: the octets of the character that the first octet announces, as far as they are present
-abbrev pub character_octets : List ℕ → List ℕ
-character_octets octets = take (utf8_length (slice_index octets 0)) octets
-
--- how many of the first octets make a unit: a character, or an octet that belongs to no character
+-- how many of the first octets make a unit: a character, or an octet that belongs to no character. RFC 3629, 4: the
+-- first octet of a character of UTF-8 says how many it has
 abbrev pub unit_size : Kind → List ℕ → ℕ
 unit_size Ucs2 octets = if nat_le 2 (length octets) then 2 else 1
 unit_size Ucs4 octets = if nat_le 4 (length octets) then 4 else 1
-unit_size Utf8 octets = if is_utf8 (character_octets octets) then length (character_octets octets) else 1
+unit_size Utf8 octets =
+    let character = take (utf8_length (slice_index octets 0)) octets in
+    if is_utf8 character then length character else 1
 unit_size _ octets = 1
 
 -- the first units, at most this many: the first one, and the first ones of the octets after it
@@ -67,17 +66,19 @@ units kind octets = first_units (length octets) kind octets
 -- the text of a unit
 abbrev pub unit_text : Kind → List ℕ → List ℕ
 unit_text kind [] = []
--- a character of two octets, and one of four
+-- in a BMPString: a character of two octets, or an octet that belongs to none
 unit_text Ucs2 (a ∷ b ∷ []) =
     if eqb a 0 && is_printable b then printable_text b else escaped_number (a ∷ b ∷ [])
 unit_text Ucs2 (a ∷ more) = escaped_octet a
+-- in a UniversalString: a character of four octets, or an octet that belongs to none
 unit_text Ucs4 (a ∷ b ∷ c ∷ d ∷ []) =
     if eqb a 0 && eqb b 0 && eqb c 0 && is_printable d
     then printable_text d
     else escaped_number (a ∷ b ∷ c ∷ d ∷ [])
 unit_text Ucs4 (a ∷ more) = escaped_octet a
+-- in a UTF8String: a character of two octets or more
 unit_text Utf8 (a ∷ b ∷ more) = escaped_number (three_octets (utf8_number (a ∷ b ∷ more)))
--- an octet that is a character by itself, or belongs to no character
+-- in a UTF8String or any other: an octet that is a character by itself, or belongs to none
 unit_text kind (a ∷ more) = octet_text a
 
 -- a row of characters, in quotation marks

@@ -64,15 +64,11 @@ bit_count_text unused_bits octet_count = decimal (8 * octet_count - unused_bits)
 abbrev pub is_readable : ℕ → ℕ → Bool
 is_readable unused_bits octet_count = nat_le unused_bits 7 && (eqb unused_bits 0 || not (eqb octet_count 0))
 
--- bits as digits: 30 is the digit 0
-abbrev pub digits_of_bits : List ℕ → List ℕ
-digits_of_bits bits = map (λ bit. 0x30 + bit) bits
-
--- the bits of octets, without the unused bits, after a space if there are any
+-- the bits of octets as digits, without the unused bits, after a space if there are any: 30 is the digit 0
 abbrev pub used_digits : ℕ → List ℕ → List ℕ
 used_digits unused_bits [] = []
 used_digits unused_bits octets =
-    0x20 ∷ digits_of_bits (take (8 * length octets - unused_bits) (bits_of octets))
+    0x20 ∷ map (λ bit. 0x30 + bit) (take (8 * length octets - unused_bits) (bits_of octets))
 
 -- 8.6.2: the first octet is the number of unused bits in the last one
 abbrev pub bits_value : List ℕ → Value
@@ -171,11 +167,8 @@ abbrev pub on_line_text : Bool → OnLine → List ℕ
 on_line_text with_text (Written text) = text
 on_line_text with_text (InPairs octets) = pairs_with_text with_text octets (spaced_pairs octets)
 
--- pairs of digits with spaces between them
-abbrev pub joined_pairs : List ℕ → List ℕ
-joined_pairs octets = join_by (λ x. encode_lower (x ∷ [])) (codes " ") octets
-
--- the text of a row: characters, or pairs of digits
+-- the text of a row: characters, or pairs of digits with spaces between them
 abbrev pub row_text : Bool → Kind → List ℕ → List ℕ
 row_text with_text kind row =
-    if is_text kind then quoted_text kind row else pairs_with_text with_text row (joined_pairs row)
+    if is_text kind then quoted_text kind row
+    else pairs_with_text with_text row (join_by (λ x. encode_lower (x ∷ [])) (codes " ") row)

@@ -1,7 +1,8 @@
 -- What must be kept of the contents of a primitive so that the findings on them can be reported at their end.
 use Rattle.std.specs.List.{list_all}
 use Rattle.std.specs.Prelude.{ℕ, ◌-◌, ◌%◌, ◌^◌, Bool, true, false, ◌&&◌, ◌||◌, not, ◌==◌, eqb, nat_le, nat_lt}
-use Rattle.std.specs.Prelude.{if◌then◌else◌, List, [], ◌∷◌, ◌++◌, length, take}
+use Rattle.std.specs.Prelude.{if◌then◌else◌, List, [], ◌∷◌, ◌++◌, length, take, Option, Some, None}
+use Rattle.std.specs.Option.{option_map_or}
 use Rattle.std.specs.Str.{is_utf8}
 use Rattle.tlv_head.specs.UniversalTypes as universal
 use Rattle.tlv_head.specs.Header.{HeaderValue, announced_length, is_universal}
@@ -10,8 +11,10 @@ use Rattle.tlv_value.specs.declared.finding.Finding.{Finding}
 use Rattle.tlv_value.specs.declared.finding.Finding.TheVariants.{B06, B07, B08, B09, B10, B11, B12, B13, B14}
 use Rattle.tlv_value.specs.declared.finding.Finding.TheVariants.{B15, B18, B19, B20, B21, B23, B24, B25, B26}
 use Rattle.tlv_value.specs.declared.finding.Finding.TheVariants.{S02, S03, S04, S06}
-use Rattle.tlv_value.specs.Checks.{allows_octet, are_whole_characters, begins_with, canonical_form, findings_by}
-use Rattle.tlv_value.specs.Checks.{first_octet, is_padded_integer, time_form}
+use Rattle.tlv_value.specs.Checks.{begins_with, canonical_form, findings_by}
+use Rattle.tlv_value.specs.Checks.{first_octet, is_digit_or_space, is_padded_integer, is_printable_string_octet}
+use Rattle.tlv_value.specs.Checks.{time_form}
+use Rattle.tlv_value.specs.Units.{is_printable}
 use Rattle.tlv_value.specs.AllChecks.{time_has_day}
 use Rattle.tlv_value.specs.Dates.{is_date_or_time}
 use Rattle.tlv_value.specs.RealState.{is_canonical, is_of_form, new_real_check, real_check_after}
@@ -64,6 +67,30 @@ new_value_check_of number size = record {
   unit = [];
   real = new_real_check;
 }
+
+-- the test that each octet of a string of the type with this number passes: NumericString, PrintableString, IA5String,
+-- VisibleString. Other types have none
+abbrev pub octet_test : ℕ → Option (ℕ → Bool)
+octet_test number =
+    if eqb number universal.numeric_string then Some is_digit_or_space
+    else if eqb number universal.printable_string then Some is_printable_string_octet
+    else if eqb number universal.ia5_string then Some (λ x. nat_lt x 128)
+    else if eqb number universal.visible_string then Some is_printable
+    else None
+
+abbrev pub allows_octet : ℕ → ℕ → Bool
+allows_octet number x = option_map_or (λ test. test x) (octet_test number) true
+
+-- this number of octets makes whole characters: BMPString has two octets for each, UniversalString four
+abbrev pub are_whole_characters : ℕ → ℕ → Bool
+are_whole_characters number size =
+    if eqb number universal.bmp_string then eqb (size % 2) 0
+    else if eqb number universal.universal_string then eqb (size % 4) 0
+    else true
+
+-- the finding, if the condition holds
+abbrev pub finding_if : Bool → Finding → List Finding
+finding_if there finding = if there then finding ∷ [] else []
 
 -- the universal number of the type; for another class, the number of OCTET STRING, whose contents have no findings
 abbrev pub type_number : HeaderValue → ℕ
@@ -227,14 +254,14 @@ kept_conditions number s =
       B15,
     )
     ∷ (is_number_of character_types number && not (is_allowed s), B18)
-    ∷ (is_kept_time number s && not (times.has_form (time_form number) s.time), B19)
+    ∷ (is_kept_time number s && not (time_form number s.time), B19)
     ∷ (number == universal.real && not (is_of_form s.real), B20)
     ∷ (is_number_of date_types number && not (is_kept_date number s), B21)
     ∷ (is_number_of iri_types number && not (is_kept_iri number s), B23)
     ∷ (number == universal.relative_oid && s.size == 0, B24)
     ∷ (is_number_of wide_string_types number && not s.are_characters, B25)
     ∷ (
-      is_kept_time number s && times.has_form (time_form number) s.time && not (time_has_day number s.time),
+      is_kept_time number s && time_form number s.time && not (time_has_day number s.time),
       B26,
     )
     ∷ (
@@ -248,8 +275,8 @@ kept_conditions number s =
       S03,
     )
     ∷ (
-      is_kept_time number s && times.has_form (time_form number) s.time
-          && not (times.has_form (canonical_form number) s.time),
+      is_kept_time number s && time_form number s.time
+          && not (canonical_form number s.time),
       S04,
     )
     ∷ (number == universal.real && is_of_form s.real && not (is_canonical s.real), S06)

@@ -4,7 +4,7 @@ ghost use Rattle.tlv_head.specs.UniversalTypes.{date, date_time, time_of_day};
 ghost use Rattle.tlv_value.specs.Dates.{date_form, date_time_form, has_thirty_days, is_date_or_time, is_leap_year};
 ghost use Rattle.tlv_value.specs.Dates.{last_day, month_has_day, month_has_day_in_some_century, time_of_day_form};
 ghost use Rattle.tlv_value.specs.Private.TimeParts.{LeavesRest};
-ghost use Rattle.tlv_value.specs.Times.{has_form, month_and_day, two_digit_number, two_digits, ◌then◌};
+ghost use Rattle.tlv_value.specs.Times.{month_and_day, two_digit_number, two_digits, ◌then◌};
 
 use crate::time::{after_month_and_day, after_two_digits};
 use tlv_head::universal;
@@ -87,7 +87,7 @@ fn two_digit_number(tens: u8, ones: u8) -> u32
 
 /// `YYYYMMDD`, and no more.
 fn is_date(octets: &[u8]) -> bool
-    ensures { result ≡ has_form date_form octets.now }
+    ensures { result ≡ date_form octets.now }
 {
     match after_date(octets) {
         Some(rest) => rest.is_empty(),
@@ -97,7 +97,7 @@ fn is_date(octets: &[u8]) -> bool
 
 /// `YYYYMMDDhhmmss`, and no more.
 fn is_date_time(octets: &[u8]) -> bool
-    ensures { result ≡ has_form date_time_form octets.now }
+    ensures { result ≡ date_time_form octets.now }
 {
     match after_date(octets) {
         Some(rest) => is_time_of_day(rest),
@@ -107,7 +107,7 @@ fn is_date_time(octets: &[u8]) -> bool
 
 /// `hhmmss`, and no more.
 fn is_time_of_day(octets: &[u8]) -> bool
-    ensures { result ≡ has_form time_of_day_form octets.now }
+    ensures { result ≡ time_of_day_form octets.now }
 {
     match after_time_of_day(octets) {
         Some(rest) => rest.is_empty(),

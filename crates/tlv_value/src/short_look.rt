@@ -2,11 +2,14 @@
 ghost use Rattle.std.specs.Prelude.{◌≡◌, ◌||◌, ◌==◌, [], IsTrue, eqb, false, length, nat_le, true};
 ghost use Rattle.tlv_head.specs.UniversalTypes.{bit_string, boolean, generalized_time, utc_time};
 ghost use Rattle.tlv_value.specs.AllChecks.{all_contents_findings, type_findings};
-ghost use Rattle.tlv_value.specs.Checks.{begins_with, has_padded_part, is_padded_integer, last_octet};
+ghost use Rattle.tlv_value.specs.Checks.{begins_with, is_padded_integer, last_octet};
+ghost use Rattle.std.specs.List.{list_any};
+ghost use Rattle.tlv_value.specs.Arcs.{parts_of};
 ghost use Rattle.tlv_value.specs.Private.TimeFindings.{generalized_time_findings, utc_time_findings};
-ghost use Rattle.tlv_head.specs.TypeTable.{are_constructed, has_encodings};
+ghost use Rattle.std.specs.Option.{is_none, option_map_or};
+ghost use Rattle.tlv_head.specs.TypeTable.{are_same_encodings, type_at};
+ghost use Rattle.tlv_head.specs.declared.type_table.Encodings.TheVariants.{Constructed};
 ghost use Rattle.tlv_value.specs.Types.{has_primitives};
-ghost use Rattle.tlv_value.specs.Types.{is_unassigned_number};
 
 use crate::dates::{is_date_or_time, month_has_day, month_has_day_in_some_century};
 use crate::real::is_canonical_real;
@@ -34,7 +37,8 @@ pub fn is_clear(header: &Header, contents: &[u8]) -> bool
 fn is_type_clear(number: u64, contents: &[u8]) -> bool
     ensures contents { IsTrue result → type_findings number contents.now ≡ [] }
     ensures form { IsTrue result
-        → (is_unassigned_number number || has_encodings are_constructed number) ≡ false }
+        → (is_none (type_at number)
+        || option_map_or (λ t. are_same_encodings Constructed t.encodings) (type_at number) false) ≡ false }
 {
     match number {
         universal::BOOLEAN => is_canonical_boolean(contents),
@@ -116,7 +120,7 @@ fn has_clear_bits(contents: &[u8]) -> bool
 #[inline(always)]
 #[tactic(auto, using(crate::proofs::CheckLemmas::LastAndPadded::of_all))]
 fn are_subidentifiers(contents: &[u8]) -> bool
-    ensures unpadded { IsTrue result → has_padded_part contents.now ≡ false }
+    ensures unpadded { IsTrue result → list_any (begins_with 0x80) (parts_of contents.now) ≡ false }
     ensures finished { IsTrue result → nat_le 128 (last_octet contents.now) ≡ false }
 {
     last_octet(0, contents) < 128 && !is_padded_after(0, contents)

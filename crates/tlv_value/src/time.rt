@@ -3,17 +3,17 @@
 //! `after_..` returns the octets after a part with which the octets begin, or none if they do not begin with it.
 //! `is_..` returns whether the octets are such parts, and no more.
 ghost use Rattle.std.specs.Prelude.{◌≡◌, option_copied};
-ghost use Rattle.tlv_value.specs.Private.TimeParts.{LeavesRest};
-ghost use Rattle.tlv_value.specs.Times.{canonical_generalized_time_form, canonical_second, canonical_utc_time_form};
-ghost use Rattle.tlv_value.specs.Times.{digits, fraction, generalized_hour, generalized_tail, generalized_time_form};
-ghost use Rattle.tlv_value.specs.Times.{generalized_zone, has_form, hour, mark, maybe, minute, month_and_day};
-ghost use Rattle.tlv_value.specs.Times.{octet_between, second, sign, two_digits, utc_minute, utc_time_form, utc_zone};
+ghost use Rattle.tlv_value.specs.Private.TimeParts.{canonical_second, generalized_hour, generalized_tail, LeavesRest, utc_minute};
+ghost use Rattle.tlv_value.specs.Times.{canonical_generalized_time_form, canonical_utc_time_form};
+ghost use Rattle.tlv_value.specs.Times.{digits, fraction, generalized_time_form};
+ghost use Rattle.tlv_value.specs.Times.{generalized_zone, hour, mark, maybe, minute, month_and_day};
+ghost use Rattle.tlv_value.specs.Times.{octet_between, second, sign, two_digits, utc_time_form, utc_zone};
 ghost use Rattle.tlv_value.specs.Times.{◌then◌};
 
 /// Whether the octets follow the grammar of UTCTime: `YYMMDDhhmm`, `ss` or nothing, and `Z`, `+hhmm` or `-hhmm`.
 #[inline(never)]
 pub fn utc_ok(contents: &[u8]) -> bool
-    ensures { result ≡ has_form utc_time_form contents.now }
+    ensures { result ≡ utc_time_form contents.now }
 {
     let Some(rest) = after_utc_minute(contents) else {
         return false;
@@ -26,7 +26,7 @@ pub fn utc_ok(contents: &[u8]) -> bool
 
 /// Whether the octets are a canonical UTCTime (11.8): `YYMMDDhhmmssZ`, with an hour of at most 23.
 pub fn utc_canonical(contents: &[u8]) -> bool
-    ensures { result ≡ has_form canonical_utc_time_form contents.now }
+    ensures { result ≡ canonical_utc_time_form contents.now }
 {
     match after_canonical_second(contents) {
         Some(rest) => is_zulu(rest),
@@ -38,7 +38,7 @@ pub fn utc_canonical(contents: &[u8]) -> bool
 /// or more digits after `.` or `,` or nothing, and `Z`, `+hh`, `-hh`, `+hhmm`, `-hhmm` or nothing.
 #[inline(never)]
 pub fn general_ok(contents: &[u8]) -> bool
-    ensures { result ≡ has_form generalized_time_form contents.now }
+    ensures { result ≡ generalized_time_form contents.now }
 {
     let Some(rest) = after_generalized_hour(contents) else {
         return false;
@@ -52,7 +52,7 @@ pub fn general_ok(contents: &[u8]) -> bool
 /// Whether the octets are a canonical GeneralizedTime (11.7): `YYYYMMDDhhmmssZ`, with an hour of at most 23. Before
 /// the `Z` there may be `.` and digits; the last digit is not 0.
 pub fn general_canonical(contents: &[u8]) -> bool
-    ensures { result ≡ has_form canonical_generalized_time_form contents.now }
+    ensures { result ≡ canonical_generalized_time_form contents.now }
 {
     let Some(rest) = after_two_digits(contents, 0, 99) else {
         return false;
@@ -107,14 +107,14 @@ pub(crate) fn after_month_and_day(octets: &[u8]) -> Option<&[u8]>
 
 /// `Z`, `+hhmm` or `-hhmm`, and no more.
 fn is_utc_zone(octets: &[u8]) -> bool
-    ensures { result ≡ has_form utc_zone octets.now }
+    ensures { result ≡ utc_zone octets.now }
 {
     is_zulu(octets) || is_utc_difference(octets)
 }
 
 /// `+hhmm` or `-hhmm`, and no more.
 fn is_utc_difference(octets: &[u8]) -> bool
-    ensures { result ≡ has_form (sign then hour then minute) octets.now }
+    ensures { result ≡ (sign then hour then minute) octets.now }
 {
     match after_difference(octets) {
         Some(rest) => is_minute(rest),
@@ -124,7 +124,7 @@ fn is_utc_difference(octets: &[u8]) -> bool
 
 /// `ss` or nothing, a fraction or nothing, and a zone or nothing.
 fn is_second_and_tail(octets: &[u8]) -> bool
-    ensures { result ≡ has_form (maybe second then generalized_tail) octets.now }
+    ensures { result ≡ (maybe second then generalized_tail) octets.now }
 {
     match after_two_digits(octets, 0, 60) {
         Some(after) => is_generalized_tail(after) || is_generalized_tail(octets),
@@ -134,14 +134,14 @@ fn is_second_and_tail(octets: &[u8]) -> bool
 
 /// A fraction or nothing, and a zone or nothing.
 fn is_generalized_tail(octets: &[u8]) -> bool
-    ensures { result ≡ has_form generalized_tail octets.now }
+    ensures { result ≡ generalized_tail octets.now }
 {
     is_fraction_and_zone(octets) || is_generalized_zone_or_nothing(octets)
 }
 
 /// A fraction, and a zone or nothing.
 fn is_fraction_and_zone(octets: &[u8]) -> bool
-    ensures { result ≡ has_form (fraction then maybe generalized_zone) octets.now }
+    ensures { result ≡ (fraction then maybe generalized_zone) octets.now }
 {
     let [b'.' | b',', b'0'..=b'9', rest @ ..] = octets else {
         return false;
@@ -155,14 +155,14 @@ fn is_fraction_and_zone(octets: &[u8]) -> bool
 
 /// `Z`, `+hh`, `-hh`, `+hhmm`, `-hhmm` or nothing, and no more.
 fn is_generalized_zone_or_nothing(octets: &[u8]) -> bool
-    ensures { result ≡ has_form (maybe generalized_zone) octets.now }
+    ensures { result ≡ (maybe generalized_zone) octets.now }
 {
     octets.is_empty() || is_zulu(octets) || is_generalized_difference(octets)
 }
 
 /// `+hh`, `-hh`, `+hhmm` or `-hhmm`, and no more.
 fn is_generalized_difference(octets: &[u8]) -> bool
-    ensures { result ≡ has_form (sign then hour then maybe minute) octets.now }
+    ensures { result ≡ (sign then hour then maybe minute) octets.now }
 {
     match after_difference(octets) {
         Some(rest) => rest.is_empty() || is_minute(rest),
@@ -172,7 +172,7 @@ fn is_generalized_difference(octets: &[u8]) -> bool
 
 /// Digits, the last of which is not 0, and `Z`, and no more.
 fn is_canonical_fraction_rest(octets: &[u8]) -> bool
-    ensures { result ≡ has_form ((digits then octet_between 0x31 0x39) then mark 0x5a) octets.now }
+    ensures { result ≡ ((digits then octet_between 0x31 0x39) then mark 0x5a) octets.now }
 {
     let mut rest = octets;
     while let [b'0'..=b'9', more @ ..] = rest {
@@ -186,7 +186,7 @@ fn is_canonical_fraction_rest(octets: &[u8]) -> bool
 
 /// `mm`, and no more.
 fn is_minute(octets: &[u8]) -> bool
-    ensures { result ≡ has_form minute octets.now }
+    ensures { result ≡ minute octets.now }
 {
     match after_two_digits(octets, 0, 59) {
         Some(rest) => rest.is_empty(),
@@ -196,7 +196,7 @@ fn is_minute(octets: &[u8]) -> bool
 
 /// `Z`, and no more.
 fn is_zulu(octets: &[u8]) -> bool
-    ensures { result ≡ has_form (mark 0x5a) octets.now }
+    ensures { result ≡ (mark 0x5a) octets.now }
 {
     matches!(octets, [b'Z'])
 }

@@ -5,9 +5,10 @@ ghost use Rattle.tlv_io.specs.LineTexts.{AddsAtMost, HasRoomFor};
 ghost use Rattle.tlv_value.specs.Bits.{last_bits};
 ghost use Rattle.tlv_value.specs.Private.UndottedText.{undotted_text};
 ghost use Rattle.tlv_value.specs.Units.{quoted_text};
-ghost use Rattle.tlv_value.specs.Value.{bit_count_text, bits_value, boolean_value, digits_of_bits, integer_text};
+ghost use Rattle.tlv_value.specs.Value.{bit_count_text, bits_value, boolean_value, integer_text};
 ghost use Rattle.tlv_value.specs.Value.{is_long, is_readable, long_text, most_on_line, on_line_text};
 ghost use Rattle.tlv_value.specs.Value.{row_text, used_digits};
+ghost use Rattle.tlv_value.specs.Private.Rows.{digits_of_bits};
 
 use crate::decimal::{decimal_of, short_decimal_of};
 use crate::pairs::{write_pairs, write_row_pairs};

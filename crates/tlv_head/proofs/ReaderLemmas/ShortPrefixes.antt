@@ -14,8 +14,8 @@ use Rattle.tlv_head.specs.declared.next_octet.Part.TheVariants.{Start, Number, I
 use Rattle.tlv_head.specs.declared.next_octet.Part.TheVariants as part
 use Rattle.tlv_head.specs.declared.next_octet.Next.{Next}
 use Rattle.tlv_head.specs.declared.next_octet.Next.TheVariants.{Unfinished, Whole, Refused}
-use Rattle.tlv_head.specs.Header.{AllowsSize, IsIdentifier, IsLength, identifier_octet, with_bit_8}
-use Rattle.tlv_head.specs.HeaderSoFar.{Carries, CarriesIdentifier, CarriesNumber}
+use Rattle.tlv_head.specs.Header.{IsIdentifier, IsLength, identifier_octet, with_bit_8}
+use Rattle.tlv_head.specs.HeaderSoFar.{AllowsSize, Carries, CarriesIdentifier, CarriesNumber}
 use Rattle.tlv_head.specs.Private.NextOctet.{BeginsWithIdentifier, BeginsWithNoIdentifier, BeginsWithNoLength}
 use Rattle.tlv_head.specs.Private.NextOctet.{MakesNext}
 use Rattle.tlv_head.specs.ReadHeader.{BeginsWithNoShortHeader}

@@ -2,12 +2,12 @@
 use Rattle.std.specs.Prelude.{◌≡◌, ◌≢◌, ℕ, ◌≤◌, Bool, List, [], ◌∷◌, ◌++◌, length, take}
 use Rattle.tlv_head.specs.declared.header.Class.{Class}
 use Rattle.tlv_head.specs.declared.header.Size.{Size}
-use Rattle.tlv_head.specs.Header.{AllowsSize, IsIdentifier, IsLength}
+use Rattle.tlv_head.specs.Header.{IsIdentifier, IsLength}
 use Rattle.tlv_head.specs.Refusal.{IsRefusedOctet}
 use Rattle.tlv_head.specs.declared.next_octet.IdentifierFields.{IdentifierFields}
 use Rattle.tlv_head.specs.declared.next_octet.Next.{Next}
 use Rattle.tlv_head.specs.declared.next_octet.Next.TheVariants.{Unfinished, Whole, Refused}
-use Rattle.tlv_head.specs.HeaderSoFar.{CarriesIdentifier, Carries}
+use Rattle.tlv_head.specs.HeaderSoFar.{AllowsSize, CarriesIdentifier, Carries}
 
 -- the octets are a header with these fields
 pub record MakesHeader (id : IdentifierFields) (size : Size) (octets : List ℕ) : Type 0 where

@@ -6,7 +6,8 @@ use Rattle.std.proofs.Math.Seq.{drop-append_seam}
 use Rattle.tlv_head.specs.declared.header.HeaderFields.{HeaderFields}
 use Rattle.tlv_head.specs.declared.header.Size.{Size}
 use Rattle.tlv_head.specs.declared.header.Size.TheVariants.{Definite, Indefinite}
-use Rattle.tlv_head.specs.Header.{AllowsSize, announced_length}
+use Rattle.tlv_head.specs.Header.{announced_length}
+use Rattle.tlv_head.specs.HeaderSoFar.{AllowsSize}
 use Rattle.tlv_head.specs.HeaderFields.{new_header}
 use Rattle.tlv_head.specs.ReadHeader.{BeginsWithFields}
 use Rattle.tlv_walk.specs.Forest.{spelling}

@@ -7,7 +7,8 @@ use Rattle.tlv_head.specs.Header.{HasAllContents, HeaderValue, is_universal}
 use Rattle.tlv_value.specs.declared.finding.Finding.{Finding}
 use Rattle.tlv_value.specs.AllChecks.{all_contents_findings}
 use Rattle.tlv_value.specs.Types.{is_number_of}
-use Rattle.tlv_value.specs.Types.{has_primitives, is_always_constructed, is_always_primitive, is_string, is_unassigned}
+use Rattle.tlv_value.specs.Types.{has_encodings, has_primitives, is_string, is_unassigned}
+use Rattle.tlv_head.specs.declared.type_table.Encodings.TheVariants as encodings
 use Rattle.tlv_walk.specs.declared.follow.Go.TheVariants as go
 use Rattle.tlv_io.specs.declared.out.Out.{Out}
 use Rattle.tlv_io.specs.Device.{DrainState}
@@ -44,12 +45,12 @@ use Rattle.tlv_show.proofs.FindingLemmas.FramesAfter.{outside}
 
 pub usual_primitive : (h : HeaderValue) → h.constructed ≡ false → has_primitives h ≡ true → IsUsual h
 usual_primitive h primitive primitives =
-    let form : (is_unassigned h || is_always_constructed h) ≡ false = not-true _ primitives in
+    let form : (is_unassigned h || has_encodings encodings.Constructed h) ≡ false = not-true _ primitives in
     record {
       assigned = search (rules, form);
-      primitive_if_always = ap (λ (b : Bool). b && is_always_primitive h) primitive;
+      primitive_if_always = ap (λ (b : Bool). b && has_encodings encodings.Primitive h) primitive;
       constructed_if_always =
-          ap (λ (b : Bool). not b && is_always_constructed h) primitive ∙ search (rules, form);
+          ap (λ (b : Bool). not b && has_encodings encodings.Constructed h) primitive ∙ search (rules, form);
       primitive_if_late = ap (λ (b : Bool). b && is_time_or_iri h) primitive;
       no_segments = ap (λ (b : Bool). b && is_string h) primitive;
       no_components =

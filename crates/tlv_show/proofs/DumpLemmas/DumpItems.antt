@@ -7,7 +7,8 @@ use Rattle.std.specs.Prelude.{flat_map, Option, None}
 use Rattle.std.proofs.Common.{◌≢◌}
 use Rattle.tlv_show.proofs.SegmentLemmas.Seen.{HasSeen, HasSeenAll}
 use Rattle.tlv_show.proofs.FindingLemmas.FinderSteps.{HasItsOffset, Kept, found_at_end, found_in_contents, offset-at_end}
-use Rattle.tlv_head.specs.Header.{AllowsSize, HasAllContents, HeaderValue, announced_length, octets_of}
+use Rattle.tlv_head.specs.Header.{HasAllContents, HeaderValue, announced_length, octets_of}
+use Rattle.tlv_head.specs.HeaderSoFar.{AllowsSize}
 use Rattle.tlv_value.specs.declared.finding.Finding.{Finding}
 use Rattle.tlv_value.specs.declared.layout.Layout.{Layout}
 use Rattle.tlv_value.specs.Names.{NamesValue}

@@ -5,7 +5,7 @@ use Rattle.std.proofs.lemmas.Bool.{cases_lt, or_from, or_parts, true≢false}
 use Rattle.std.proofs.lemmas.Bool.Decides.{nat_tests}
 use Rattle.std.proofs.Math.Bool.{and-false, or-false}
 use Rattle.std.specs.List.{list_any}
-use Rattle.tlv_head.specs.Header.{HeaderValue, IsHeader, announced_length, second_length_octet}
+use Rattle.tlv_head.specs.Header.{HeaderValue, IsHeader, announced_length}
 use Rattle.tlv_head.specs.ShortestHeaders.{IsShortestIdentifier, IsShortestLength}
 use Rattle.tlv_head.proofs.ShortestLemmas.OneShortest.{identifier-from, lengths-from}
 use Rattle.tlv_head.proofs.ShortestLemmas.ShortestSpelling.{no-shorter_identifier, no-shorter_length}
@@ -13,7 +13,7 @@ use Rattle.tlv_head.proofs.ShortestLemmas.ShortestSpelling.{shorter-identifier, 
 use Rattle.tlv_show.specs.declared.rules.Rules.{Rules}
 use Rattle.tlv_show.specs.declared.rules.Rules.TheVariants.{Ber, Der, Cer}
 use Rattle.tlv_show.specs.Conditions.{begins_with_zero_bits, is_high_form_needless, is_length_padded}
-use Rattle.tlv_show.specs.Conditions.{has_high_form, has_long_form, listed_header_conditions, number_bits}
+use Rattle.tlv_show.specs.Conditions.{has_high_form, has_long_form, listed_header_conditions}
 use Rattle.tlv_show.specs.ListedFindings.{listed_findings}
 use Rattle.tlv_show.specs.Site.{Site}
 use Rattle.tlv_show.specs.Spellings.{LongerIdentifiersAreFound, LongerLengthsAreFound, is_on_identifier, is_on_lengths}
@@ -51,13 +51,13 @@ longer_identifier-absent h s = elim (cases_lt 1 (length h.identifier)) [
   | inl more ↦
       let large : 31 ≤ h.number = at-least h.number 31 (λ small. omega (arith, more, s.single small)) in
       let number : nat_lt h.number 31 ≡ false = grind (arith, nat_tests) in
-      let nonzero : number_bits h ≢ 0 = s.leading more in
-      let bits : (number_bits h == 0) ≡ false = grind (arith, nat_tests) in
+      let nonzero : slice_index h.identifier 1 % 128 ≢ 0 = s.leading more in
+      let bits : (slice_index h.identifier 1 % 128 == 0) ≡ false = grind (arith, nat_tests) in
       or_from _ _ (ap (λ (b : Bool). has_high_form h && b) number ∙ and-false (has_high_form h))
       (ap (λ (b : Bool). has_high_form h && b) bits ∙ and-false (has_high_form h))
   | inr le ↦
       let low : has_high_form h ≡ false = grind (arith, nat_tests) in
-      or_from _ _ (ap (λ (b : Bool). b && nat_lt h.number 31) low) (ap (λ (b : Bool). b && number_bits h == 0) low)
+      or_from _ _ (ap (λ (b : Bool). b && nat_lt h.number 31) low) (ap (λ (b : Bool). b && slice_index h.identifier 1 % 128 == 0) low)
 ]
 
 -- and one that has none is as short as it can be
@@ -92,12 +92,12 @@ length-not_padded h s = elim (cases_lt 1 (length h.lengths)) [
       let large : 128 ≤ announced_length h.size =
       at-least (announced_length h.size) 128 (λ small. omega (arith, more, s.single small)) in
       let number : nat_lt (announced_length h.size) 128 ≡ false = grind (arith, nat_tests) in
-      let nonzero : second_length_octet h ≢ 0 = s.leading more in
-      let first : (second_length_octet h == 0) ≡ false = grind (arith, nat_tests) in
+      let nonzero : slice_index h.lengths 1 ≢ 0 = s.leading more in
+      let first : (slice_index h.lengths 1 == 0) ≡ false = grind (arith, nat_tests) in
       ap (λ (b : Bool). has_long_form h && b) (or_from _ _ number first) ∙ and-false (has_long_form h)
   | inr le ↦
       let short : has_long_form h ≡ false = grind (arith, nat_tests) in
-      ap (λ (b : Bool). b && (nat_lt (announced_length h.size) 128 || second_length_octet h == 0)) short
+      ap (λ (b : Bool). b && (nat_lt (announced_length h.size) 128 || slice_index h.lengths 1 == 0)) short
 ]
 
 pub lengths-found : LongerLengthsAreFound

@@ -8,7 +8,8 @@ use Rattle.std.specs.List.{list_any}
 use Rattle.std.specs.Prelude.{if◌then◌else◌, slice_index}
 use Rattle.tlv_head.specs.declared.header.Size.{Size}
 use Rattle.tlv_head.specs.declared.header.Size.TheVariants.{Definite, Indefinite}
-use Rattle.tlv_head.specs.Header.{AllowsSize, HeaderValue, IsHeader, announced_length, octets_of, second_length_octet}
+use Rattle.tlv_head.specs.Header.{HeaderValue, IsHeader, announced_length, octets_of}
+use Rattle.tlv_head.specs.HeaderSoFar.{AllowsSize}
 use Rattle.tlv_head.specs.ShortestHeaders.{IsShortest}
 use Rattle.tlv_head.proofs.ShortestLemmas.OneShortest.{identifier-from, lengths-from}
 use Rattle.tlv_value.specs.declared.finding.Finding.{Finding}
@@ -26,7 +27,7 @@ use Rattle.tlv_walk.proofs.GrammarLemmas.Readings.{reading-unique}
 use Rattle.tlv_show.specs.declared.rules.Rules.{Rules}
 use Rattle.tlv_show.specs.declared.rules.Rules.TheVariants.{Ber, Der, Cer}
 use Rattle.tlv_show.specs.Conditions.{begins_with_zero_bits, is_high_form_needless, is_length_padded}
-use Rattle.tlv_show.specs.Conditions.{listed_header_conditions, number_bits}
+use Rattle.tlv_show.specs.Conditions.{listed_header_conditions}
 use Rattle.tlv_show.specs.Items.{Item, OpeningLine, ClosingLine, PrimitiveLines, PaddingLine, items}
 use Rattle.tlv_show.specs.Items.{finding_items, contents_items, end_items, header_items}
 use Rattle.tlv_show.specs.ListedFindings.{ElementFindings, listed_findings}
@@ -66,7 +67,7 @@ pub high-form : (h : HeaderValue) → is_high_form_needless h ≡ false
 high-form h a b more =
     let high : nat_lt 1 (length h.identifier) ≡ true = grind (arith, nat_tests) in
     let large : nat_lt h.number 31 ≡ false = rw high at a in
-    let nonzero : (number_bits h == 0) ≡ false = rw high at b in
+    let nonzero : (slice_index h.identifier 1 % 128 == 0) ≡ false = rw high at b in
     (grind (arith, nat_tests), grind (arith, nat_tests))
 
 pub long-form : (h : HeaderValue)
@@ -74,11 +75,11 @@ pub long-form : (h : HeaderValue)
     → 1 < length h.lengths → (128 ≤ announced_length h.size) × (slice_index h.lengths 1 ≢ 0)
 long-form h a more =
     let long : nat_lt 1 (length h.lengths) ≡ true = grind (arith, nat_tests) in
-    let neither : (nat_lt (announced_length h.size) 128 || second_length_octet h == 0) ≡ false = rw long at a in
-    let both : (nat_lt (announced_length h.size) 128 ≡ false) × ((second_length_octet h == 0) ≡ false) =
+    let neither : (nat_lt (announced_length h.size) 128 || slice_index h.lengths 1 == 0) ≡ false = rw long at a in
+    let both : (nat_lt (announced_length h.size) 128 ≡ false) × ((slice_index h.lengths 1 == 0) ≡ false) =
     or_parts _ _ neither in
     let large : nat_lt (announced_length h.size) 128 ≡ false = both.0 in
-    let nonzero : (second_length_octet h == 0) ≡ false = both.1 in
+    let nonzero : (slice_index h.lengths 1 == 0) ≡ false = both.1 in
     (grind (arith, nat_tests), grind (arith, nat_tests))
 
 shortest : (h : HeaderValue) → IsHeader h → is_high_form_needless h ≡ false

@@ -7,7 +7,8 @@ use Rattle.std.proofs.lemmas.Bool.Decides.{nat_tests}
 use Rattle.std.proofs.lemmas.List.{length-map}
 use Rattle.tlv_head.specs.declared.header.Size.{Size}
 use Rattle.tlv_head.specs.declared.header.Size.TheVariants.{Definite, Indefinite}
-use Rattle.tlv_head.specs.Header.{AllowsSize, HeaderValue, octets_of}
+use Rattle.tlv_head.specs.Header.{HeaderValue, octets_of}
+use Rattle.tlv_head.specs.HeaderSoFar.{AllowsSize}
 use Rattle.tlv_value.specs.Types.{is_primitive}
 use Rattle.tlv_walk.specs.Events.{Begin, Bytes, Close, End, Enter, EventValue, Leave, Open, Unused, closing_event}
 use Rattle.tlv_walk.specs.Events.{event_octets, opening_events}

@@ -7,7 +7,8 @@ use Rattle.std.specs.Prelude.{Option, Some, None, slice_index}
 use Rattle.std.specs.Option.{is_some}
 use Rattle.tlv_head.specs.declared.header.Size.{Size}
 use Rattle.tlv_head.specs.declared.header.Size.TheVariants.{Definite, Indefinite}
-use Rattle.tlv_head.specs.Header.{AllowsSize, HeaderValue, octets_of}
+use Rattle.tlv_head.specs.Header.{HeaderValue, octets_of}
+use Rattle.tlv_head.specs.HeaderSoFar.{AllowsSize}
 use Rattle.tlv_walk.proofs.GrammarLemmas.Leads.{end_offset}
 use Rattle.tlv_walk.specs.Forest.{end_octets_offset}
 use Rattle.tlv_walk.specs.Forest.{Forest, end_octets, opening, spelling}

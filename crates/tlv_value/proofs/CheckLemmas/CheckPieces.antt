@@ -8,13 +8,13 @@ use Rattle.std.specs.Str.{is_utf8}
 use Rattle.tlv_head.specs.Header.{HeaderValue, announced_length}
 use Rattle.tlv_head.specs.declared.kind.Kind.TheVariants.{Utf8}
 use Rattle.tlv_value.specs.CheckLaws.{ChecksJoin, FindingsEnd}
-use Rattle.tlv_value.specs.ValueCheckState.{ValueCheckState, is_padded_after, last_octet_after, new_value_check}
+use Rattle.tlv_value.specs.ValueCheckState.{allows_octet, is_padded_after, last_octet_after, new_value_check, ValueCheckState}
 use Rattle.tlv_value.specs.ValueCheckState.{kept_conditions, new_value_check_of, notes_each, notes_first, notes_iri}
 use Rattle.tlv_value.specs.ValueCheckState.{notes_real, notes_time, notes_units, type_number, value_check_for}
 use Rattle.tlv_value.specs.ValueCheckState.{with_each_noted, with_first_noted, with_iri_noted, with_octets_noted}
 use Rattle.tlv_value.specs.ValueCheckState.{with_real_noted, with_time_noted, with_units_noted}
 use Rattle.tlv_value.specs.UnitsSoFar.{are_characters_after, character_size, open_unit}
-use Rattle.tlv_value.specs.Checks.{allows_octet, findings_by}
+use Rattle.tlv_value.specs.Checks.{findings_by}
 use Rattle.tlv_value.specs.Types.{is_number_of, object_types}
 use Rattle.tlv_value.specs.RowsSoFar.{full_rows, open_row}
 use Rattle.tlv_value.proofs.CheckLemmas.NotedContents.{class-same, noted-same}

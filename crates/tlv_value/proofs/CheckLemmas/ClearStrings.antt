@@ -3,10 +3,10 @@ use Rattle.std.proofs.Common.{◌≡◌, ℕ, ◌%◌, true, false, not, List, [
 use Rattle.std.specs.List.{list_all}
 use Rattle.std.specs.Str.{is_utf8}
 use Rattle.tlv_value.specs.Characters.{has_wrong_unit}
-use Rattle.tlv_value.specs.Checks.{allows_octet}
 use Rattle.tlv_value.specs.AllChecks.{type_findings}
 use Rattle.tlv_value.specs.UnitsSoFar.{are_characters_after}
 use Rattle.tlv_value.proofs.CheckLemmas.UnitsNoted.{fours-same, not-not, twos-same}
+use Rattle.tlv_value.specs.ValueCheckState.{allows_octet}
 
 -- a type that allows each octet allows all
 pub all-allowed : (number : ℕ) → ((x : ℕ) → allows_octet number x ≡ true) → (octets : List ℕ)
@@ -15,7 +15,7 @@ all-allowed number e [] = refl
 all-allowed number e (x ∷ xs) = rw (e x) (all-allowed number e xs)
 
 pub utf8-clear : (octets : List ℕ) → is_utf8 octets ≡ true → type_findings 12 octets ≡ []
-utf8-clear octets e = rw (e, all-allowed 12 (λ x. refl) octets) refl
+utf8-clear octets e = rw e refl
 
 -- what is kept of the units is what is said of all of them
 pub fours-kept : (octets : List ℕ) → has_wrong_unit 28 octets ≡ not (are_characters_after 4 [] octets)
@@ -27,11 +27,9 @@ twos-kept octets = not-not (are_characters_after 2 [] octets) (has_wrong_unit 30
 pub fours-clear : (octets : List ℕ) → length octets % 4 ≡ 0 → are_characters_after 4 [] octets ≡ true
     → type_findings 28 octets ≡ []
 fours-clear octets e f =
-    let units : has_wrong_unit 28 octets ≡ false = fours-kept octets ∙ ap not f in
-    rw (e, units, all-allowed 28 (λ x. refl) octets) refl
+    let units : has_wrong_unit 28 octets ≡ false = fours-kept octets ∙ ap not f in rw (e, units) refl
 
 pub twos-clear : (octets : List ℕ) → length octets % 2 ≡ 0 → are_characters_after 2 [] octets ≡ true
     → type_findings 30 octets ≡ []
 twos-clear octets e f =
-    let units : has_wrong_unit 30 octets ≡ false = twos-kept octets ∙ ap not f in
-    rw (e, units, all-allowed 30 (λ x. refl) octets) refl
+    let units : has_wrong_unit 30 octets ≡ false = twos-kept octets ∙ ap not f in rw (e, units) refl

@@ -5,7 +5,7 @@ use Rattle.std.proofs.lemmas.Bool.{leb-true}
 use Rattle.std.proofs.lemmas.Bool.Decides.{nat_tests}
 use Rattle.std.proofs.lemmas.List.{take_all}
 use Rattle.tlv_value.specs.Dates.{date_form, date_time_form, is_date_or_time, month_has_day, time_of_day_form}
-use Rattle.tlv_value.specs.Times.{Form, has_form, month_and_day, two_digits, ◌then◌}
+use Rattle.tlv_value.specs.Times.{Form, month_and_day, two_digits, ◌then◌}
 use Rattle.tlv_value.proofs.CheckLemmas.Forms.{and-false, are_two_digits, then-assoc, two-then}
 
 -- a longer text has none of the forms
@@ -25,18 +25,18 @@ long-two low high (x ∷ []) h = absurd (omega (arith, h))
 long-two low high (x ∷ y ∷ []) h = absurd (omega (arith, h))
 long-two low high (x ∷ y ∷ z ∷ xs) h = refl
 
-long-time : (xs : List ℕ) → 6 < length xs → has_form time_of_day_form xs ≡ false
+long-time : (xs : List ℕ) → 6 < length xs → time_of_day_form xs ≡ false
 long-time = long-then 0 23 4 _ (long-then 0 59 2 _ (long-two 0 59))
 
-long-date : (xs : List ℕ) → 8 < length xs → has_form date_form xs ≡ false
+long-date : (xs : List ℕ) → 8 < length xs → date_form xs ≡ false
 long-date = long-then 0 99 6 _ (long-then 0 99 4 _ (long-then 1 12 2 _ (long-two 1 31)))
 
-long-rest : (xs : List ℕ) → 10 < length xs → has_form (month_and_day then time_of_day_form) xs ≡ false
+long-rest : (xs : List ℕ) → 10 < length xs → (month_and_day then time_of_day_form) xs ≡ false
 long-rest xs h =
     then-assoc (two_digits 1 12) (two_digits 1 31) time_of_day_form xs
     ∙ long-then 1 12 8 _ (long-then 1 31 6 _ long-time) xs h
 
-long-date_time : (xs : List ℕ) → 14 < length xs → has_form date_time_form xs ≡ false
+long-date_time : (xs : List ℕ) → 14 < length xs → date_time_form xs ≡ false
 long-date_time xs h =
     then-assoc (two_digits 0 99) (two_digits 0 99 then month_and_day) time_of_day_form xs
     ∙ long-then 0 99 12 _
@@ -50,8 +50,8 @@ none-by false false a b c d e f g = rw g refl
 
 long-none : (number : ℕ) (xs : List ℕ) → 14 < length xs → is_date_or_time number xs ≡ false
 long-none number xs h =
-    none-by (eqb number 32) (eqb number 31) (has_form time_of_day_form xs) (has_form date_form xs)
-    (has_form date_time_form xs) (month_has_day xs) (long-time xs (omega (arith, h))) (long-date xs (omega (arith, h)))
+    none-by (eqb number 32) (eqb number 31) (time_of_day_form xs) (date_form xs)
+    (date_time_form xs) (month_has_day xs) (long-time xs (omega (arith, h))) (long-date xs (omega (arith, h)))
     (long-date_time xs h)
 
 kept-by : (number : ℕ) (c : List ℕ) (short : Bool) → nat_le (length c) 64 ≡ short

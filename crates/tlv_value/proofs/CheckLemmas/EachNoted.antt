@@ -6,9 +6,8 @@ use Rattle.std.specs.List.{list_all}
 use Rattle.std.specs.Prelude.{◌&&◌, ◌||◌, eqb}
 use Rattle.std.proofs.lemmas.Bool.Decides.{nat_tests}
 use Rattle.tlv_value.specs.Types.{is_number_of, object_types}
-use Rattle.tlv_value.specs.ValueCheckState.{ValueCheckState, is_padded_after, last_octet_after, notes_each}
+use Rattle.tlv_value.specs.ValueCheckState.{allows_octet, is_padded_after, last_octet_after, notes_each, ValueCheckState}
 use Rattle.tlv_value.specs.ValueCheckState.{with_each_noted}
-use Rattle.tlv_value.specs.Checks.{allows_octet}
 use Rattle.tlv_head.specs.declared.kind.Kind.TheVariants.{Utf8}
 use Rattle.tlv_value.specs.RowsSoFar.{full_rows, open_row}
 use Rattle.tlv_value.proofs.CheckLemmas.Noting.{all-other}

@@ -1,19 +1,20 @@
 -- There are few findings on the contents of a primitive, since most conditions are of one type alone.
 use Rattle.std.proofs.Common.{◌≡◌, ℕ, ◌+◌, ◌≤◌, Bool, true, false, ◌&&◌, ◌==◌, not, nat_le, nat_lt, List, [], ◌∷◌}
-use Rattle.std.proofs.Common.{◌++◌, ◌||◌, if◌then◌else◌, length, refl, arith}
-use Rattle.std.proofs.lemmas.Bool.{and_parts}
+use Rattle.std.proofs.Common.{◌++◌, ◌||◌, if◌then◌else◌, length, eqb, ◌%◌, ◌^◌, refl, arith}
+use Rattle.std.proofs.lemmas.Bool.{and_parts, eqb-true}
+use Rattle.std.specs.List.{list_any}
 use Rattle.std.proofs.lemmas.Bool.Decides.{nat_tests}
 use Rattle.tlv_head.specs.Header.{HeaderValue, is_universal}
 use Rattle.tlv_head.specs.UniversalTypes as universal
 use Rattle.tlv_value.specs.declared.finding.Finding.{Finding}
 use Rattle.tlv_value.specs.Characters.{has_wrong_unit}
 use Rattle.tlv_value.specs.AllChecks.{all_contents_findings, is_iri, time_has_day, type_conditions}
-use Rattle.tlv_value.specs.Checks.{allows, canonical_form, findings_by, first_octet, has_padded_part, is_padded_integer}
-use Rattle.tlv_value.specs.Checks.{is_short_time, last_octet, time_form, unused_bits_value}
+use Rattle.tlv_value.specs.Arcs.{parts_of}
+use Rattle.tlv_value.specs.Checks.{allows, begins_with, canonical_form, findings_by, first_octet, is_padded_integer}
+use Rattle.tlv_value.specs.Checks.{is_short_time, last_octet, time_form}
 use Rattle.tlv_value.specs.Dates.{is_date_or_time}
 use Rattle.tlv_value.specs.Real.{is_canonical_real, is_real_form}
-use Rattle.tlv_value.specs.Times.{has_form}
-use Rattle.tlv_value.specs.Types.{character_types, date_types, integer_types, iri_types, is_number_of, object_types}
+use Rattle.tlv_value.specs.Types.{date_types, integer_types, iri_types, is_number_of, object_types}
 use Rattle.tlv_value.specs.Types.{wide_string_types}
 
 -- 1, if the condition holds
@@ -44,10 +45,24 @@ either-few : (a b x y : Bool) → (a ≡ true → b ≡ false) → one_if (a && 
 either-few true b x y e = rw (e refl) (omega (arith, one-few x))
 either-few false b x y e = omega (arith, one-few (b && y))
 
+either-fewer : (a x b : Bool) → (a ≡ true → b ≡ false) → one_if (a && x) + one_if b ≤ 1
+either-fewer true x b e = rw (e refl) (omega (arith, one-few x))
+either-fewer false x b e = omega (arith, one-few b)
+
 -- a further condition
 fewer : (a x : Bool) → one_if (a && x) ≤ one_if a
 fewer true x = one-few x
 fewer false x = omega arith
+
+-- an integer has no characters
+integer-by : (n : ℕ) (c : List ℕ) (a b : Bool) → eqb n 2 ≡ a → eqb n 10 ≡ b → (a || (b || false)) ≡ true
+    → not (allows n c) ≡ false
+integer-by n c true b e f h = rw (eqb-true n 2 e) refl
+integer-by n c false true e f h = rw (eqb-true n 10 f) refl
+integer-by n c false false e f h = absurd cc
+
+integer-allowed : (n : ℕ) (c : List ℕ) → is_number_of integer_types n ≡ true → not (allows n c) ≡ false
+integer-allowed n c h = integer-by n c (eqb n 2) (eqb n 10) refl refl h
 
 real-no_iri : (n : ℕ) → (n == universal.real) ≡ true → is_number_of iri_types n ≡ false
 real-no_iri n e = grind (arith, nat_tests)
@@ -64,13 +79,13 @@ type-few n c =
     let boolean =
     fewer (n == universal.boolean && length c == 1) (not (first_octet c == 0 || first_octet c == 0xff)) in
     let integer-characters =
-    either-few (is_number_of integer_types n) (is_number_of character_types n) (is_padded_integer c) (not (allows n c))
-    (λ e. grind (arith, nat_tests, e)) in
+    either-fewer (is_number_of integer_types n) (is_padded_integer c) (not (allows n c)) (integer-allowed n c) in
     let object-bits =
     either-few (n == universal.object_identifier) (n == universal.bit_string) (length c == 0) (length c == 0)
     (λ e. grind (arith, nat_tests, e)) in
     let padded-bits =
-    either-few (is_number_of object_types n) (n == universal.bit_string) (has_padded_part c) (nat_lt 7 (first_octet c))
+    either-few (is_number_of object_types n) (n == universal.bit_string)
+    (list_any (begins_with 0x80) (parts_of c)) (nat_lt 7 (first_octet c))
     (λ e. grind (arith, nat_tests, e)) in
     let last-bits =
     either-few (is_number_of object_types n) (n == universal.bit_string) (nat_le 128 (last_octet c))
@@ -84,8 +99,8 @@ type-few n c =
     let bits = fewer (n == universal.bit_string && nat_le 2 (length c)) (nat_le (first_octet c) 7) in
     let bits-set =
     fewer (n == universal.bit_string && nat_le 2 (length c) && nat_le (first_octet c) 7)
-    (not (unused_bits_value c == 0)) in
-    let b19 = one-few (is_short_time n c && not (has_form (time_form n) c)) in
+    (not (last_octet c % 2 ^ first_octet c == 0)) in
+    let b19 = one-few (is_short_time n c && not (time_form n c)) in
     let real-date =
     either-few (n == universal.real) (is_number_of date_types n) (not (is_real_form c)) (not (is_date_or_time n c))
     (λ e. grind (arith, nat_tests, e)) in
@@ -94,8 +109,8 @@ type-few n c =
     (not (is_iri n c))
     (λ e. real-no_iri n ((and_parts (n == universal.real) (is_real_form c) e).0)) in
     let b25 = one-few (is_number_of wide_string_types n && has_wrong_unit n c) in
-    let b26 = one-few (is_short_time n c && has_form (time_form n) c && not (time_has_day n c)) in
-    let s04 = one-few (is_short_time n c && has_form (time_form n) c && not (has_form (canonical_form n) c)) in
+    let b26 = one-few (is_short_time n c && time_form n c && not (time_has_day n c)) in
+    let s04 = one-few (is_short_time n c && time_form n c && not (canonical_form n c)) in
     omega (
       arith,
       l,

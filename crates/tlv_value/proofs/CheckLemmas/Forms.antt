@@ -6,7 +6,7 @@ use Rattle.std.proofs.lemmas.List.{take_all}
 use Rattle.std.specs.Prelude.{Some, None, map, Option, ◌==◌}
 use Rattle.std.specs.Char.{is_ascii_digit}
 use Rattle.std.specs.List.{list_any}
-use Rattle.tlv_value.specs.Times.{Form, digits, has_form, mark, maybe, no_octets, octet_between, splits}
+use Rattle.tlv_value.specs.Times.{Form, digits, mark, maybe, no_octets, octet_between, splits}
 use Rattle.tlv_value.specs.Times.{two_digit_number, two_digits, ◌or◌, ◌then◌}
 use Rattle.tlv_value.specs.Private.TimeParts.{LeavesRest}
 
@@ -124,6 +124,21 @@ then-assoc f g h (x ∷ xs) =
     ∙ ap (λ (b : Bool). (f [] && b) || (fx then (g then h)) xs) (sym (then-more g h x xs))
     ∙ sym (then-more f (g then h) x xs)
 
+-- the same of forms, and of more parts
+assoc-form : (f g h : Form) → ((f then g) then h) ≡ (f then (g then h))
+assoc-form f g h = λ i xs. then-assoc f g h xs i
+
+three-parts : (f g h next : Form) → ((f then g then h) then next) ≡ (f then g then h then next)
+three-parts f g h next = assoc-form f (g then h) next ∙ ap (λ (n : Form). f then n) (assoc-form g h next)
+
+pub three-apart : (f g h next : Form) (xs : List ℕ) → ((f then g then h) then next) xs ≡ (f then g then h then next) xs
+three-apart f g h next xs = ap (λ (n : Form). n xs) (three-parts f g h next)
+
+pub four-apart : (f g h k next : Form) (xs : List ℕ)
+    → ((f then g then h then k) then next) xs ≡ (f then g then h then k then next) xs
+four-apart f g h k next xs =
+    then-assoc f (g then h then k) next xs ∙ ap (λ (n : Form). (f then n) xs) (three-parts g h k next)
+
 -- ---- the empty text
 
 -- nothing else has the form of the first part
@@ -146,7 +161,7 @@ then-nothing f (x ∷ xs) =
     ∙ ap (λ (b : Bool). b || ((λ (ys : List ℕ). f (x ∷ ys)) then no_octets) xs) (and-false (f []))
     ∙ then-nothing (λ (ys : List ℕ). f (x ∷ ys)) xs
 
-pub maybe-then : (f g : Form) (xs : List ℕ) → has_form (maybe f then g) xs ≡ (has_form (f then g) xs || has_form g xs)
+pub maybe-then : (f g : Form) (xs : List ℕ) → (maybe f then g) xs ≡ ((f then g) xs || g xs)
 maybe-then f g xs =
     or-then f no_octets g xs
     ∙ ap (λ (b : Bool). (f then g) xs || b) (only-empty-then no_octets g (λ x ys. refl) xs)
@@ -189,13 +204,13 @@ pub no_rest_then : (f g : Form) (xs : List ℕ) → LeavesRest f xs None → Lea
 no_rest_then f g xs e = λ next. then-assoc f g next xs ∙ e (g then next)
 
 -- a part that may be left out, and is there
-pub maybe-there : (f g : Form) (c : List ℕ) (r : Bool) → r ≡ has_form (f then g) c → r ≡ true
-    → r ≡ has_form (maybe f then g) c
+pub maybe-there : (f g : Form) (c : List ℕ) (r : Bool) → r ≡ (f then g) c → r ≡ true
+    → r ≡ (maybe f then g) c
 maybe-there f g c r e h = rw (maybe-then f g c, ← e, h) refl
 
 -- a part that may be left out, and is not there
-pub maybe-left : (f g : Form) (c : List ℕ) (r s : Bool) → r ≡ has_form (f then g) c → r ≡ false → s ≡ has_form g c
-    → s ≡ has_form (maybe f then g) c
+pub maybe-left : (f g : Form) (c : List ℕ) (r s : Bool) → r ≡ (f then g) c → r ≡ false → s ≡ g c
+    → s ≡ (maybe f then g) c
 maybe-left f g c r s e h q = rw (maybe-then f g c, ← e, h) q
 
 pub two-left : (x y : ℕ) (xs : List ℕ) → take (length (x ∷ y ∷ xs) - 2) xs ≡ xs
@@ -269,11 +284,11 @@ no-octets-is (x ∷ xs) = grind (arith, nat_tests)
 
 -- two parts, and what comes after them
 pub third : (f g h : Form) (xs rest : List ℕ) → LeavesRest (f then g) xs (Some rest)
-    → has_form (f then (g then h)) xs ≡ has_form h rest
+    → (f then (g then h)) xs ≡ h rest
 third f g h xs rest e = sym (then-assoc f g h xs) ∙ e h
 
 pub no-third : (f g h : Form) (xs : List ℕ) → LeavesRest (f then g) xs None
-    → false ≡ has_form (f then (g then h)) xs
+    → false ≡ (f then (g then h)) xs
 no-third f g h xs e = sym (sym (then-assoc f g h xs) ∙ e h)
 
 or-true : (a : Bool) → true ≡ (a || true)
@@ -282,12 +297,12 @@ or-true false = refl
 
 -- nothing is left
 pub empty-there : (f : Form) (rest : List ℕ) (r : Bool) → r ≡ (length rest == 0) → r ≡ true
-    → r ≡ has_form (maybe f) rest
+    → r ≡ (maybe f) rest
 empty-there f [] r e h = h ∙ or-true (f [])
 empty-there f (x ∷ xs) r e h =
     let n : false ≡ (length (x ∷ xs) == 0) = grind (arith, nat_tests) in absurd (cc (n, e, h))
 
-pub empty-left : (f : Form) (rest : List ℕ) (r s : Bool) → s ≡ (length rest == 0) → s ≡ false → r ≡ has_form f rest
-    → r ≡ has_form (maybe f) rest
+pub empty-left : (f : Form) (rest : List ℕ) (r s : Bool) → s ≡ (length rest == 0) → s ≡ false → r ≡ f rest
+    → r ≡ (maybe f) rest
 empty-left f [] r s e h q = absurd (cc (e, h))
 empty-left f (x ∷ xs) r s e h q = q ∙ sym (or-false (f (x ∷ xs)))

@@ -3,7 +3,7 @@ use Rattle.std.proofs.Common.{◌≡◌, ℕ, ◌&&◌, ◌||◌, Bool, true, fa
 use Rattle.std.proofs.Common.{◌∙◌}
 use Rattle.std.specs.List.{list_any, onto_first}
 use Rattle.tlv_value.specs.Arcs.{parts_of}
-use Rattle.tlv_value.specs.Checks.{begins_with, has_padded_part, last_octet}
+use Rattle.tlv_value.specs.Checks.{begins_with, last_octet}
 use Rattle.tlv_value.specs.ValueCheckState.{is_padded_after, last_octet_after}
 
 last-of_some : (previous x : ℕ) (xs : List ℕ) → last_octet_after previous (x ∷ xs) ≡ last_octet (x ∷ xs)
@@ -45,7 +45,7 @@ padded-by_parts previous (x ∷ xs) =
     ap (λ (b : Bool). (nat_lt previous 128 && eqb x 128) || b) (padded-by_parts x xs)
     ∙ padded-before (nat_lt previous 128) (nat_lt x 128) x (parts_of xs)
 
-pub padded_of_all : (octets : List ℕ) → is_padded_after 0 octets ≡ has_padded_part octets
+pub padded_of_all : (octets : List ℕ) → is_padded_after 0 octets ≡ list_any (begins_with 0x80) (parts_of octets)
 padded_of_all octets = padded-by_parts 0 octets
 
 pub ruleset of_all = (last_of_all, padded_of_all)

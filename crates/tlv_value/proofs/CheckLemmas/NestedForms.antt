@@ -6,14 +6,15 @@ use Rattle.std.proofs.lemmas.Bool.{and_parts, or_cases, leb-true, le-leb}
 use Rattle.std.proofs.lemmas.Bool.Decides.{nat_tests}
 use Rattle.std.specs.Char.{is_ascii_digit}
 use Rattle.tlv_value.specs.declared.finding.Finding.TheVariants.{B19, B26, S04}
-use Rattle.tlv_value.specs.Checks.{finding_if}
 use Rattle.tlv_value.specs.Dates.{month_has_day, month_has_day_in_some_century}
 use Rattle.tlv_value.specs.Times.{Form, canonical_fraction, canonical_generalized_time_form, canonical_utc_time_form}
-use Rattle.tlv_value.specs.Times.{digits, generalized_tail, generalized_time_form, has_form, hour, mark, maybe, minute}
+use Rattle.tlv_value.specs.Times.{digits, generalized_time_form, hour, mark, maybe, minute}
 use Rattle.tlv_value.specs.Times.{month_and_day, no_octets, octet_between, second, sign, splits, two_digit_number}
-use Rattle.tlv_value.specs.Times.{two_digits, utc_time_form, ◌or◌, ◌then◌}
+use Rattle.tlv_value.specs.Times.{two_digits, utc_time_form, year_digits, ◌or◌, ◌then◌}
 use Rattle.tlv_value.specs.Private.TimeFindings.{generalized_time_findings, time_findings, utc_time_findings}
 use Rattle.tlv_value.proofs.CheckLemmas.Forms.{digits-then, octet-then, then-assoc}
+use Rattle.tlv_value.specs.Private.TimeParts.{generalized_tail}
+use Rattle.tlv_value.specs.ValueCheckState.{finding_if}
 
 -- each text of the first form has the second
 record Within (f g : Form) : Type 0 where
@@ -63,13 +64,6 @@ within-first {f} {g} h v = record { has = λ text e. or-left (g text) (h text) (
 within-prefix : {f k : Form} (g h m : Form) → Within f k → Within (g then h) m → Within ((f then g) then h) (k then m)
 within-prefix {f} g h m v w = record {
   has = λ text e. (within-then v w).has text (sym (then-assoc f g h text) ∙ e);
-}
-
--- the same, with a second form of three parts
-within-prefixes : {f k : Form} (g h m n : Form) → Within f k → Within (g then h) (m then n)
-    → Within ((f then g) then h) ((k then m) then n)
-within-prefixes {f} {k} g h m n v w = record {
-  has = λ text e. then-assoc k m n text ∙ (within-prefix g h (m then n) v w).has text e;
 }
 
 -- two digits of a number with a greater limit
@@ -132,8 +126,9 @@ within-second w = within-then (within-first no_octets (within-same second)) w
 -- 11.8
 utc-within : Within canonical_utc_time_form utc_time_form
 utc-within =
-    within-prefixes _ _ _ _ (within-same (two_digits 0 99))
-    (within-prefixes _ _ _ _ (within-same month_and_day) (within-prefixes _ _ _ _ within-hour
+    within-then (within-same year_digits)
+    (within-then (within-same month_and_day)
+    (within-prefix _ _ _ within-hour
     (within-prefix _ _ _ (within-same minute)
     (within-second (within-first (sign then hour then minute) (within-same (mark 90)))))))
 
@@ -146,8 +141,9 @@ generalized-tail =
 -- 11.7
 generalized-within : Within canonical_generalized_time_form generalized_time_form
 generalized-within =
-    within-prefixes _ _ _ _ (within-same (two_digits 0 99))
-    (within-prefixes _ _ _ _ (within-same (two_digits 0 99)) (within-prefixes _ _ _ _ (within-same month_and_day)
+    within-then (within-same year_digits)
+    (within-then (within-same year_digits)
+    (within-then (within-same month_and_day)
     (within-prefix _ _ _ within-hour
     (within-then
     (within-first no_octets (within-then (within-same minute) (within-first no_octets (within-same second))))
@@ -157,8 +153,8 @@ generalized-within =
 -- has the day
 clear-within :
     {f g : Form} → Within f g → (day : Bool) (text : List ℕ)
-    → (has_form f text && day) ≡ eqb (length (time_findings (has_form g text) day (has_form f text))) 0
-clear-within {f} {g} w day text = go (has_form f text) (has_form g text) day (w.has text)
+    → (f text && day) ≡ eqb (length (time_findings (g text) day (f text))) 0
+clear-within {f} {g} w day text = go (f text) (g text) day (w.has text)
   where
     go : (a b day : Bool) → (a ≡ true → b ≡ true) → (a && day) ≡ eqb (length (time_findings b day a)) 0
     go true true true v = refl
@@ -170,13 +166,13 @@ clear-within {f} {g} w day text = go (has_form f text) (has_form g text) day (w.
 
 pub utc_clear :
     (octets : List ℕ)
-    → (has_form canonical_utc_time_form octets && month_has_day_in_some_century octets)
+    → (canonical_utc_time_form octets && month_has_day_in_some_century octets)
     ≡ eqb (length (utc_time_findings octets)) 0
 utc_clear octets = clear-within utc-within (month_has_day_in_some_century octets) octets
 
 pub generalized_clear :
     (octets : List ℕ)
-    → (has_form canonical_generalized_time_form octets && month_has_day octets)
+    → (canonical_generalized_time_form octets && month_has_day octets)
     ≡ eqb (length (generalized_time_findings octets)) 0
 generalized_clear octets = clear-within generalized-within (month_has_day octets) octets
 

@@ -1,6 +1,7 @@
 -- What is found by what is kept of contents is what is found by the whole contents.
 use Rattle.std.proofs.Common.{◌≡◌, ℕ, Bool, true, false, ◌&&◌, ◌||◌, ◌==◌, ◌%◌, ◌^◌, not, eqb, nat_le, nat_lt}
 use Rattle.std.proofs.Common.{if◌then◌else◌, List, [], ◌∷◌, ◌++◌, length, take, refl, sym, ap, ap₂, ◌∙◌, subst}
+use Rattle.std.proofs.Math.Bool.{and-true}
 use Rattle.std.proofs.lemmas.Bool.{eqb-true, leb-true}
 use Rattle.std.proofs.lemmas.List.{take_all}
 use Rattle.std.specs.List.{list_all}
@@ -12,10 +13,10 @@ use Rattle.tlv_value.specs.Characters.{has_wrong_unit}
 use Rattle.tlv_value.specs.Dates.{month_has_day, month_has_day_in_some_century}
 use Rattle.tlv_value.specs.UnitsSoFar.{are_characters_after}
 use Rattle.tlv_value.specs.AllChecks.{all_contents_findings, type_conditions, type_findings}
-use Rattle.tlv_value.specs.Checks.{allows, allows_octet, are_whole_characters, begins_with}
-use Rattle.tlv_value.specs.Checks.{finding_if, findings_by, is_padded_integer}
+use Rattle.tlv_value.specs.Checks.{allows, begins_with}
+use Rattle.tlv_value.specs.Checks.{findings_by, is_padded_integer}
 use Rattle.tlv_value.specs.Types.{character_types, is_number_of}
-use Rattle.tlv_value.specs.ValueCheckState.{ValueCheckState, is_allowed, kept_conditions, new_value_check_of}
+use Rattle.tlv_value.specs.ValueCheckState.{allows_octet, are_whole_characters, finding_if, is_allowed, kept_conditions, new_value_check_of, ValueCheckState}
 use Rattle.tlv_value.specs.ValueCheckState.{notes_each, type_number, with_each_noted, with_octets_noted}
 use Rattle.tlv_value.specs.RowsSoFar.{full_rows, open_row}
 use Rattle.tlv_head.specs.Header.{HeaderValue, is_universal}
@@ -30,7 +31,7 @@ use Rattle.tlv_value.proofs.RealLemmas.CanonicalContents.{real-canonical}
 use Rattle.tlv_value.proofs.RealLemmas.RealContents.{real-of_form}
 use Rattle.tlv_value.proofs.CheckLemmas.Utf8ByRow.{rows-formed_at}
 use Rattle.tlv_value.specs.Times.{Form, canonical_generalized_time_form, canonical_utc_time_form, generalized_time_form}
-use Rattle.tlv_value.specs.Times.{has_form, utc_time_form}
+use Rattle.tlv_value.specs.Times.{utc_time_form}
 
 -- what is noted of all contents of the type with this number
 abbrev pub all_noted : ℕ → List ℕ → ValueCheckState
@@ -85,17 +86,17 @@ relative-same c =
 
 -- a time of at most 64 octets is noted as it is
 time-by : (short : Bool) (form canonical : Form) (has_day : List ℕ → Bool) (c time : List ℕ) → (short ≡ true → time ≡ c)
-    → finding_if (short && not (has_form form c)) B19
-    ++ (finding_if (short && has_form form c && not (has_day c)) B26
-    ++ (finding_if (short && has_form form c && not (has_form canonical c)) S04 ++ []))
-    ≡ finding_if (short && not (has_form form time)) B19
-    ++ (finding_if (short && has_form form time && not (has_day time)) B26
-    ++ (finding_if (short && has_form form time && not (has_form canonical time)) S04 ++ []))
+    → finding_if (short && not (form c)) B19
+    ++ (finding_if (short && form c && not (has_day c)) B26
+    ++ (finding_if (short && form c && not (canonical c)) S04 ++ []))
+    ≡ finding_if (short && not (form time)) B19
+    ++ (finding_if (short && form time && not (has_day time)) B26
+    ++ (finding_if (short && form time && not (canonical time)) S04 ++ []))
 time-by false form canonical has_day c time e = refl
 time-by true form canonical has_day c time e =
-    ap (λ (d : List ℕ). finding_if (not (has_form form d)) B19
-    ++ (finding_if (has_form form d && not (has_day d)) B26
-    ++ (finding_if (has_form form d && not (has_form canonical d)) S04 ++ [])))
+    ap (λ (d : List ℕ). finding_if (not (form d)) B19
+    ++ (finding_if (form d && not (has_day d)) B26
+    ++ (finding_if (form d && not (canonical d)) S04 ++ [])))
     (sym (e refl))
 
 utc-same : (c : List ℕ) → Same 23 c
@@ -119,20 +120,16 @@ date_time-same : (c : List ℕ) → Same 33 c
 date_time-same c = ap (λ (is_one : Bool). finding_if (not is_one) B21 ++ []) (date-kept 33 c)
 
 -- strings of wide characters
-wide-by : (whole all wrong kept : Bool) → all ≡ true → wrong ≡ not kept
-    → finding_if (not (whole && all)) B18 ++ (finding_if wrong B25 ++ [])
+wide-by : (whole wrong kept : Bool) → wrong ≡ not kept
+    → finding_if (not (whole && true)) B18 ++ (finding_if wrong B25 ++ [])
     ≡ finding_if (not (whole && true)) B18 ++ (finding_if (not kept) B25 ++ [])
-wide-by whole all wrong kept e f = rw (e, f) refl
+wide-by whole wrong kept e = rw e refl
 
 fours-same : (c : List ℕ) → Same 28 c
-fours-same c =
-    wide-by (are_whole_characters 28 (length c)) (list_all (allows_octet 28) c) (has_wrong_unit 28 c)
-    (are_characters_after 4 [] c) (all-allowed 28 (λ x. refl) c) (fours-kept c)
+fours-same c = wide-by (length c % 4 == 0) (has_wrong_unit 28 c) (are_characters_after 4 [] c) (fours-kept c)
 
 twos-same : (c : List ℕ) → Same 30 c
-twos-same c =
-    wide-by (are_whole_characters 30 (length c)) (list_all (allows_octet 30) c) (has_wrong_unit 30 c)
-    (are_characters_after 2 [] c) (all-allowed 30 (λ x. refl) c) (twos-kept c)
+twos-same c = wide-by (length c % 2 == 0) (has_wrong_unit 30 c) (are_characters_after 2 [] c) (twos-kept c)
 
 -- internationalized resource identifiers
 begins-noted : (x : ℕ) (c : List ℕ) → begins_with x c ≡ begins_with x (take 2 c)
@@ -195,19 +192,42 @@ other-noted : (n : ℕ) (c : List ℕ) → IsOther n → all_noted n c ≡ each-
 other-noted n c o =
     rw (o.e1, o.e2, o.e3, o.e9, o.e10, o.e23, o.e24, o.e28, o.e30, o.e31, o.e32, o.e33, o.e35, o.e36) refl
 
-other-allowed : (n : ℕ) (c : List ℕ) → IsOther n → is_allowed (all_noted n c) ≡ allows n c
+-- what a type allows, by what is noted: whole characters, and each octet
+abbrev allows-noted : ℕ → List ℕ → Bool
+allows-noted n c = (if eqb n 12 then is_utf8 c else are_whole_characters n (length c)) && list_all (allows_octet n) c
+
+other-allowed : (n : ℕ) (c : List ℕ) → IsOther n → is_allowed (all_noted n c) ≡ allows-noted n c
 other-allowed n c o = ap is_allowed (other-noted n c o) ∙ by (notes_each n) refl
   where
     by : (k : Bool) → notes_each n ≡ k
-        → is_allowed (each-noted n c k) ≡ allows n c
+        → is_allowed (each-noted n c k) ≡ allows-noted n c
     by true e = allowed-each n c (eqb n 12)
     by false e = ap is_allowed (sym (nothing-noted (new_value_check_of n (length c)) c e)) ∙ allowed-each n c (eqb n 12)
+
+-- the table of types says the same
+abbrev AllowsSame : ℕ → List ℕ → Type 0
+AllowsSame n c = not (allows n c) ≡ (is_number_of character_types n && not (allows-noted n c))
+
+allows-by : (n k : ℕ) (c : List ℕ) (test : Bool) → eqb n k ≡ test → AllowsSame k c
+    → (eqb n k ≡ false → AllowsSame n c) → AllowsSame n c
+allows-by n k c true e same other = subst (λ (m : ℕ). AllowsSame m c) (sym (eqb-true n k e)) same
+allows-by n k c false e same other = other e
+
+allows-same : (n : ℕ) (c : List ℕ) → IsOther n → AllowsSame n c
+allows-same n c o =
+    allows-by n 12 c (eqb n 12) refl
+    (ap (λ (b : Bool). not (is_utf8 c && b)) (sym (all-allowed 12 (λ x. refl) c))) (λ e12.
+    allows-by n 18 c (eqb n 18) refl (ap not (and-true (list_all (allows_octet 18) c))) (λ e18.
+    allows-by n 19 c (eqb n 19) refl (ap not (and-true (list_all (allows_octet 19) c))) (λ e19.
+    allows-by n 22 c (eqb n 22) refl (ap not (and-true (list_all (allows_octet 22) c))) (λ e22.
+    allows-by n 26 c (eqb n 26) refl (ap not (and-true (list_all (allows_octet 26) c))) (λ e26.
+    rw (e12, e18, e19, e22, e26, o.e28, o.e30) refl)))))
 
 abbrev pub on_characters : ℕ → Bool → List Finding
 on_characters n allowed = finding_if (is_number_of character_types n && not allowed) B18 ++ []
 
 pub other-by : (n : ℕ) (c : List ℕ) (s : ValueCheckState) → IsOther n
-    → (type_findings n c ≡ on_characters n (allows n c))
+    → (type_findings n c ≡ finding_if (not (allows n c)) B18 ++ [])
     × (findings_by (kept_conditions n s) ≡ on_characters n (is_allowed s))
 other-by n c s o =
     rw (
@@ -233,7 +253,8 @@ other-by n c s o =
 other-same : (n : ℕ) (c : List ℕ) → IsOther n → Same n c
 other-same n c o =
     let both = other-by n c (all_noted n c) o in
-    both.0 ∙ ap (on_characters n) (sym (other-allowed n c o)) ∙ sym both.1
+    both.0 ∙ ap (λ (b : Bool). finding_if b B18 ++ []) (allows-same n c o)
+    ∙ ap (on_characters n) (sym (other-allowed n c o)) ∙ sym both.1
 
 -- ---- all types
 

@@ -26,10 +26,11 @@ use Rattle.tlv_value.proofs.TextLemmas.UnitSteps.{size-within}
 use Rattle.tlv_value.specs.Value.{InPairs, OnLine, Value, Written, bit_count_text, bits_value, boolean_value}
 use Rattle.tlv_value.specs.Value.{integer_text, is_readable, on_line_text}
 use Rattle.tlv_value.specs.Private.UndottedText.{line_pairs}
-use Rattle.tlv_value.specs.Value.{joined_pairs, pairs_with_text, text_behind}
+use Rattle.tlv_value.specs.Value.{pairs_with_text, text_behind}
 use Rattle.tlv_io.specs.LineTexts.{AddsAtMost}
 use Rattle.tlv_io.proofs.HeldTexts.{pairs-size}
 use Rattle.tlv_value.specs.Value.{octets_value, spaced_pairs, used_digits, value_on_line}
+use Rattle.tlv_value.specs.Private.Rows.{joined_pairs}
 
 -- what was added is at most so long
 pub length-grown : (old new text : List ℕ) (n : ℕ) → new ≡ old ++ text → length text ≤ n → length new ≤ length old + n

@@ -4,8 +4,9 @@ use Rattle.std.proofs.Common.{arith, append_assoc, append-nil, length-append}
 use Rattle.std.proofs.Math.Seq.{take-append-add}
 use Rattle.std.proofs.lemmas.List.{length-map, map-append}
 use Rattle.tlv_value.specs.Bits.{bits_of, last_bits}
-use Rattle.tlv_value.specs.Value.{digits_of_bits, used_digits}
+use Rattle.tlv_value.specs.Value.{used_digits}
 use Rattle.tlv_value.proofs.TextLemmas.Numbers.{bits-append, length-bits, length-last_bits}
+use Rattle.tlv_value.specs.Private.Rows.{digits_of_bits}
 
 -- eight digits of each octet
 pub length-digits : (octets : List ℕ) → length (digits_of_bits (bits_of octets)) ≡ 8 * length octets

@@ -1,5 +1,7 @@
--- Where a row is, and the lines of rows of pairs of digits.
-use Rattle.std.specs.Prelude.{ℕ, ◌+◌, ◌*◌, Bool, if◌then◌else◌, List, flat_map}
+-- Where a row is, and the lines of rows of pairs of digits; pairs, and bits, as texts.
+use Rattle.std.specs.Prelude.{ℕ, ◌+◌, ◌*◌, Bool, if◌then◌else◌, List, [], ◌∷◌, codes, flat_map, map}
+use Rattle.std.specs.List.{join_by}
+use Rattle.hex.specs.Hex.{encode_lower}
 use Rattle.tlv_head.specs.declared.kind.Kind.TheVariants.{Octets}
 use Rattle.tlv_value.specs.declared.layout.Layout.{Layout}
 use Rattle.tlv_value.specs.Layout.{blank_columns, inner_line, margin}
@@ -20,3 +22,11 @@ pair_row_line with_text layout row = inner_line layout (row_text with_text Octet
 
 abbrev pub pair_row_lines : Bool → Layout → List (List ℕ) → List ℕ
 pair_row_lines with_text layout rows = flat_map (pair_row_line with_text layout) rows
+
+-- pairs of digits with spaces between them
+abbrev pub joined_pairs : List ℕ → List ℕ
+joined_pairs octets = join_by (λ x. encode_lower (x ∷ [])) (codes " ") octets
+
+-- bits as digits: 30 is the digit 0
+abbrev pub digits_of_bits : List ℕ → List ℕ
+digits_of_bits bits = map (λ bit. 0x30 + bit) bits

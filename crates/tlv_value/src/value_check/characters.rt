@@ -1,7 +1,8 @@
 //! Which octets NumericString, PrintableString, IA5String and VisibleString allow.
 ghost use Rattle.std.specs.List.{list_all};
 ghost use Rattle.std.specs.Prelude.{◌≡◌};
-ghost use Rattle.tlv_value.specs.Checks.{allows_octet, is_printable_string_octet};
+ghost use Rattle.tlv_value.specs.Checks.{is_printable_string_octet};
+ghost use Rattle.tlv_value.specs.ValueCheckState.{allows_octet};
 
 use super::both;
 use tlv_head::universal;

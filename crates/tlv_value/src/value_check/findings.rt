@@ -1,10 +1,10 @@
 //! The findings on contents, from what was noted of them.
 ghost use Rattle.std.specs.Prelude.{◌≡◌, ◌<◌, ◌≤◌, ◌%◌, ◌^◌, ◌++◌, ◌∷◌, [], eqb, length, not};
 ghost use Rattle.tlv_head.specs.UniversalTypes.{bit_string, boolean, generalized_time, real, utc_time, utf8_string};
-ghost use Rattle.tlv_value.specs.Checks.{finding_if, findings_by};
+ghost use Rattle.tlv_value.specs.Checks.{findings_by};
 ghost use Rattle.tlv_value.specs.Private.TimeFindings.{time_findings};
 ghost use Rattle.tlv_value.specs.Types.{is_number_of, tested_string_types};
-ghost use Rattle.tlv_value.specs.ValueCheckState.{findings_in, is_allowed, is_kept_date, is_kept_iri};
+ghost use Rattle.tlv_value.specs.ValueCheckState.{finding_if, findings_in, is_allowed, is_kept_date, is_kept_iri};
 ghost use Rattle.tlv_value.specs.ValueCheckState.{kept_conditions};
 
 use super::{ValueCheck, both, is_utf8};

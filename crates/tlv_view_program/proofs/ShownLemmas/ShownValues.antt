@@ -19,8 +19,7 @@ use Rattle.tlv_value.specs.Rows.{full_rows_in, rows_of}
 use Rattle.tlv_value.proofs.RowLemmas.RowsFilled.{rows-are_cut}
 use Rattle.tlv_value.specs.Units.{is_printable, quoted_text}
 use Rattle.tlv_value.specs.Value.{NameOf, Value, bit_count_text, bits_value, boolean_value, incomplete_value}
-use Rattle.tlv_value.specs.Value.{digits_of_bits}
-use Rattle.tlv_value.specs.Value.{integer_value, is_long, is_readable, joined_pairs, long_text, long_value, name_text}
+use Rattle.tlv_value.specs.Value.{integer_value, is_long, is_readable, long_text, long_value, name_text}
 use Rattle.tlv_value.specs.Value.{no_names, object_value, octets_value, on_line_text, pairs_with_text, row_octets}
 use Rattle.tlv_value.specs.Value.{row_text}
 use Rattle.tlv_value.specs.Value.{short_value, spaced_pairs, text_behind, used_digits, value_on_line, whole_value}
@@ -29,6 +28,7 @@ use Rattle.tlv_why.proofs.ShownLemmas.ShownWords.{decimal-shown}
 use Rattle.tlv_view_program.proofs.ShownLemmas.ShownLabels.{all_printable-shown, joined-shown}
 use Rattle.tlv_view_program.proofs.ShownLemmas.ShownText.{join-shown, joined_pairs-shown, left-octets, quoted-shown}
 use Rattle.tlv_view_program.proofs.ShownLemmas.ShownText.{right-octets, signed-shown, spaced_pairs-shown}
+use Rattle.tlv_value.specs.Private.Rows.{digits_of_bits, joined_pairs}
 
 -- a value whose text is shown, and whose rows are of octets
 pub record IsShownValue (v : Value) : Type 0 where

@@ -9,7 +9,8 @@ use Rattle.std.specs.Prelude.{if◌then◌else◌}
 use Rattle.tlv_head.specs.declared.header.Class.{Class}
 use Rattle.tlv_head.specs.declared.header.Size.{Size}
 use Rattle.tlv_head.specs.declared.header.Size.TheVariants.{Definite, Indefinite}
-use Rattle.tlv_head.specs.Header.{AllowsSize, HeaderValue, IsHeader, IsIdentifier, announced_length, is_universal}
+use Rattle.tlv_head.specs.Header.{HeaderValue, IsHeader, IsIdentifier, announced_length, is_universal}
+use Rattle.tlv_head.specs.HeaderSoFar.{AllowsSize}
 use Rattle.tlv_head.specs.Header.{identifier_octet}
 use Rattle.tlv_head.proofs.Wraps.{is_wrapper}
 use Rattle.tlv_head.specs.ShortestHeaders.{IsShortest}

@@ -5,7 +5,8 @@ use Rattle.std.proofs.Common.{append-nil, length-append}
 use Rattle.std.proofs.lemmas.Bool.{false_from_ne_true, true≢false}
 use Rattle.tlv_head.specs.declared.header.Size.{Size}
 use Rattle.tlv_head.specs.declared.header.Size.TheVariants.{Definite, Indefinite}
-use Rattle.tlv_head.specs.Header.{AllowsSize, HeaderValue, announced_length, octets_of}
+use Rattle.tlv_head.specs.Header.{HeaderValue, announced_length, octets_of}
+use Rattle.tlv_head.specs.HeaderSoFar.{AllowsSize}
 use Rattle.tlv_walk.specs.Walker.{Between, InEndOctets, WalkerState}
 use Rattle.tlv_walk.specs.Events.{AreEqualJoined, Close, EventValue, Leave, closing_event, events}
 use Rattle.tlv_walk.proofs.GrammarLemmas.Leads.{end_offset}

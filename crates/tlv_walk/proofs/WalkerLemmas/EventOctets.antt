@@ -5,7 +5,8 @@ use Rattle.std.proofs.lemmas.Bool.{cases_Bool, true≢false}
 use Rattle.std.proofs.lemmas.Grind.{flat_map-append}
 use Rattle.tlv_head.specs.declared.header.Size.{Size}
 use Rattle.tlv_head.specs.declared.header.Size.TheVariants.{Definite, Indefinite}
-use Rattle.tlv_head.specs.Header.{AllowsSize, HeaderValue, octets_of}
+use Rattle.tlv_head.specs.Header.{HeaderValue, octets_of}
+use Rattle.tlv_head.specs.HeaderSoFar.{AllowsSize}
 use Rattle.tlv_walk.specs.declared.framing.Framing.{Framing}
 use Rattle.tlv_walk.specs.Walker.{IsAfterEvent, PhaseValue, Between, InBitString, InEndOctets, InHeader, InPrimitive}
 use Rattle.tlv_walk.specs.Walker.{WalkerState}

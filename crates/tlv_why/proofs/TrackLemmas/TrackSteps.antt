@@ -4,7 +4,8 @@ use Rattle.std.proofs.Common.{[], ◌∷◌, ◌++◌, length, map, take, refl, 
 use Rattle.std.specs.Prelude.{Option, Some, None, nat_lt, slice_get}
 use Rattle.tlv_head.specs.declared.header.Size.{Size}
 use Rattle.tlv_head.specs.declared.header.Size.TheVariants.{Definite, Indefinite}
-use Rattle.tlv_head.specs.Header.{AllowsSize, HeaderValue, IsHeader, octets_of}
+use Rattle.tlv_head.specs.Header.{HeaderValue, IsHeader, octets_of}
+use Rattle.tlv_head.specs.HeaderSoFar.{AllowsSize}
 use Rattle.tlv_head.specs.UniversalTypes as universal
 use Rattle.tlv_walk.specs.Events.{Begin, Bytes, Close, End, Enter, EventValue, Leave, Open, Pad, Unused, closing_event}
 use Rattle.tlv_walk.specs.Events.{event_octets, opening_events}

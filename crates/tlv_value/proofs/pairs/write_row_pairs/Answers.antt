@@ -1,8 +1,8 @@
 use Rattle.std.proofs.Common.{◌∷◌, arith}
 use Rattle.tlv_io.proofs.HeldTexts.{length-added}
-use Rattle.tlv_value.specs.Value.{joined_pairs}
 use Rattle.tlv_value.proofs.TextLemmas.RowTextLengths.{joined-short}
 use Rattle.tlv_value.proofs.pairs.write_row_pairs.Goals as goal
+use Rattle.tlv_value.specs.Private.Rows.{joined_pairs}
 
 pub write_text_behind-requires : goal.write_text_behind-requires
 write_text_behind-requires c =

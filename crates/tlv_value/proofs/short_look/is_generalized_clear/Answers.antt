@@ -1,6 +1,6 @@
 use Rattle.std.proofs.Common.{◌&&◌, ◌∙◌, Bool, ap, length, nat_le, sym}
 use Rattle.tlv_value.specs.Dates.{month_has_day}
-use Rattle.tlv_value.specs.Times.{canonical_generalized_time_form, generalized_time_form, has_form}
+use Rattle.tlv_value.specs.Times.{canonical_generalized_time_form, generalized_time_form}
 use Rattle.tlv_value.proofs.CheckLemmas.NestedForms.{generalized_clear, time-clear}
 use Rattle.tlv_value.proofs.short_look.is_generalized_clear.Goals as goal
 
@@ -12,6 +12,6 @@ returns-then-general_canonical-clause-clear c =
 
 pub returns-then-general_canonical-clause-contents : goal.returns-then-general_canonical-clause-contents
 returns-then-general_canonical-clause-contents c =
-    λ h. time-clear (nat_le (length c.args.time.now) 64) (has_form generalized_time_form c.args.time.now)
-    (month_has_day c.args.time.now) (has_form canonical_generalized_time_form c.args.time.now)
+    λ h. time-clear (nat_le (length c.args.time.now) 64) (generalized_time_form c.args.time.now)
+    (month_has_day c.args.time.now) (canonical_generalized_time_form c.args.time.now)
     (sym (returns-then-general_canonical-clause-clear c) ∙ h)

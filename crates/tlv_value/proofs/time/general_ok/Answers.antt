@@ -1,23 +1,33 @@
 use Rattle.std.proofs.Common.{◌≡◌, List, ℕ, false, refl, sym, ◌∙◌}
 use Rattle.std.specs.Prelude.{Bool, Some}
-use Rattle.tlv_value.specs.Private.TimeParts.{LeavesRest}
-use Rattle.tlv_value.specs.Times.{generalized_hour, generalized_tail, has_form, maybe, minute, second, ◌then◌}
-use Rattle.tlv_value.proofs.CheckLemmas.Forms.{maybe-left, maybe-there, no_rest_then, then-assoc}
+use Rattle.tlv_value.specs.Private.TimeParts.{generalized_hour, generalized_tail, LeavesRest}
+use Rattle.tlv_value.specs.Times.{generalized_time_form, hour, maybe, minute, month_and_day, second, year_digits, ◌then◌}
+use Rattle.tlv_value.proofs.CheckLemmas.Forms.{four-apart, maybe-left, maybe-there, no_rest_then, then-assoc}
 use Rattle.tlv_value.proofs.time.general_ok.Goals as goal
 
 -- the minute is there
 with_minute : (rest after : List ℕ) (r : Bool) → LeavesRest minute rest (Some after)
-    → r ≡ has_form (maybe second then generalized_tail) after
-    → r ≡ has_form ((minute then maybe second) then generalized_tail) rest
+    → r ≡ (maybe second then generalized_tail) after
+    → r ≡ ((minute then maybe second) then generalized_tail) rest
 with_minute rest after r e h =
     h ∙ sym (e (maybe second then generalized_tail)) ∙ sym (then-assoc minute (maybe second) generalized_tail rest)
 
+-- the hour, and what follows it
+hour-apart : (c : List ℕ) → (generalized_hour then maybe (minute then maybe second) then generalized_tail) c
+    ≡ generalized_time_form c
+hour-apart c =
+    four-apart year_digits year_digits month_and_day hour (maybe (minute then maybe second) then generalized_tail) c
+
+pub returns-in_default : goal.returns-in_default
+returns-in_default c =
+    sym (c.in_default.ensures (maybe (minute then maybe second) then generalized_tail)) ∙ hour-apart c.args.contents.now
+
 -- the hour is there
 with_hour : (c rest : List ℕ) (r : Bool) → LeavesRest generalized_hour c (Some rest)
-    → r ≡ has_form (maybe (minute then maybe second) then generalized_tail) rest
-    → r ≡ has_form (generalized_hour then maybe (minute then maybe second) then generalized_tail) c
+    → r ≡ (maybe (minute then maybe second) then generalized_tail) rest
+    → r ≡ generalized_time_form c
 with_hour c rest r e h =
-    h ∙ sym (e (maybe (minute then maybe second) then generalized_tail))
+    h ∙ sym (e (maybe (minute then maybe second) then generalized_tail)) ∙ hour-apart c
 
 pub returns-then-is_second_and_tail : goal.returns-then-is_second_and_tail
 returns-then-is_second_and_tail c =

@@ -1,10 +1,10 @@
 use Rattle.std.proofs.Common.{◌≡◌, length}
-use Rattle.tlv_value.specs.Times.{digits, fraction, generalized_zone, has_form, maybe, ◌then◌}
+use Rattle.tlv_value.specs.Times.{digits, fraction, generalized_zone, maybe, ◌then◌}
 use Rattle.tlv_value.proofs.time.is_fraction_and_zone.Given as goal
 
 abbrev pub invariant-loop-rest : goal.invariant-loop-rest
 invariant-loop-rest l =
-    has_form (digits then maybe generalized_zone) l.rest ≡ has_form (fraction then maybe generalized_zone) l.octets
+    (digits then maybe generalized_zone) l.rest ≡ (fraction then maybe generalized_zone) l.octets
 
 abbrev pub decreases-loop-rest : goal.decreases-loop-rest
 decreases-loop-rest l = length l.rest

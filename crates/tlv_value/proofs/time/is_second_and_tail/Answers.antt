@@ -1,7 +1,8 @@
 use Rattle.std.proofs.Common.{false, refl, sym, ◌∙◌}
-use Rattle.tlv_value.specs.Times.{generalized_tail, second}
+use Rattle.tlv_value.specs.Times.{second}
 use Rattle.tlv_value.proofs.CheckLemmas.Forms.{maybe-left, maybe-there}
 use Rattle.tlv_value.proofs.time.is_second_and_tail.Goals as goal
+use Rattle.tlv_value.specs.Private.TimeParts.{generalized_tail}
 
 pub returns-then-is_generalized_tail : goal.returns-then-is_generalized_tail
 returns-then-is_generalized_tail c =

@@ -1,8 +1,9 @@
 use Rattle.std.proofs.Common.{◌∷◌, arith, rules}
-use Rattle.tlv_value.specs.Value.{joined_pairs, pairs_with_text}
+use Rattle.tlv_value.specs.Value.{pairs_with_text}
 use Rattle.tlv_value.specs.Units.{quoted_text}
 use Rattle.tlv_value.proofs.TextLemmas.RowTextLengths.{length-grown, quoted-short, row-pairs-short}
 use Rattle.tlv_value.proofs.value.write_row.Goals as goal
+use Rattle.tlv_value.specs.Private.Rows.{joined_pairs}
 
 pub returns-in-Text : goal.returns-in-Text
 returns-in-Text c =

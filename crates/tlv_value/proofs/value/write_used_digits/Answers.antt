@@ -2,9 +2,10 @@ use Rattle.std.proofs.Common.{◌≡◌, ℕ, ◌+◌, ◌-◌, ◌++◌, ◌∷
 use Rattle.std.proofs.Common.{length-append, length-take}
 use Rattle.std.proofs.lemmas.List.{take_all}
 use Rattle.tlv_value.specs.Bits.{bits_of, last_bits}
-use Rattle.tlv_value.specs.Value.{digits_of_bits, used_digits}
+use Rattle.tlv_value.specs.Value.{used_digits}
 use Rattle.tlv_value.proofs.TextLemmas.Texts.{digits-cut, length-digits, length-digits_of_octet, used-last}
 use Rattle.tlv_value.proofs.value.write_used_digits.Goals as goal
+use Rattle.tlv_value.specs.Private.Rows.{digits_of_bits}
 
 pub add-requires-in-loop-octet : goal.add-requires-in-loop-octet
 add-requires-in-loop-octet c =

@@ -2,9 +2,8 @@ use Rattle.std.proofs.Common.{◌++◌, ◌∷◌, ◌∙◌, ℕ, Bool, List, a
 use Rattle.std.proofs.lemmas.Bool.Decides.{nat_tests}
 use Rattle.tlv_value.specs.declared.finding.Finding.{Finding}
 use Rattle.tlv_value.specs.declared.finding.Finding.TheVariants.{B21, B23}
-use Rattle.tlv_value.specs.Checks.{finding_if}
 use Rattle.tlv_value.specs.Types.{is_number_of, tested_string_types}
-use Rattle.tlv_value.specs.ValueCheckState.{ValueCheckState}
+use Rattle.tlv_value.specs.ValueCheckState.{finding_if, ValueCheckState}
 use Rattle.tlv_value.proofs.CheckLemmas.KeptFindings.{date-found, iri-found, none-found}
 use Rattle.tlv_value.proofs.CheckLemmas.NotedContents.{IsOther}
 use Rattle.tlv_value.proofs.value_check.ValueCheck.findings.Goals as goal
