@@ -1,5 +1,5 @@
 -- The identifier and length octets of an element: X.690 8.1.2 and 8.1.3.
-use Rattle.std.specs.Prelude.{◌≡◌, ◌≢◌, ◌⊎◌, ℕ, ◌+◌, ◌*◌, ◌^◌, ◌<◌, ◌≤◌, Bool, true, false, not, ◌&&◌, ◌||◌, eqb}
+use Rattle.std.specs.Prelude.{◌==◌, ◌≡◌, ◌≢◌, ◌⊎◌, ℕ, ◌+◌, ◌*◌, ◌^◌, ◌<◌, ◌≤◌, Bool, true, false, not, ◌&&◌, ◌||◌}
 use Rattle.std.specs.Prelude.{if◌then◌else◌, List, [], ◌∷◌, ◌++◌, length, map, All, Option, Some, None}
 use Rattle.std.specs.Option.{is_some, unwrap_or}
 use Rattle.tlv_head.specs.UniversalTypes as universal
@@ -117,8 +117,8 @@ is_universal Private = false
 abbrev pub can_wrap : HeaderValue → Bool
 can_wrap h =
     not h.constructed && is_universal h.class
-    && (eqb h.number universal.octet_string
-    || (eqb h.number universal.bit_string && not (eqb (announced_length h.size) 0)))
+    && (h.number == universal.octet_string
+    || (h.number == universal.bit_string && not (announced_length h.size == 0)))
 
 -- the element with this header is a string that holds encodings: it can be one, and the user named its offset
 abbrev pub wraps : HeaderValue → Bool

@@ -1,5 +1,5 @@
 -- The table of the universal types: X.680, table 1, with what X.690 says about each.
-use Rattle.std.specs.Prelude.{ℕ, eqb, Bool, true, false, List, [], ◌∷◌, codes, Option}
+use Rattle.std.specs.Prelude.{◌==◌, ℕ, Bool, true, false, List, [], ◌∷◌, codes, Option}
 use Rattle.std.specs.List.{find}
 use Rattle.tlv_head.specs.declared.kind.Kind.{Kind}
 use Rattle.tlv_head.specs.declared.kind.Kind.TheVariants.{Octets, Boolean, Integer, Bits, Object, Relative}
@@ -66,7 +66,7 @@ type_table =
 
 -- the row with this number, if any
 abbrev pub type_at : ℕ → Option TypeRow
-type_at number = find (λ t. eqb number t.number) type_table
+type_at number = find (λ t. number == t.number) type_table
 
 -- whether both are the same
 abbrev pub are_same_encodings : Encodings → Encodings → Bool

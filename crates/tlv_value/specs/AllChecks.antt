@@ -10,7 +10,6 @@ use Rattle.tlv_value.specs.Checks.{begins_with, findings_by, is_short_time, list
 use Rattle.tlv_value.specs.Checks.{listed_strict_type_conditions, time_form}
 use Rattle.tlv_value.specs.Dates.{is_date_or_time, month_has_day, month_has_day_in_some_century}
 use Rattle.tlv_value.specs.Real.{is_canonical_real, is_real_form}
-use Rattle.tlv_value.specs.Times as times
 use Rattle.tlv_value.specs.Types.{date_types, iri_types, is_number_of, wide_string_types}
 
 -- X.680 46, 47: the month of the time has its day. The century of a UTCTime is not known

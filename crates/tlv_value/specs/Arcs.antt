@@ -34,13 +34,10 @@ arcs_of false (v ∷ vs) = first_arcs v ++ vs
 abbrev pub is_finished : List ℕ → Bool
 is_finished octets = nat_le 1 (length octets) && nat_lt (slice_index octets (length octets - 1)) 128
 
--- arcs in decimal, with dots between them
-abbrev pub dotted_arcs : List ℕ → List ℕ
-dotted_arcs arcs = join_by decimal (codes ".") arcs
-
--- the dotted text of 1 to 64 octets; none if the last subidentifier is unfinished, or a subidentifier is 2^128 or more
+-- the dotted text of 1 to 64 octets: the arcs in decimal, with dots between them. There is none if the last
+-- subidentifier is unfinished, or a subidentifier is 2^128 or more
 abbrev pub dotted_of : Bool → List ℕ → Option (List ℕ)
 dotted_of relative octets =
     if is_finished octets && nat_le (length octets) 64 && list_all (λ v. nat_lt v (2 ^ 128)) (subidentifiers octets)
-    then Some (dotted_arcs (arcs_of relative (subidentifiers octets)))
+    then Some (join_by decimal (codes ".") (arcs_of relative (subidentifiers octets)))
     else None

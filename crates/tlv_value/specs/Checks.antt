@@ -1,7 +1,7 @@
 -- The findings on the contents of a primitive: X.690 8 and 11. These are the ones that are listed (`is_listed` in
 -- `ShownFindings` of tlv_show); `AllChecks` has the others. The conditions are at the end, and the terms that they use
 -- before them.
-use Rattle.std.specs.Prelude.{ℕ, ◌%◌, ◌^◌, Bool, false, ◌&&◌, ◌||◌, not, ◌==◌, eqb, nat_le, nat_lt}
+use Rattle.std.specs.Prelude.{ℕ, ◌%◌, ◌^◌, Bool, false, ◌&&◌, ◌||◌, not, ◌==◌, nat_le, nat_lt}
 use Rattle.std.specs.Prelude.{if◌then◌else◌, List, [], ◌∷◌, ◌++◌, flat_map, length}
 use Rattle.std.specs.Prelude.{codes}
 use Rattle.std.specs.Char.{is_ascii_alphabetic, is_ascii_digit}
@@ -21,15 +21,15 @@ use Rattle.tlv_value.specs.Units.{is_printable}
 -- the first octet is this one
 abbrev pub begins_with : ℕ → List ℕ → Bool
 begins_with octet [] = false
-begins_with octet (x ∷ xs) = eqb x octet
+begins_with octet (x ∷ xs) = x == octet
 
 abbrev pub is_digit_or_space : ℕ → Bool
-is_digit_or_space x = eqb x 0x20 || is_ascii_digit x
+is_digit_or_space x = x == 0x20 || is_ascii_digit x
 
 -- X.680 41.4
 abbrev pub is_printable_string_octet : ℕ → Bool
 is_printable_string_octet x =
-    is_digit_or_space x || is_ascii_alphabetic x || list_any (eqb x) (codes "'()+,-./:=?")
+    is_digit_or_space x || is_ascii_alphabetic x || list_any (λ y. x == y) (codes "'()+,-./:=?")
 
 -- X.680 41: the contents that a type of characters allows, a row for each type that is looked at. A BMPString has two
 -- octets for each character, a UniversalString four

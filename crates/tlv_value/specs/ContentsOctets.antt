@@ -1,5 +1,5 @@
 -- The first octets and the last octet of contents, or of a part of them.
-use Rattle.std.specs.Prelude.{ℕ, Bool, false, ◌&&◌, ◌||◌, eqb, nat_le, nat_lt, List, [], ◌∷◌, slice_index}
+use Rattle.std.specs.Prelude.{◌==◌, ℕ, Bool, false, ◌&&◌, ◌||◌, nat_le, nat_lt, List, [], ◌∷◌, slice_index}
 
 -- the first octet, or 0 if there is none. In a BIT STRING it is the number of unused bits
 abbrev pub first_octet : List ℕ → ℕ
@@ -13,5 +13,5 @@ last_octet (x ∷ y ∷ ys) = last_octet (y ∷ ys)
 
 -- 8.3.2: the first nine bits are all equal
 abbrev pub is_padded_integer : List ℕ → Bool
-is_padded_integer (x ∷ y ∷ ys) = (eqb x 0 && nat_lt y 128) || (eqb x 255 && nat_le 128 y)
+is_padded_integer (x ∷ y ∷ ys) = (x == 0 && nat_lt y 128) || (x == 255 && nat_le 128 y)
 is_padded_integer octets = false

@@ -1,5 +1,5 @@
 -- The rows of long contents.
-use Rattle.std.specs.Prelude.{eqb, if◌then◌else◌, List, ℕ, [], ◌∷◌, ◌++◌, length}
+use Rattle.std.specs.Prelude.{◌==◌, if◌then◌else◌, List, ℕ, [], ◌∷◌, ◌++◌, length}
 use Rattle.tlv_head.specs.declared.kind.Kind.{Kind}
 use Rattle.tlv_value.specs.RowSizes.{has_room, row_size}
 
@@ -22,5 +22,5 @@ rows_of kind (x ∷ octets) = rows_from kind (x ∷ []) octets
 -- for
 abbrev pub full_rows_in : Kind → List (List ℕ) → List (List ℕ)
 full_rows_in kind [] = []
-full_rows_in kind (row ∷ []) = if eqb (length row) (row_size kind) then row ∷ [] else []
+full_rows_in kind (row ∷ []) = if length row == row_size kind then row ∷ [] else []
 full_rows_in kind (row ∷ next ∷ rows) = row ∷ full_rows_in kind (next ∷ rows)

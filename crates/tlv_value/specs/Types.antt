@@ -1,5 +1,5 @@
 -- What a tag says of an element, by the table of the universal types.
-use Rattle.std.specs.Prelude.{ℕ, Bool, false, ◌&&◌, ◌||◌, not, ◌==◌, eqb, List, [], ◌∷◌, ◌++◌}
+use Rattle.std.specs.Prelude.{ℕ, Bool, false, ◌&&◌, ◌||◌, not, ◌==◌, List, [], ◌∷◌, ◌++◌}
 use Rattle.std.specs.List.{list_any}
 use Rattle.std.specs.Option.{is_none, option_map_or}
 use Rattle.tlv_head.specs.UniversalTypes as universal
@@ -14,7 +14,7 @@ is_a number h = is_universal h.class && h.number == number
 
 -- the number is the number of one of these types
 abbrev pub is_number_of : List ℕ → ℕ → Bool
-is_number_of types number = list_any (eqb number) types
+is_number_of types number = list_any (λ t. number == t) types
 
 -- 8.3, 8.4
 abbrev pub integer_types : List ℕ

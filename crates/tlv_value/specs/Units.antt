@@ -1,5 +1,5 @@
 -- The texts of characters: X.690 8.23, X.680 41.
-use Rattle.std.specs.Prelude.{ℕ, zero, suc, ◌+◌, ◌*◌, ◌/◌, ◌%◌, ◌&&◌, ◌||◌, Bool, eqb, nat_le}
+use Rattle.std.specs.Prelude.{◌==◌, ℕ, zero, suc, ◌+◌, ◌*◌, ◌/◌, ◌%◌, ◌&&◌, ◌||◌, Bool, nat_le}
 use Rattle.std.specs.Prelude.{if◌then◌else◌, List, [], ◌∷◌, ◌++◌, length, flat_map, take, drop, slice_index, codes}
 use Rattle.std.specs.Str.{is_utf8}
 use Rattle.hex.specs.Hex.{encode_lower}
@@ -9,7 +9,7 @@ use Rattle.tlv_head.specs.declared.kind.Kind.TheVariants.{Utf8, Ucs2, Ucs4}
 
 -- 22 is the quotation mark, 5c the reverse solidus
 abbrev pub printable_text : ℕ → List ℕ
-printable_text x = if eqb x 0x22 || eqb x 0x5c then 0x5c ∷ x ∷ [] else x ∷ []
+printable_text x = if x == 0x22 || x == 0x5c then 0x5c ∷ x ∷ [] else x ∷ []
 
 abbrev pub is_printable : ℕ → Bool
 is_printable x = nat_le 0x20 x && nat_le x 0x7e
@@ -25,7 +25,7 @@ octet_text x = if is_printable x then printable_text x else escaped_octet x
 abbrev pub without_zeros : List ℕ → List ℕ
 without_zeros [] = []
 without_zeros (d ∷ []) = d ∷ []
-without_zeros (d ∷ e ∷ ds) = if eqb d 0x30 then without_zeros (e ∷ ds) else d ∷ e ∷ ds
+without_zeros (d ∷ e ∷ ds) = if d == 0x30 then without_zeros (e ∷ ds) else d ∷ e ∷ ds
 
 -- the number that octets make, in hexadecimal
 abbrev pub escaped_number : List ℕ → List ℕ
@@ -68,11 +68,11 @@ abbrev pub unit_text : Kind → List ℕ → List ℕ
 unit_text kind [] = []
 -- in a BMPString: a character of two octets, or an octet that belongs to none
 unit_text Ucs2 (a ∷ b ∷ []) =
-    if eqb a 0 && is_printable b then printable_text b else escaped_number (a ∷ b ∷ [])
+    if a == 0 && is_printable b then printable_text b else escaped_number (a ∷ b ∷ [])
 unit_text Ucs2 (a ∷ more) = escaped_octet a
 -- in a UniversalString: a character of four octets, or an octet that belongs to none
 unit_text Ucs4 (a ∷ b ∷ c ∷ d ∷ []) =
-    if eqb a 0 && eqb b 0 && eqb c 0 && is_printable d
+    if a == 0 && b == 0 && c == 0 && is_printable d
     then printable_text d
     else escaped_number (a ∷ b ∷ c ∷ d ∷ [])
 unit_text Ucs4 (a ∷ more) = escaped_octet a

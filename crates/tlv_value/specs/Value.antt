@@ -1,5 +1,5 @@
 -- The text of a value on its element's line, and its rows.
-use Rattle.std.specs.Prelude.{ℕ, ◌+◌, ◌-◌, ◌*◌, Bool, true, false, ◌&&◌, ◌||◌, not, eqb, nat_le, nat_lt}
+use Rattle.std.specs.Prelude.{◌==◌, ℕ, ◌+◌, ◌-◌, ◌*◌, Bool, true, false, ◌&&◌, ◌||◌, not, nat_le, nat_lt}
 use Rattle.std.specs.Prelude.{if◌then◌else◌, List, [], ◌∷◌, ◌++◌, length, map, take, Option, None, codes}
 use Rattle.std.specs.Prelude.{decimal}
 use Rattle.std.specs.Fmt.{signed_decimal}
@@ -45,7 +45,7 @@ octets_value octets =
 
 -- 8.2.2: FALSE is zero
 abbrev pub boolean_value : List ℕ → Value
-boolean_value (x ∷ []) = value_on_line (if eqb x 0 then codes "FALSE" else codes "TRUE")
+boolean_value (x ∷ []) = value_on_line (if x == 0 then codes "FALSE" else codes "TRUE")
 boolean_value octets = octets_value octets
 
 -- 8.3.3, 8.4; without octets nothing is on the line
@@ -62,7 +62,7 @@ bit_count_text unused_bits octet_count = decimal (8 * octet_count - unused_bits)
 
 -- 8.6.2: the number of unused bits is at most 7, and 0 if there is no octet for them
 abbrev pub is_readable : ℕ → ℕ → Bool
-is_readable unused_bits octet_count = nat_le unused_bits 7 && (eqb unused_bits 0 || not (eqb octet_count 0))
+is_readable unused_bits octet_count = nat_le unused_bits 7 && (unused_bits == 0 || not (octet_count == 0))
 
 -- the bits of octets as digits, without the unused bits, after a space if there are any: 30 is the digit 0
 abbrev pub used_digits : ℕ → List ℕ → List ℕ

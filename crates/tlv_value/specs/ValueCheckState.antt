@@ -1,6 +1,6 @@
 -- What must be kept of the contents of a primitive so that the findings on them can be reported at their end.
 use Rattle.std.specs.List.{list_all}
-use Rattle.std.specs.Prelude.{ℕ, ◌-◌, ◌%◌, ◌^◌, Bool, true, false, ◌&&◌, ◌||◌, not, ◌==◌, eqb, nat_le, nat_lt}
+use Rattle.std.specs.Prelude.{ℕ, ◌-◌, ◌%◌, ◌^◌, Bool, true, false, ◌&&◌, ◌||◌, not, ◌==◌, nat_le, nat_lt}
 use Rattle.std.specs.Prelude.{if◌then◌else◌, List, [], ◌∷◌, ◌++◌, length, take, Option, Some, None}
 use Rattle.std.specs.Option.{option_map_or}
 use Rattle.std.specs.Str.{is_utf8}
@@ -20,7 +20,6 @@ use Rattle.tlv_value.specs.Dates.{is_date_or_time}
 use Rattle.tlv_value.specs.RealState.{is_canonical, is_of_form, new_real_check, real_check_after}
 use Rattle.tlv_value.specs.declared.real.RealCheck.{RealCheck}
 use Rattle.tlv_value.specs.RowsSoFar.{full_rows, open_row}
-use Rattle.tlv_value.specs.Times as times
 use Rattle.tlv_value.specs.Types.{character_types, date_types, integer_types, iri_types, is_number_of}
 use Rattle.tlv_value.specs.Types.{object_types, tested_string_types, time_types, wide_string_types}
 use Rattle.tlv_value.specs.UnitsSoFar.{are_characters_after, character_size, open_unit}
@@ -72,10 +71,10 @@ new_value_check_of number size = record {
 -- VisibleString. Other types have none
 abbrev pub octet_test : ℕ → Option (ℕ → Bool)
 octet_test number =
-    if eqb number universal.numeric_string then Some is_digit_or_space
-    else if eqb number universal.printable_string then Some is_printable_string_octet
-    else if eqb number universal.ia5_string then Some (λ x. nat_lt x 128)
-    else if eqb number universal.visible_string then Some is_printable
+    if number == universal.numeric_string then Some is_digit_or_space
+    else if number == universal.printable_string then Some is_printable_string_octet
+    else if number == universal.ia5_string then Some (λ x. nat_lt x 128)
+    else if number == universal.visible_string then Some is_printable
     else None
 
 abbrev pub allows_octet : ℕ → ℕ → Bool
@@ -84,8 +83,8 @@ allows_octet number x = option_map_or (λ test. test x) (octet_test number) true
 -- this number of octets makes whole characters: BMPString has two octets for each, UniversalString four
 abbrev pub are_whole_characters : ℕ → ℕ → Bool
 are_whole_characters number size =
-    if eqb number universal.bmp_string then eqb (size % 2) 0
-    else if eqb number universal.universal_string then eqb (size % 4) 0
+    if number == universal.bmp_string then size % 2 == 0
+    else if number == universal.universal_string then size % 4 == 0
     else true
 
 -- the finding, if the condition holds
@@ -128,7 +127,7 @@ notes_iri number = is_number_of iri_types number
 
 -- a REAL
 abbrev pub notes_real : ℕ → Bool
-notes_real number = eqb number universal.real
+notes_real number = number == universal.real
 
 -- the last of these octets, or `previous` if there are none
 abbrev pub last_octet_after : ℕ → List ℕ → ℕ
@@ -139,7 +138,7 @@ last_octet_after previous (x ∷ xs) = last_octet_after x xs
 -- the first of these octets is `previous`
 abbrev pub is_padded_after : ℕ → List ℕ → Bool
 is_padded_after previous [] = false
-is_padded_after previous (x ∷ xs) = (nat_lt previous 0x80 && eqb x 0x80) || is_padded_after x xs
+is_padded_after previous (x ∷ xs) = (nat_lt previous 0x80 && x == 0x80) || is_padded_after x xs
 
 -- whether a subidentifier begins with 80, in the octets before or in these
 abbrev pub is_padded_with : Bool → ℕ → List ℕ → Bool
@@ -158,10 +157,10 @@ with_each_noted s octets = record s {
   are_octets_allowed = s.are_octets_allowed && list_all (allows_octet s.number) octets;
   is_padded = if is_number_of object_types s.number then is_padded_with s.is_padded s.last octets else s.is_padded;
   are_full_rows_utf8 =
-      if eqb s.number universal.utf8_string
+      if s.number == universal.utf8_string
       then s.are_full_rows_utf8 && list_all is_utf8 (full_rows Utf8 s.row octets)
       else s.are_full_rows_utf8;
-  row = if eqb s.number universal.utf8_string then open_row Utf8 s.row octets else s.row;
+  row = if s.number == universal.utf8_string then open_row Utf8 s.row octets else s.row;
   last = last_octet_after s.last octets;
 }
 
@@ -208,16 +207,16 @@ value_check_for h octets = value_check_after (new_value_check h) octets
 -- there is a first octet, and it is not 0
 abbrev pub begins_nonzero : List ℕ → Bool
 begins_nonzero [] = false
-begins_nonzero (x ∷ octets) = not (eqb x 0)
+begins_nonzero (x ∷ octets) = not (x == 0)
 
 -- 8.6.2.2: it is a BIT STRING whose first contents octet is not 0
 abbrev pub has_unused_bits : ValueCheckState → Bool
-has_unused_bits s = eqb s.number universal.bit_string && begins_nonzero s.first_octets
+has_unused_bits s = s.number == universal.bit_string && begins_nonzero s.first_octets
 
 -- the type allows the characters
 abbrev pub is_allowed : ValueCheckState → Bool
 is_allowed s =
-    (if eqb s.number universal.utf8_string then s.are_full_rows_utf8 && is_utf8 s.row
+    (if s.number == universal.utf8_string then s.are_full_rows_utf8 && is_utf8 s.row
     else are_whole_characters s.number s.size)
     && s.are_octets_allowed
 

@@ -1,5 +1,5 @@
 -- What is kept of the contents of a primitive between their pieces, and the lines that are known with each piece.
-use Rattle.std.specs.Prelude.{ℕ, ◌+◌, ◌-◌, Bool, true, false, eqb, nat_lt, if◌then◌else◌, List, [], ◌∷◌, ◌++◌, length}
+use Rattle.std.specs.Prelude.{◌==◌, ℕ, ◌+◌, ◌-◌, Bool, true, false, nat_lt, if◌then◌else◌, List, [], ◌∷◌, ◌++◌, length}
 use Rattle.std.specs.Prelude.{Option, Some, None, codes, decimal}
 use Rattle.std.specs.Option.{option_map_or}
 use Rattle.tlv_head.specs.declared.header.Class.TheVariants.{Private}
@@ -95,7 +95,7 @@ abbrev pub row_by_limit : Option ℕ → ℕ → List ℕ → Option (List ℕ)
 row_by_limit None i text = Some text
 row_by_limit (Some limit) i text =
     if nat_lt i limit then Some text
-    else if eqb i limit then Some (codes "...")
+    else if i == limit then Some (codes "...")
     else None
 
 abbrev pub row_line : Layout → ℕ → List ℕ → List ℕ

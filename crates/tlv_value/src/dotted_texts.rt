@@ -1,8 +1,8 @@
 //! Object identifiers as dotted texts.
 ghost use Rattle.std.specs.Prelude.{◌≡◌, ◌≤◌, ◌++◌, ◌∷◌, [], if◌then◌else◌, is_some, length, true, unwrap_or};
 ghost use Rattle.tlv_io.specs.LineTexts.{AddsAtMost, HasRoomFor};
-ghost use Rattle.tlv_value.specs.Arcs.{dotted_arcs, dotted_of, first_arcs, is_finished};
-ghost use Rattle.tlv_value.specs.Private.Arcs.{arcs_text};
+ghost use Rattle.tlv_value.specs.Arcs.{dotted_of, first_arcs, is_finished};
+ghost use Rattle.tlv_value.specs.Private.Arcs.{arcs_text, dotted_arcs};
 
 use arrayvec::ArrayVec;
 use tlv_io::HeldOctets;

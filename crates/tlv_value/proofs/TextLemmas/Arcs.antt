@@ -11,9 +11,9 @@ use Rattle.std.specs.List.{onto_first}
 use Rattle.std.proofs.lemmas.Bool.Decides.{nat_tests}
 use Rattle.std.proofs.lemmas.Fmt.{decimal_digit, length-decimal-le_wide}
 use Rattle.std.proofs.Math.Nat.{one-le-pow, pow-le-pow_right, pow-suc}
-use Rattle.tlv_value.specs.Arcs.{arcs_of, dotted_arcs, dotted_of, first_arcs, is_finished, parts_of, subidentifiers}
+use Rattle.tlv_value.specs.Arcs.{arcs_of, dotted_of, first_arcs, is_finished, parts_of, subidentifiers}
 use Rattle.tlv_value.specs.Arcs.{subidentifier}
-use Rattle.tlv_value.specs.Private.Arcs.{arcs_text}
+use Rattle.tlv_value.specs.Private.Arcs.{arcs_text, dotted_arcs}
 use Rattle.tlv_value.proofs.TextLemmas.ArcTexts.{after_dots, all_below}
 
 -- the text goes on with the subidentifiers of these octets, of which the first has begun with n

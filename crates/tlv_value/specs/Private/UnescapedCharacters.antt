@@ -1,5 +1,5 @@
 -- Characters in a row: the ones written as they are, and what is written for the first ones.
-use Rattle.std.specs.Prelude.{◌≡◌, ℕ, ◌<◌, ◌≤◌, Bool, true, false, ◌&&◌, ◌||◌, not, eqb, List, ◌++◌, drop, length}
+use Rattle.std.specs.Prelude.{◌==◌, ◌≡◌, ℕ, ◌<◌, ◌≤◌, Bool, true, false, ◌&&◌, ◌||◌, not, List, ◌++◌, drop, length}
 use Rattle.std.specs.Prelude.{flat_map, slice_index}
 use Rattle.tlv_io.specs.LineTexts.{AddsIfRoom}
 use Rattle.tlv_head.specs.declared.kind.Kind.{Kind}
@@ -8,7 +8,7 @@ use Rattle.tlv_value.specs.Units.{is_printable, unit_text, units}
 
 -- a printable character of ASCII that is neither the quotation mark nor the reverse solidus
 abbrev pub is_unescaped : ℕ → Bool
-is_unescaped x = is_printable x && not (eqb x 0x22 || eqb x 0x5c)
+is_unescaped x = is_printable x && not (x == 0x22 || x == 0x5c)
 
 -- a character of ASCII has one octet in contents of this kind
 abbrev pub has_ascii_octets : Kind → Bool

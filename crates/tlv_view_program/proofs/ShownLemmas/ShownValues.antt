@@ -10,7 +10,7 @@ use Rattle.std.proofs.lemmas.List.Elements.{All-append, All-cons, All-head, All-
 use Rattle.tlv_walk.specs.Reading.{AreOctets}
 use Rattle.tlv_head.specs.declared.kind.Kind.{Kind}
 use Rattle.tlv_head.specs.declared.kind.Kind.TheVariants as kind
-use Rattle.tlv_value.specs.Arcs.{arcs_of, dotted_arcs, is_finished, subidentifiers}
+use Rattle.tlv_value.specs.Arcs.{arcs_of, is_finished, subidentifiers}
 use Rattle.tlv_value.specs.Bits.{bits_of, last_bits}
 use Rattle.tlv_head.specs.Kind.{is_text}
 use Rattle.tlv_value.specs.Number.{twos_complement}
@@ -29,6 +29,7 @@ use Rattle.tlv_view_program.proofs.ShownLemmas.ShownLabels.{all_printable-shown,
 use Rattle.tlv_view_program.proofs.ShownLemmas.ShownText.{join-shown, joined_pairs-shown, left-octets, quoted-shown}
 use Rattle.tlv_view_program.proofs.ShownLemmas.ShownText.{right-octets, signed-shown, spaced_pairs-shown}
 use Rattle.tlv_value.specs.Private.Rows.{digits_of_bits, joined_pairs}
+use Rattle.tlv_value.specs.Private.Arcs.{dotted_arcs}
 
 -- a value whose text is shown, and whose rows are of octets
 pub record IsShownValue (v : Value) : Type 0 where

@@ -1,6 +1,5 @@
-use Rattle.std.proofs.Common.{◌≡◌, ℕ, List, Bool, false, refl, sym, ◌∙◌}
-use Rattle.std.specs.Prelude.{Some}
-use Rattle.tlv_value.specs.Private.TimeParts.{LeavesRest, utc_minute}
+use Rattle.std.proofs.Common.{◌≡◌, ℕ, List, false, refl, sym, ◌∙◌}
+use Rattle.tlv_value.specs.Private.TimeParts.{utc_minute}
 use Rattle.tlv_value.specs.Times.{hour, maybe, minute, month_and_day, second, utc_time_form, utc_zone, year_digits}
 use Rattle.tlv_value.specs.Times.{◌then◌}
 use Rattle.tlv_value.proofs.CheckLemmas.Forms.{four-apart, maybe-left, maybe-there}
