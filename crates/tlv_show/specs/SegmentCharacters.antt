@@ -6,7 +6,7 @@ use Rattle.tlv_value.specs.Types.{is_number_of, is_primitive, tested_string_type
 use Rattle.tlv_walk.specs.Forest.{Forest, Holder, OpenHolder}
 use Rattle.tlv_walk.specs.Forest.{PaddingOctet, Primitive, lead, spelling}
 use Rattle.tlv_show.specs.SetOrder.{offset_if}
-use Rattle.tlv_value.specs.ValueCheckState.{allows_octet}
+use Rattle.tlv_value.specs.Characters.{allows_octet}
 
 -- 8.23, X.680 41: a constructed NumericString, PrintableString, IA5String or VisibleString
 abbrev pub is_tested_string : HeaderValue → Bool

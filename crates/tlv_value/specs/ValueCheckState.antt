@@ -1,8 +1,7 @@
 -- What must be kept of the contents of a primitive so that the findings on them can be reported at their end.
 use Rattle.std.specs.List.{list_all}
 use Rattle.std.specs.Prelude.{ℕ, ◌-◌, ◌%◌, ◌^◌, Bool, true, false, ◌&&◌, ◌||◌, not, ◌==◌, nat_le, nat_lt}
-use Rattle.std.specs.Prelude.{if◌then◌else◌, List, [], ◌∷◌, ◌++◌, length, take, Option, Some, None}
-use Rattle.std.specs.Option.{option_map_or}
+use Rattle.std.specs.Prelude.{if◌then◌else◌, List, [], ◌∷◌, ◌++◌, length, take}
 use Rattle.std.specs.Str.{is_utf8}
 use Rattle.tlv_head.specs.UniversalTypes as universal
 use Rattle.tlv_head.specs.Header.{HeaderValue, announced_length, is_universal}
@@ -12,9 +11,8 @@ use Rattle.tlv_value.specs.declared.finding.Finding.TheVariants.{B06, B07, B08, 
 use Rattle.tlv_value.specs.declared.finding.Finding.TheVariants.{B15, B18, B19, B20, B21, B23, B24, B25, B26}
 use Rattle.tlv_value.specs.declared.finding.Finding.TheVariants.{S02, S03, S04, S06}
 use Rattle.tlv_value.specs.Checks.{begins_with, canonical_form, findings_by}
-use Rattle.tlv_value.specs.Checks.{first_octet, is_digit_or_space, is_padded_integer, is_printable_string_octet}
-use Rattle.tlv_value.specs.Checks.{time_form}
-use Rattle.tlv_value.specs.Units.{is_printable}
+use Rattle.tlv_value.specs.Checks.{first_octet, is_padded_integer, time_form}
+use Rattle.tlv_value.specs.Characters.{allows_octet, are_whole_characters}
 use Rattle.tlv_value.specs.AllChecks.{time_has_day}
 use Rattle.tlv_value.specs.Dates.{is_date_or_time}
 use Rattle.tlv_value.specs.RealState.{is_canonical, is_of_form, new_real_check, real_check_after}
@@ -66,26 +64,6 @@ new_value_check_of number size = record {
   unit = [];
   real = new_real_check;
 }
-
--- the test that each octet of a string of the type with this number passes: NumericString, PrintableString, IA5String,
--- VisibleString. Other types have none
-abbrev pub octet_test : ℕ → Option (ℕ → Bool)
-octet_test number =
-    if number == universal.numeric_string then Some is_digit_or_space
-    else if number == universal.printable_string then Some is_printable_string_octet
-    else if number == universal.ia5_string then Some (λ x. nat_lt x 128)
-    else if number == universal.visible_string then Some is_printable
-    else None
-
-abbrev pub allows_octet : ℕ → ℕ → Bool
-allows_octet number x = option_map_or (λ test. test x) (octet_test number) true
-
--- this number of octets makes whole characters: BMPString has two octets for each, UniversalString four
-abbrev pub are_whole_characters : ℕ → ℕ → Bool
-are_whole_characters number size =
-    if number == universal.bmp_string then size % 2 == 0
-    else if number == universal.universal_string then size % 4 == 0
-    else true
 
 -- the finding, if the condition holds
 abbrev pub finding_if : Bool → Finding → List Finding

@@ -12,7 +12,7 @@ use Rattle.tlv_show.specs.declared.segment_frame.SegmentFrame.{SegmentFrame}
 use Rattle.tlv_show.specs.SegmentCharacters.{has_wrong_octet}
 use Rattle.tlv_show.specs.SegmentCharactersState.{is_directly_in_string, segment_after_octets, segment_begun, segment_closed}
 use Rattle.tlv_show.specs.SegmentCharactersState.{segment_ended, segment_entered, segments_after_octets}
-use Rattle.tlv_value.specs.ValueCheckState.{allows_octet}
+use Rattle.tlv_value.specs.Characters.{allows_octet}
 
 -- ---- octets one after another
 

@@ -8,7 +8,7 @@ use Rattle.std.specs.Str.{is_utf8}
 use Rattle.tlv_head.specs.Header.{HeaderValue, announced_length}
 use Rattle.tlv_head.specs.declared.kind.Kind.TheVariants.{Utf8}
 use Rattle.tlv_value.specs.CheckLaws.{ChecksJoin, FindingsEnd}
-use Rattle.tlv_value.specs.ValueCheckState.{allows_octet, is_padded_after, last_octet_after, new_value_check, ValueCheckState}
+use Rattle.tlv_value.specs.ValueCheckState.{is_padded_after, last_octet_after, new_value_check, ValueCheckState}
 use Rattle.tlv_value.specs.ValueCheckState.{kept_conditions, new_value_check_of, notes_each, notes_first, notes_iri}
 use Rattle.tlv_value.specs.ValueCheckState.{notes_real, notes_time, notes_units, type_number, value_check_for}
 use Rattle.tlv_value.specs.ValueCheckState.{with_each_noted, with_first_noted, with_iri_noted, with_octets_noted}
@@ -23,6 +23,7 @@ use Rattle.tlv_value.proofs.RealLemmas.RealPieces.{real-join}
 use Rattle.tlv_value.specs.RealState.{real_check_after}
 use Rattle.tlv_value.specs.declared.real.RealCheck.{RealCheck}
 use Rattle.tlv_value.proofs.RowLemmas.OneCut.{rows-join}
+use Rattle.tlv_value.specs.Characters.{allows_octet}
 
 last-join : (previous : ℕ) (x y : List ℕ)
     → last_octet_after (last_octet_after previous x) y ≡ last_octet_after previous (x ++ y)

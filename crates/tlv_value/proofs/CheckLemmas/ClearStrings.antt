@@ -2,11 +2,10 @@
 use Rattle.std.proofs.Common.{◌≡◌, ℕ, ◌%◌, true, false, not, List, [], ◌∷◌, length, refl, ap, ◌∙◌}
 use Rattle.std.specs.List.{list_all}
 use Rattle.std.specs.Str.{is_utf8}
-use Rattle.tlv_value.specs.Characters.{has_wrong_unit}
+use Rattle.tlv_value.specs.Characters.{allows_octet, has_wrong_unit}
 use Rattle.tlv_value.specs.AllChecks.{type_findings}
 use Rattle.tlv_value.specs.UnitsSoFar.{are_characters_after}
 use Rattle.tlv_value.proofs.CheckLemmas.UnitsNoted.{fours-same, not-not, twos-same}
-use Rattle.tlv_value.specs.ValueCheckState.{allows_octet}
 
 -- a type that allows each octet allows all
 pub all-allowed : (number : ℕ) → ((x : ℕ) → allows_octet number x ≡ true) → (octets : List ℕ)

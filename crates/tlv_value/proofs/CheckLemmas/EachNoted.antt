@@ -6,11 +6,12 @@ use Rattle.std.specs.List.{list_all}
 use Rattle.std.specs.Prelude.{◌&&◌, ◌||◌, eqb}
 use Rattle.std.proofs.lemmas.Bool.Decides.{nat_tests}
 use Rattle.tlv_value.specs.Types.{is_number_of, object_types}
-use Rattle.tlv_value.specs.ValueCheckState.{allows_octet, is_padded_after, last_octet_after, notes_each, ValueCheckState}
+use Rattle.tlv_value.specs.ValueCheckState.{is_padded_after, last_octet_after, notes_each, ValueCheckState}
 use Rattle.tlv_value.specs.ValueCheckState.{with_each_noted}
 use Rattle.tlv_head.specs.declared.kind.Kind.TheVariants.{Utf8}
 use Rattle.tlv_value.specs.RowsSoFar.{full_rows, open_row}
 use Rattle.tlv_value.proofs.CheckLemmas.Noting.{all-other}
+use Rattle.tlv_value.specs.Characters.{allows_octet}
 
 pub nothing-noted : (s : ValueCheckState) (octets : List ℕ) → notes_each s.number ≡ false
     → record (with_each_noted s octets) { last = s.last } ≡ s

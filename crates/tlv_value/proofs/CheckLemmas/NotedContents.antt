@@ -9,14 +9,14 @@ use Rattle.std.specs.Prelude.{slice_index}
 use Rattle.tlv_value.specs.declared.finding.Finding.{Finding}
 use Rattle.tlv_value.specs.declared.finding.Finding.TheVariants.{B06, B07, B08, B10, B11, B12, B13, B14, B15, B18, B19}
 use Rattle.tlv_value.specs.declared.finding.Finding.TheVariants.{B20, B21, B23, B24, B25, B26, S02, S03, S04, S06}
-use Rattle.tlv_value.specs.Characters.{has_wrong_unit}
+use Rattle.tlv_value.specs.Characters.{allows_octet, are_whole_characters, has_wrong_unit}
 use Rattle.tlv_value.specs.Dates.{month_has_day, month_has_day_in_some_century}
 use Rattle.tlv_value.specs.UnitsSoFar.{are_characters_after}
 use Rattle.tlv_value.specs.AllChecks.{all_contents_findings, type_conditions, type_findings}
 use Rattle.tlv_value.specs.Checks.{allows, begins_with}
 use Rattle.tlv_value.specs.Checks.{findings_by, is_padded_integer}
 use Rattle.tlv_value.specs.Types.{character_types, is_number_of}
-use Rattle.tlv_value.specs.ValueCheckState.{allows_octet, are_whole_characters, finding_if, is_allowed, kept_conditions, new_value_check_of, ValueCheckState}
+use Rattle.tlv_value.specs.ValueCheckState.{finding_if, is_allowed, kept_conditions, new_value_check_of, ValueCheckState}
 use Rattle.tlv_value.specs.ValueCheckState.{notes_each, type_number, with_each_noted, with_octets_noted}
 use Rattle.tlv_value.specs.RowsSoFar.{full_rows, open_row}
 use Rattle.tlv_head.specs.Header.{HeaderValue, is_universal}

@@ -7,7 +7,8 @@ use Rattle.std.proofs.lemmas.Bool.Decides.{nat_tests}
 use Rattle.std.proofs.Math.Seq.{take-append-add}
 use Rattle.std.proofs.lemmas.List.{drop_more, take_min}
 use Rattle.std.specs.Str.{is_utf8}
-use Rattle.tlv_value.specs.ValueCheckState.{allows_octet, is_padded_after, last_octet_after}
+use Rattle.tlv_value.specs.ValueCheckState.{is_padded_after, last_octet_after}
+use Rattle.tlv_value.specs.Characters.{allows_octet}
 
 allows-other : (number x : ℕ) → (number ≡ 18 → ⊥) → (number ≡ 19 → ⊥) → (number ≡ 22 → ⊥) → (number ≡ 26 → ⊥)
     → allows_octet number x ≡ true

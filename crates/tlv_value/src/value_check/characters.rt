@@ -2,7 +2,7 @@
 ghost use Rattle.std.specs.List.{list_all};
 ghost use Rattle.std.specs.Prelude.{◌≡◌};
 ghost use Rattle.tlv_value.specs.Checks.{is_printable_string_octet};
-ghost use Rattle.tlv_value.specs.ValueCheckState.{allows_octet};
+ghost use Rattle.tlv_value.specs.Characters.{allows_octet};
 
 use super::both;
 use tlv_head::universal;

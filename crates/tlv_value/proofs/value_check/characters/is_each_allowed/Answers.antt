@@ -1,7 +1,7 @@
 use Rattle.std.proofs.Common.{◌&&◌, ◌∙◌, Bool, ap, arith}
 use Rattle.tlv_value.proofs.CheckLemmas.Noting.{all-next}
 use Rattle.tlv_value.proofs.value_check.characters.is_each_allowed.Goals as goal
-use Rattle.tlv_value.specs.ValueCheckState.{allows_octet}
+use Rattle.tlv_value.specs.Characters.{allows_octet}
 
 pub loop-octet-preserved : goal.loop-octet-preserved
 loop-octet-preserved c =
