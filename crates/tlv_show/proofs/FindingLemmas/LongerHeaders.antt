@@ -1,6 +1,6 @@
 -- Findings on the number of identifier and length octets come exactly if fewer octets say the same.
 use Rattle.std.proofs.Common.{◌≡◌, ◌≢◌, ℕ, ◌==◌, ◌<◌, ◌≤◌, ◌&&◌, ◌||◌, nat_lt, Bool, true, false, inl, inr, length}
-use Rattle.std.proofs.Common.{refl, sym, ap, ◌∙◌, arith}
+use Rattle.std.proofs.Common.{refl, sym, ap, ◌∙◌, arith, slice_index, ◌%◌}
 use Rattle.std.proofs.lemmas.Bool.{cases_lt, or_from, or_parts, true≢false}
 use Rattle.std.proofs.lemmas.Bool.Decides.{nat_tests}
 use Rattle.std.proofs.Math.Bool.{and-false, or-false}
