@@ -22,14 +22,6 @@ element_at n (OpenHolder h children) =
 element_at n (OpenBitString h) = if h.offset == n then Some (OpenBitString h) else None
 element_at n _ = None
 
--- such an element is there
-abbrev pub has_element_at : ℕ → Forest → Bool
-has_element_at n f = is_some (element_at n f)
-
--- such an element is there, and has ended
-abbrev pub has_whole_element_at : ℕ → Forest → Bool
-has_whole_element_at n f = option_map_or is_whole (element_at n f) false
-
 -- the elements, without what belongs to none of them: a prefix of a header, or the first of the end-of-contents octets
 -- without the second; and padding
 abbrev pub elements_only : Forest → Forest
@@ -46,7 +38,7 @@ abbrev pub octets_so_far : Forest → List ℕ
 octets_so_far f = spelling (elements_only f)
 
 -- 8.1.1.1: the contents octets of one element, as far as they are there: without its identifier, length and
--- end-of-contents octets. Those of a BIT STRING that holds encodings begin with the octet for unused bits
+-- end-of-contents octets. Those of a wrapping BIT STRING begin with the octet for unused bits
 abbrev pub contents_so_far : Forest → List ℕ
 contents_so_far (Primitive h c _) = c
 contents_so_far (Holder h children _) = lead h ++ octets_so_far children
@@ -54,19 +46,18 @@ contents_so_far (OpenPrimitive h c) = c
 contents_so_far (OpenHolder h children) = lead h ++ octets_so_far children
 contents_so_far _ = []
 
--- what is written for an element: all its octets, or only its contents octets
-abbrev pub element_text : Bool → Forest → List ℕ
-element_text contents_only e = if contents_only then contents_so_far e else octets_so_far e
-
--- what `extract` writes: the element at the offset n, or only its contents. Nothing if there is no such element
+-- what `extract` writes: all octets of the element at the offset n, or only its contents octets. Nothing if there is no
+-- such element
 abbrev pub extract_text : ℕ → Bool → Forest → List ℕ
-extract_text n contents_only f = option_map_or (element_text contents_only) (element_at n f) []
+extract_text n contents_only f =
+    option_map_or (λ e. if contents_only then contents_so_far e else octets_so_far e) (element_at n f) []
 
--- write the element at the offset, or only its contents. After its end nothing more is wanted
+-- write the element at the offset, or only its contents. When it has ended, nothing more is wanted. It is found if it is
+-- there
 abbrev pub extract_job : ℕ → Bool → Framing → Job Cut
 extract_job offset contents_only framing = record {
   framing = framing;
   text = extract_text offset contents_only;
-  is_enough = has_whole_element_at offset;
-  returns = λ f e. record { ending = e; found = has_element_at offset f };
+  is_enough = λ f. option_map_or is_whole (element_at offset f) false;
+  returns = λ f e. record { ending = e; found = is_some (element_at offset f) };
 }

@@ -1,10 +1,9 @@
 -- What `indef` writes of an input.
-use Rattle.std.specs.Prelude.{ℕ, if◌then◌else◌, List, [], ◌∷◌, ◌++◌, Bool, false, ◌≡◌, ◌+◌, length, Result, Ok}
+use Rattle.std.specs.Prelude.{ℕ, List, [], ◌∷◌, Bool, false, ◌≡◌, ◌+◌, length, Result, Ok}
 use Rattle.tlv_head.specs.declared.header.Size.TheVariants.{Indefinite}
 use Rattle.tlv_head.specs.Header.{HeaderValue}
 use Rattle.tlv_walk.specs.Forest.{Forest, Holder, NoMore, OpenBitString, OpenEndOctets, OpenHeader, OpenHolder}
-use Rattle.tlv_walk.specs.Forest.{OpenPrimitive, PaddingOctet, Primitive, extent, lead, opening, primitive_extent}
-use Rattle.tlv_walk.specs.Forest.{spelling}
+use Rattle.tlv_walk.specs.Forest.{OpenPrimitive, PaddingOctet, Primitive, extent, opening, primitive_extent, spelling}
 use Rattle.tlv_walk.specs.declared.ending.Ending.{Ending}
 use Rattle.tlv_walk.specs.declared.framing.Framing.{Framing}
 use Rattle.tlv_walk.specs.Job.{DeviceStates, Job, Runs}
@@ -17,23 +16,15 @@ use Rattle.tlv_walk.specs.Ending.{IsEnding}
 abbrev pub indefinite_header : HeaderValue → HeaderValue
 indefinite_header h = record h { size = Indefinite; lengths = 128 ∷ [] }
 
--- the same elements, each constructed element with an indefinite length. The octets of an unfinished header are left
--- out, and so is the first of the end-of-contents octets without the second. A string that holds encodings is a
--- primitive: its header stays unchanged, and what it holds is its contents octets. No run of `indef` has such a string,
--- since `indef_framing` names none
+-- the same elements, each holder with an indefinite length: it is constructed, since `indef_framing` names no string. The
+-- octets of an open header are left out, and so is the first of the end-of-contents octets without the second
 abbrev pub with_indefinite_lengths : Forest → Forest
 with_indefinite_lengths (PaddingOctet rest) = PaddingOctet (with_indefinite_lengths rest)
 with_indefinite_lengths (Primitive h c rest) = Primitive h c (with_indefinite_lengths rest)
 with_indefinite_lengths (Holder h children rest) =
-    let inner = with_indefinite_lengths children in
-    let others = with_indefinite_lengths rest in
-    if h.constructed then Holder (indefinite_header h) inner others
-    else Primitive h (lead h ++ spelling inner) others
+    Holder (indefinite_header h) (with_indefinite_lengths children) (with_indefinite_lengths rest)
 with_indefinite_lengths (OpenPrimitive h c) = OpenPrimitive h c
-with_indefinite_lengths (OpenHolder h children) =
-    let inner = with_indefinite_lengths children in
-    if h.constructed then OpenHolder (indefinite_header h) inner
-    else OpenPrimitive h (lead h ++ spelling inner)
+with_indefinite_lengths (OpenHolder h children) = OpenHolder (indefinite_header h) (with_indefinite_lengths children)
 with_indefinite_lengths (OpenBitString h) = OpenBitString h
 with_indefinite_lengths _ = NoMore
 

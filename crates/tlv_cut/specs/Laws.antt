@@ -1,20 +1,29 @@
 -- The statements of the laws.
 use Rattle.std.specs.Prelude.{◌≡◌, ℕ, Bool, true, false, if◌then◌else◌, List, [], ◌++◌, length}
+use Rattle.std.specs.Option.{is_some, option_map_or}
 use Rattle.tlv_head.specs.Header.{HeaderValue, IsHeader, octets_of}
 use Rattle.tlv_walk.specs.declared.follow.Go.TheVariants.{Enough}
 use Rattle.tlv_walk.specs.declared.framing.Framing.{Framing}
 use Rattle.tlv_walk.specs.Events.{Close, End, EventValue, Leave, events}
 use Rattle.tlv_walk.specs.Follow.{Effect, effect_of, effect_with, go_of}
-use Rattle.tlv_walk.specs.Forest.{Forest, end_octets, spelling}
+use Rattle.tlv_walk.specs.Forest.{Forest, end_octets, is_whole, spelling}
 use Rattle.tlv_walk.specs.Reading.{IsPrefixOf, IsReading}
 use Rattle.tlv_walk.specs.LongerInputs.{ForLongerInputs}
-use Rattle.tlv_cut.specs.Extract.{extract_text, has_element_at, has_whole_element_at}
+use Rattle.tlv_cut.specs.Extract.{element_at, extract_text}
 use Rattle.tlv_cut.specs.ExtractStep.{ExtractState, extract_step, has_found, new_extract}
 use Rattle.tlv_walk.specs.declared.ending.Ending.TheVariants.{Done}
 use Rattle.tlv_walk.specs.Ending.{IsEnding}
 use Rattle.tlv_walk.specs.Place.{ObeysGrammar, top_place}
 use Rattle.tlv_cut.specs.Indef.{indef_text, indef_framing, IsReadBack, indef_reading}
 use Rattle.tlv_cut.specs.IndefStep.{IndefState, indef_step}
+
+-- the element that begins at the offset n is there
+abbrev pub has_element_at : ℕ → Forest → Bool
+has_element_at n f = is_some (element_at n f)
+
+-- this element is there, and has ended
+abbrev pub has_whole_element_at : ℕ → Forest → Bool
+has_whole_element_at n f = option_map_or is_whole (element_at n f) false
 
 -- what is written for the element at the offset n are octets of the input b, from that offset on: a header, contents
 -- and, if the element is whole and its length is indefinite, end-of-contents octets
@@ -85,13 +94,16 @@ abbrev pub EnoughComesAtEnds : Type 0
 EnoughComesAtEnds = (s : ExtractState) (e : EventValue)
     → (extract_step s e).goes ≡ Enough → is_end_event e ≡ true
 
--- from the events of elements, an `Indef` writes what `indef` writes, and it wants more
+-- from the events of elements that obey the grammar, an `Indef` writes what `indef` writes, and it wants more
 abbrev pub IndefMakesItsText : Type 0
-IndefMakesItsText = (s : IndefState) (f : Forest) → effect_of indef_step s (events f) ≡ effect_with s (indef_text f)
+IndefMakesItsText = (s : IndefState) (padding : Bool) (f : Forest)
+    → ObeysGrammar (top_place (indef_framing padding)) f → effect_of indef_step s (events f) ≡ effect_with s (indef_text f)
 
 -- what is written for an input is a prefix of what is written for a longer one
 abbrev pub IndefTextGoesOn : Type 0
-IndefTextGoesOn = ForLongerInputs (λ f g. IsPrefixOf (indef_text f) (indef_text g))
+IndefTextGoesOn = (padding : Bool) (b c : List ℕ) (f g : Forest)
+    → IsReading (indef_framing padding) b f → IsReading (indef_framing padding) (b ++ c) g
+    → IsPrefixOf (indef_text f) (indef_text g)
 
 -- what is written for elements that obey the grammar are the octets of elements that obey it too
 abbrev pub IndefTextObeysGrammar : Type 0

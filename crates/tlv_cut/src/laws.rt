@@ -48,8 +48,8 @@ pub fn enough_comes_at_ends()
     ensures { EnoughComesAtEnds }
 {}
 
-/// An `Indef` that follows the events of elements writes what `indef` is to write: the same
-/// elements with indefinite lengths.
+/// An `Indef` that follows the events of elements, none of which is a string that holds encodings, writes what `indef` is
+/// to write: the same elements with indefinite lengths.
 pub fn indef_makes_its_text()
     ensures { IndefMakesItsText }
 {}

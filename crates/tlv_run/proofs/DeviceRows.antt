@@ -47,7 +47,7 @@ job_of command = command_job command finite.empty
 -- a run over these octets, after which a read fails or the input ends, into so much room: what is written and reported
 abbrev Writes : Command → List ℕ → Bool → ℕ → List ℕ → ReportValue → Type 0
 Writes command b fails room written report =
-    (w : List ℕ) (r : ReportValue) → RunsOctets (job_of command) b fails room (record { written = w; report = r })
+    (w : List ℕ) (r : ReportValue) → RunsOctets (job_of command) b fails room w r
     → (w ≡ written) × (r ≡ report)
 
 module _ (command : Command) (b : List ℕ) where
@@ -97,7 +97,7 @@ module _ (command : Command) (b : List ℕ) where
         sym y.report_is ∙ ap (λ (n : CommandResult). n.report) (is-made made y)
 
     output-is : (fails : Bool) (room : ℕ) (w : List ℕ) (r : ReportValue)
-        (x : RunsOctets job b fails room (record { written = w; report = r }))
+        (x : RunsOctets job b fails room w r)
         → w ≡ take room m.output
     output-is fails room w r x =
         x.written_is ∙ ap (λ (n : CommandResult). take room n.output) (is-made x.made x.is_made)
@@ -114,7 +114,7 @@ module _ (command : Command) (b : List ℕ) where
 
     module _ (room : ℕ) (fits : leb (length m.output) room ≡ true) where
       report-of : (fails : Bool) (w : List ℕ) (r : ReportValue)
-          (x : RunsOctets job b fails room (record { written = w; report = r }))
+          (x : RunsOctets job b fails room w r)
           → IsReport job b fails x.is_made.reading x.made.ending r
       report-of fails w r x =
           x.with_room

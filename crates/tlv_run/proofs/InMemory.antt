@@ -80,7 +80,7 @@ module _ (job : Job ReportValue) (stays : EnoughStays job)
       (full : to.failures ≡ 1 → length written ≡ room) where
     -- the run comes to what was written and this report
     abbrev Comes : ReportValue → Type 0
-    Comes report = RunsOctets job octets read_fails room (record { written = written; report = report })
+    Comes report = RunsOctets job octets read_fails room written report
 
     -- all was written
     whole : (made : CommandResult) (report : ReportValue) → (x : IsResult job limited_octets made)

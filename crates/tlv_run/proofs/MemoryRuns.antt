@@ -56,7 +56,7 @@ module _ (command : Command) (names : NamesValue) (octets : List ℕ)
   pub to_end : (old : SourceState) (new : MemSourceState) → old ≡ new_source (Some octets)
       → RunsAndReports (command_job command names) (device_states old from)
       (device_states (unfailing_source_state new) to) report
-      → RunsOctets (command_job command names) octets false room (record { written = written.items; report = report })
+      → RunsOctets (command_job command names) octets false room written.items report
   to_end old new e x =
       runs_octets (command_job command names) (stays_for command names) (text_on command names) octets
       (octets_fit octets fit) false old (unfailing_source_state new) from to room written.items
@@ -67,7 +67,7 @@ module _ (command : Command) (names : NamesValue) (octets : List ℕ)
   pub until_failure : (old : SourceState) (new : FailingSourceState) → old ≡ new_source (Some octets)
       → RunsAndReports (command_job command names) (device_states old from)
       (device_states (failing_source_state new) to) report
-      → RunsOctets (command_job command names) octets true room (record { written = written.items; report = report })
+      → RunsOctets (command_job command names) octets true room written.items report
   until_failure old new e x =
       runs_octets (command_job command names) (stays_for command names) (text_on command names) octets
       (octets_fit octets fit) true old (failing_source_state new) from to room written.items

@@ -171,7 +171,7 @@ text_on (Dump options names_file file) names b c f g few r s = listed-dumps_on o
 text_on (Check rules framing file) names b c f g few r s = listed-checks_on rules framing b c f g few r s
 text_on (Extract offset contents framing file) names b c f g few r s =
     extract_text_goes_on framing b c f g r s offset contents
-text_on (Indef padding file) names b c f g few r s = indef_text_goes_on _ b c f g r s
+text_on (Indef padding file) names b c f g few r s = indef_text_goes_on padding b c f g r s
 
 pub outputs_on : OutputsGoOn
 outputs_on command names b c made more few x y =

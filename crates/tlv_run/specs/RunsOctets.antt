@@ -5,17 +5,8 @@ use Rattle.tlv_walk.specs.declared.ending.Ending.{Ending}
 use Rattle.tlv_walk.specs.declared.run.DeviceFault.TheVariants.{ReadFailed, WriteFailed, InputTooLong}
 use Rattle.tlv_walk.specs.Forest.{Forest}
 use Rattle.tlv_walk.specs.Job.{IsSettled, Job}
-use Rattle.tlv_run.specs.declared.run_octets_call.OctetsRun.{OctetsRun}
-use Rattle.tlv_run.specs.Report.{ReportValue, device_report, report_value_of}
+use Rattle.tlv_run.specs.Report.{ReportValue, device_report}
 use Rattle.tlv_run.specs.Results.{CommandResult, IsResult}
-
--- what such a run wrote, and its report
-pub record OctetsRunValue : Type 0 where
-  pub written : List ℕ
-  pub report : ReportValue
-
-abbrev pub octets_run_value_of : {room : ℕ} → OctetsRun room → OctetsRunValue
-octets_run_value_of run = record { written = run.written.items; report = report_value_of run.report }
 
 -- the job, all the octets, and whether a read fails after them
 module _ (job : Job ReportValue) (octets : List ℕ) (read_fails : Bool) where
@@ -33,9 +24,9 @@ module _ (job : Job ReportValue) (octets : List ℕ) (read_fails : Bool) where
     too_long : (IsSettled job f e → ⊥) → input_limit < length octets → IsReport f e (device_report InputTooLong)
 
   -- what was written, into this much room, and what is reported
-  pub record RunsOctets (room : ℕ) (run : OctetsRunValue) : Type 0 where
+  pub record RunsOctets (room : ℕ) (written : List ℕ) (report : ReportValue) : Type 0 where
     pub made : CommandResult
     pub is_made : IsResult job (take input_limit octets) made
-    pub written_is : run.written ≡ take room made.output
-    pub with_room : length made.output ≤ room → IsReport is_made.reading made.ending run.report
-    pub without_room : room < length made.output → run.report ≡ device_report WriteFailed
+    pub written_is : written ≡ take room made.output
+    pub with_room : length made.output ≤ room → IsReport is_made.reading made.ending report
+    pub without_room : room < length made.output → report ≡ device_report WriteFailed

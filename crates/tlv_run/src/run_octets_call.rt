@@ -1,6 +1,7 @@
 //! A run of a command over octets in memory.
 ghost use Rattle.std.specs.Prelude.{true, false};
-ghost use Rattle.tlv_run.specs.RunsOctets.{RunsOctets, octets_run_value_of};
+ghost use Rattle.tlv_run.specs.Report.{report_value_of};
+ghost use Rattle.tlv_run.specs.RunsOctets.{RunsOctets};
 ghost use Rattle.tlv_run.specs.Results.{command_job};
 
 use crate::command::Command;
@@ -33,7 +34,7 @@ pub fn run_octets<const N: usize>(
     read_fails: bool,
 ) -> OctetsRun<N>
     ensures { RunsOctets (command_job command.now names.now) octets.now read_fails N
-        (octets_run_value_of result) }
+        result.written.items (report_value_of result.report) }
 {
     if read_fails {
         run_until_failure(command, names, octets, cuts)
@@ -49,7 +50,7 @@ fn run_until_failure<const N: usize>(
     cuts: &[u64],
 ) -> OctetsRun<N>
     ensures { RunsOctets (command_job command.now names.now) octets.now true N
-        (octets_run_value_of result) }
+        result.written.items (report_value_of result.report) }
 {
     let mut drain = BoundedDrain::new();
     let report = run(
@@ -69,7 +70,7 @@ fn run_to_end<const N: usize>(
     cuts: &[u64],
 ) -> OctetsRun<N>
     ensures { RunsOctets (command_job command.now names.now) octets.now false N
-        (octets_run_value_of result) }
+        result.written.items (report_value_of result.report) }
 {
     let mut drain = BoundedDrain::new();
     let report = run(

@@ -1,13 +1,13 @@
 -- All findings of a header, and of an end: the listed ones, which `Conditions` has, and the others, each finding beside
 -- its condition, in the order of the codes.
-use Rattle.std.specs.Prelude.{ℕ, Bool, ◌&&◌, ◌==◌, List, [], ◌∷◌, ◌++◌, length}
+use Rattle.std.specs.Prelude.{ℕ, Bool, true, false, ◌&&◌, ◌==◌, List, [], ◌∷◌, ◌++◌, drop, length, take}
 use Rattle.tlv_head.specs.Header.{HeaderValue, is_universal}
 use Rattle.tlv_head.specs.UniversalTypes as universal
 use Rattle.tlv_head.specs.declared.type_table.Encodings.TheVariants.{Unjudged}
 use Rattle.tlv_value.specs.declared.finding.Finding.{Finding}
 use Rattle.tlv_value.specs.declared.finding.Finding.TheVariants.{B22, B27}
 use Rattle.tlv_value.specs.Types.{has_encodings, is_number_of}
-use Rattle.tlv_show.specs.Conditions.{listed_basic_conditions, listed_end_conditions, strict_conditions}
+use Rattle.tlv_show.specs.Conditions.{listed_end_conditions, listed_header_conditions}
 use Rattle.tlv_show.specs.Site.{Site}
 
 -- ---- With the header
@@ -27,11 +27,12 @@ later_basic_conditions h =
     (is_constructed_time_or_iri h, B22)
     ∷ []
 
--- all conditions of a header, listed or not
+-- all conditions of a header, listed or not: B22 comes after the seven listed ones of all encodings
 abbrev pub header_conditions : Site → HeaderValue → List (Bool × Finding)
-header_conditions s h = listed_basic_conditions s h ++ later_basic_conditions h ++ strict_conditions s h
+header_conditions s h =
+    take 7 (listed_header_conditions s h) ++ later_basic_conditions h ++ drop 7 (listed_header_conditions s h)
 
--- ---- With the end of an element that holds others
+-- ---- With the end of a holder
 
 -- 8.17, 8.18, 8.24: the types that are encoded as a SEQUENCE with components that have to be there
 abbrev pub component_types : List ℕ

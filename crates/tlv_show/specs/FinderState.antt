@@ -43,7 +43,7 @@ pub record OpenPrimitiveState : Type 0 where
 -- what a finder keeps: what contracts see of a `Check`
 pub record CheckState : Type 0 where
   pub wanted : Wanted
-  -- the open elements that hold others
+  -- the open holders
   pub holders : NestingState
   -- the open primitive
   pub open_primitive : Option OpenPrimitiveState
@@ -91,7 +91,7 @@ order_if wanted after before = if wants_order wanted then after else before
 abbrev pub strings_if : Wanted → List SegmentFrame → List SegmentFrame → List SegmentFrame
 strings_if wanted after before = if wants_characters wanted then after else before
 
--- of both, after the header of an element that holds others
+-- of both, after the header of a holder
 abbrev pub seen_opened : Wanted → SeenState → HeaderValue → SeenState
 seen_opened wanted o h = record {
   order = order_if wanted (set_order_open_step wanted.rules o.order h) o.order;
@@ -123,7 +123,7 @@ seen_ended wanted o = record {
 abbrev pub end_octets_if : Bool → List ℕ
 end_octets_if there = if there then 0 ∷ 0 ∷ [] else []
 
--- after the end of an element that holds others
+-- after the end of a holder
 abbrev pub seen_closed : Wanted → SeenState → Bool → SeenState
 seen_closed wanted o has_end_octets = record {
   order = order_if wanted (set_order_close_step o.order (end_octets_if has_end_octets)) o.order;
@@ -147,7 +147,7 @@ with_header_findings s h after =
     with_findings after (depth_in s.holders) h.offset
     (header_findings_in s.wanted (surroundings_in s.holders.frame) h)
 
--- an element that holds others begins
+-- a holder begins
 abbrev pub finder_open_step : CheckState → HeaderValue → FinderState
 finder_open_step s h = with_header_findings s h (record s {
   holders = nesting_open_step s.holders h;
@@ -216,7 +216,7 @@ abbrev pub end_findings_with : Wanted → Bool → Option ℕ → HolderFrame �
 end_findings_with wanted misplaced string w =
     with_order_if misplaced (with_characters_if (is_some string) (end_findings_in wanted (segments_in w)))
 
--- an element that holds others ends, inside those with these frames
+-- a holder ends, inside those with these frames
 abbrev pub finder_frame_end_step : CheckState → Bool → List HolderFrame → FinderState
 finder_frame_end_step s has_end_octets [] = without_findings s
 finder_frame_end_step s has_end_octets (w ∷ outer) =

@@ -1,4 +1,5 @@
--- The lines of a dump for elements that hold others, and for padding. The lines of all items are in `Texts`.
+-- The lines of a dump for holders, and for padding, as the contracts of the code have them. The lines
+-- of all items are in `Texts`.
 use Rattle.std.specs.Prelude.{ℕ, List, ◌++◌, Option, codes, decimal, Bool, if◌then◌else◌}
 use Rattle.std.specs.Option.{option_map_or}
 use Rattle.tlv_head.specs.declared.header.Size.{Size}
@@ -11,11 +12,11 @@ use Rattle.tlv_value.specs.Layout.{blank_columns, columns, line}
 abbrev pub size_text : Size → List ℕ
 size_text size = option_map_or decimal (definite_length size) (codes "indef")
 
--- what is after the tag of an element that holds others: whether it is constructed, or a string that holds encodings
+-- what is after the tag of a holder: whether it is constructed, or a wrapper
 abbrev pub opening_word : Bool → List ℕ
 opening_word constructed = if constructed then codes " {" else codes " wraps {"
 
--- an element that holds others, with a word after its tag
+-- a holder, with a word after its tag
 abbrev pub opening_line : Layout → HeaderValue → List ℕ → List ℕ
 opening_line layout h word =
     line layout (columns h.offset (size_text h.size)) (tag_text h.class h.number ++ word)

@@ -1,16 +1,51 @@
 -- The conditions of a header, and of an end, by what is kept when elements come event by event. `AllConditions` has
--- them by the site of an element, and by the headers of what it held: lemmas say that both find the same. Only the rows
--- that depend on what is kept are here again.
-use Rattle.std.specs.Prelude.{ℕ, Bool, ◌&&◌, not, nat_le, List, [], ◌∷◌, ◌++◌}
-use Rattle.tlv_head.specs.Header.{HeaderValue}
+-- them by the site of an element, and by the headers of what it held: lemmas say that both find the same. The conditions
+-- of a header are in parts here, as the code looks at them.
+use Rattle.std.specs.Prelude.{ℕ, ◌%◌, Bool, ◌&&◌, ◌||◌, not, ◌==◌, nat_le, nat_lt, if◌then◌else◌, List, [], ◌∷◌, ◌++◌}
+use Rattle.std.specs.Prelude.{length, slice_index}
+use Rattle.tlv_head.specs.Header.{HeaderValue, announced_length}
+use Rattle.tlv_head.specs.UniversalTypes as universal
+use Rattle.tlv_head.specs.declared.type_table.Encodings.TheVariants as encodings
 use Rattle.tlv_value.specs.declared.finding.Finding.{Finding}
-use Rattle.tlv_value.specs.declared.finding.Finding.TheVariants.{B16, B17, B27, C03, C04, C05, C06}
-use Rattle.tlv_value.specs.Types.{is_a}
+use Rattle.tlv_value.specs.declared.finding.Finding.TheVariants.{B01, B02, B03, B04, B05, B16, B17, B27}
+use Rattle.tlv_value.specs.declared.finding.Finding.TheVariants.{S01, D01, D02, C01, C02, C03, C04, C05, C06}
+use Rattle.tlv_value.specs.Types.{has_encodings, has_segments, is_a, is_primitive, is_string, is_unassigned}
+use Rattle.tlv_walk.specs.Place.{is_indefinite}
 use Rattle.tlv_show.specs.declared.wanted.Wanted.{Wanted}
-use Rattle.tlv_show.specs.Conditions.{basic_conditions_of_header, cer_conditions_of_header, der_conditions}
-use Rattle.tlv_show.specs.Conditions.{length_conditions, segment_type}
+use Rattle.tlv_show.specs.Conditions.{has_high_form}
 use Rattle.tlv_show.specs.AllConditions.{later_basic_conditions}
 use Rattle.tlv_show.specs.ShownFindings.{shown_findings}
+
+-- ---- What a header says
+
+-- the number is in subsequent identifier octets, though it is below 31
+abbrev pub is_high_form_needless : HeaderValue → Bool
+is_high_form_needless h = has_high_form h && nat_lt h.number 31
+
+-- there are subsequent identifier octets, and bits 7 to 1 of the first are all 0
+abbrev pub begins_with_zero_bits : HeaderValue → Bool
+begins_with_zero_bits h = has_high_form h && slice_index h.identifier 1 % 128 == 0
+
+-- the element is constructed, and the encodings of its type are primitive
+abbrev pub is_wrongly_constructed : HeaderValue → Bool
+is_wrongly_constructed h = h.constructed && has_encodings encodings.Primitive h
+
+-- the element is primitive, and the encodings of its type are constructed
+abbrev pub is_wrongly_primitive : HeaderValue → Bool
+is_wrongly_primitive h = is_primitive h && has_encodings encodings.Constructed h
+
+-- there are subsequent length octets
+abbrev pub has_long_form : HeaderValue → Bool
+has_long_form h = nat_lt 1 (length h.lengths)
+
+-- the length has more octets than it needs
+abbrev pub is_length_padded : HeaderValue → Bool
+is_length_padded h =
+    has_long_form h && (nat_lt (announced_length h.size) 128 || slice_index h.lengths 1 == 0)
+
+-- the type of the segments of a string, which is a BIT STRING or another one
+abbrev pub segment_type : Bool → ℕ
+segment_type in_bit_string = if in_bit_string then universal.bit_string else universal.octet_string
 
 -- ---- With the header
 
@@ -26,18 +61,29 @@ pub record Surroundings : Type 0 where
 
 abbrev pub first_basic_conditions_in : Surroundings → HeaderValue → List (Bool × Finding)
 first_basic_conditions_in s h =
-    basic_conditions_of_header h
-    ++ (s.after_unused_bits, B16)
+    (is_high_form_needless h, B01)
+    ∷ (begins_with_zero_bits h, B02)
+    ∷ (is_unassigned h, B03)
+    ∷ (is_wrongly_constructed h, B04)
+    ∷ (is_wrongly_primitive h, B05)
+    ∷ (s.after_unused_bits, B16)
     ∷ (s.in_string && not (is_a (segment_type s.in_bit_string) h), B17)
     ∷ []
 
 abbrev pub basic_conditions_in : Surroundings → HeaderValue → List (Bool × Finding)
 basic_conditions_in s h = first_basic_conditions_in s h ++ later_basic_conditions h
 
+abbrev pub length_conditions : HeaderValue → List (Bool × Finding)
+length_conditions h = (is_length_padded h, S01) ∷ []
+
+abbrev pub der_conditions : HeaderValue → List (Bool × Finding)
+der_conditions h = (is_indefinite h.size, D01) ∷ (has_segments h, D02) ∷ []
+
 abbrev pub cer_conditions_in : Surroundings → HeaderValue → List (Bool × Finding)
 cer_conditions_in s h =
-    cer_conditions_of_header h
-    ++ (h.constructed && s.in_string, C03)
+    (h.constructed && not (is_indefinite h.size), C01)
+    ∷ (is_primitive h && is_string h && nat_lt 1000 (announced_length h.size), C02)
+    ∷ (h.constructed && s.in_string, C03)
     ∷ (s.after_not_full, C04)
     ∷ []
 
@@ -48,7 +94,7 @@ header_conditions_in s h =
 abbrev pub header_findings_in : Wanted → Surroundings → HeaderValue → List Finding
 header_findings_in wanted s h = shown_findings wanted (header_conditions_in s h)
 
--- ---- With the end of an element that holds others
+-- ---- With the end of a holder
 
 -- what is kept of what an element held
 pub record Segments : Type 0 where

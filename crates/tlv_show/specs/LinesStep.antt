@@ -14,7 +14,7 @@ use Rattle.tlv_show.specs.SaturatingSum.{saturating_sum}
 
 -- what contracts see of the `Lines` of a dump
 pub record LinesState : Type 0 where
-  -- how lines are laid out: the level is the number of open elements that hold others
+  -- how lines are laid out: the level is the number of open holders
   pub layout : Layout
   -- whether text is shown beside pairs of digits
   pub with_text : Bool
@@ -52,13 +52,13 @@ lines_after_header s h = record s {
   in_padding = false;
 }
 
--- an element that holds others begins
+-- a holder begins
 abbrev pub lines_open_step : LinesState → HeaderValue → List ℕ → Effect LinesState
 lines_open_step s h word =
     effect_with (record (lines_after_header s h) { layout = inner_layout s.layout })
     (opening_line s.layout h word)
 
--- an element that holds others ends
+-- a holder ends
 abbrev pub lines_close_step : LinesState → Option ℕ → Effect LinesState
 lines_close_step s None =
     effect_with (record s { layout = outer_layout s.layout }) (closing_line (outer_layout s.layout) None)

@@ -1,4 +1,4 @@
--- What is kept of the open elements that hold others: for each a frame, which says what the element held so far.
+-- What is kept of the open holders: for each a frame, which says what the element held so far.
 use Rattle.std.specs.Prelude.{ℕ, ◌+◌, ◌-◌, Bool, true, false, ◌&&◌, ◌||◌, not, ◌==◌, nat_lt, if◌then◌else◌}
 use Rattle.std.specs.Prelude.{List, [], ◌∷◌, length, min}
 use Rattle.tlv_head.specs.Limits.{depth_limit}
@@ -6,7 +6,6 @@ use Rattle.tlv_head.specs.Header.{HeaderValue, announced_length}
 use Rattle.tlv_head.specs.UniversalTypes as universal
 use Rattle.tlv_value.specs.Types.{has_segments, is_a, is_primitive}
 use Rattle.tlv_show.specs.declared.holder_frame.HolderFrame.{HolderFrame}
-use Rattle.tlv_show.specs.Conditions.{bits_octet_count}
 use Rattle.tlv_show.specs.AllConditions.{has_components}
 use Rattle.tlv_show.specs.KeptConditions.{Segments, Surroundings}
 
@@ -28,7 +27,7 @@ top_frame = record {
   ends_empty = false;
 }
 
--- inside an element that holds others: what its header says, and all else as at the top
+-- inside a holder: what its header says, and all else as at the top
 abbrev pub frame_of : HeaderValue → HolderFrame
 frame_of h = record top_frame {
   offset = h.offset;
@@ -51,6 +50,10 @@ frame_under w h = if has_frame w h then frame_of h else top_frame
 -- an element in it has begun
 abbrev pub with_element : HolderFrame → HolderFrame
 with_element w = record w { lacks_components = false }
+
+-- the contents of a BIT STRING begin with one octet for unused bits; other strings have no such octet
+abbrev pub bits_octet_count : Bool → ℕ
+bits_octet_count is_bit_string = if is_bit_string then 1 else 0
 
 -- after one more segment: whether it is primitive, how many contents octets it announces, and whether it has unused
 -- bits
@@ -91,12 +94,12 @@ segments_in w = record {
 
 -- ---- All frames
 
--- the frame of the innermost open element that holds others, or of the top, and the frames outside it, innermost first
+-- the frame of the innermost open holder, or of the top, and the frames outside it, innermost first
 pub record NestingState : Type 0 where
   pub frame : HolderFrame
   pub outer : List HolderFrame
 
--- the number of open elements that hold others
+-- the number of open holders
 abbrev pub depth_in : NestingState → ℕ
 depth_in n = length n.outer
 
@@ -104,7 +107,7 @@ depth_in n = length n.outer
 abbrev pub new_nesting : NestingState
 new_nesting = record { frame = top_frame; outer = [] }
 
--- an element that holds others begins. With `depth_limit` of them open, no frame is kept for more
+-- a holder begins. With `depth_limit` of them open, no frame is kept for more
 abbrev pub nesting_open_step : NestingState → HeaderValue → NestingState
 nesting_open_step n h =
     if nat_lt (depth_in n) depth_limit
@@ -116,7 +119,7 @@ abbrev pub nesting_primitive_step : NestingState → ℕ → Bool → NestingSta
 nesting_primitive_step n announced unused_bits =
     record n { frame = frame_after (with_element n.frame) true announced unused_bits }
 
--- an element that holds others ends, inside the frames around it
+-- a holder ends, inside the frames around it
 abbrev pub nesting_around : HolderFrame → List HolderFrame → NestingState
 nesting_around closed [] = record { frame = closed; outer = [] }
 nesting_around closed (w ∷ outer) = record {

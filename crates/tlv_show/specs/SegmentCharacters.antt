@@ -16,12 +16,12 @@ is_tested_string h = h.constructed && (is_universal h.class && is_number_of test
 abbrev pub has_wrong_octet : ℕ → List ℕ → Bool
 has_wrong_octet number octets = not (list_all (allows_octet number) octets)
 
--- 8.6.2, 8.7.2: all contents octets of an element that holds others and has no end-of-contents octets
+-- 8.6.2, 8.7.2: all contents octets of a holder that has no end-of-contents octets
 abbrev pub held_contents : HeaderValue → Forest → List ℕ
 held_contents h children = lead h ++ spelling children
 
 -- 8.23: one of these elements is a primitive, and the type with this number does not allow all of its contents octets.
--- A string that holds encodings is a primitive too
+-- A wrapper is a primitive too
 abbrev pub has_wrong_segment : ℕ → Forest → Bool
 has_wrong_segment number (PaddingOctet rest) = has_wrong_segment number rest
 has_wrong_segment number (Primitive h c rest) = has_wrong_octet number c || has_wrong_segment number rest

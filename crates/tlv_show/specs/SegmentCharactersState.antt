@@ -26,7 +26,7 @@ new_segment_frame h = record {
   has_wrong = false;
 }
 
--- what comes is directly in the string: no element that holds others is open there
+-- what comes is directly in the string: no holder is open there
 abbrev pub is_directly_in_string : SegmentFrame → Bool
 is_directly_in_string w = w.open_count == 0
 
@@ -41,7 +41,7 @@ segment_after_octets w octets = record w {
 abbrev pub segment_begun : SegmentFrame → HeaderValue → SegmentFrame
 segment_begun w h = record w { in_contents = if is_directly_in_string w then is_primitive h else w.in_contents }
 
--- one more element that holds others is open in the string
+-- one more holder is open in the string
 abbrev pub segment_entered : SegmentFrame → SegmentFrame
 segment_entered w = record w { open_count = min (w.open_count + 1) 255 }
 
@@ -49,7 +49,7 @@ segment_entered w = record w { open_count = min (w.open_count + 1) 255 }
 abbrev pub segment_ended : SegmentFrame → SegmentFrame
 segment_ended w = record w { in_contents = not (is_directly_in_string w) && w.in_contents }
 
--- an element that holds others ends
+-- a holder ends
 abbrev pub segment_closed : SegmentFrame → SegmentFrame
 segment_closed w = segment_ended (record w { open_count = w.open_count - 1 })
 
@@ -75,11 +75,11 @@ segments_entered frames h =
     then new_segment_frame h ∷ at_innermost segment_entered frames
     else at_innermost segment_entered frames
 
--- an element that holds others begins. The octet before the elements in a BIT STRING is taken with its header
+-- a holder begins. The octet before the elements in a BIT STRING is taken with its header
 abbrev pub segments_opened : List SegmentFrame → HeaderValue → List SegmentFrame
 segments_opened frames h = segments_entered (segments_after_octets (lead h) (segments_begun frames h)) h
 
--- an element that holds others ends: if it is the innermost string, its frame goes
+-- a holder ends: if it is the innermost string, its frame goes
 abbrev pub segments_left : List SegmentFrame → List SegmentFrame
 segments_left [] = []
 segments_left (w ∷ outer) = if is_directly_in_string w then outer else w ∷ outer
@@ -102,7 +102,7 @@ segments_step frames Unused = frames
 segments_step frames Leave = segments_closed frames []
 segments_step frames (Pad octets) = frames
 
--- an element that holds others ends: it is a string with a wrong octet
+-- a holder ends: it is a string with a wrong octet
 abbrev pub ends_wrong : List SegmentFrame → Bool
 ends_wrong [] = false
 ends_wrong (w ∷ outer) = is_directly_in_string w && w.has_wrong

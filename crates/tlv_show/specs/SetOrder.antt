@@ -2,14 +2,14 @@
 use Rattle.std.specs.Prelude.{ℕ, Bool, false, ◌&&◌, ◌||◌, not, ◌==◌, nat_lt, if◌then◌else◌, List, [], ◌∷◌, ◌++◌}
 use Rattle.std.specs.Prelude.{Option, Some, None, replicate, take}
 use Rattle.tlv_head.specs.declared.header.Class.{Class}
-use Rattle.tlv_head.specs.Header.{HeaderValue, class_bits}
+use Rattle.tlv_head.specs.Header.{HeaderValue, class_bits, octets_of}
 use Rattle.tlv_head.specs.UniversalTypes as universal
 use Rattle.tlv_value.specs.Types.{is_a}
 use Rattle.tlv_walk.specs.Forest.{Forest, Holder, NoMore, OpenBitString, OpenEndOctets, OpenHeader, OpenHolder}
-use Rattle.tlv_walk.specs.Forest.{OpenPrimitive, PaddingOctet, Primitive}
+use Rattle.tlv_walk.specs.Forest.{OpenPrimitive, PaddingOctet, Primitive, end_octets, opening, spelling}
 use Rattle.tlv_show.specs.declared.rules.Rules.{Rules}
 use Rattle.tlv_show.specs.declared.rules.Rules.TheVariants.{Ber, Der, Cer}
-use Rattle.tlv_show.specs.Site.{Padding, Previous, Sibling, Site, Start, octets_of_holder, octets_of_primitive}
+use Rattle.tlv_show.specs.Site.{Site}
 
 -- 8.11, 8.12: a constructed element with the tag of SET, which SET OF has too
 abbrev pub is_set : HeaderValue → Bool
@@ -22,12 +22,16 @@ pub record Element : Type 0 where
   pub header : HeaderValue
   pub octets : List ℕ
 
--- a primitive, and an element that holds others
+-- 8.1.1.1: a primitive: its identifier octets, length octets and contents octets
 abbrev pub primitive_element : HeaderValue → List ℕ → Element
-primitive_element h c = record { header = h; octets = octets_of_primitive h c }
+primitive_element h c = record { header = h; octets = octets_of h ++ c }
 
+-- 8.1.1.1: a holder, with its end-of-contents octets, if any
 abbrev pub holder_element : HeaderValue → Forest → Element
-holder_element h children = record { header = h; octets = octets_of_holder h children }
+holder_element h children = record {
+  header = h;
+  octets = opening h ++ (spelling children ++ end_octets h.size);
+}
 
 -- ---- By octets
 
@@ -90,10 +94,10 @@ is_out_of_order_after rules holder neighbour e = false
 -- ---- At a site
 
 -- an element right before, in what holds it
-abbrev pub neighbour_of : Previous → Option Element
-neighbour_of Start = None
-neighbour_of Padding = None
-neighbour_of (Sibling h first octets) = Some (record { header = h; octets = octets })
+abbrev pub neighbour_of : Forest → Option Element
+neighbour_of (Primitive h c rest) = Some (primitive_element h c)
+neighbour_of (Holder h children rest) = Some (holder_element h children)
+neighbour_of _ = None
 
 -- 9.3, 10.3, 11.6: the element is in a SET, and out of order
 abbrev pub is_out_of_order_at : Rules → Site → Element → Bool

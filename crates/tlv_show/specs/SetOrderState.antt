@@ -120,7 +120,7 @@ set_order_entered s h =
     then record { frame = new_set_frame; outer = frame_entered s.frame ∷ s.outer }
     else record s { frame = frame_entered s.frame }
 
--- an element that holds others begins. The octet before the elements in a BIT STRING is taken with its header
+-- a holder begins. The octet before the elements in a BIT STRING is taken with its header
 abbrev pub set_order_open_step : Rules → SetOrderState → HeaderValue → SetOrderState
 set_order_open_step rules s h = set_order_entered (set_order_octets_step (set_order_started rules s h) (opening h)) h
 
@@ -128,7 +128,7 @@ set_order_open_step rules s h = set_order_entered (set_order_octets_step (set_or
 abbrev pub set_order_end_step : SetOrderState → SetOrderState
 set_order_end_step s = if is_direct s.frame then record s { frame = frame_ended s.frame } else s
 
--- an element that holds others ends: if it is the innermost SET, the frame outside is the innermost one again
+-- a holder ends: if it is the innermost SET, the frame outside is the innermost one again
 abbrev pub set_order_outside : SetOrderState → List SetFrame → SetOrderState
 set_order_outside s [] = s
 set_order_outside s (w ∷ outer) = record { frame = w; outer = outer }

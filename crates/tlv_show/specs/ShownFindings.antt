@@ -57,7 +57,7 @@ all_by rules = record { rules = rules; scope = All }
 abbrev pub shown_findings : Wanted → List (Bool × Finding) → List Finding
 shown_findings wanted conditions = filter (is_shown wanted) (findings_by conditions)
 
--- the findings of a header, on the contents of a primitive, and of the end of an element that held others, from its
+-- the findings of a header, on the contents of a primitive, and of the end of a holder, from its
 -- header and the headers of what it held
 abbrev pub header_findings : Wanted → Site → HeaderValue → List Finding
 header_findings wanted s h = shown_findings wanted (header_conditions s h)
@@ -78,7 +78,7 @@ wants_characters wanted = is_shown wanted B28
 abbrev pub with_characters_if : Bool → List Finding → List Finding
 with_characters_if wrong findings = if wrong then B28 ∷ findings else findings
 
--- the findings of the end of an element that held others, without the order of a SET
+-- the findings of the end of a holder, without the order of a SET
 abbrev pub held_findings : Wanted → HeaderValue → Forest → List Finding
 held_findings wanted h children =
     with_characters_if (wants_characters wanted && has_wrong_characters h children)

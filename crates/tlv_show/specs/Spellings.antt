@@ -49,7 +49,7 @@ OneSpelling =
     → IsWellSpelled rules framing b f → IsWellSpelled rules other c g → AreAlike f g → b ≡ c
 
 -- by DER and by CER, the elements of a sound input have such a spelling, if none is the universal primitive 0, and
--- the input has at most 2^38 octets, so that lengths stay below 2^40. In it the strings that hold encodings are
+-- the input has at most 2^38 octets, so that lengths stay below 2^40. In it the wrappers are
 -- named, and no others. A user may name their offsets: they rise, and are no more than in the input
 abbrev pub SomeSpelling : Type 0
 SomeSpelling =

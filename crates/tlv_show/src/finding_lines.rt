@@ -2,10 +2,10 @@
 ghost use Rattle.std.specs.Prelude.{◌≡◌, ◌++◌, ◌∷◌, length};
 ghost use Rattle.tlv_io.specs.LineTexts.{HasRoomFor};
 ghost use Rattle.tlv_io.specs.Out.{Puts};
-ghost use Rattle.tlv_show.specs.FindingLines.{last_finding_lines, styled_line, styled_lines};
+ghost use Rattle.tlv_show.specs.FindingLines.{check_finding_line, dump_finding_line, last_finding_lines};
+ghost use Rattle.tlv_show.specs.FindingLines.{styled_line, styled_lines};
 ghost use Rattle.tlv_show.specs.Private.FinderState.{with_findings_if};
 ghost use Rattle.tlv_io.specs.OutLimits.{line_room};
-ghost use Rattle.tlv_show.specs.Texts.{check_finding_line, dump_finding_line};
 
 use crate::finder::Finder;
 use tlv_value::{Finding, Layout, begin_word};

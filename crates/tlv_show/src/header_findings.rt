@@ -2,10 +2,9 @@
 ghost use Rattle.std.specs.Prelude.{IsTrue, false, ◌≡◌, ◌<◌, ◌≤◌, ◌+◌, ◌++◌, nat_le};
 ghost use Rattle.std.specs.Prelude.{length, []};
 ghost use Rattle.tlv_value.specs.Checks.{findings_by};
-ghost use Rattle.tlv_show.specs.Conditions.{begins_with_zero_bits, der_conditions, is_high_form_needless};
-ghost use Rattle.tlv_show.specs.Conditions.{length_conditions};
-ghost use Rattle.tlv_show.specs.KeptConditions.{cer_conditions_in, end_findings_in, first_basic_conditions_in};
-ghost use Rattle.tlv_show.specs.KeptConditions.{header_findings_in};
+ghost use Rattle.tlv_show.specs.KeptConditions.{begins_with_zero_bits, cer_conditions_in, der_conditions};
+ghost use Rattle.tlv_show.specs.KeptConditions.{end_findings_in, first_basic_conditions_in, header_findings_in};
+ghost use Rattle.tlv_show.specs.KeptConditions.{is_high_form_needless, length_conditions};
 ghost use Rattle.tlv_show.specs.NestingState.{has_frame, segments_in, surroundings_in};
 ghost use Rattle.tlv_show.specs.Private.UsualTypes.{IsUsual, later_basic_conditions_in};
 ghost use Rattle.tlv_value.specs.ValueCheckState.{finding_if};

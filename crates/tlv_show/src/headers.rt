@@ -7,7 +7,8 @@ ghost use Rattle.tlv_head.specs.declared.type_table.Encodings.TheVariants.{Const
 ghost use Rattle.tlv_value.specs.Types.{has_encodings, has_segments, is_a, is_string, is_unassigned};
 ghost use Rattle.tlv_walk.specs.Place.{is_indefinite};
 ghost use Rattle.tlv_show.specs.AllConditions.{has_components, is_time_or_iri};
-ghost use Rattle.tlv_show.specs.Conditions.{has_high_form, has_long_form, is_length_padded, segment_type};
+ghost use Rattle.tlv_show.specs.Conditions.{has_high_form};
+ghost use Rattle.tlv_show.specs.KeptConditions.{has_long_form, is_length_padded, segment_type};
 
 use tlv_head::{Class, Header, Size, universal};
 

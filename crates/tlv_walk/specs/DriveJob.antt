@@ -1,5 +1,6 @@
 -- The result of a walk over all the octets that a source gives.
-use Rattle.std.specs.Prelude.{◌≡◌, ℕ, true, false, if◌then◌else◌, List, length, Result, OnOk}
+use Rattle.std.specs.Prelude.{◌≡◌, ℕ, true, false, if◌then◌else◌, not, List, length, Option, Result, OnOk}
+use Rattle.std.specs.List.{find}
 use Rattle.tlv_walk.specs.declared.ending.Ending.{Ending}
 use Rattle.tlv_walk.specs.declared.ending.Ending.TheVariants as ending
 use Rattle.tlv_walk.specs.declared.framing.Framing.{Framing}
@@ -10,12 +11,17 @@ use Rattle.tlv_walk.specs.Events.{EventValue, events, octets_of_events}
 use Rattle.tlv_walk.specs.Follow.{Effect, effect_of, followed_events, had_enough}
 use Rattle.tlv_walk.specs.Forest.{Forest, spelling}
 use Rattle.tlv_walk.specs.Job.{DeviceStates, Job, RunsUpTo, device_states, drain_result}
-use Rattle.tlv_walk.specs.Wrappers.{first_not_among, first_without_wrapper, entered_offsets}
+use Rattle.tlv_walk.specs.Inside.{is_among}
+use Rattle.tlv_walk.specs.Wrappers.{first_without_wrapper, entered_offsets}
 
 -- the run over a forest whose events were all followed, with this ending
 abbrev pub run_over : Framing → Forest → Ending → Run
 run_over framing f e =
     record { ending = e; octets = length (spelling f); enough = false; unused = first_without_wrapper framing.inside f }
+
+-- the first offset of the list that is not in the other list
+abbrev pub first_not_among : List ℕ → List ℕ → Option ℕ
+first_not_among ns others = find (λ n. not (is_among n others)) ns
 
 -- the run that ends after the last of these events, which was enough for the follower
 abbrev pub enough_run : Framing → List EventValue → Run

@@ -17,8 +17,8 @@ use Rattle.tlv_walk.specs.Forest.{primitive_extent, spelling}
 use Rattle.tlv_walk.specs.Place.{Fits, IsHeaderAt, Place, announced_extent, place_after, place_of_children, top_place}
 use Rattle.tlv_walk.specs.Reading.{CannotBecomeSound, IsReading, IsSoundList}
 
--- an open end of a forest: its place, and what is open there: nothing, between encodings (`NoMore`), or an incomplete
--- primitive, wrapping BIT STRING, header or end-of-contents octets, whose place is that of their first octet
+-- an open end of a forest: its place, and what is open there: nothing, between encodings (`NoMore`), or a primitive, a
+-- wrapping BIT STRING, a header or end-of-contents octets, whose place is that of their first octet
 pub record OpenEnd : Type 0 where
   pub place : Place
   pub forest : Forest
@@ -37,7 +37,7 @@ open_end p end = end_at p end
 
 -- why the octet x is refused at an open end, one line for each cause. The bound is checked before the octet
 pub data IsRefusedAt : OpenEnd → ℕ → FaultCode → Type 0 where
-  -- F12, a rule of our own: encodings are whole octets, so a BIT STRING that holds encodings has no unused bits.
+  -- F12, a rule of our own: encodings are whole octets, so a wrapping BIT STRING has no unused bits.
   -- 8.6.2.2 allows 00 to 07
   bad_inside : {x : ℕ} {p : Place} {h : HeaderValue} → x ≢ 0 → IsRefusedAt (end_at p (OpenBitString h)) x BadInside
   -- 8.1.5: the second 00 is missing at the bound, or is another octet
@@ -49,7 +49,7 @@ pub data IsRefusedAt : OpenEnd → ℕ → FaultCode → Type 0 where
   -- F06 to F09: no header goes on with that octet
   refused_octet : {x : ℕ} {p : Place} {o : List ℕ} {code : FaultCode} → Fits p (length o + 1) → IsRefusedOctet o x code
       → IsRefusedAt (end_at p (OpenHeader o)) x code
-  -- a limit of our own: x completes the header of an element that holds others, inside `depth_limit` such elements
+  -- a limit of our own: x completes the header of a holder, inside `depth_limit` holders
   too_deep : {x : ℕ} {p : Place} {o : List ℕ} → Fits p (length o + 1) → (h : HeaderValue) → IsHeaderAt p h
       → holds h ≡ true → octets_of h ≡ o ++ x ∷ [] → depth_limit ≤ p.depth
       → IsRefusedAt (end_at p (OpenHeader o)) x TooDeep
@@ -90,14 +90,10 @@ pub record IsEnding (framing : Framing) (b : List ℕ) (e : Ending) : Type 0 whe
   pub is_reading : IsReading framing b reading
   pub ends : IsEndingOf framing b reading e
 
--- a code other than F01 and F02; only F01 and F02 say that the input ends too early
-abbrev pub IsFinalCode : FaultCode → Type 0
-IsFinalCode code = (code ≢ Empty) × (code ≢ Short)
-
--- a fault that stays the ending whatever follows
+-- a fault that stays the ending whatever follows: one other than F01 and F02, which say that the input ends too early
 abbrev pub IsFinalEnding : Ending → Type 0
 IsFinalEnding Done = ⊥
-IsFinalEnding (ending.Fault f) = IsFinalCode f.code
+IsFinalEnding (ending.Fault f) = (f.code ≢ Empty) × (f.code ≢ Short)
 
 -- what the ending of octets shows: it is `Done` if and only if the octets are a sound list; and if it is a fault
 -- other than F01 and F02, no input that begins with the octets is a sound list

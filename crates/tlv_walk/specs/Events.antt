@@ -62,15 +62,15 @@ IsNoEmptyPart event.Unused = Unit {0}
 IsNoEmptyPart event.Leave = Unit {0}
 IsNoEmptyPart (event.Pad octets) = octets.now ≢ []
 
--- an element that holds others begins: it is constructed, or a wrapper
+-- a holder begins: it is constructed, or a wrapper
 abbrev pub opening_event : HeaderValue → EventValue
 opening_event h = if h.constructed then Open h else Enter h
 
--- an element that holds others begins, and, if it is a wrapping BIT STRING, gives its first contents octet
+-- a holder begins, and, if it is a wrapping BIT STRING, gives its first contents octet
 abbrev pub opening_events : HeaderValue → List EventValue
 opening_events h = opening_event h ∷ map (λ z. Unused) (lead h)
 
--- an element that holds others ends
+-- a holder ends
 abbrev pub closing_event : HeaderValue → Forest → EventValue
 closing_event h children = if h.constructed then Close (end_octets_offset h children) else Leave
 

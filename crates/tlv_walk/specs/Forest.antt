@@ -1,13 +1,14 @@
 -- Elements, of which the last may still be open: X.690 8.1.1, 8.1.4 and 8.1.5.
-use Rattle.std.specs.Prelude.{ℕ, ◌+◌, Bool, true, false, not, ◌&&◌, eqb, if◌then◌else◌, List, [], ◌∷◌, ◌++◌, length}
+use Rattle.std.specs.Prelude.{ℕ, ◌+◌, Bool, true, false, not, ◌&&◌, ◌==◌, if◌then◌else◌, List, [], ◌∷◌, ◌++◌, length}
 use Rattle.std.specs.Prelude.{Option, Some, None}
 use Rattle.tlv_head.specs.declared.header.Size.{Size}
 use Rattle.std.specs.Option.{is_some}
 use Rattle.tlv_head.specs.UniversalTypes as universal
 use Rattle.tlv_head.specs.Header.{HeaderValue, definite_length, octets_of}
 
--- 8.1.1.1, 8.1.4: whole elements and padding, one after another, and then at most one thing that is unfinished: an
--- element, a header or end-of-contents octets
+-- 8.1.1.1, 8.1.4: whole elements and padding, one after another, and then at most one thing that is open, that is, has
+-- not ended: an element, a header or end-of-contents octets. A holder is an element that holds others: a constructed
+-- element, or a wrapper, which is a string that holds encodings, since the user named its offset
 pub data Forest : Type 0 where
   -- no more
   NoMore : Forest
@@ -15,11 +16,11 @@ pub data Forest : Type 0 where
   PaddingOctet : (rest : Forest) → Forest
   -- a primitive with all its contents octets
   Primitive : (header : HeaderValue) (contents : List ℕ) (rest : Forest) → Forest
-  -- an element that holds others and has ended: a constructed element or a wrapper
+  -- a holder that has ended
   Holder : (header : HeaderValue) (children rest : Forest) → Forest
-  -- a primitive with fewer contents octets than its length
+  -- a primitive that is open: it has fewer contents octets than its length
   OpenPrimitive : (header : HeaderValue) (contents : List ℕ) → Forest
-  -- an element that holds others and has not ended, with what it holds so far
+  -- a holder that is open, with what it holds so far
   OpenHolder : (header : HeaderValue) (children : Forest) → Forest
   -- a wrapping BIT STRING without its first contents octet
   OpenBitString : (header : HeaderValue) → Forest
@@ -28,10 +29,10 @@ pub data Forest : Type 0 where
   -- the first of the end-of-contents octets
   OpenEndOctets : Forest
 
--- 8.6.2: an element that holds others is a BIT STRING that holds encodings. It is constructed, or a string of class
--- universal, so its form and its number say which
+-- 8.6.2: a holder with this header is a wrapping BIT STRING. A holder that is not constructed is a string of class
+-- universal, so the number says which
 abbrev pub is_wrapping_bit_string : HeaderValue → Bool
-is_wrapping_bit_string h = not h.constructed && eqb h.number universal.bit_string
+is_wrapping_bit_string h = not h.constructed && h.number == universal.bit_string
 
 -- 8.6.2.2: the contents octets before the elements that an element holds: in a BIT STRING 00, for no unused bits, and
 -- otherwise none
@@ -58,7 +59,7 @@ spelling (OpenBitString h) = octets_of h
 spelling (OpenHeader octets) = octets
 spelling OpenEndOctets = 0 ∷ []
 
--- 8.1.4: the number of contents octets so far in an element that holds others
+-- 8.1.4: the number of contents octets so far in a holder
 abbrev pub contents_length : HeaderValue → Forest → ℕ
 contents_length h children = length (lead h) + length (spelling children)
 
@@ -66,11 +67,11 @@ contents_length h children = length (lead h) + length (spelling children)
 abbrev pub primitive_extent : HeaderValue → List ℕ → ℕ
 primitive_extent h contents = length (octets_of h) + length contents
 
--- 8.1.1.1: the number of octets of an element that holds others and has ended
+-- 8.1.1.1: the number of octets of a holder that has ended
 abbrev pub extent : HeaderValue → Forest → ℕ
 extent h children = length (opening h) + (length (spelling children) + length (end_octets h.size))
 
--- 8.1.5: the offset of the end-of-contents octets of an element that holds others, if its length is indefinite
+-- 8.1.5: the offset of the end-of-contents octets of a holder, if its length is indefinite
 abbrev pub end_octets_offset : HeaderValue → Forest → Option ℕ
 end_octets_offset h children =
     if is_some (definite_length h.size) then None

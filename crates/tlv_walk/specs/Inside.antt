@@ -1,5 +1,5 @@
 -- The offsets that a user may name.
-use Rattle.std.specs.Prelude.{ℕ, ◌+◌, Bool, true, ◌&&◌, eqb, nat_le, List, [], ◌∷◌, length}
+use Rattle.std.specs.Prelude.{ℕ, ◌+◌, Bool, true, ◌&&◌, ◌==◌, nat_le, List, [], ◌∷◌, length}
 use Rattle.std.specs.List.{list_any}
 use Rattle.tlv_head.specs.Limits.{input_limit}
 
@@ -14,4 +14,4 @@ can_name offsets = nat_le (length offsets) 16 && are_rising 0 offsets
 
 -- the offset is one of these offsets
 abbrev pub is_among : ℕ → List ℕ → Bool
-is_among n offsets = list_any (λ offset. eqb offset n) offsets
+is_among n offsets = list_any (λ offset. offset == n) offsets

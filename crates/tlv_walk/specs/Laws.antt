@@ -1,6 +1,7 @@
 -- Laws of forests that obey the grammar, of the readings and endings of inputs, and of their events.
-use Rattle.std.specs.Prelude.{◌≡◌, ◌↔◌, ℕ, true, List, ◌++◌}
+use Rattle.std.specs.Prelude.{◌≡◌, ◌≢◌, ◌↔◌, ℕ, true, List, ◌++◌}
 use Rattle.tlv_head.specs.declared.fault.FaultCode.{FaultCode}
+use Rattle.tlv_head.specs.declared.fault.FaultCode.TheVariants.{Empty, Short}
 use Rattle.tlv_walk.specs.declared.ending.Ending.{Ending}
 use Rattle.tlv_walk.specs.declared.ending.Ending.TheVariants.{Done}
 use Rattle.tlv_walk.specs.declared.framing.Framing.{Framing}
@@ -10,7 +11,11 @@ use Rattle.tlv_walk.specs.Place.{ObeysGrammar, Place, top_place}
 use Rattle.tlv_walk.specs.LongerInputs.{ForLongerInputs}
 use Rattle.tlv_walk.specs.Reading.{AreOctets, CannotBecomeSound, IsPrefixOf, IsReading, IsSound, IsSoundList}
 use Rattle.tlv_walk.specs.Events.{AreEqualJoined, EventValue, events, single_octets}
-use Rattle.tlv_walk.specs.Ending.{IsEnding, IsFinalCode, fault_ending}
+use Rattle.tlv_walk.specs.Ending.{IsEnding, fault_ending}
+
+-- a code other than F01 and F02
+abbrev pub IsFinalCode : FaultCode → Type 0
+IsFinalCode code = (code ≢ Empty) × (code ≢ Short)
 
 -- each prefix of the spelling of a forest that obeys the grammar is the spelling of one that obeys it
 abbrev pub PrefixesObeyGrammar : Type 0

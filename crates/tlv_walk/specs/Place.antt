@@ -17,7 +17,7 @@ use Rattle.tlv_walk.specs.Forest.{is_whole, is_wrapping_bit_string, opening, pri
 pub record Place : Type 0 where
   -- the offset of its first octet
   pub offset : ℕ
-  -- the number of open elements that hold others there
+  -- the number of open holders around it
   pub depth : ℕ
   -- the end of the innermost definite element that holds it
   pub bound : Option ℕ
@@ -68,14 +68,14 @@ pub record IsHeaderAt (p : Place) (h : HeaderValue) : Type 0 where
   pub offset : h.offset ≡ p.offset
   pub named : h.named ≡ is_among p.offset p.inside
 
--- 8.1.4: a primitive is there that holds no encodings, and n octets of it end within the bound
+-- 8.1.4: a primitive is there that is no wrapper, and n octets of it end within the bound
 pub record IsPrimitiveAt (p : Place) (h : HeaderValue) (n : ℕ) : Type 0 where
   pub header : IsHeaderAt p h
   pub holding : holds h ≡ false
   pub fits : Fits p n
 
--- 8.1.4: an element that holds encodings is there, and n octets of it end within the bound. It is inside fewer than
--- `depth_limit` such elements, a limit of our own
+-- 8.1.4: a holder is there, and n octets of it end within the bound. It is inside fewer than `depth_limit` holders, a
+-- limit of our own
 pub record IsHolderAt (p : Place) (h : HeaderValue) (n : ℕ) : Type 0 where
   pub header : IsHeaderAt p h
   pub holding : holds h ≡ true
@@ -101,14 +101,14 @@ ObeysGrammar p (PaddingOctet rest) =
 ObeysGrammar p (Primitive h c rest) =
     (IsPrimitiveAt p h (primitive_extent h c) × (h.size ≡ Definite (length c)))
     × ObeysGrammar (place_after p (primitive_extent h c)) rest
--- 8.1.4, 8.1.5: an element that holds others and has ended. 8.1.3.3: a definite length is the length of the contents
+-- 8.1.4, 8.1.5: a holder that has ended. 8.1.3.3: a definite length is the length of the contents
 ObeysGrammar p (Holder h children rest) =
     (IsHolderAt p h (extent h children) × (is_whole children ≡ true) × HasItsLength h children)
     × ObeysGrammar (place_of_children p h) children × ObeysGrammar (place_after p (extent h children)) rest
 -- 8.1.4: a primitive that lacks contents octets
 ObeysGrammar p (OpenPrimitive h c) = IsPrimitiveAt p h (announced_extent h) × (length c < announced_length h.size)
--- 8.1.4: an element that holds others and has not ended: if all the elements that it holds are whole, and its length
--- is definite, contents octets are missing
+-- 8.1.4: a holder that is open: if all the elements that it holds are whole, and its length is definite, contents octets
+-- are missing
 ObeysGrammar p (OpenHolder h children) =
     (IsHolderAt p h (announced_extent h)
     × (is_whole children ≡ true → IfSome (definite_length h.size) (λ n. contents_length h children < n)))

@@ -1,17 +1,17 @@
--- The open elements that hold others, innermost first.
+-- The open holders, innermost first.
 use Rattle.std.specs.Prelude.{◌≡◌, ℕ, ◌≤◌, Bool, true, List, [], ◌∷◌, Option, Some, None, IfSome}
 
 -- the offset does not lie beyond the bound
 abbrev pub IsWithin : Option ℕ → ℕ → Type 0
 IsWithin bound offset = IfSome bound (λ b. offset ≤ b)
 
--- an open element that holds others
+-- an open holder
 pub record FrameValue : Type 0 where
   -- where its contents end, if its length is definite
   pub end : Option ℕ
   -- the end of the innermost definite element, which is this one or the nearest around it
   pub bound : Option ℕ
-  -- it is a wrapper: a string that holds encodings
+  -- it is a wrapper
   pub wrapper : Bool
 
 -- the end of the innermost definite element

@@ -18,7 +18,7 @@ use Rattle.tlv_walk.specs.declared.event.Event.{Event}
 use Rattle.tlv_walk.specs.declared.event.Step.{Step}
 use Rattle.tlv_walk.specs.declared.event.Step.TheVariants as step
 
--- 8.1.4: the number of elements that hold others and have not ended, including a wrapping BIT STRING before its first
+-- 8.1.4: the number of open holders, including a wrapping BIT STRING before its first
 -- contents octet
 abbrev pub depth_of : Forest → ℕ
 depth_of NoMore = 0

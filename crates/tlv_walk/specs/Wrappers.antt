@@ -1,4 +1,4 @@
--- Which of the named offsets are offsets of strings that hold encodings.
+-- Which of the named offsets are offsets of wrappers.
 use Rattle.std.specs.Prelude.{ℕ, not, if◌then◌else◌, List, [], ◌∷◌, ◌++◌, Option}
 use Rattle.std.specs.List.{find}
 use Rattle.tlv_head.specs.Header.{HeaderValue}
@@ -6,7 +6,7 @@ use Rattle.tlv_walk.specs.Events.{Enter, EventValue}
 use Rattle.tlv_walk.specs.Forest.{Forest, PaddingOctet, Primitive, Holder, OpenHolder, OpenBitString}
 use Rattle.tlv_walk.specs.Inside.{is_among}
 
--- a list of the offset of an element that holds others; an empty list if it is constructed, and so not a wrapper
+-- a list of the offset of a holder; an empty list if it is constructed, and so not a wrapper
 abbrev pub wrapper_offset : HeaderValue → List ℕ
 wrapper_offset h = if h.constructed then [] else h.offset ∷ []
 
@@ -19,13 +19,9 @@ wrapper_offsets (OpenHolder h children) = wrapper_offset h ++ wrapper_offsets ch
 wrapper_offsets (OpenBitString h) = wrapper_offset h
 wrapper_offsets end = []
 
--- the first offset of the list that is not in the other list
-abbrev pub first_not_among : List ℕ → List ℕ → Option ℕ
-first_not_among ns others = find (λ n. not (is_among n others)) ns
-
 -- the first named offset that is not a wrapper's
 abbrev pub first_without_wrapper : List ℕ → Forest → Option ℕ
-first_without_wrapper inside f = first_not_among inside (wrapper_offsets f)
+first_without_wrapper inside f = find (λ n. not (is_among n (wrapper_offsets f))) inside
 
 -- the offsets of the wrappers that events enter
 abbrev pub entered_offsets : List EventValue → List ℕ

@@ -14,12 +14,16 @@ use Rattle.tlv_walk.specs.Forest.{end_octets, extent, is_whole, lead, opening}
 use Rattle.tlv_walk.specs.Place.{ObeysGrammar, Place, place_after, place_of_children}
 use Rattle.tlv_walk.proofs.FollowerLemmas.FollowedEvents.{followed-enough, followed-one}
 use Rattle.tlv_cut.specs.declared.extract_follower.Position.TheVariants as position
-use Rattle.tlv_cut.specs.Extract.{element_at, element_text, octets_so_far}
+use Rattle.tlv_cut.specs.Extract.{contents_so_far, element_at, octets_so_far}
 use Rattle.tlv_cut.specs.ExtractStep.{ExtractState, extract_begin_step, extract_step, has_found, new_extract}
 use Rattle.tlv_cut.specs.ExtractStep.{outer_octets}
 use Rattle.tlv_cut.proofs.ExtractLemmas.Inside.{made_from, IsPassedOn, whole_inside_passed_on}
 use Rattle.tlv_cut.proofs.ExtractLemmas.Inside.{made_from-begins, events-holder, made_from-closes, state_inside}
 use Rattle.tlv_cut.proofs.ExtractLemmas.Inside.{made_from-opens, then_more, passed_on}
+
+-- what is written for an element: all its octets, or only its contents octets
+abbrev element_text : Bool → Forest → List ℕ
+element_text contents_only e = if contents_only then contents_so_far e else octets_so_far e
 
 module _ (n : ℕ) (only : Bool) where
   -- an `Extract` before its element, and after it

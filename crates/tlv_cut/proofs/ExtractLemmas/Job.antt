@@ -15,7 +15,8 @@ use Rattle.tlv_walk.specs.Place.{top_place}
 use Rattle.tlv_walk.specs.Reading.{IsReading}
 use Rattle.tlv_walk.proofs.FollowerLemmas.Jobs as jobs
 use Rattle.tlv_cut.specs.declared.extract_call.Cut.{Cut}
-use Rattle.tlv_cut.specs.Extract.{extract_text, element_at, has_element_at, has_whole_element_at, extract_job}
+use Rattle.tlv_cut.specs.Extract.{extract_text, element_at, extract_job}
+use Rattle.tlv_cut.specs.Laws.{has_element_at, has_whole_element_at}
 use Rattle.tlv_cut.specs.ExtractStep.{ExtractState, extract_step, has_found, new_extract}
 use Rattle.tlv_cut.proofs.ExtractLemmas.Inside.{made_from}
 use Rattle.tlv_cut.proofs.ExtractLemmas.Elements.{IsTextOf, makes_text}

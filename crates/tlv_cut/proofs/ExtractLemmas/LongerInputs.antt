@@ -17,7 +17,8 @@ use Rattle.tlv_walk.proofs.FollowerLemmas.FollowedEvents.{followed-enough, follo
 use Rattle.tlv_walk.proofs.EventLemmas.LongerInputs.{events-prefix}
 use Rattle.tlv_cut.specs.declared.extract_follower.Position.{Position}
 use Rattle.tlv_cut.specs.declared.extract_follower.Position.TheVariants as position
-use Rattle.tlv_cut.specs.Extract.{extract_text, element_at, has_element_at, has_whole_element_at}
+use Rattle.tlv_cut.specs.Extract.{extract_text, element_at}
+use Rattle.tlv_cut.specs.Laws.{has_element_at, has_whole_element_at}
 use Rattle.tlv_cut.specs.ExtractStep.{ExtractState, extract_begin_step, extract_end_step, extract_step, has_found}
 use Rattle.tlv_cut.specs.ExtractStep.{extract_octet_step}
 use Rattle.tlv_cut.specs.ExtractStep.{new_extract}

@@ -4,7 +4,8 @@ use Rattle.tlv_walk.specs.declared.framing.Framing.{Framing}
 use Rattle.tlv_walk.specs.Forest.{Forest}
 use Rattle.tlv_walk.specs.Framing.{plain_framing}
 use Rattle.tlv_walk.proofs.GrammarLemmas.Readings.{padding_framing, reading}
-use Rattle.tlv_cut.specs.Extract.{extract_text, has_element_at, has_whole_element_at}
+use Rattle.tlv_cut.specs.Extract.{extract_text}
+use Rattle.tlv_cut.specs.Laws.{has_element_at, has_whole_element_at}
 
 abbrev string_at_0 : Framing
 string_at_0 = record { inside = 0 ∷ []; padding = false }

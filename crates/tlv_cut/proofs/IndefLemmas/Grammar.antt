@@ -1,8 +1,8 @@
 -- The same elements with indefinite lengths obey the grammar.
 use Rattle.std.specs.Option.{option_map_or}
 use Rattle.std.proofs.Common.{refl, sym, ap, ◌∙◌, subst}
-use Rattle.std.specs.Prelude.{◌≡◌, ℕ, ◌+◌, ◌<◌, ◌≤◌, Bool, true, false, not, ◌&&◌, ◌||◌, eqb, if◌then◌else◌, List}
-use Rattle.std.specs.Prelude.{[], ◌++◌, length, Option, Some, None, IfSome}
+use Rattle.std.specs.Prelude.{◌≡◌, ℕ, ◌+◌, ◌<◌, ◌≤◌, Bool, true, false, not, ◌&&◌, ◌||◌, eqb, List}
+use Rattle.std.specs.Prelude.{[], length, Option, Some, None, IfSome}
 use Rattle.tlv_head.specs.declared.header.Size.{Size}
 use Rattle.tlv_head.specs.declared.header.Size.TheVariants.{Indefinite}
 use Rattle.tlv_head.specs.Header.{HeaderValue, definite_length, holds, octets_of}
@@ -10,8 +10,7 @@ use Rattle.tlv_head.specs.HeaderSoFar.{AllowsSize}
 use Rattle.tlv_head.proofs.Wraps.{is_wrapper}
 use Rattle.tlv_walk.specs.Forest.{Forest, NoMore, PaddingOctet, Primitive, Holder, OpenPrimitive, OpenHolder}
 use Rattle.tlv_walk.specs.Forest.{OpenBitString, OpenHeader, OpenEndOctets}
-use Rattle.tlv_walk.specs.Forest.{extent, has_element, is_whole, is_wrapping_bit_string, lead, opening}
-use Rattle.tlv_walk.specs.Forest.{spelling}
+use Rattle.tlv_walk.specs.Forest.{extent, has_element, is_whole, is_wrapping_bit_string, opening}
 use Rattle.tlv_walk.specs.Place.{Fits, IsHeaderAt, ObeysGrammar, Place, announced_extent, place_after}
 use Rattle.tlv_walk.specs.Place.{place_of_children}
 use Rattle.tlv_cut.specs.Indef.{with_indefinite_lengths, indefinite_header, with_offsets_from}
@@ -31,18 +30,12 @@ is_whole-with_offsets_from offset (OpenHeader octets) = refl
 is_whole-with_offsets_from offset OpenEndOctets = refl
 
 -- and with indefinite lengths
-holder_whole : (constructed : Bool) (h : HeaderValue) (c : List ℕ) (inside rest : Forest) → is_whole rest ≡ true
-    → is_whole (if constructed then Holder (indefinite_header h) inside rest else Primitive h c rest) ≡ true
-holder_whole true h c inside rest e = e
-holder_whole false h c inside rest e = e
-
 is_whole-with_indefinite_lengths : (f : Forest) → is_whole f ≡ true → is_whole (with_indefinite_lengths f) ≡ true
 is_whole-with_indefinite_lengths NoMore e = refl
 is_whole-with_indefinite_lengths (PaddingOctet rest) e = is_whole-with_indefinite_lengths rest e
 is_whole-with_indefinite_lengths (Primitive h c rest) e = is_whole-with_indefinite_lengths rest e
 is_whole-with_indefinite_lengths (Holder h inside rest) e =
-    holder_whole h.constructed h _ (with_indefinite_lengths inside) (with_indefinite_lengths rest)
-    (is_whole-with_indefinite_lengths rest e)
+    is_whole-with_indefinite_lengths rest e
 is_whole-with_indefinite_lengths (OpenPrimitive h c) e = absurd (cc)
 is_whole-with_indefinite_lengths (OpenHolder h inside) e = absurd (cc)
 is_whole-with_indefinite_lengths (OpenBitString h) e = absurd (cc)
@@ -55,19 +48,12 @@ offsets-whole offset f e =
     is_whole-with_offsets_from offset (with_indefinite_lengths f) ∙ is_whole-with_indefinite_lengths f e
 
 -- if there is an element, there is one with indefinite lengths too
-holder_some : (constructed : Bool) (offset : ℕ) (h : HeaderValue) (c : List ℕ) (inside rest : Forest)
-    → has_element (with_offsets_from offset
-    (if constructed then Holder (indefinite_header h) inside rest else Primitive h c rest)) ≡ true
-holder_some true offset h c inside rest = refl
-holder_some false offset h c inside rest = refl
-
 pub offsets-has_element : (offset : ℕ) (f : Forest) → is_whole f ≡ true → has_element f ≡ true
     → has_element (with_offsets_from offset (with_indefinite_lengths f)) ≡ true
 offsets-has_element offset NoMore w e = e
 offsets-has_element offset (PaddingOctet rest) w e = offsets-has_element (offset + 1) rest w e
 offsets-has_element offset (Primitive h c rest) w e = refl
-offsets-has_element offset (Holder h inside rest) w e =
-    holder_some h.constructed offset h _ (with_indefinite_lengths inside) (with_indefinite_lengths rest)
+offsets-has_element offset (Holder h inside rest) w e = refl
 offsets-has_element offset (OpenPrimitive h c) w e = absurd (cc)
 offsets-has_element offset (OpenHolder h inside) w e = absurd (cc)
 offsets-has_element offset (OpenBitString h) w e = absurd (cc)
@@ -148,24 +134,6 @@ offsets-rest_obeys_grammar q h offset inside rest v =
     subst (λ (l : List ℕ). ObeysGrammar (place_after q (length (opening (heading_at q h)) + (length l + 2))) rest)
     (sym (spelling-with_offsets_from offset inside)) v
 
--- what `with_indefinite_lengths` makes of a constructed element obeys the grammar, if it does with an indefinite length
-made_holder : (q : Place) (h : HeaderValue) (inside rest : Forest) → h.constructed ≡ true
-    → ObeysGrammar q (with_offsets_from q.offset
-    (Holder (indefinite_header h) (with_indefinite_lengths inside) (with_indefinite_lengths rest)))
-    → ObeysGrammar q (with_offsets_from q.offset (with_indefinite_lengths (Holder h inside rest)))
-made_holder q h inside rest e v =
-    let one = Holder (indefinite_header h) (with_indefinite_lengths inside) (with_indefinite_lengths rest) in
-    let other = Primitive h (lead h ++ spelling (with_indefinite_lengths inside)) (with_indefinite_lengths rest) in
-    subst (λ (k : Bool). ObeysGrammar q (with_offsets_from q.offset (if k then one else other))) (sym e) v
-
-made_open_holder : (q : Place) (h : HeaderValue) (inside : Forest) → h.constructed ≡ true
-    → ObeysGrammar q (with_offsets_from q.offset (OpenHolder (indefinite_header h) (with_indefinite_lengths inside)))
-    → ObeysGrammar q (with_offsets_from q.offset (with_indefinite_lengths (OpenHolder h inside)))
-made_open_holder q h inside e v =
-    let one = OpenHolder (indefinite_header h) (with_indefinite_lengths inside) in
-    let other = OpenPrimitive h (lead h ++ spelling (with_indefinite_lengths inside)) in
-    subst (λ (k : Bool). ObeysGrammar q (with_offsets_from q.offset (if k then one else other))) (sym e) v
-
 pub obeys_grammar : (p q : Place) (f : Forest) → IsFree p q → ObeysGrammar p f
     → ObeysGrammar q (with_offsets_from q.offset (with_indefinite_lengths f))
 obeys_grammar p q NoMore k v = tt
@@ -189,8 +157,7 @@ obeys_grammar p q (Holder h inside rest) k v =
     let header = heading_at q h in
     let offset = q.offset + length (opening header) in
     let n = extent header (with_indefinite_lengths inside) in
-    let constructed = constructed_at p h k.names v.0.0.header v.0.0.holding in
-    made_holder q h inside rest constructed (
+    let constructed = constructed_at p h k.names v.0.0.header v.0.0.holding in (
       (
         record {
           header = constructed_header p q h k v.0.0.header constructed;
@@ -217,8 +184,7 @@ obeys_grammar p q (OpenPrimitive h c) k v = (
 )
 obeys_grammar p q (OpenHolder h inside) k v =
     let header = heading_at q h in
-    let constructed = constructed_at p h k.names v.0.0.header v.0.0.holding in
-    made_open_holder q h inside constructed (
+    let constructed = constructed_at p h k.names v.0.0.header v.0.0.holding in (
       (
         record {
           header = constructed_header p q h k v.0.0.header constructed;

@@ -25,7 +25,7 @@ module _ (padding : Bool) (s t : IndefState) (old new : SourceState) (from to : 
   -- what is put for a reading is what `indef` writes
   put-text : (octets : List ℕ) (f : Forest) → length octets ≤ 2 ^ 40 → IsReading (indef_framing padding) octets f
       → (effect_of indef_step s (events f)).put ≡ indef_text f
-  put-text octets f few r = ap (λ (k : Effect IndefState). k.put) (followed-events s f)
+  put-text octets f few r = ap (λ (k : Effect IndefState). k.put) (followed-events s padding f r.obeys_grammar)
 
   -- it never has enough
   goes_on : (octets : List ℕ) (f : Forest) → length octets ≤ 2 ^ 40 → IsReading (indef_framing padding) octets f

@@ -1,5 +1,5 @@
 -- Elements with indefinite lengths at other offsets: they have the same octets, and `indef` writes them as they are.
-use Rattle.std.proofs.Common.{◌≡◌, ℕ, ◌+◌, Bool, true, false, ◌||◌, if◌then◌else◌, List, [], ◌∷◌, ◌++◌}
+use Rattle.std.proofs.Common.{◌≡◌, ℕ, ◌+◌, Bool, true, false, ◌||◌, List, [], ◌∷◌, ◌++◌}
 use Rattle.std.proofs.Common.{length, refl, ap, ap₂, ◌∙◌}
 use Rattle.tlv_head.specs.declared.header.Class.{Class}
 use Rattle.tlv_head.specs.declared.header.Size.{Size}
@@ -7,7 +7,7 @@ use Rattle.tlv_head.specs.Header.{HeaderValue, holds, octets_of}
 use Rattle.tlv_head.proofs.Wraps.{is_wrapper}
 use Rattle.tlv_walk.specs.Forest.{Forest, NoMore, PaddingOctet, Primitive, Holder, OpenPrimitive, OpenHolder}
 use Rattle.tlv_walk.specs.Forest.{OpenBitString, OpenHeader, OpenEndOctets}
-use Rattle.tlv_walk.specs.Forest.{end_octets, extent, lead, opening, spelling}
+use Rattle.tlv_walk.specs.Forest.{end_octets, extent, opening, spelling}
 use Rattle.tlv_walk.specs.Inside.{is_among}
 use Rattle.tlv_walk.specs.Place.{IsHeaderAt, Place}
 use Rattle.tlv_cut.specs.Indef.{indef_text, indefinite_header, with_indefinite_lengths, with_offsets_from}
@@ -54,34 +54,6 @@ spelling-with_offsets_from offset OpenEndOctets = refl
 abbrev StaysAnywhere : Forest → Type 0
 StaysAnywhere f = (offset : ℕ) → with_indefinite_lengths (with_offsets_from offset f) ≡ with_offsets_from offset f
 
-holder_stays : (constructed : Bool) (h : HeaderValue) (inside rest : Forest) → h.constructed ≡ constructed
-    → StaysAnywhere inside → StaysAnywhere rest
-    → StaysAnywhere (if constructed then Holder (indefinite_header h) inside rest else Primitive h
-    (lead h ++ spelling inside) rest)
-holder_stays true h inside rest e i r offset =
-    let g = record (indefinite_header h) { offset = offset } in
-    let inner = with_offsets_from (offset + length (opening g)) inside in
-    let others = with_offsets_from (offset + extent g inside) rest in
-    ap (λ (k : Bool). if k then Holder g (with_indefinite_lengths inner) (with_indefinite_lengths others)
-    else Primitive g
-    (lead g ++ spelling (with_indefinite_lengths inner)) (with_indefinite_lengths others)) e
-    ∙ ap₂ (λ (j k : Forest). Holder g j k) (i (offset + length (opening g))) (r (offset + extent g inside))
-holder_stays false h inside rest e i r offset =
-    let c = lead h ++ spelling inside in
-    ap (λ (f : Forest). Primitive (record h { offset = offset }) c f) (r (offset + (length (octets_of h) + length c)))
-
-open_holder_stays : (constructed : Bool) (h : HeaderValue) (inside : Forest) → h.constructed ≡ constructed
-    → StaysAnywhere inside
-    → StaysAnywhere
-    (if constructed then OpenHolder (indefinite_header h) inside else OpenPrimitive h (lead h ++ spelling inside))
-open_holder_stays true h inside e i offset =
-    let g = record (indefinite_header h) { offset = offset } in
-    let inner = with_offsets_from (offset + length (opening g)) inside in
-    ap (λ (k : Bool). if k then OpenHolder g (with_indefinite_lengths inner) else OpenPrimitive g
-    (lead g ++ spelling (with_indefinite_lengths inner))) e
-    ∙ ap (λ (f : Forest). OpenHolder g f) (i (offset + length (opening g)))
-open_holder_stays false h inside e i offset = refl
-
 stays_anywhere : (f : Forest) → StaysAnywhere (with_indefinite_lengths f)
 stays_anywhere NoMore offset = refl
 stays_anywhere (PaddingOctet rest) offset = ap (λ (f : Forest). PaddingOctet f) (stays_anywhere rest (offset + 1))
@@ -89,12 +61,13 @@ stays_anywhere (Primitive h c rest) offset =
     ap (λ (f : Forest). Primitive (record h { offset = offset }) c f)
     (stays_anywhere rest (offset + (length (octets_of h) + length c)))
 stays_anywhere (Holder h inside rest) offset =
-    holder_stays h.constructed h (with_indefinite_lengths inside) (with_indefinite_lengths rest) refl
-    (stays_anywhere inside)
-    (stays_anywhere rest) offset
+    let g = record (indefinite_header h) { offset = offset } in
+    ap₂ (λ (j k : Forest). Holder g j k) (stays_anywhere inside (offset + length (opening g)))
+    (stays_anywhere rest (offset + extent g (with_indefinite_lengths inside)))
 stays_anywhere (OpenPrimitive h c) offset = refl
 stays_anywhere (OpenHolder h inside) offset =
-    open_holder_stays h.constructed h (with_indefinite_lengths inside) refl (stays_anywhere inside) offset
+    let g = record (indefinite_header h) { offset = offset } in
+    ap (λ (f : Forest). OpenHolder g f) (stays_anywhere inside (offset + length (opening g)))
 stays_anywhere (OpenBitString h) offset = refl
 stays_anywhere (OpenHeader octets) offset = refl
 stays_anywhere OpenEndOctets offset = refl

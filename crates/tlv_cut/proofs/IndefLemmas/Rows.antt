@@ -71,16 +71,6 @@ padding-again : indef_output true (0x30 ∷ 0x80 ∷ 0 ∷ 0 ∷ 0 ∷ 0x30 ∷ 
     ≡ 0x30 ∷ 0x80 ∷ 0 ∷ 0 ∷ 0 ∷ 0x30 ∷ 0x80 ∷ 5 ∷ 0 ∷ 0 ∷ 0 ∷ []
 padding-again = refl
 
--- 04 05 30 03 02 01 07, read as a string that holds encodings: it is a primitive, whose header stays
-a-wrapper : indef_text (reading (record { inside = 0 ∷ []; padding = false }) (4 ∷ 5 ∷ 0x30 ∷ 3 ∷ 2 ∷ 1 ∷ 7 ∷ []))
-    ≡ 4 ∷ 5 ∷ 0x30 ∷ 0x80 ∷ 2 ∷ 1 ∷ 7 ∷ 0 ∷ 0 ∷ []
-a-wrapper = refl
-
--- 03 04 00 30 00, the same with an octet too few
-an-open-wrapper : indef_text (reading (record { inside = 0 ∷ []; padding = false }) (3 ∷ 4 ∷ 0 ∷ 0x30 ∷ 0 ∷ []))
-    ≡ 3 ∷ 4 ∷ 0 ∷ 0x30 ∷ 0x80 ∷ 0 ∷ 0 ∷ []
-an-open-wrapper = refl
-
 -- ---- events
 
 -- 04 02

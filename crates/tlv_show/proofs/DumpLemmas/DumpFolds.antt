@@ -6,7 +6,7 @@ use Rattle.tlv_value.specs.Names.{NamesValue}
 use Rattle.tlv_walk.specs.declared.follow.Go.{Go}
 use Rattle.tlv_walk.specs.Events.{Begin, Bytes, Close, End, Enter, EventValue, Leave, Open, Pad, Unused, events}
 use Rattle.tlv_walk.specs.Follow.{Effect, effect_if_more, effect_of}
-use Rattle.tlv_walk.specs.Forest.{Forest, spelling}
+use Rattle.tlv_walk.specs.Forest.{Forest, NoMore, spelling}
 use Rattle.tlv_walk.specs.Place.{top_place}
 use Rattle.tlv_walk.specs.Reading.{IsReading}
 use Rattle.tlv_show.specs.FinderState.{new_seen}
@@ -19,7 +19,6 @@ use Rattle.tlv_show.specs.DumpStep.{DumpState, dump_step, new_dump_with}
 use Rattle.tlv_show.specs.FinderState.{CheckState}
 use Rattle.tlv_show.specs.NestingState.{top_frame}
 use Rattle.tlv_show.proofs.FindingLemmas.FinderStep.{finder_step}
-use Rattle.tlv_show.specs.Site.{Start}
 use Rattle.tlv_show.specs.Texts.{finding_count, item_text}
 use Rattle.tlv_show.specs.ShownFindings.{wanted_findings}
 use Rattle.tlv_show.proofs.FindingLemmas.CheckFolds.{count-run}
@@ -53,7 +52,7 @@ module _ (scope : Scope) (with_text : Bool) (options : Options) (names : NamesVa
   pub text-made : (effect_of dump_step (new_dump_with with_text (wanted_in scope options) (top_layout options) names) (events f)).put
       ≡ (dump_job_with scope with_text options names).text f
   text-made =
-      (shows_forest with_text (top_layout options) names (wanted_in scope options) (top_place options.framing) None Start top_frame [] f
+      (shows_forest with_text (top_layout options) names (wanted_in scope options) (top_place options.framing) None NoMore top_frame [] f
       r.obeys_grammar (omega (arith, short, ap length r.is_prefix.1, length-append (spelling f) r.is_prefix.0))
       (refl, refl, λ e. refl)).text (record { count = 0; seen = new_seen }) (top-seen (wanted_in scope options))
 

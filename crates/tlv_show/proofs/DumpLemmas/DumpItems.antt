@@ -26,12 +26,11 @@ use Rattle.tlv_show.specs.FindingLines.{styled_lines}
 use Rattle.tlv_show.specs.LinesStep.{LinesState}
 use Rattle.tlv_show.specs.DumpStep.{DumpState, dump_step}
 use Rattle.tlv_show.specs.FinderState.{CheckState, FinderState}
-use Rattle.tlv_show.specs.NestingState.{frame_under, surroundings_in, frame_after}
-use Rattle.tlv_show.specs.NestingState.{with_element}
+use Rattle.tlv_show.specs.NestingState.{frame_after, frame_under, surroundings_in, with_element}
 use Rattle.tlv_show.specs.KeptConditions.{header_findings_in}
 use Rattle.tlv_show.specs.Items.{Item, FindingAt, items, finding_items}
 use Rattle.tlv_show.specs.HolderLines.{closing_line, opening_line, opening_word}
-use Rattle.tlv_show.specs.Site.{Previous, Site, is_padding}
+use Rattle.tlv_show.specs.Site.{Site, is_padding}
 use Rattle.tlv_show.specs.Texts.{item_text, layout_at}
 use Rattle.tlv_show.specs.ShownFindings.{wanted_findings}
 use Rattle.tlv_show.proofs.DumpLemmas.DumpTexts.{holder_shown, ends_in_padding, primitive_shown}
@@ -51,7 +50,7 @@ module _ (with_text : Bool) (style : Layout) (names : NamesValue) (wanted : Want
   abbrev pub item_texts : List Item → List ℕ
   item_texts l = flat_map item l
 
-  abbrev pub site : Place → Option HeaderValue → Previous → Site
+  abbrev pub site : Place → Option HeaderValue → Forest → Site
   site p holder previous = record { offset = p.offset; depth = p.depth; holder = holder; previous = previous }
 
   pub lines_of : (level offset : ℕ) (fs : List Finding)
@@ -75,7 +74,7 @@ module _ (with_text : Bool) (style : Layout) (names : NamesValue) (wanted : Want
   start p padded w outer n =
       dump_state (lines_between with_text style names p.depth p.offset padded) (check_between wanted w outer n)
 
-  pub record IsShown (p : Place) (holder : Option HeaderValue) (previous : Previous) (w : HolderFrame)
+  pub record IsShown (p : Place) (holder : Option HeaderValue) (previous : Forest) (w : HolderFrame)
       (outer : List HolderFrame) (f : Forest) : Type 0 where
     pub text : (n : Kept) → HasSeen wanted (site p holder previous) n.seen
         → (effect_of dump_step (start p (is_padding previous) w outer n) (events f)).put
@@ -91,7 +90,7 @@ module _ (with_text : Bool) (style : Layout) (names : NamesValue) (wanted : Want
 
   -- elements after what was shown
   pub shown-after : (p q : Place) (padded : Bool) (w : HolderFrame) (outer : List HolderFrame) (n m : Kept)
-      (v : HolderFrame) (holder : Option HeaderValue) (previous : Previous) (es : List EventValue) (put : List ℕ)
+      (v : HolderFrame) (holder : Option HeaderValue) (previous : Forest) (es : List EventValue) (put : List ℕ)
       (rest : Forest)
       → q.depth ≡ p.depth
       → effect_of dump_step (start p padded w outer n) es ≡ effect_with (start q (is_padding previous) v outer m) put
@@ -105,12 +104,12 @@ module _ (with_text : Bool) (style : Layout) (names : NamesValue) (wanted : Want
       { put = put ++ l })
       (t.text m o)
 
-  abbrev pub Known : Place → Option HeaderValue → Previous → HolderFrame → List HolderFrame → Type 0
+  abbrev pub Known : Place → Option HeaderValue → Forest → HolderFrame → List HolderFrame → Type 0
   Known p holder previous w outer =
       Knows w (site p holder previous) × (length outer ≡ p.depth) × (p.padding ≡ true → holder ≡ None)
 
   -- an element that holds others begins
-  pub opened-shown : (p : Place) (holder : Option HeaderValue) (previous : Previous) (w : HolderFrame)
+  pub opened-shown : (p : Place) (holder : Option HeaderValue) (previous : Forest) (w : HolderFrame)
       (outer : List HolderFrame) (n : Kept) (h : HeaderValue)
       → Known p holder previous w outer
       → h.offset ≡ p.offset → p.depth < 128 → p.offset + length (opening h) ≤ 2 ^ 64 - 1

@@ -3,7 +3,7 @@ use Rattle.std.proofs.Common.{◌≡◌, ℕ, ◌+◌, ◌-◌, ◌^◌, ◌≤�
 use Rattle.std.proofs.Common.{◌++◌, length, refl, sym, subst, not, ap, ap₂, ◌∙◌, arith, append_assoc, append-nil}
 use Rattle.std.proofs.Common.{length-append, ◌&&◌, eqb}
 use Rattle.std.specs.FinMap as finite
-use Rattle.std.specs.Prelude.{Option, Some, None}
+use Rattle.std.specs.Prelude.{Option, Some}
 use Rattle.tlv_head.specs.Header.{HasAllContents, HeaderValue, announced_length, octets_of, wraps}
 use Rattle.tlv_value.specs.declared.layout.Layout.{Layout}
 use Rattle.tlv_value.specs.ValueCheckState.{has_unused_bits, value_check_for}
@@ -37,22 +37,21 @@ use Rattle.tlv_show.specs.declared.finding_lines.Style.TheVariants.{Dump}
 use Rattle.tlv_show.specs.FindingLines.{styled_lines}
 use Rattle.tlv_show.specs.LinesStep.{LinesState}
 use Rattle.tlv_show.specs.DumpStep.{DumpState, dump_step}
-use Rattle.tlv_show.specs.NestingState.{frame_after, frame_under, surroundings_in}
-use Rattle.tlv_show.specs.NestingState.{with_element}
+use Rattle.tlv_show.specs.NestingState.{frame_after, frame_under, surroundings_in, with_element}
 use Rattle.tlv_show.specs.KeptConditions.{header_findings_in}
 use Rattle.tlv_show.specs.Items.{ClosingLine, Item, OpenPrimitiveLines, OpeningLine, PaddingLine, PrimitiveLines}
 use Rattle.tlv_show.specs.Items.{finding_items, items}
 use Rattle.tlv_show.specs.Conditions.{headers}
 use Rattle.tlv_show.specs.HolderLines.{closing_line, opening_line, padding_line, opening_word}
-use Rattle.tlv_show.specs.Site.{Previous, Padding, Sibling, Site, Start, is_padding, site_of_children}
-use Rattle.tlv_show.specs.Site.{site_after_primitive, site_after_holder, site_after_padding}
+use Rattle.tlv_show.specs.Site.{Site, is_padding, site_of_children}
 use Rattle.tlv_show.specs.Texts.{layout_at}
-use Rattle.tlv_show.proofs.FindingLemmas.SiteWords.{first_contents_octet}
+use Rattle.tlv_show.proofs.FindingLemmas.SiteWords.{site_after_holder, site_after_padding, site_after_primitive}
 use Rattle.tlv_show.proofs.DumpLemmas.DumpSteps.{all_on}
 use Rattle.tlv_show.proofs.DumpLemmas.DumpTexts.{fill_shown, no_padding}
 use Rattle.tlv_show.proofs.DumpLemmas.DumpTexts.{ends_in_padding, part_shown, lines_between}
 use Rattle.tlv_show.proofs.FindingLemmas.FinderFolds.{not-constructed, frame_after_elements}
-use Rattle.tlv_show.proofs.FindingLemmas.FramesAround.{knows-after, knows-inside, knows-padding, unused-of}
+use Rattle.tlv_show.proofs.FindingLemmas.FramesAround.{full-of, knows-after, knows-inside, knows-padding}
+use Rattle.tlv_show.proofs.FindingLemmas.FramesAround.{unused-of}
 use Rattle.tlv_show.proofs.FindingLemmas.FinderSteps.{after_contents, after_end, later_header, after_primitive}
 use Rattle.tlv_show.proofs.FindingLemmas.FinderSteps.{check_between}
 use Rattle.tlv_show.proofs.FindingLemmas.HeaderFindings.{Knows, header-same}
@@ -63,7 +62,7 @@ use Rattle.tlv_show.proofs.DumpLemmas.DumpItems.{shown-after, site, item_texts-a
 
 -- elements, in this style, with these names and rules
 module _ (with_text : Bool) (style : Layout) (names : NamesValue) (wanted : Wanted) where
-  pub shows_forest : (p : Place) (holder : Option HeaderValue) (previous : Previous) (w : HolderFrame)
+  pub shows_forest : (p : Place) (holder : Option HeaderValue) (previous : Forest) (w : HolderFrame)
       (outer : List HolderFrame) (f : Forest)
       → ObeysGrammar p f → p.offset + length (spelling f) ≤ 2 ^ 64 - 1
       → Known with_text style names wanted p holder previous w outer
@@ -83,7 +82,7 @@ module _ (with_text : Bool) (style : Layout) (names : NamesValue) (wanted : Want
   shows_forest p holder previous w outer (PaddingOctet rest) v b k =
       let s : Site = site with_text style names wanted p holder previous in
       let t =
-      shows_forest (place_after p 1) holder Padding w outer rest v.1 (omega (arith, b))
+      shows_forest (place_after p 1) holder (PaddingOctet NoMore) w outer rest v.1 (omega (arith, b))
       (knows-padding w s k.0 (k.2 v.0.0), k.1, k.2) in
       let one : (n : Kept)
       → effect_of dump_step (start with_text style names wanted p (is_padding previous) w outer n) (Pad (0 ∷ []) ∷ [])
@@ -92,7 +91,7 @@ module _ (with_text : Bool) (style : Layout) (names : NamesValue) (wanted : Want
       λ n. ap (λ (d : Effect LinesState). effect_with (dump_state d.state (check_between wanted w outer n)) d.put)
       (fill_shown with_text style names p.depth p.offset (is_padding previous) (omega (arith, b))) in
       let all =
-      λ (n : Kept) (o : HasSeen wanted s n.seen). shown-after with_text style names wanted p (place_after p 1) (is_padding previous) w outer n n w holder Padding
+      λ (n : Kept) (o : HasSeen wanted s n.seen). shown-after with_text style names wanted p (place_after p 1) (is_padding previous) w outer n n w holder (PaddingOctet NoMore)
       (Pad (0 ∷ []) ∷ [])
       (if is_padding previous then [] else padding_line (layout_at style p.depth) p.offset) rest refl
       (one n) t (seen-padding wanted s n.seen o (k.2 v.0.0)) in
@@ -117,10 +116,9 @@ module _ (with_text : Bool) (style : Layout) (names : NamesValue) (wanted : Want
       let known : Knows (after_primitive wanted w h c) (site_after_primitive s h c) =
       subst (λ (x : Bool). Knows (frame_after (with_element w) x (announced_length h.size) u) (site_after_primitive s h c))
       (ap not form)
-      (knows-after (with_element w) s (site_after_primitive s h c) h (first_contents_octet c) (primitive_element h c).octets
-      u k.0 refl refl (unused-of h c (primitive_element h c).octets form)) in
+      (knows-after (with_element w) s (site_after_primitive s h c) h u k.0 refl (unused-of h c) (full-of h c form)) in
       let t =
-      shows_forest q holder (Sibling h (first_contents_octet c) (primitive_element h c).octets) (after_primitive wanted w h c) outer rest v.1
+      shows_forest q holder (Primitive h c NoMore) (after_primitive wanted w h c) outer rest v.1
       (omega (arith, b, length-primitive h c rest)) (known, k.1, k.2) in
       let e : Element = primitive_element h c in
       let wrong : ℕ → Bool = λ k. has_wrong_octet k c in
@@ -131,7 +129,7 @@ module _ (with_text : Bool) (style : Layout) (names : NamesValue) (wanted : Want
       let all =
       λ (n : Kept) (o : HasSeen wanted s n.seen).
       shown-after with_text style names wanted p q (is_padding previous) w outer n (after_contents wanted w h c n)
-      (after_primitive wanted w h c) holder (Sibling h (first_contents_octet c) (primitive_element h c).octets) (Begin h ∷ Bytes c ∷ End ∷ []) _ rest
+      (after_primitive wanted w h c) holder (Primitive h c NoMore) (Begin h ∷ Bytes c ∷ End ∷ []) _ rest
       refl
       (primitive-shown with_text style names wanted p (is_padding previous) w outer n h c v.0.0.header.offset size
       (omega (arith, b, length-primitive h c rest)))
@@ -178,12 +176,12 @@ module _ (with_text : Bool) (style : Layout) (names : NamesValue) (wanted : Want
       let i_place : Place = place_of_children p h in
       let size = length-holder h inside rest in
       let i =
-      shows_forest i_place (Some h) Start (frame_under w h) (with_element w ∷ outer) inside v.1 (omega (arith, b, size))
+      shows_forest i_place (Some h) NoMore (frame_under w h) (with_element w ∷ outer) inside v.1 (omega (arith, b, size))
       (knows-inside w s h, omega (arith, k.1), λ e. absurd (cc (e))) in
       let t =
-      shows_forest q holder (Sibling h None (holder_element h inside).octets) (frame_after (with_element w) (is_primitive h) (announced_length h.size) false)
+      shows_forest q holder (Holder h inside NoMore) (frame_after (with_element w) (is_primitive h) (announced_length h.size) false)
       outer rest v.2 (omega (arith, b, size))
-      (knows-after (with_element w) s (site_after_holder s h inside) h None (holder_element h inside).octets false k.0 refl refl refl, k.1, k.2) in
+      (knows-after (with_element w) s (site_after_holder s h inside) h false k.0 refl refl refl, k.1, k.2) in
       let end : ℕ = p.offset + length (opening h) + length (spelling inside) in
       let line : List ℕ = opening_line (layout_at style p.depth) h (opening_word h.constructed) in
       let close : List ℕ =
@@ -266,7 +264,7 @@ module _ (with_text : Bool) (style : Layout) (names : NamesValue) (wanted : Want
       let all = λ (n : Kept) (o : HasSeen wanted s n.seen).
       ap (effect_of dump_step (start with_text style names wanted p (is_padding previous) w outer n)) (sym joined)
       ∙ shown-after with_text style names wanted p q (is_padding previous) w outer n (element n o).0
-      (frame_after (with_element w) (is_primitive h) (announced_length h.size) false) holder (Sibling h None (holder_element h inside).octets) es
+      (frame_after (with_element w) (is_primitive h) (announced_length h.size) false) holder (Holder h inside NoMore) es
       ((first ++ line) ++ (held ++ (close ++ last))) rest refl (element n o).2 t (next n o) in
       let others : List Item = items (wanted_findings wanted) (site_after_holder s h inside) rest in
       let closing : List Item =
@@ -328,7 +326,7 @@ module _ (with_text : Bool) (style : Layout) (names : NamesValue) (wanted : Want
       let s : Site = site with_text style names wanted p holder previous in
       let size = length-append (opening h) (spelling inside) in
       let i =
-      shows_forest (place_of_children p h) (Some h) Start (frame_under w h) (with_element w ∷ outer) inside v.1
+      shows_forest (place_of_children p h) (Some h) NoMore (frame_under w h) (with_element w ∷ outer) inside v.1
       (omega (arith, b, size)) (knows-inside w s h, omega (arith, k.1), λ e. absurd (cc (e))) in
       let first : List ℕ =
       styled_lines (Dump style.pure) (length outer) h.offset (header_findings_in wanted (surroundings_in w) h) in

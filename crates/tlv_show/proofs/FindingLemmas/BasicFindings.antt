@@ -22,11 +22,12 @@ use Rattle.tlv_show.specs.declared.rules.Rules.TheVariants.{Ber, Der, Cer}
 use Rattle.tlv_show.specs.AllConditions.{end_conditions, header_conditions}
 use Rattle.tlv_show.specs.ListedFindings.{ElementFindings, is_by, listed_findings}
 use Rattle.tlv_show.specs.Items.{ClosingLine, FindingAt, Item, OpenPrimitiveLines, OpeningLine, PaddingLine}
-use Rattle.tlv_show.specs.Items.{PrimitiveLines, contents_items, end_items, finding_items, items}
+use Rattle.tlv_show.specs.Items.{PrimitiveLines, finding_items, items}
+use Rattle.tlv_show.proofs.FindingLemmas.SiteWords.{contents_items, end_items, site_after_holder, site_after_padding}
+use Rattle.tlv_show.proofs.FindingLemmas.SiteWords.{site_after_primitive}
 use Rattle.tlv_show.specs.Conditions.{headers}
 use Rattle.tlv_show.specs.Laws.{BasicFindingsStay, ListedItemsStay, is_basic, is_listed_item}
 use Rattle.tlv_show.specs.Site.{Site, is_padding, site_of_children, top_site}
-use Rattle.tlv_show.specs.Site.{site_after_primitive, site_after_holder, site_after_padding}
 use Rattle.tlv_show.specs.Texts.{check_line}
 use Rattle.tlv_show.proofs.FindingLemmas.CheckFolds.{only-written}
 use Rattle.tlv_show.proofs.FindingLemmas.FinderItems.{only, only-finding_items}

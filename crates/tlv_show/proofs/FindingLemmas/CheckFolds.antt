@@ -39,10 +39,11 @@ use Rattle.tlv_show.specs.ShownFindings.{comes_after_order, contents_findings, e
 use Rattle.tlv_show.specs.ShownFindings.{held_findings, is_shown, last_findings, shown_findings, wanted_findings}
 use Rattle.tlv_show.specs.ShownFindings.{wants_characters, wants_order, with_characters_if, with_order, with_order_if}
 use Rattle.tlv_show.specs.Items.{ClosingLine, FindingAt, Item, OpenPrimitiveLines, OpeningLine, PaddingLine}
-use Rattle.tlv_show.specs.Items.{PrimitiveLines, contents_items, end_items, finding_items, items}
+use Rattle.tlv_show.specs.Items.{PrimitiveLines, finding_items, items}
+use Rattle.tlv_show.proofs.FindingLemmas.SiteWords.{contents_items, end_items, site_after_holder, site_after_padding}
+use Rattle.tlv_show.proofs.FindingLemmas.SiteWords.{site_after_primitive}
 use Rattle.tlv_show.specs.Conditions.{headers}
 use Rattle.tlv_show.specs.Site.{Site, is_padding, site_of_children, top_site}
-use Rattle.tlv_show.specs.Site.{site_after_primitive, site_after_holder, site_after_padding}
 use Rattle.tlv_show.specs.Texts.{check_line, finding_count, is_finding}
 use Rattle.std.proofs.Common.{◌&&◌}
 use Rattle.std.specs.Option.{is_some}

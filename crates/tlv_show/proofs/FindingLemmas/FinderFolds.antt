@@ -15,10 +15,10 @@ use Rattle.tlv_walk.specs.Forest.{OpenBitString, OpenHeader, OpenEndOctets, exte
 use Rattle.tlv_walk.specs.Place.{ObeysGrammar, Place, place_after}
 use Rattle.tlv_show.specs.declared.holder_frame.HolderFrame.{HolderFrame}
 use Rattle.tlv_show.specs.declared.wanted.Wanted.{Wanted}
-use Rattle.tlv_show.specs.Conditions.{bits_octet_count, ends_empty, headers, length_as_primitive}
+use Rattle.tlv_show.specs.NestingState.{bits_octet_count, frame_after, frame_after_segment, frame_of, frame_under}
+use Rattle.tlv_show.specs.NestingState.{segments_in, top_frame, with_element}
+use Rattle.tlv_show.specs.Conditions.{ends_empty, headers, length_as_primitive}
 use Rattle.tlv_show.specs.AllConditions.{has_components}
-use Rattle.tlv_show.specs.NestingState.{frame_after, frame_after_segment, frame_of, frame_under, top_frame, segments_in}
-use Rattle.tlv_show.specs.NestingState.{with_element}
 use Rattle.tlv_show.proofs.FindingLemmas.HeaderFindings.{end-by, ends_by}
 use Rattle.tlv_show.specs.KeptConditions.{end_findings_in}
 use Rattle.tlv_show.specs.ShownFindings.{end_findings}

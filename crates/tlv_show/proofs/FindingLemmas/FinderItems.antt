@@ -17,16 +17,16 @@ use Rattle.tlv_walk.specs.Place.{ObeysGrammar, Place, place_after, place_of_chil
 use Rattle.tlv_show.specs.declared.holder_frame.HolderFrame.{HolderFrame}
 use Rattle.tlv_show.specs.declared.wanted.Wanted.{Wanted}
 use Rattle.tlv_show.specs.FinderState.{CheckState}
-use Rattle.tlv_show.specs.NestingState.{frame_after, frame_under, surroundings_in}
-use Rattle.tlv_show.specs.NestingState.{with_element}
+use Rattle.tlv_show.specs.NestingState.{frame_after, frame_under, surroundings_in, with_element}
 use Rattle.tlv_show.specs.KeptConditions.{header_findings_in}
 use Rattle.tlv_show.specs.ShownFindings.{contents_findings, end_findings, header_findings, held_findings, last_findings}
 use Rattle.tlv_show.specs.ShownFindings.{wanted_findings, with_characters_if, with_order_if}
 use Rattle.tlv_show.specs.Items.{ClosingLine, FindingAt, Item, OpenPrimitiveLines, OpeningLine, PaddingLine}
-use Rattle.tlv_show.specs.Items.{PrimitiveLines, contents_items, end_items, finding_items, header_items, items}
+use Rattle.tlv_show.specs.Items.{PrimitiveLines, finding_items, items}
+use Rattle.tlv_show.proofs.FindingLemmas.SiteWords.{contents_items, end_items, header_items, site_after_holder}
+use Rattle.tlv_show.proofs.FindingLemmas.SiteWords.{site_after_padding, site_after_primitive}
 use Rattle.tlv_show.specs.Conditions.{headers}
 use Rattle.tlv_show.specs.Site.{Site, is_padding, site_of_children}
-use Rattle.tlv_show.specs.Site.{site_after_primitive, site_after_holder, site_after_padding}
 use Rattle.std.proofs.Common.{◌≢◌}
 use Rattle.tlv_show.specs.SetOrder.{Element, holder_element, primitive_element}
 use Rattle.tlv_show.specs.FinderState.{SeenState}
@@ -37,10 +37,10 @@ use Rattle.tlv_show.proofs.SegmentLemmas.Seen.{seen_held, seen_whole, some-strin
 use Rattle.tlv_show.specs.SegmentCharacters.{has_wrong_octet}
 use Rattle.std.specs.Option.{is_some}
 use Rattle.tlv_show.proofs.FindingLemmas.FinderSteps.{Kept}
-use Rattle.tlv_show.proofs.FindingLemmas.SiteWords.{first_contents_octet}
 use Rattle.tlv_show.specs.Texts.{is_finding}
 use Rattle.tlv_show.proofs.FindingLemmas.FinderFolds.{not-constructed, frame_after_elements}
-use Rattle.tlv_show.proofs.FindingLemmas.FramesAround.{knows-after, knows-inside, knows-padding, unused-of}
+use Rattle.tlv_show.proofs.FindingLemmas.FramesAround.{full-of, knows-after, knows-inside, knows-padding}
+use Rattle.tlv_show.proofs.FindingLemmas.FramesAround.{unused-of}
 use Rattle.tlv_show.proofs.FindingLemmas.HeaderFindings.{Knows, header-same}
 use Rattle.tlv_show.proofs.FindingLemmas.FinderSteps.{FinderRun, after_contents, after_end, after_primitive}
 use Rattle.tlv_show.proofs.FindingLemmas.FinderSteps.{check_between}
@@ -113,8 +113,7 @@ module _ (wanted : Wanted) where
       let known : Knows (after_primitive wanted w h c) (site_after_primitive s h c) =
       subst (λ (b : Bool). Knows (frame_after (with_element w) b (announced_length h.size) u) (site_after_primitive s h c))
       (ap not form)
-      (knows-after (with_element w) s (site_after_primitive s h c) h (first_contents_octet c) (primitive_element h c).octets
-      u k refl refl (unused-of h c (primitive_element h c).octets form)) in
+      (knows-after (with_element w) s (site_after_primitive s h c) h u k refl (unused-of h c) (full-of h c form)) in
       let r =
       finds_forest (place_after p (length (octets_of h) + length c)) (site_after_primitive s h c)
       (after_primitive wanted w h c)
@@ -154,7 +153,7 @@ module _ (wanted : Wanted) where
       let r =
       finds_forest (place_after p (extent h inside)) (site_after_holder s h inside)
       (frame_after (with_element w) (is_primitive h) (announced_length h.size) false) outer rest v.2
-      (knows-after (with_element w) s (site_after_holder s h inside) h None (holder_element h inside).octets false k refl refl refl)
+      (knows-after (with_element w) s (site_after_holder s h inside) h false k refl refl refl)
       l d free in
       let few : length outer < 128 = omega (arith, l, d, v.0.0.shallow) in
       let es : List EventValue = closing_event h inside ∷ events rest in

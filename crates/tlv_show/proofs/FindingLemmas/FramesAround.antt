@@ -9,29 +9,29 @@ use Rattle.tlv_value.specs.ValueCheckState.{new_value_check_of, type_number}
 use Rattle.tlv_head.specs.UniversalTypes.{bit_string, octet_string}
 use Rattle.tlv_value.specs.Types.{has_segments, is_a, is_primitive}
 use Rattle.tlv_value.proofs.CheckLemmas.CheckPieces.{checked-none}
+use Rattle.tlv_walk.specs.Forest.{Forest, NoMore, PaddingOctet, Primitive}
 use Rattle.tlv_show.specs.declared.holder_frame.HolderFrame.{HolderFrame}
 use Rattle.tlv_show.specs.Conditions.{leaves_unused_bits, is_not_full}
 use Rattle.tlv_show.specs.AllConditions.{has_components}
 use Rattle.tlv_show.specs.KeptConditions.{Surroundings}
 use Rattle.tlv_show.specs.NestingState.{frame_after, frame_after_segment, frame_of, frame_under, top_frame}
 use Rattle.tlv_show.specs.NestingState.{surroundings_in}
-use Rattle.tlv_show.specs.Site.{Sibling, Site, in_bit_string, in_string, site_of_children, Previous, Padding, Start}
-use Rattle.tlv_show.specs.Site.{site_after_padding}
-use Rattle.tlv_show.proofs.FindingLemmas.SiteWords.{first_contents_octet, is_held_by}
+use Rattle.tlv_show.specs.Site.{Site, in_bit_string, in_string, site_of_children}
+use Rattle.tlv_show.proofs.FindingLemmas.SiteWords.{is_held_by, site_after_padding}
 use Rattle.tlv_show.proofs.FindingLemmas.HeaderFindings.{Knows}
 
 abbrev surroundings_with : Bool → Bool → Bool → Bool → Surroundings
 surroundings_with a b c d = record { in_string = a; in_bit_string = b; after_unused_bits = c; after_not_full = d }
 
 -- what is around an element, by what holds it, and what is before it
-abbrev around : Option HeaderValue → Previous → Surroundings
+abbrev around : Option HeaderValue → Forest → Surroundings
 around holder previous =
     surroundings_with (is_held_by has_segments holder)
     (is_held_by (λ h. has_segments h && is_a bit_string h) holder)
     (is_held_by (λ h. has_segments h && is_a bit_string h) holder && leaves_unused_bits previous)
     (is_held_by has_segments holder && is_not_full previous)
 
-no-string : (h : HeaderValue) (previous : Previous) → has_segments h ≡ false
+no-string : (h : HeaderValue) (previous : Forest) → has_segments h ≡ false
     → around (Some h) previous ≡ surroundings_in top_frame
 no-string h previous e =
     ap (λ (k : Bool). surroundings_with k (k && is_a bit_string h)
@@ -40,7 +40,7 @@ no-string h previous e =
     e
 
 -- outside of strings
-around-none : (holder : Option HeaderValue) (previous : Previous) → is_held_by has_segments holder ≡ false
+around-none : (holder : Option HeaderValue) (previous : Forest) → is_held_by has_segments holder ≡ false
     → around holder previous ≡ surroundings_in top_frame
 around-none None previous e = refl
 around-none (Some h) previous e = no-string h previous e
@@ -62,13 +62,9 @@ knows-inside w s h = by w.has_segments (has_segments h) (has_components h) refl
     by true string components e = of-string
     by false true components e = of-string
     by false false true e = of-string
-    by false false false e = sym (no-string h Start e)
+    by false false false e = sym (no-string h NoMore e)
 
 -- after an element
-full-or-not : (k e : Bool) → not (not k && e) ≡ (k || not e)
-full-or-not true e = refl
-full-or-not false e = refl
-
 unused-at : (k : Bool) (n size x : ℕ) (c : List ℕ) → eqb n bit_string ≡ k
     → has_unused_bits (value_check_after (new_value_check_of n size) (x ∷ c)) ≡ (k && not (x == 0))
 unused-at true n size x c e =
@@ -82,28 +78,31 @@ type-is : (universal : Bool) (n : ℕ)
 type-is true n = refl
 type-is false n = refl
 
-pub unused-of : (h : HeaderValue) (c octets : List ℕ) → h.constructed ≡ false
-    → has_unused_bits (value_check_for h c)
-    ≡ leaves_unused_bits (Sibling h (first_contents_octet c) octets)
-unused-of h [] octets e = ap has_unused_bits (checked-none h) ∙ by-none (eqb (type_number h) bit_string)
+pub unused-of : (h : HeaderValue) (c : List ℕ)
+    → has_unused_bits (value_check_for h c) ≡ leaves_unused_bits (Primitive h c NoMore)
+unused-of h [] = ap has_unused_bits (checked-none h) ∙ by-none (eqb (type_number h) bit_string)
   where
     by-none : (a : Bool) → (a && false) ≡ false
     by-none true = refl
     by-none false = refl
-unused-of h (x ∷ c) octets e =
+unused-of h (x ∷ c) =
     let t : eqb (type_number h) bit_string ≡ is_a bit_string h = type-is (is_universal h.class) h.number in
     unused-at (is_a bit_string h) (type_number h) (announced_length h.size) x c t
-    ∙ ap (λ (k : Bool). not k && is_a bit_string h && not (x == 0)) (sym e)
+
+-- a primitive, by its form and its length
+pub full-of : (h : HeaderValue) (c : List ℕ) → h.constructed ≡ false
+    → not (is_primitive h && announced_length h.size == 1000) ≡ is_not_full (Primitive h c NoMore)
+full-of h c e = ap (λ (k : Bool). not (not k && announced_length h.size == 1000)) e
 
 surroundings_with-eq : (a a' b b' c c' d d' : Bool) → a ≡ a' → b ≡ b' → c ≡ c' → d ≡ d'
     → surroundings_with a b c d ≡ surroundings_with a' b' c' d'
 surroundings_with-eq a a' b b' c c' d d' e f g h = rw (e, f, g, h) refl
 
-pub knows-after : (w : HolderFrame) (s t : Site) (h : HeaderValue) (first : Option ℕ) (octets : List ℕ) (unused_bits : Bool)
-    → Knows w s → t.holder ≡ s.holder → t.previous ≡ Sibling h first octets
-    → unused_bits ≡ leaves_unused_bits (Sibling h first octets)
+pub knows-after : (w : HolderFrame) (s t : Site) (h : HeaderValue) (unused_bits : Bool)
+    → Knows w s → t.holder ≡ s.holder → unused_bits ≡ leaves_unused_bits t.previous
+    → not (is_primitive h && announced_length h.size == 1000) ≡ is_not_full t.previous
     → Knows (frame_after w (is_primitive h) (announced_length h.size) unused_bits) t
-knows-after w s t h first octets unused_bits k e b u = by-segments w.has_segments refl
+knows-after w s t h unused_bits k e u full = by-segments w.has_segments refl
   where
     same : surroundings_in w ≡ around t.holder s.previous
     same = k ∙ ap (λ (o : Option HeaderValue). around o s.previous) (sym e)
@@ -118,9 +117,8 @@ knows-after w s t h first octets unused_bits k e b u = by-segments w.has_segment
         → Knows (if b then frame_after_segment w (is_primitive h) (announced_length h.size) unused_bits else w) t
     by-segments true c =
         surroundings_with-eq _ _ _ _ _ _ _ _ segments bits
-        (ap₂ (λ (x y : Bool). x && y) bits (u ∙ ap leaves_unused_bits (sym b)))
-        (ap₂ (λ (x y : Bool). x && y) segments
-        (full-or-not h.constructed (announced_length h.size == 1000) ∙ ap is_not_full (sym b)))
+        (ap₂ (λ (x y : Bool). x && y) bits u)
+        (ap₂ (λ (x y : Bool). x && y) segments full)
     by-segments false c =
         let none : in_string t ≡ false = sym segments ∙ c in
         same ∙ around-none t.holder s.previous none ∙ sym (around-none t.holder t.previous none)
@@ -128,4 +126,4 @@ knows-after w s t h first octets unused_bits k e b u = by-segments w.has_segment
 pub knows-padding : (w : HolderFrame) (s : Site) → Knows w s → s.holder ≡ None → Knows w (site_after_padding s)
 knows-padding w s k e =
     k ∙ ap (λ (o : Option HeaderValue). around o s.previous) e
-    ∙ sym (ap (λ (o : Option HeaderValue). around o Padding) e)
+    ∙ sym (ap (λ (o : Option HeaderValue). around o (PaddingOctet NoMore)) e)

@@ -10,11 +10,10 @@ use Rattle.tlv_value.specs.Checks.{findings_by}
 use Rattle.tlv_show.specs.declared.holder_frame.HolderFrame.{HolderFrame}
 use Rattle.tlv_show.specs.declared.wanted.Wanted.{Wanted}
 use Rattle.tlv_show.specs.declared.rules.Rules.TheVariants.{Ber, Der, Cer}
-use Rattle.tlv_show.specs.Conditions.{bits_octet_count, der_conditions, is_not_full, leaves_unused_bits}
-use Rattle.tlv_show.specs.Conditions.{length_conditions}
-use Rattle.tlv_show.specs.KeptConditions.{Surroundings, cer_conditions_in, first_basic_conditions_in, header_conditions_in}
-use Rattle.tlv_show.specs.KeptConditions.{header_findings_in}
-use Rattle.tlv_show.specs.NestingState.{surroundings_in}
+use Rattle.tlv_show.specs.Conditions.{is_not_full, leaves_unused_bits}
+use Rattle.tlv_show.specs.KeptConditions.{Surroundings, cer_conditions_in, der_conditions, first_basic_conditions_in}
+use Rattle.tlv_show.specs.KeptConditions.{header_conditions_in, header_findings_in, length_conditions}
+use Rattle.tlv_show.specs.NestingState.{bits_octet_count, surroundings_in}
 use Rattle.tlv_show.specs.ShownFindings.{all_by, header_findings, is_shown, listed_by, shown_findings}
 use Rattle.tlv_show.specs.declared.scope.Scope.{Scope}
 use Rattle.tlv_show.specs.declared.scope.Scope.TheVariants.{Listed, All}

@@ -1,6 +1,6 @@
 -- Findings on the number of identifier and length octets come exactly if fewer octets say the same.
-use Rattle.std.proofs.Common.{◌≡◌, ◌≢◌, ℕ, ◌==◌, ◌<◌, ◌≤◌, ◌&&◌, ◌||◌, nat_lt, Bool, true, false, inl, inr, length}
-use Rattle.std.proofs.Common.{refl, sym, ap, ◌∙◌, arith, slice_index, ◌%◌}
+use Rattle.std.proofs.Common.{◌≡◌, ◌≢◌, ℕ, ◌%◌, ◌==◌, ◌<◌, ◌≤◌, ◌&&◌, ◌||◌, nat_lt, Bool, true, false, inl, inr, length}
+use Rattle.std.proofs.Common.{refl, sym, ap, ◌∙◌, arith, slice_index}
 use Rattle.std.proofs.lemmas.Bool.{cases_lt, or_from, or_parts, true≢false}
 use Rattle.std.proofs.lemmas.Bool.Decides.{nat_tests}
 use Rattle.std.proofs.Math.Bool.{and-false, or-false}
@@ -12,8 +12,8 @@ use Rattle.tlv_head.proofs.ShortestLemmas.ShortestSpelling.{no-shorter_identifie
 use Rattle.tlv_head.proofs.ShortestLemmas.ShortestSpelling.{shorter-identifier, shorter-length}
 use Rattle.tlv_show.specs.declared.rules.Rules.{Rules}
 use Rattle.tlv_show.specs.declared.rules.Rules.TheVariants.{Ber, Der, Cer}
-use Rattle.tlv_show.specs.Conditions.{begins_with_zero_bits, is_high_form_needless, is_length_padded}
-use Rattle.tlv_show.specs.Conditions.{has_high_form, has_long_form, listed_header_conditions}
+use Rattle.tlv_show.specs.KeptConditions.{begins_with_zero_bits, has_long_form, is_high_form_needless, is_length_padded}
+use Rattle.tlv_show.specs.Conditions.{has_high_form, listed_header_conditions}
 use Rattle.tlv_show.specs.ListedFindings.{listed_findings}
 use Rattle.tlv_show.specs.Site.{Site}
 use Rattle.tlv_show.specs.Spellings.{LongerIdentifiersAreFound, LongerLengthsAreFound, is_on_identifier, is_on_lengths}
@@ -57,7 +57,8 @@ longer_identifier-absent h s = elim (cases_lt 1 (length h.identifier)) [
       (ap (λ (b : Bool). has_high_form h && b) bits ∙ and-false (has_high_form h))
   | inr le ↦
       let low : has_high_form h ≡ false = grind (arith, nat_tests) in
-      or_from _ _ (ap (λ (b : Bool). b && nat_lt h.number 31) low) (ap (λ (b : Bool). b && slice_index h.identifier 1 % 128 == 0) low)
+      or_from _ _ (ap (λ (b : Bool). b && nat_lt h.number 31) low)
+      (ap (λ (b : Bool). b && slice_index h.identifier 1 % 128 == 0) low)
 ]
 
 -- and one that has none is as short as it can be

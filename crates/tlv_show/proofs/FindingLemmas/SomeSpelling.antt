@@ -26,15 +26,15 @@ use Rattle.tlv_walk.proofs.GrammarLemmas.Readings.{reading-unique}
 use Rattle.tlv_walk.proofs.GrammarLemmas.PlacedSpelling.{SpelledAt, Spelling}
 use Rattle.tlv_walk.proofs.GrammarLemmas.RespelledElements.{sound-spelling}
 use Rattle.tlv_walk.proofs.EventLemmas.Wrappers.{AreNamed, Rise, wrapper_offsets-named, wrapper_offsets-rise}
-use Rattle.tlv_show.specs.Items.{ClosingLine, Item, OpeningLine, PaddingLine, PrimitiveLines, contents_items, end_items}
-use Rattle.tlv_show.specs.Items.{header_items, items}
+use Rattle.tlv_show.specs.Items.{ClosingLine, Item, OpeningLine, PaddingLine, PrimitiveLines, items}
+use Rattle.tlv_show.proofs.FindingLemmas.SiteWords.{contents_items, end_items, header_items, site_after_holder}
+use Rattle.tlv_show.proofs.FindingLemmas.SiteWords.{site_after_padding, site_after_primitive}
 use Rattle.tlv_show.specs.declared.rules.Rules.{Rules}
 use Rattle.tlv_show.specs.declared.rules.Rules.TheVariants.{Ber, Der, Cer}
-use Rattle.tlv_show.specs.Conditions.{begins_with_zero_bits, headers, is_high_form_needless, is_length_padded}
-use Rattle.tlv_show.specs.Conditions.{listed_end_conditions, listed_header_conditions}
+use Rattle.tlv_show.specs.KeptConditions.{begins_with_zero_bits, is_high_form_needless, is_length_padded}
+use Rattle.tlv_show.specs.Conditions.{headers, listed_end_conditions, listed_header_conditions}
 use Rattle.tlv_show.specs.ListedFindings.{ElementFindings, listed_findings}
 use Rattle.tlv_show.specs.Site.{Site, is_padding, site_of_children, top_site}
-use Rattle.tlv_show.specs.Site.{site_after_primitive, site_after_holder, site_after_padding}
 use Rattle.tlv_show.specs.Spellings.{SomeSpelling, is_item_on_spelling, is_on_spelling}
 use Rattle.tlv_show.proofs.FindingLemmas.LongerHeaders.{longer_identifier-absent, length-not_padded}
 use Rattle.tlv_show.proofs.FindingLemmas.Spellings.{IsSoundReading, form_by, items-found, sound-reading_of}

@@ -10,10 +10,10 @@ use Rattle.tlv_show.specs.declared.holder_frame.HolderFrame.{HolderFrame}
 use Rattle.tlv_show.specs.declared.rules.Rules.TheVariants.{Ber, Der, Cer}
 use Rattle.tlv_show.specs.declared.scope.Scope.{Scope}
 use Rattle.tlv_show.specs.declared.scope.Scope.TheVariants.{Listed, All}
-use Rattle.tlv_show.specs.Conditions.{begins_with_zero_bits, der_conditions, is_high_form_needless, length_conditions}
-use Rattle.tlv_show.specs.Conditions.{segment_type}
 use Rattle.tlv_show.specs.NestingState.{surroundings_in}
-use Rattle.tlv_show.specs.KeptConditions.{cer_conditions_in, first_basic_conditions_in, header_findings_in}
+use Rattle.tlv_show.specs.KeptConditions.{begins_with_zero_bits, cer_conditions_in, der_conditions}
+use Rattle.tlv_show.specs.KeptConditions.{first_basic_conditions_in, header_findings_in, is_high_form_needless}
+use Rattle.tlv_show.specs.KeptConditions.{length_conditions, segment_type}
 use Rattle.tlv_show.specs.Private.UsualTypes.{IsUsual, later_basic_conditions_in}
 use Rattle.tlv_show.proofs.FindingLemmas.HeaderFindings.{basic-found, cer-found, der-found}
 

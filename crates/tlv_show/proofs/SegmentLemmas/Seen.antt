@@ -20,7 +20,8 @@ use Rattle.tlv_show.specs.SegmentCharactersState.{segments_begun, segments_close
 use Rattle.tlv_show.specs.SetOrder.{Element, holder_element, is_out_of_order_at, neighbour_of, primitive_element}
 use Rattle.tlv_show.specs.SetOrderState.{SetOrderState}
 use Rattle.tlv_show.specs.ShownFindings.{wants_characters, wants_order}
-use Rattle.tlv_show.specs.Site.{Site, site_after_padding, site_of_children, top_site}
+use Rattle.tlv_show.specs.Site.{Site, site_of_children, top_site}
+use Rattle.tlv_show.proofs.FindingLemmas.SiteWords.{site_after_padding}
 use Rattle.tlv_show.proofs.SegmentLemmas.Events.{closing-string, held_passed, holder-passed, opened-between, opened-few}
 use Rattle.tlv_show.proofs.SegmentLemmas.Events.{opened-length, primitive-passed}
 use Rattle.tlv_show.proofs.SegmentLemmas.Forests.{few-more}

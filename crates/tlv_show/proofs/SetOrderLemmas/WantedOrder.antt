@@ -22,10 +22,10 @@ use Rattle.tlv_show.specs.SetOrderState.{set_order_close_step, set_order_end_ste
 use Rattle.tlv_show.specs.SetOrderState.{set_order_open_step}
 use Rattle.tlv_show.specs.ShownFindings.{wants_order}
 use Rattle.tlv_show.specs.Private.SetOrder.{IsUnchangedByPrimitives}
-use Rattle.tlv_show.specs.Site.{Site, site_after_padding, site_of_children, top_site}
+use Rattle.tlv_show.specs.Site.{Site, site_of_children, top_site}
+use Rattle.tlv_show.proofs.FindingLemmas.SiteWords.{is_held_by, site_after_padding}
 use Rattle.tlv_show.specs.SetOrderState.{new_set_order}
 use Rattle.tlv_show.specs.SetOrderState.{is_direct}
-use Rattle.tlv_show.proofs.FindingLemmas.SiteWords.{is_held_by}
 use Rattle.tlv_show.proofs.SetOrderLemmas.Events.{IsAfter, closed-is, opened-knows}
 use Rattle.tlv_show.proofs.SetOrderLemmas.Forests.{after-more, after-none}
 use Rattle.tlv_show.proofs.SetOrderLemmas.OneElement.{Knows, element-taken, element_step, octets_step-append}

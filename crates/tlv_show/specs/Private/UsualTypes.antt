@@ -3,7 +3,7 @@ use Rattle.std.specs.Prelude.{◌≡◌, Bool, false, List, []}
 use Rattle.tlv_head.specs.Header.{HeaderValue}
 use Rattle.tlv_value.specs.Types.{has_segments, is_unassigned}
 use Rattle.tlv_show.specs.AllConditions.{has_components, is_constructed_time_or_iri, later_basic_conditions}
-use Rattle.tlv_show.specs.Conditions.{is_wrongly_constructed, is_wrongly_primitive}
+use Rattle.tlv_show.specs.KeptConditions.{is_wrongly_constructed, is_wrongly_primitive}
 use Rattle.tlv_value.specs.declared.finding.Finding.{Finding}
 use Rattle.tlv_show.specs.declared.scope.Scope.{Scope}
 use Rattle.tlv_show.specs.declared.scope.Scope.TheVariants.{Listed, All}

@@ -29,13 +29,15 @@ use Rattle.tlv_value.specs.ValueLines.{value_lines, whole_lines_with}
 use Rattle.tlv_show.specs.ShowJob.{top_layout}
 use Rattle.tlv_show.specs.HolderLines.{closing_line, opening_line, opening_word, padding_line, size_text}
 use Rattle.tlv_show.specs.Items.{ClosingLine, FindingAt, Item, OpenPrimitiveLines, OpeningLine, PaddingLine}
-use Rattle.tlv_show.specs.Items.{PrimitiveLines, contents_items, end_items, finding_items, header_items, items}
+use Rattle.tlv_show.specs.Items.{PrimitiveLines, finding_items, items}
+use Rattle.tlv_show.proofs.FindingLemmas.SiteWords.{contents_items, end_items, header_items, site_after_holder}
+use Rattle.tlv_show.proofs.FindingLemmas.SiteWords.{site_after_padding, site_after_primitive}
 use Rattle.tlv_show.specs.ShownFindings.{held_findings, wanted_findings}
 use Rattle.tlv_show.specs.SetOrder.{holder_element, primitive_element}
 use Rattle.tlv_show.specs.ShownFindings.{all_by, contents_findings, header_findings, last_findings}
-use Rattle.tlv_show.specs.Site.{Site, is_padding, site_after_holder, site_after_padding, site_after_primitive}
-use Rattle.tlv_show.specs.Site.{site_of_children, top_site}
-use Rattle.tlv_show.specs.Texts.{dump_finding_line, item_text, layout_at}
+use Rattle.tlv_show.specs.Site.{Site, is_padding, site_of_children, top_site}
+use Rattle.tlv_show.specs.FindingLines.{dump_finding_line}
+use Rattle.tlv_show.specs.Texts.{item_text, layout_at}
 use Rattle.tlv_show.specs.declared.wanted.Wanted.{Wanted}
 use Rattle.tlv_open.specs.Laws.{opened_framing}
 use Rattle.tlv_view.specs.Views.{dump_options}

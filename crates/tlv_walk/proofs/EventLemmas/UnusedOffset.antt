@@ -14,7 +14,8 @@ use Rattle.tlv_walk.specs.Inside.{are_rising, is_among}
 use Rattle.tlv_walk.specs.Private.WrapperCount.{next_wrapper_count, wrapper_count_after}
 use Rattle.tlv_walk.specs.Place.{ObeysGrammar, top_place}
 use Rattle.tlv_walk.specs.WalkerReads.{Stands, filled_end_events, is_end_at, waiting_events, waiting_events_in}
-use Rattle.tlv_walk.specs.Wrappers.{first_not_among, first_without_wrapper, entered_offsets, wrapper_offsets}
+use Rattle.tlv_walk.specs.DriveJob.{first_not_among}
+use Rattle.tlv_walk.specs.Wrappers.{first_without_wrapper, entered_offsets, wrapper_offsets}
 use Rattle.tlv_walk.proofs.EventLemmas.JoinedEvents.{apart-from_joined}
 use Rattle.tlv_walk.proofs.EventLemmas.NamedOffsets.{AreRising, rising-to}
 use Rattle.tlv_walk.proofs.EventLemmas.Wrappers.{Rise, enters-apart, enters-append, wrapper_offsets-entered}

@@ -29,7 +29,7 @@ use Rattle.tlv_walk.specs.Reading.{AreOctets, IsReading}
 use Rattle.tlv_walk.specs.WalkerReads.{Stands}
 use Rattle.tlv_walk.specs.OneTurn.{EndsIn, FollowsMore, FollowsOneRead, LastReadWas, LastReadGaveUpTo, HasEnoughIn}
 use Rattle.tlv_walk.specs.OneTurn.{TurnStates, last_octets}
-use Rattle.tlv_walk.specs.Wrappers.{first_not_among}
+use Rattle.tlv_walk.specs.DriveJob.{first_not_among}
 use Rattle.tlv_walk.proofs.FollowerLemmas.FollowSteps.{made_both, made_put}
 use Rattle.tlv_walk.proofs.FollowerLemmas.Enough.{comes_to, ends_without}
 use Rattle.tlv_io.proofs.Pieces.{pieces_so_far_more, pieces_all, together_more}

@@ -22,7 +22,8 @@ use Rattle.tlv_io.specs.Out.{Sends}
 use Rattle.tlv_walk.specs.Reading.{IsReading}
 use Rattle.tlv_walk.specs.WalkerReads.{Stands, refused_one, took_all}
 use Rattle.tlv_walk.specs.OneTurn.{EndsIn, HasEnoughIn, StandsAfter, TurnStates}
-use Rattle.tlv_walk.specs.Wrappers.{first_not_among, first_without_wrapper, entered_offsets}
+use Rattle.tlv_walk.specs.DriveJob.{first_not_among}
+use Rattle.tlv_walk.specs.Wrappers.{first_without_wrapper, entered_offsets}
 use Rattle.tlv_walk.proofs.FollowerLemmas.FollowSteps.{walked_goes_on}
 use Rattle.tlv_walk.proofs.WalkerLemmas.EventOctets.{stands-yielded_octets}
 use Rattle.tlv_walk.proofs.EventLemmas.UnusedOffset.{stands-entered, stands_unused}

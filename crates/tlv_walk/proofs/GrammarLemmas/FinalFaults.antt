@@ -8,7 +8,8 @@ use Rattle.tlv_head.specs.Refusal.{length_too_large}
 use Rattle.tlv_walk.specs.declared.ending.Ending.{Ending}
 use Rattle.tlv_walk.specs.declared.ending.Ending.TheVariants.{Done, Fault}
 use Rattle.tlv_walk.specs.declared.framing.Framing.{Framing}
-use Rattle.tlv_walk.specs.Ending.{IsEnding, IsEndingOf, IsFinalCode, IsRefusedAt, OpenEnd, bad_inside, missing_end}
+use Rattle.tlv_walk.specs.Laws.{IsFinalCode}
+use Rattle.tlv_walk.specs.Ending.{IsEnding, IsEndingOf, IsRefusedAt, OpenEnd, bad_inside, missing_end}
 use Rattle.tlv_walk.specs.Ending.{bad_end, no_room}
 use Rattle.tlv_walk.specs.Ending.{refused_octet, too_deep, overrun, no_end, stray_end, done, empty, refused, short}
 use Rattle.tlv_walk.specs.Forest.{Forest}

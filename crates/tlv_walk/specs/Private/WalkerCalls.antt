@@ -170,7 +170,7 @@ open_event_if_taken found = option_map (λ f. event.Open (new_header f.0 f.1.now
 abbrev pub enter_event_if_taken : Option (HeaderFields × Bor (List ℕ)) → Option Event
 enter_event_if_taken found = option_map (λ f. event.Enter (new_header f.0 f.1.now)) found
 
--- the event of the end of an element that holds others
+-- the event of the end of a holder
 abbrev pub end_event : HolderEnd → Event
 end_event (end.Close offset) = event.Close offset
 end_event end.Leave = event.Leave

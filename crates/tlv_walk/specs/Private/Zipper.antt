@@ -15,7 +15,7 @@ use Rattle.tlv_walk.specs.Place.{Fits, IsHeaderAt, IsHolderAt, ObeysGrammar, Pla
 use Rattle.tlv_walk.specs.Place.{place_of_children, top_place}
 use Rattle.tlv_walk.specs.Wrappers.{entered_offsets}
 
--- an open element that holds others, and the whole elements before it in the element around it
+-- an open holder, and the whole elements before it in the element around it
 pub record Layer : Type 0 where
   pub before : Forest
   pub header : HeaderValue
@@ -32,7 +32,7 @@ pub data Tail : Type 0 where
   -- the first of the end-of-contents octets
   EndOctetsTail : Tail
 
--- the open elements that hold others, innermost first; the whole elements in the innermost of them; and
+-- the open holders, innermost first; the whole elements in the innermost of them; and
 -- what is open after those
 pub record Zipper : Type 0 where
   pub layers : List Layer

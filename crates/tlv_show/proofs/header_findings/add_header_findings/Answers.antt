@@ -2,8 +2,7 @@ use Rattle.std.proofs.Common.{◌∙◌, ◌++◌, List, ap, sym}
 use Rattle.tlv_value.specs.declared.finding.Finding.{Finding}
 use Rattle.tlv_value.specs.Checks.{findings_by}
 use Rattle.tlv_show.specs.declared.rules.Rules.{Rules}
-use Rattle.tlv_show.specs.Conditions.{der_conditions, length_conditions}
-use Rattle.tlv_show.specs.KeptConditions.{cer_conditions_in, header_findings_in}
+use Rattle.tlv_show.specs.KeptConditions.{cer_conditions_in, der_conditions, header_findings_in, length_conditions}
 use Rattle.tlv_show.specs.NestingState.{surroundings_in}
 use Rattle.tlv_show.specs.Private.UsualTypes.{later_basic_conditions_in}
 use Rattle.tlv_show.proofs.FindingLemmas.HeaderFindings.{basic-found, cer-found, der-found}
