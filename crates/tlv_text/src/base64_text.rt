@@ -32,11 +32,24 @@ pub enum Alphabet {
 pub fn decode_base64(alloc: Global, alphabet: Alphabet, text: &[u8]) -> Result<Decoded, AllocError>
     ensures { IfOk result (λ d. ReadsBase64 alphabet text.now d.octets.items d.refused) }
 {
+    decode_with(alloc, alphabet, text, &mut ArrayVec::new())
+}
+
+/// [`decode_base64`], with room for symbols. What it holds before is dropped. One room serves many texts, and need not be
+/// cleared for each.
+pub(crate) fn decode_with(
+    alloc: Global,
+    alphabet: Alphabet,
+    text: &[u8],
+    symbols: &mut ArrayVec<u8, SYMBOLS>,
+) -> Result<Decoded, AllocError>
+    ensures { IfOk result (λ d. ReadsBase64 alphabet text.now d.octets.items d.refused) }
+{
     let mut octets = Vec::new(alloc);
     let mut rest = text;
     loop {
-        let mut symbols = ArrayVec::new();
-        take_symbols(alphabet, &mut rest, &mut symbols);
+        symbols.clear();
+        take_symbols(alphabet, &mut rest, symbols);
         if symbols.len() < SYMBOLS {
             return finish(alphabet, text, rest, symbols.as_slice(), octets);
         }

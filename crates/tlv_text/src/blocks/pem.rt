@@ -4,7 +4,9 @@ ghost use Rattle.tlv_text.specs.Blocks.{ArePemBlocks, IsPemBlock, block_value, s
 ghost use Rattle.tlv_text.specs.Private.BlockSteps.{IsLineIn};
 
 use super::lines::{LinePlace, TEXT_START, line_from, state_at_place};
-use crate::{Alphabet, Block, BlockState, PemBlock, PemBody, decode_base64, first_block, pem_body};
+use crate::base64_text::decode_with;
+use crate::symbols::SYMBOLS;
+use crate::{Alphabet, Block, BlockState, PemBlock, PemBody, first_block, pem_body};
 use arrayvec::ArrayVec;
 use std::alloc::{AllocError, Global};
 
@@ -13,23 +15,25 @@ pub(super) fn pem_blocks(alloc: Global, text: &[u8]) -> Result<Vec<Block>, Alloc
     ensures { IfOk result (λ blocks. ArePemBlocks text.now text.now (map block_value blocks.items)) }
 {
     let mut blocks = Vec::new(alloc);
+    let mut symbols = ArrayVec::new();
     let mut here = TEXT_START;
     let mut rest = text;
     while let Some(found) = first_block(rest) {
         here = line_from(text, here, text.len() - rest.len() + found.start);
-        let block = pem_block(alloc, text, here, found)?;
+        let block = pem_block(alloc, text, here, found, &mut symbols)?;
         blocks.push(block)?;
         rest = found.rest;
     }
     Ok(blocks)
 }
 
-/// A block of PEM that begins at this place.
+/// A block of PEM that begins at this place. `symbols` is room for symbols of base64.
 fn pem_block(
     alloc: Global,
     text: &[u8],
     here: LinePlace,
     found: PemBlock<'_>,
+    symbols: &mut ArrayVec<u8, SYMBOLS>,
 ) -> Result<Block, AllocError>
     requires line { IsLineIn text.now here }
     requires label { length found.label.now ≤ 64 }
@@ -46,7 +50,7 @@ fn pem_block(
             state: BlockState::Encrypted,
         }),
         PemBody::Base64(base64) => {
-            let decoded = decode_base64(alloc, Alphabet::Standard, base64)?;
+            let decoded = decode_with(alloc, Alphabet::Standard, base64, symbols)?;
             let before = text.len() - (base64.len() + found.rest.len());
             let state = state_at_place(text, here, before, decoded.refused);
             Ok(Block {

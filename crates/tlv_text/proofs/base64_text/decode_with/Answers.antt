@@ -1,7 +1,7 @@
 use Rattle.std.proofs.Common.{◌≡◌, ◌%◌, ℕ, List, length, subst, sym, arith}
 use Rattle.tlv_text.proofs.TextLemmas.{IsReadSoFar}
 use Rattle.tlv_text.proofs.TextLemmas.{more-so_far, none-so_far}
-use Rattle.tlv_text.proofs.base64_text.decode_base64.Goals as goal
+use Rattle.tlv_text.proofs.base64_text.decode_with.Goals as goal
 
 pub loop-rest-init : goal.loop-rest-init
 loop-rest-init c =
