@@ -23,7 +23,8 @@ pub fn type_name(number: u64) -> Option<&'static [u8]>
 /// `None` if no type has the number.
 #[inline(always)]
 pub fn type_name_block(number: u64) -> Option<(&'static [u8; 32], usize)>
-    ensures name { option_map (λ (block, size). take size block.now) result ≡ option_map (λ t. t.name) (type_at number) }
+    ensures name { option_map (λ (block, size). take size block.now) result
+        ≡ option_map (λ t. t.name) (type_at number) }
     ensures within { IfSome result (λ (block, size). size ≤ 17) }
 {
     Some(match number {

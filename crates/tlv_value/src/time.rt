@@ -3,7 +3,8 @@
 //! `after_..` returns the octets after a part with which the octets begin, or none if they do not begin with it.
 //! `is_..` returns whether the octets are such parts, and no more.
 ghost use Rattle.std.specs.Prelude.{◌≡◌, option_copied};
-ghost use Rattle.tlv_value.specs.Private.TimeParts.{canonical_second, generalized_hour, generalized_tail, LeavesRest, utc_minute};
+ghost use Rattle.tlv_value.specs.Private.TimeParts.{canonical_second, generalized_hour, generalized_tail};
+ghost use Rattle.tlv_value.specs.Private.TimeParts.{LeavesRest, utc_minute};
 ghost use Rattle.tlv_value.specs.Times.{canonical_generalized_time_form, canonical_utc_time_form};
 ghost use Rattle.tlv_value.specs.Times.{digits, fraction, generalized_time_form};
 ghost use Rattle.tlv_value.specs.Times.{generalized_zone, hour, mark, maybe, minute, month_and_day};

@@ -7,7 +7,8 @@ use Rattle.tlv_value.specs.Checks.{findings_by}
 use Rattle.tlv_value.specs.AllChecks.{type_findings}
 use Rattle.tlv_value.specs.Dates.{is_date_or_time}
 use Rattle.tlv_value.specs.Types.{character_types, date_types, iri_types, is_number_of, tested_string_types}
-use Rattle.tlv_value.specs.ValueCheckState.{finding_if, is_allowed, is_kept_date, is_kept_iri, kept_conditions, ValueCheckState}
+use Rattle.tlv_value.specs.ValueCheckState.{finding_if, is_allowed, is_kept_date, is_kept_iri}
+use Rattle.tlv_value.specs.ValueCheckState.{kept_conditions, ValueCheckState}
 use Rattle.tlv_value.proofs.CheckLemmas.NotedContents.{IsOther, other-by}
 
 date-at : (n : ℕ) (s : ValueCheckState) (a b c : Bool) → eqb n 31 ≡ a → eqb n 32 ≡ b → eqb n 33 ≡ c

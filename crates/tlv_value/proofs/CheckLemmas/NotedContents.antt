@@ -16,7 +16,8 @@ use Rattle.tlv_value.specs.AllChecks.{all_contents_findings, type_conditions, ty
 use Rattle.tlv_value.specs.Checks.{allows, begins_with}
 use Rattle.tlv_value.specs.Checks.{findings_by, is_padded_integer}
 use Rattle.tlv_value.specs.Types.{character_types, is_number_of}
-use Rattle.tlv_value.specs.ValueCheckState.{finding_if, is_allowed, kept_conditions, new_value_check_of, ValueCheckState}
+use Rattle.tlv_value.specs.ValueCheckState.{finding_if, is_allowed}
+use Rattle.tlv_value.specs.ValueCheckState.{kept_conditions, new_value_check_of, ValueCheckState}
 use Rattle.tlv_value.specs.ValueCheckState.{notes_each, type_number, with_each_noted, with_octets_noted}
 use Rattle.tlv_value.specs.RowsSoFar.{full_rows, open_row}
 use Rattle.tlv_head.specs.Header.{HeaderValue, is_universal}

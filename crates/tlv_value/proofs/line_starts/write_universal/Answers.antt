@@ -7,7 +7,8 @@ use Rattle.tlv_value.proofs.line_starts.write_universal.Goals as goal
 
 pub returns-in-None : goal.returns-in-None
 returns-in-None c =
-    let none : option_map (λ (t : TypeRow). t.name) (type_at c.args.number) ≡ None = sym c.in-None.ensures.name in record {
+    let none : option_map (λ (t : TypeRow). t.name) (type_at c.args.number) ≡ None =
+    sym c.in-None.ensures.name in record {
       text = c.write_bracketed.ensures.text
           ∙ ap (λ (name : Option (List ℕ)). c.args.held.now
           ++ unwrap_or name (bracketed_tag (codes "UNIVERSAL ") c.args.number))

@@ -1,7 +1,8 @@
 use Rattle.std.proofs.Common.{◌≡◌, List, ℕ, false, refl, sym, ◌∙◌}
 use Rattle.std.specs.Prelude.{Bool, Some}
 use Rattle.tlv_value.specs.Private.TimeParts.{generalized_hour, generalized_tail, LeavesRest}
-use Rattle.tlv_value.specs.Times.{generalized_time_form, hour, maybe, minute, month_and_day, second, year_digits, ◌then◌}
+use Rattle.tlv_value.specs.Times.{generalized_time_form, hour, maybe, minute, month_and_day, second}
+use Rattle.tlv_value.specs.Times.{year_digits, ◌then◌}
 use Rattle.tlv_value.proofs.CheckLemmas.Forms.{four-apart, maybe-left, maybe-there, no_rest_then, then-assoc}
 use Rattle.tlv_value.proofs.time.general_ok.Goals as goal
 
