@@ -36,7 +36,7 @@ indef_text f = spelling (with_indefinite_lengths f)
 abbrev pub indef_framing : Bool → Framing
 indef_framing padding = record { inside = []; padding = padding }
 
--- write all elements, each constructed element with an indefinite length
+-- write all elements, each holder with an indefinite length
 abbrev pub indef_job : Bool → Job Ending
 indef_job padding = record {
   framing = indef_framing padding;

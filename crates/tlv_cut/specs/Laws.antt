@@ -97,7 +97,8 @@ EnoughComesAtEnds = (s : ExtractState) (e : EventValue)
 -- from the events of elements that obey the grammar, an `Indef` writes what `indef` writes, and it wants more
 abbrev pub IndefMakesItsText : Type 0
 IndefMakesItsText = (s : IndefState) (padding : Bool) (f : Forest)
-    → ObeysGrammar (top_place (indef_framing padding)) f → effect_of indef_step s (events f) ≡ effect_with s (indef_text f)
+    → ObeysGrammar (top_place (indef_framing padding)) f
+    → effect_of indef_step s (events f) ≡ effect_with s (indef_text f)
 
 -- what is written for an input is a prefix of what is written for a longer one
 abbrev pub IndefTextGoesOn : Type 0

@@ -31,10 +31,10 @@ is_not_full (Primitive h c rest) = not (announced_length h.size == 1000)
 is_not_full (Holder h children rest) = not (is_primitive h && announced_length h.size == 1000)
 is_not_full _ = false
 
--- the rules
+-- with a header at a site: the rules that it may violate. The letter of a code says whose rule it is
 abbrev pub listed_header_conditions : Site → HeaderValue → List (Bool × Finding)
 listed_header_conditions s h =
-    -- ---- of all encodings
+    -- ---- of all encodings: B
     -- 8.1.2.2: a number below 31 is in the single identifier octet
     (has_high_form h && nat_lt h.number 31, B01)
     -- 8.1.2.4.2 c): bits 7 to 1 of the first subsequent octet are not all 0
@@ -50,16 +50,16 @@ listed_header_conditions s h =
     ∷ (in_bit_string s && leaves_unused_bits s.previous, B16)
     -- 8.6.4, 8.7.3: a segment has the tag of BIT STRING in a BIT STRING, and of OCTET STRING in any other string
     ∷ (in_string s && not (is_a (if in_bit_string s then universal.bit_string else universal.octet_string) h), B17)
-    -- ---- of DER and of CER
+    -- ---- of DER and of CER: S
     -- 9.1, 10.1: a definite length has the fewest octets. There are subsequent ones (8.1.3.5) only for 128 and more, and
     -- the first of these is not 00
     ∷ (nat_lt 1 (length h.lengths) && (nat_lt (announced_length h.size) 128 || slice_index h.lengths 1 == 0), S01)
-    -- ---- of DER alone
+    -- ---- of DER alone: D
     -- 10.1: lengths are definite
     ∷ (is_indefinite h.size, D01)
     -- 10.2: strings are primitive
     ∷ (has_segments h, D02)
-    -- ---- of CER alone
+    -- ---- of CER alone: C
     -- 9.1: the length of a constructed element is indefinite
     ∷ (h.constructed && not (is_indefinite h.size), C01)
     -- 9.2: a primitive string has at most 1000 contents octets
