@@ -104,7 +104,9 @@ impl HeldOctets {
         ensures { self.new ≡ self.old ++ take count octets.now }
     {
         let len = self.len();
-        self.octets[len..len + N].copy_from_slice(octets);
+        // The compiler sees that a local copy does not overlap with the line. Otherwise it tests that each time.
+        let block = *octets;
+        self.octets[len..len + N].copy_from_slice(&block);
         self.len = len + count;
     }
 

@@ -84,7 +84,9 @@ impl HeldOctets {
         self.octets[start..start + 17].copy_from_slice(&[b' '; 17]);
         self.octets[start + 15] = b':';
         let _ = write_digits(offset, &mut self.octets, start + 8);
-        self.octets[start + 9..start + 15].copy_from_slice(word);
+        // A local copy, as in `add_prefix`.
+        let word = *word;
+        self.octets[start + 9..start + 15].copy_from_slice(&word);
         self.len = start + 17;
     }
 
