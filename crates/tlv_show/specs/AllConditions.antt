@@ -1,6 +1,6 @@
 -- All findings of a header, and of an end: the listed ones, which `Conditions` has, and the others, each finding beside
 -- its condition, in the order of the codes.
-use Rattle.std.specs.Prelude.{ℕ, Bool, true, false, ◌&&◌, ◌==◌, List, [], ◌∷◌, ◌++◌, drop, length, take}
+use Rattle.std.specs.Prelude.{ℕ, Bool, ◌&&◌, ◌==◌, List, [], ◌∷◌, ◌++◌, drop, length, take}
 use Rattle.tlv_head.specs.Header.{HeaderValue, is_universal}
 use Rattle.tlv_head.specs.UniversalTypes as universal
 use Rattle.tlv_head.specs.declared.type_table.Encodings.TheVariants.{Unjudged}
