@@ -28,15 +28,15 @@ value_of base (d ∷ ds) = d * base ^ length ds + value_of base ds
 abbrev pub with_bit_8 : List ℕ → List ℕ
 with_bit_8 digits = map (λ d. 128 + d) digits
 
--- 8.1.2.2: one octet, for a number up to 30. It is not 00, with which 8.1.5 ends contents
+-- 8.1.2.2: one octet, for a number up to 30. 00 (universal, primitive, number 0) is none: with it 8.1.5 ends contents
 pub record IsLowForm (class : Class) (constructed : Bool) (number : ℕ) (octets : List ℕ) : Type 0 where
   pub small : number < 31
   pub octets_are : octets ≡ identifier_octet class constructed number ∷ []
   pub nonzero : identifier_octet class constructed number ≢ 0
 
--- 8.1.2.4: a first octet with bits 5 to 1 set, then digits in base 128, with bit 8 set in all but the last. Nine digits
--- are the most, a limit of our own (F06). A number below 31 and first digits that are 0, which 8.1.2.2 and 8.1.2.4.2 c)
--- forbid, are taken here, and left to findings (B01, B02)
+-- 8.1.2.4: a first octet with bits 5 to 1 set, then digits in base 128, with bit 8 set in all but the last: `digits`
+-- and `last`. Together they are at most nine, a limit of our own (F06). A number below 31 and first digits that are 0,
+-- which 8.1.2.2 and 8.1.2.4.2 c) forbid, are taken here, and left to findings (B01, B02)
 pub record IsHighForm (class : Class) (constructed : Bool) (number : ℕ) (octets : List ℕ) : Type 0 where
   pub digits : List ℕ
   pub last : ℕ
@@ -76,6 +76,7 @@ pub record HeaderValue : Type 0 where
   pub constructed : Bool
   pub number : ℕ
   pub size : Size
+  -- the identifier octets, and the length octets
   pub identifier : List ℕ
   pub lengths : List ℕ
 
@@ -88,16 +89,15 @@ abbrev pub definite_length : Size → Option ℕ
 definite_length (Definite n) = Some n
 definite_length Indefinite = None
 
--- 8.1.2, 8.1.3: `class`, `constructed` and `number` are those of the identifier octets, and `size` is that of the length
--- octets. `offset` and `named` are not in the octets: `IsHeaderAt` of tlv_walk says what they are
+-- 8.1.2, 8.1.3: `class`, `constructed` and `number` are those of the identifier octets, and `size` is that of the
+-- length octets. `offset` and `named` are not in the octets: `IsHeaderAt` of tlv_walk says what they are
 pub record IsHeader (h : HeaderValue) : Type 0 where
   pub identifier : IsIdentifier h.class h.constructed h.number h.identifier
   pub lengths : IsLength h.size h.lengths
   -- 8.1.3.2 a): a primitive has a definite length
   pub allowed : (h.constructed || is_some (definite_length h.size)) ≡ true
 
--- 8.1.3.3: the number of contents octets that the header announces: its length, or 0 if the length is indefinite,
--- since then it announces none
+-- 8.1.3.3: the number of contents octets that the header announces: its length. An indefinite length announces none
 abbrev pub announced_length : Size → ℕ
 announced_length size = unwrap_or (definite_length size) 0
 
@@ -120,11 +120,12 @@ can_wrap h =
     && (h.number == universal.octet_string
     || (h.number == universal.bit_string && not (announced_length h.size == 0)))
 
--- the element with this header is a string that holds encodings: it can be one, and the user named its offset
+-- the element with this header is a wrapper, a string that holds encodings: it can be one, and the user named its
+-- offset
 abbrev pub wraps : HeaderValue → Bool
 wraps h = h.named && can_wrap h
 
--- 8.1.2.5: the element with this header holds encodings: it is constructed, or a string that holds encodings
+-- 8.1.2.5: the element with this header is a holder: it is constructed, or a wrapper
 abbrev pub holds : HeaderValue → Bool
 holds h = h.constructed || wraps h
 

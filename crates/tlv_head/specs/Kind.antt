@@ -7,7 +7,8 @@ use Rattle.tlv_head.specs.declared.header.Class.TheVariants.{Universal}
 use Rattle.tlv_head.specs.declared.kind.Kind.{Kind}
 use Rattle.tlv_head.specs.declared.kind.Kind.TheVariants.{Octets, Text, Utf8, Ucs2, Ucs4}
 
--- contents of unknown meaning are shown as pairs of digits
+-- how the contents of a primitive with this tag are shown: as the table says, and as pairs of digits if it does not
+-- know the tag
 abbrev pub kind_of : Class → ℕ → Kind
 kind_of Universal number = option_map_or (λ t. t.kind) (type_at number) Octets
 kind_of _ number = Octets

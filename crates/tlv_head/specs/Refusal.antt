@@ -36,7 +36,8 @@ pub record IsNumberPrefix (class : Class) (constructed : Bool) (octets : List �
   pub each : All (λ d. d < 128) digits
   pub octets_are : octets ≡ identifier_octet class constructed 31 ∷ with_bit_8 digits
 
--- 8.1.3.5: identifier octets, the first length octet, and digits, with this many more digits to come
+-- 8.1.3.5: identifier octets, the first length octet, and digits. `left` more digits are to come, the next octet
+-- included
 pub record IsLengthPrefix (class : Class) (constructed : Bool) (number left : ℕ) (octets : List ℕ) : Type 0 where
   pub identifier_octets : List ℕ
   pub digits : List ℕ
@@ -60,8 +61,8 @@ pub data IsRefusedOctet (octets : List ℕ) (x : ℕ) : FaultCode → Type 0 whe
   indefinite_primitive : (class : Class) (number : ℕ)
       → IsIdentifier class false number octets → x ≡ 128
       → IsRefusedOctet octets x IndefinitePrimitive
-  -- F09, a limit of our own on 8.1.3.5: a length octet after the first, other than 00, with five or more octets to
-  -- follow
+  -- F09, a limit of our own on 8.1.3.5: a length octet x after the first that is not 00, with five or more to follow:
+  -- `left` counts x too. The digits before x are 00: else one of them was refused
   length_too_large : (class : Class) (constructed : Bool) (number left : ℕ)
       → IsLengthPrefix class constructed number left octets → 6 ≤ left → x ≢ 0
       → IsRefusedOctet octets x LengthTooLarge

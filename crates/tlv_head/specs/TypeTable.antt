@@ -12,7 +12,7 @@ pub record TypeRow : Type 0 where
   pub number : ℕ
   pub name : List ℕ
   -- whether its encodings are primitive, constructed, or either: a string, which has segments if it is constructed.
-  -- `Unjudged`: primitive too (8.21, 8.22, 8.26), but B04 does not judge them. B22, which tlvdump does not list, does
+  -- `Unjudged`: primitive (8.21, 8.22, 8.26). tlvdump has no finding for a constructed one; tlvdump-show has B22
   pub encodings : Encodings
   -- how the contents of a primitive are shown
   pub kind : Kind

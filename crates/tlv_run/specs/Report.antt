@@ -43,8 +43,9 @@ outcome_report outcome =
     record (by_case outcome.ending outcome.unused (outcome.findings == 0)) { findings = outcome.findings }
   where
     by_case : Ending → Option ℕ → Bool → ReportValue
-    by_case (ending.Fault f) unused none = report_with 2 (fault_line f)
-    by_case ending.Done (Some offset) none = report_with 1 (codes "E7 no string to read at offset " ++ decimal offset)
+    by_case (ending.Fault f) unfound no_findings = report_with 2 (fault_line f)
+    by_case ending.Done (Some offset) no_findings =
+        report_with 1 (codes "E7 no string to read at offset " ++ decimal offset)
     by_case ending.Done None false = report_with 1 (codes "findings: " ++ decimal outcome.findings)
     by_case ending.Done None true = report_with 0 []
 

@@ -6,14 +6,16 @@ use Rattle.tlv_head.specs.UniversalTypes as universal
 use Rattle.tlv_value.specs.Types.{has_segments, is_a}
 use Rattle.tlv_walk.specs.Forest.{Forest, NoMore, PaddingOctet, opening}
 
+-- where an element is shown: what is around it, and what is right before it. `Place` of tlv_walk is where the grammar
+-- is
 pub record Site : Type 0 where
   -- the offset of its first octet
   pub offset : ℕ
-  -- the number of elements that hold it. Its line is indented by two spaces for each
+  -- the number of holders around it. Its line is indented by two spaces for each
   pub depth : ℕ
-  -- the innermost of these elements
+  -- the innermost of these
   pub holder : Option HeaderValue
-  -- what is right before it in this element, by itself: a whole element, an octet of padding, or nothing (`NoMore`)
+  -- what is right before it in this holder, by itself: a whole element, an octet of padding, or nothing (`NoMore`)
   pub previous : Forest
 
 -- the start of the input

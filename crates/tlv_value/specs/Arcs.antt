@@ -4,12 +4,13 @@ use Rattle.std.specs.Prelude.{[], ◌∷◌, ◌++◌, length, map, slice_index,
 use Rattle.std.specs.List.{join_by, list_all, onto_first}
 use Rattle.tlv_head.specs.Header.{value_of}
 
--- 8.19.2: the octets, cut after each octet that has bit 8 clear
+-- 8.19.2: the octets, cut after each octet that has bit 8 clear. Octets after the last such octet are a part too: an
+-- unfinished subidentifier
 abbrev pub parts_of : List ℕ → List (List ℕ)
 parts_of [] = []
 parts_of (x ∷ xs) = if nat_lt x 128 then (x ∷ []) ∷ parts_of xs else onto_first x (parts_of xs)
 
--- the number that a part stands for: bits 7 to 1 of its octets, put together
+-- 8.19.2: the number that a part stands for: bits 7 to 1 of its octets, put together
 abbrev pub subidentifier : List ℕ → ℕ
 subidentifier part = value_of 128 (map (λ x. x % 128) part)
 
@@ -30,7 +31,7 @@ arcs_of true vs = vs
 arcs_of false [] = []
 arcs_of false (v ∷ vs) = first_arcs v ++ vs
 
--- there are octets, and bit 8 of the last is clear
+-- 8.19.2: there are octets, and bit 8 of the last is clear
 abbrev pub is_finished : List ℕ → Bool
 is_finished octets = nat_le 1 (length octets) && nat_lt (slice_index octets (length octets - 1)) 128
 

@@ -23,6 +23,7 @@ abbrev pub begins_with : ℕ → List ℕ → Bool
 begins_with octet [] = false
 begins_with octet (x ∷ xs) = x == octet
 
+-- X.680 41.2
 abbrev pub is_digit_or_space : ℕ → Bool
 is_digit_or_space x = x == 0x20 || is_ascii_digit x
 
@@ -69,55 +70,55 @@ findings_by rows = flat_map (λ row. if row.0 then row.1 ∷ [] else []) rows
 -- rules of all encodings
 abbrev pub listed_basic_type_conditions : ℕ → List ℕ → List (Bool × Finding)
 listed_basic_type_conditions number contents =
-    -- 8.2.1: a BOOLEAN has one octet
+    -- B06, 8.2.1: a BOOLEAN has one octet
     (number == universal.boolean && not (length contents == 1), B06)
-    -- 8.3.1, 8.4: an INTEGER or ENUMERATED has one octet or more
+    -- B07, 8.3.1, 8.4: an INTEGER or ENUMERATED has one octet or more
     ∷ (is_number_of integer_types number && length contents == 0, B07)
-    -- 8.3.2, 8.4: its first nine bits are not all equal
+    -- B08, 8.3.2, 8.4: its first nine bits are not all equal
     ∷ (is_number_of integer_types number && is_padded_integer contents, B08)
-    -- 8.8.2: a NULL has no octets
+    -- B09, 8.8.2: a NULL has no octets
     ∷ (number == universal.null && not (length contents == 0), B09)
-    -- 8.19.2: an OBJECT IDENTIFIER has one subidentifier or more
+    -- B10, 8.19.2: an OBJECT IDENTIFIER has one subidentifier or more
     ∷ (number == universal.object_identifier && length contents == 0, B10)
-    -- 8.19.2, 8.20.2: no subidentifier begins with 80
+    -- B11, 8.19.2, 8.20.2: no subidentifier begins with 80
     ∷ (is_number_of object_types number && list_any (begins_with 0x80) (parts_of contents), B11)
-    -- 8.19.2, 8.20.2: bit 8 is clear in the last octet of a subidentifier
+    -- B12, 8.19.2, 8.20.2: bit 8 is clear in the last octet of a subidentifier
     ∷ (is_number_of object_types number && nat_le 128 (last_octet contents), B12)
-    -- 8.6.2: a BIT STRING has a first octet, the number of unused bits
+    -- B13, 8.6.2: a BIT STRING has a first octet, the number of unused bits
     ∷ (number == universal.bit_string && length contents == 0, B13)
-    -- 8.6.2.2: it is at most 7
+    -- B14, 8.6.2.2: it is at most 7
     ∷ (number == universal.bit_string && nat_lt 7 (first_octet contents), B14)
-    -- 8.6.2.3: it is 0 if no other octet follows. Above 7 it has B14 alone
+    -- B15, 8.6.2.3: it is 0 if no other octet follows. Above 7 it has B14 alone
     ∷ (
       number == universal.bit_string && length contents == 1
           && nat_le 1 (first_octet contents) && nat_le (first_octet contents) 7,
       B15,
     )
-    -- X.680 41: a string of characters has only characters that its type allows. Of a BMPString and a UniversalString
-    -- only the length is looked at here: it is that of whole characters. Strings of registered characters are not
-    -- looked at
+    -- B18, X.680 41: a string of characters has only characters that its type allows. Of a BMPString and a
+    -- UniversalString only the length is looked at here: it is that of whole characters. Strings of registered
+    -- characters are not looked at
     ∷ (not (allows number contents), B18)
-    -- X.680 46, 47: a time of at most 64 octets follows the grammar of its type, as `Times` has it
+    -- B19, X.680 46, 47: a time of at most 64 octets follows the grammar of its type, as `Times` has it
     ∷ (is_short_time number contents && not (time_form number contents), B19)
     ∷ []
 
 -- and by the rules of DER, and of CER
 abbrev pub listed_strict_type_conditions : ℕ → List ℕ → List (Bool × Finding)
 listed_strict_type_conditions number contents =
-    -- 11.1: TRUE is ff
+    -- S02, 11.1: TRUE is ff
     (
       number == universal.boolean && length contents == 1
           && not (first_octet contents == 0 || first_octet contents == 0xff),
       S02,
     )
-    -- 11.2.1: unused bits, the last bits of the last octet, are 0
+    -- S03, 11.2.1: unused bits, the last bits of the last octet, are 0
     ∷ (
       number == universal.bit_string && nat_le 2 (length contents) && nat_le (first_octet contents) 7
           && not (last_octet contents % 2 ^ first_octet contents == 0),
       S03,
     )
-    -- 11.7, 11.8: a time of at most 64 octets that follows the grammar of its type is in the canonical form, as `Times`
-    -- has it
+    -- S04, 11.7, 11.8: a time of at most 64 octets that follows the grammar of its type is in the canonical form, as
+    -- `Times` has it
     ∷ (
       is_short_time number contents && time_form number contents
           && not (canonical_form number contents),

@@ -14,8 +14,7 @@ abbrev pub character_length : Kind → ℕ → ℕ
 character_length Utf8 x = utf8_length x
 character_length _ x = 1
 
--- after this number of octets of a row, there is room in it for the octet x and for the octets that must be kept in one
--- row with it
+-- a row of this many octets has room for x, and for the octets after x that belong to its character
 abbrev pub has_room : Kind → ℕ → ℕ → Bool
 has_room kind octets x = nat_le (octets + character_length kind x) (row_size kind)
 

@@ -18,8 +18,7 @@ abbrev pub rows_of : Kind → List ℕ → List (List ℕ)
 rows_of kind [] = []
 rows_of kind (x ∷ octets) = rows_from kind (x ∷ []) octets
 
--- the rows that stay as they are, whatever octets follow: all but a last one that has fewer octets than a row has room
--- for
+-- the rows to which no further octet can be added: each that another row follows, and a last one that has no room left
 abbrev pub full_rows_in : Kind → List (List ℕ) → List (List ℕ)
 full_rows_in kind [] = []
 full_rows_in kind (row ∷ []) = if length row == row_size kind then row ∷ [] else []

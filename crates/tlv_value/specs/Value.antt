@@ -64,7 +64,7 @@ bit_count_text unused_bits octet_count = decimal (8 * octet_count - unused_bits)
 abbrev pub is_readable : ℕ → ℕ → Bool
 is_readable unused_bits octet_count = nat_le unused_bits 7 && (unused_bits == 0 || not (octet_count == 0))
 
--- the bits of octets as digits, without the unused bits, after a space if there are any: 30 is the digit 0
+-- 8.6.2.1: the bits of octets as digits, without the unused bits, after a space if there are any: 30 is the digit 0
 abbrev pub used_digits : ℕ → List ℕ → List ℕ
 used_digits unused_bits [] = []
 used_digits unused_bits octets =

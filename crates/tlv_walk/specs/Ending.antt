@@ -17,8 +17,9 @@ use Rattle.tlv_walk.specs.Forest.{primitive_extent, spelling}
 use Rattle.tlv_walk.specs.Place.{Fits, IsHeaderAt, Place, announced_extent, place_after, place_of_children, top_place}
 use Rattle.tlv_walk.specs.Reading.{CannotBecomeSound, IsReading, IsSoundList}
 
--- an open end of a forest: its place, and what is open there: nothing, between encodings (`NoMore`), or a primitive, a
--- wrapping BIT STRING, a header or end-of-contents octets, whose place is that of their first octet
+-- an open end of a forest: what is open there, and its place. It is `NoMore` between elements, where nothing is open.
+-- Otherwise it is an open primitive, BIT STRING, header or end-of-contents octets, and the place is that of its first
+-- octet
 pub record OpenEnd : Type 0 where
   pub place : Place
   pub forest : Forest
@@ -35,31 +36,33 @@ open_end p (Holder h children rest) = open_end (place_after p (extent h children
 open_end p (OpenHolder h children) = open_end (place_of_children p h) children
 open_end p end = end_at p end
 
--- why the octet x is refused at an open end, one line for each cause. The bound is checked before the octet
+-- why the octet x is refused at an open end, one line for each cause, in the order of "Faults" in docs/FORMAT.md. No
+-- two lines hold at once. `Fits p n → ⊥` says that n octets from here end beyond the bound
 pub data IsRefusedAt : OpenEnd → ℕ → FaultCode → Type 0 where
-  -- F12, a rule of our own: encodings are whole octets, so a wrapping BIT STRING has no unused bits.
-  -- 8.6.2.2 allows 00 to 07
+  -- F12, a rule of our own: encodings are whole octets, so a wrapping BIT STRING has no unused bits. 8.6.2.2 allows 00
+  -- to 07
   bad_inside : {x : ℕ} {p : Place} {h : HeaderValue} → x ≢ 0 → IsRefusedAt (end_at p (OpenBitString h)) x BadInside
-  -- 8.1.5: the second 00 is missing at the bound, or is another octet
+  -- after the first 00 of two. F05, 8.1.5: the bound is reached
   missing_end : {x : ℕ} {p : Place} → (Fits p 2 → ⊥) → IsRefusedAt (end_at p OpenEndOctets) x MissingEnd
+  -- F04, 8.1.5: x is not 00
   bad_end : {x : ℕ} {p : Place} → Fits p 2 → x ≢ 0 → IsRefusedAt (end_at p OpenEndOctets) x BadEnd
-  -- 8.1.3.3: the header does not end within the bound
+  -- in a header. F11, 8.1.3.3: the bound is reached
   no_room : {x : ℕ} {p : Place} {o : List ℕ} → (Fits p (length o + 1) → ⊥)
       → IsRefusedAt (end_at p (OpenHeader o)) x Overrun
-  -- F06 to F09: no header goes on with that octet
+  -- F06 to F09: no header goes on with that octet, and `IsRefusedOctet` says why
   refused_octet : {x : ℕ} {p : Place} {o : List ℕ} {code : FaultCode} → Fits p (length o + 1) → IsRefusedOctet o x code
       → IsRefusedAt (end_at p (OpenHeader o)) x code
-  -- a limit of our own: x completes the header of a holder, inside `depth_limit` holders
+  -- F10, a limit of our own: x completes the header of a holder, inside `depth_limit` holders
   too_deep : {x : ℕ} {p : Place} {o : List ℕ} → Fits p (length o + 1) → (h : HeaderValue) → IsHeaderAt p h
       → holds h ≡ true → octets_of h ≡ o ++ x ∷ [] → depth_limit ≤ p.depth
       → IsRefusedAt (end_at p (OpenHeader o)) x TooDeep
-  -- 8.1.3.3: x completes a header whose contents end beyond the bound
+  -- F11, 8.1.3.3: x completes a header, and the contents that it announces would end beyond the bound
   overrun : {x : ℕ} {p : Place} {o : List ℕ} → Fits p (length o + 1) → (h : HeaderValue) → IsHeaderAt p h
       → octets_of h ≡ o ++ x ∷ [] → (holds h ≡ true → p.depth < depth_limit)
       → (Fits p (announced_extent h) → ⊥) → IsRefusedAt (end_at p (OpenHeader o)) x Overrun
-  -- 8.1.5: no end-of-contents octets before the bound
+  -- between elements. F05, 8.1.5: the bound is reached inside an indefinite element
   no_end : {x : ℕ} {p : Place} → p.indefinite ≡ true → (Fits p 1 → ⊥) → IsRefusedAt (end_at p NoMore) x MissingEnd
-  -- 8.1.5: 00 where neither end-of-contents octets nor padding are allowed
+  -- F03, 8.1.5: 00 where neither end-of-contents octets nor padding are allowed
   stray_end : {x : ℕ} {p : Place} → p.indefinite ≡ false → p.padding ≡ false → x ≡ 0
       → IsRefusedAt (end_at p NoMore) x StrayEnd
 

@@ -8,13 +8,13 @@ use Rattle.tlv_head.specs.Header.{HeaderValue, definite_length, octets_of}
 
 -- 8.1.1.1, 8.1.4: whole elements and padding, one after another, and then at most one thing that is open, that is, has
 -- not ended: an element, a header or end-of-contents octets. A holder is an element that holds others: a constructed
--- element, or a wrapper, which is a string that holds encodings, since the user named its offset
+-- element, or a wrapper. A wrapper is a string that is read as encodings, because the user named its offset
 pub data Forest : Type 0 where
   -- no more
   NoMore : Forest
   -- an octet 00 of padding: at the top level, before, between or after encodings
   PaddingOctet : (rest : Forest) → Forest
-  -- a primitive with all its contents octets
+  -- a primitive with all its contents octets. A wrapper is no `Primitive`, but a `Holder`
   Primitive : (header : HeaderValue) (contents : List ℕ) (rest : Forest) → Forest
   -- a holder that has ended
   Holder : (header : HeaderValue) (children rest : Forest) → Forest

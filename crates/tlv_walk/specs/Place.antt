@@ -47,8 +47,9 @@ place_after p n = record p { offset = p.offset + n }
 abbrev pub is_indefinite : Size → Bool
 is_indefinite size = is_none (definite_length size)
 
--- 8.1.4: the place of the elements inside an element with this header. 8.1.3.3: the bound is the end of its contents, if
--- its length is definite, and otherwise the bound outside
+-- 8.1.4: the place of the elements inside an element with this header. 8.1.3.3: the bound is the end of its contents,
+-- if its length is definite, and otherwise the bound outside. The first contents octet of a BIT STRING (`lead`) is
+-- before the elements, and counts for the bound
 abbrev pub place_of_children : Place → HeaderValue → Place
 place_of_children p h = record p {
   offset = p.offset + length (opening h);
@@ -68,7 +69,8 @@ pub record IsHeaderAt (p : Place) (h : HeaderValue) : Type 0 where
   pub offset : h.offset ≡ p.offset
   pub named : h.named ≡ is_among p.offset p.inside
 
--- 8.1.4: a primitive is there that is no wrapper, and n octets of it end within the bound
+-- 8.1.4: a primitive is there that is no wrapper, and n octets of it end within the bound: all octets of a whole
+-- element, and of an open one those that its header announces
 pub record IsPrimitiveAt (p : Place) (h : HeaderValue) (n : ℕ) : Type 0 where
   pub header : IsHeaderAt p h
   pub holding : holds h ≡ false
@@ -94,7 +96,7 @@ HasItsLength h children = IfSome (definite_length h.size) (λ n. contents_length
 -- no announced end lies beyond the bound
 abbrev pub ObeysGrammar : Place → Forest → Type 0
 ObeysGrammar p NoMore = Unit {0}
--- padding
+-- padding: at the top level only, where the last two conditions hold of themselves
 ObeysGrammar p (PaddingOctet rest) =
     ((p.padding ≡ true) × (p.indefinite ≡ false) × Fits p 1) × ObeysGrammar (place_after p 1) rest
 -- 8.1.4: a primitive with all its contents octets
@@ -107,8 +109,8 @@ ObeysGrammar p (Holder h children rest) =
     × ObeysGrammar (place_of_children p h) children × ObeysGrammar (place_after p (extent h children)) rest
 -- 8.1.4: a primitive that lacks contents octets
 ObeysGrammar p (OpenPrimitive h c) = IsPrimitiveAt p h (announced_extent h) × (length c < announced_length h.size)
--- 8.1.4: a holder that is open: if all the elements that it holds are whole, and its length is definite, contents octets
--- are missing
+-- 8.1.4: a holder that is open: if all the elements that it holds are whole, and its length is definite, contents
+-- octets are missing
 ObeysGrammar p (OpenHolder h children) =
     (IsHolderAt p h (announced_extent h)
     × (is_whole children ≡ true → IfSome (definite_length h.size) (λ n. contents_length h children < n)))

@@ -26,8 +26,9 @@ pub record IsReading (framing : Framing) (b : List ℕ) (f : Forest) : Type 0 wh
       → length (spelling g) ≤ length (spelling f)
 
 -- 8.1.1 to 8.1.5: nothing is open, each definite length is the length of the contents, and each holder is inside fewer
--- than `depth_limit` holders; padding is at the top level only. A wrapper is a holder, so it has to hold sound encodings,
--- which X.690 does not ask for
+-- than `depth_limit` holders; padding is at the top level only. A wrapper is a holder, so it has to hold sound
+-- encodings, which X.690 does not ask for. No bound is asked for: each definite length is that of the contents, so
+-- nothing inside ends beyond it
 abbrev pub IsSound : Place → Forest → Type 0
 IsSound p NoMore = Unit {0}
 IsSound p (PaddingOctet rest) = (p.padding ≡ true) × IsSound (place_after p 1) rest
