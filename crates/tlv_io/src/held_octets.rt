@@ -22,7 +22,7 @@ pub(crate) const CAPACITY: usize = 4096;
 pub struct HeldOctets {
     len: usize,
     octets: [u8; CAPACITY],
-    /// Made once, so that no pair of digits costs a call of `hex`.
+    /// Filled once, so that no pair of digits costs a call of `hex`.
     pairs: PairTable,
 }
 
@@ -139,6 +139,7 @@ impl HeldOctets {
         ensures { self.new ≡ self.old ++ spaced_pairs octets.now }
     {
         let len = self.len();
+        self.pairs.fill();
         write_spaced_pairs(octets, &self.pairs, &mut self.octets[len..]);
         self.len = len + 3 * octets.len();
     }
@@ -150,6 +151,7 @@ impl HeldOctets {
         ensures { self.new ≡ self.old ++ spaced_pairs octets.now }
     {
         let len = self.len();
+        self.pairs.fill();
         write_spaced_row(octets, &self.pairs, &mut self.octets[len..]);
         self.len = len + 48;
     }

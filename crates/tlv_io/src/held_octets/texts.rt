@@ -1,5 +1,5 @@
 //! Texts that overwrite the first octets of a slice.
-ghost use Rattle.std.specs.Prelude.{◌+◌, ◌*◌, ◌≤◌, length};
+ghost use Rattle.std.specs.Prelude.{◌≡◌, ◌+◌, ◌*◌, ◌≤◌, length, true};
 ghost use Rattle.tlv_io.specs.LineTexts.{spaced_pairs, spaces};
 ghost use Rattle.tlv_io.specs.Private.WritesOver.{WritesOver};
 
@@ -33,7 +33,8 @@ fn fill_more_spaces(to: &mut [u8], count: usize)
 /// Writes octets as pairs of digits, each pair after a space.
 #[inline(always)]
 pub(super) fn write_spaced_pairs(octets: &[u8], pairs: &PairTable, to: &mut [u8])
-    requires { 3 * length octets.now ≤ length to.old }
+    requires filled { pairs.now.is_filled ≡ true }
+    requires room { 3 * length octets.now ≤ length to.old }
     ensures { WritesOver (3 * length octets.now) to.old to.new (spaced_pairs octets.now) }
 {
     for i in 0..octets.len() {
@@ -47,7 +48,8 @@ pub(super) fn write_spaced_pairs(octets: &[u8], pairs: &PairTable, to: &mut [u8]
 /// Writes 16 octets as pairs of digits, each pair after a space. All the spaces are copied first, at once.
 #[inline(always)]
 pub(super) fn write_spaced_row(octets: &[u8; 16], pairs: &PairTable, to: &mut [u8])
-    requires { 48 ≤ length to.old }
+    requires filled { pairs.now.is_filled ≡ true }
+    requires room { 48 ≤ length to.old }
     ensures { WritesOver 48 to.old to.new (spaced_pairs octets.now) }
 {
     to[..48].copy_from_slice(&[b' '; 48]);

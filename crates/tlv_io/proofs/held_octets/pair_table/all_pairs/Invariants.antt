@@ -1,6 +1,6 @@
 use Rattle.std.proofs.Common.{◌≡◌, ◌+◌, ◌*◌, length}
 use Rattle.tlv_io.specs.Private.PairTable.{ArePairsBelow}
-use Rattle.tlv_io.proofs.held_octets.pair_table.PairTable.new.Given as goal
+use Rattle.tlv_io.proofs.held_octets.pair_table.all_pairs.Given as goal
 
 abbrev pub invariant-loop-high : goal.invariant-loop-high
 invariant-loop-high l = record {
