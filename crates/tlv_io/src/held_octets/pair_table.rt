@@ -28,9 +28,17 @@ impl PairTable {
         ensures { self.new.is_filled ≡ true }
     {
         if !self.is_filled {
-            self.pairs = all_pairs();
-            self.is_filled = true;
+            self.fill_now();
         }
+    }
+
+    #[cold]
+    #[inline(never)]
+    fn fill_now(&mut self)
+        ensures { self.new.is_filled ≡ true }
+    {
+        self.pairs = all_pairs();
+        self.is_filled = true;
     }
 
     /// The pair of digits of an octet. Requires a table that is filled.
@@ -45,8 +53,6 @@ impl PairTable {
 
 /// The pairs of all octets. It has two loops since the compiler then knows the second digits, which saves half of the
 /// instructions.
-#[cold]
-#[inline(never)]
 fn all_pairs() -> [[u8; 2]; 256]
     ensures { AreAllPairs result }
 {
