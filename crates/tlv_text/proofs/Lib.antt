@@ -10,6 +10,7 @@ pub mod DumpPairLemmas
 pub mod DumpRows
 pub mod DumpSignLemmas
 pub mod DumpStepLemmas
+pub mod DumpWordLemmas
 pub mod GroupLemmas
 pub mod LineLemmas
 pub mod MarkLemmas

@@ -43,11 +43,13 @@ pairs-decoded i (x ∷ y ∷ digits) even all =
       pairs-decoded (i + 2) digits (omega arith) (All-tail (λ d. is_hex_digit d ≡ true) y digits rest),
     ) refl
 
+pub whole-decoded : (digits : List ℕ) → AreWholePairs digits → decode_of digits ≡ Ok (pair_octets digits)
+whole-decoded digits p = decode_of-even digits p.even ∙ pairs-decoded 0 digits p.even p.digits
+
 pub decoded-are : (digits octets : List ℕ) → AreWholePairs digits → decode_of digits ≡ Ok octets
     → octets ≡ pair_octets digits
 decoded-are digits octets p e =
-    decode_of-same digits octets (pair_octets digits) e
-    (decode_of-even digits p.even ∙ pairs-decoded 0 digits p.even p.digits)
+    decode_of-same digits octets (pair_octets digits) e (whole-decoded digits p)
 
 pub pairs-and_one : (digits : List ℕ) (x y : ℕ) → AreWholePairs digits → is_hex_digit x ≡ true → is_hex_digit y ≡ true
     → AreWholePairs (digits ++ x ∷ y ∷ [])

@@ -17,6 +17,7 @@ use Rattle.std.specs.List.{list_all}
 use Rattle.hex.specs.Hex.{is_hex_digit}
 use Rattle.tlv_text.specs.DumpLines.{LineKind, RowRead, TextLine, after_blanks, begins_colon, is_dump_blank, line_kind}
 use Rattle.tlv_text.specs.DumpLines.{dump_lines, has_od_offset}
+use Rattle.tlv_text.specs.DumpWords.{are_reversed}
 use Rattle.tlv_text.specs.Pairs.{pair_octet}
 use Rattle.tlv_text.specs.TextRead.{TextRead, nothing_read, octets_then}
 use Rattle.tlv_text.specs.declared.dump.lines.Radix.{Radix}
@@ -117,6 +118,13 @@ single_row_octets r =
     let text : List ℕ = before_pairs r.rest in
     let read : TextRead = pairs_at (length text) (gap_of 1 r.rest) text in
     octets_if (((r.offset == 0) || begins_colon r.rest) && begins_pair text && not (begins_digit read.rest)) read.octets
+
+-- the characters of a row, behind two blanks, show that the octets of its words are in reverse. It is read as a single
+-- row, of at most 256 pairs
+abbrev pub has_reversed_words : RowRead → Bool
+has_reversed_words r =
+    let read : TextRead = pairs_at 256 (gap_of 1 r.rest) (before_pairs r.rest) in
+    are_reversed read.octets (after_few 2 read.rest)
 
 -- a row with a pair; a row without a pair is an end, or, before the first row, another line
 abbrev pub has_pair : RowRead → Bool
@@ -244,7 +252,7 @@ octets_or_none None = []
 abbrev pub dump_place_at : Phase → ℕ → List ℕ → DumpPlace
 dump_place_at phase offset octets = record { phase = phase; offset = offset; octets = octets }
 
--- what is read from the first row on
+-- what is read from the first row on, given the number of octets in a row
 abbrev pub read_from : Radix → RowRead → ℕ → List TextLine → Option ℕ → DumpRead
 read_from radix r left lines None =
     first_then (single_row_octets r) left (rows_read radix 16 (dump_place_at Phase.End r.offset []) lines)
@@ -252,12 +260,18 @@ read_from radix r left lines (Some size) =
     first_then (dump_row_octets size r.rest) left
     (rows_read radix size (dump_place_at Phase.Row r.offset (octets_or_none (dump_row_octets size r.rest))) lines)
 
+-- what is read from the first row on. It is refused if its words are in reverse: the octets are others then
+abbrev pub read_in_order : Radix → RowRead → ℕ → List TextLine → DumpRead
+read_in_order radix r left lines =
+    if has_reversed_words r then refused_with left
+    else read_from radix r left lines (size_in radix r.offset lines)
+
 -- other lines before the first row are passed over; a text without a row is refused at its end
 abbrev pub first_at : Radix → LineKind → ℕ → List TextLine → DumpRead → DumpRead
 first_at radix LineKind.blank left lines more = more
 first_at radix LineKind.repeat left lines more = refused_with left
 first_at radix (LineKind.row r) left lines more =
-    if has_pair r then read_from radix r left lines (size_in radix r.offset lines) else more
+    if has_pair r then read_in_order radix r left lines else more
 first_at radix LineKind.other left lines more = more
 
 abbrev pub lines_read : Radix → List TextLine → DumpRead

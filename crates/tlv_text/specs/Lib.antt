@@ -12,5 +12,6 @@ pub mod Private
 pub mod Dump
 pub mod DumpFault
 pub mod DumpLines
+pub mod DumpWords
 pub mod Separated
 pub mod Blocks

@@ -1,7 +1,7 @@
 //! Octets of a hex dump with offsets.
 ghost use Rattle.std.specs.Prelude.{◌≡◌, ◌<◌, ◌≤◌, IfErr, IfOk, OnOk, Some, None, length, true};
 ghost use Rattle.tlv_text.specs.Dump.{begins_pair, dump_in, dump_limit, dump_read};
-ghost use Rattle.tlv_text.specs.Dump.{left_in, pairs_at, read_from};
+ghost use Rattle.tlv_text.specs.Dump.{left_in, pairs_at, read_from, read_in_order};
 ghost use Rattle.tlv_text.specs.Dump.{refused_in, refused_with, rows_read, single_row_octets, size_in};
 ghost use Rattle.tlv_text.specs.DumpLines.{dump_lines};
 ghost use Rattle.tlv_text.specs.DumpFault.{IsFault};
@@ -13,6 +13,7 @@ mod lines;
 mod output;
 mod pairs;
 mod rows;
+mod words;
 
 use crate::digits::begins_digit;
 use crate::{Decoded, TextFault};
@@ -23,6 +24,7 @@ use output::{Output, add_octets, no_octets};
 use pairs::{DIGITS, Gap, before_pairs, begins_pair, gap_of, row_digits, take_first, take_pairs};
 use rows::{LastRow, Phase, take_line};
 use std::alloc::{AllocError, Global};
+use words::has_reversed_words;
 
 /// The octets of a dump, and where it is refused.
 #[derive(Debug, Drop)]
@@ -92,7 +94,7 @@ fn read_lines(alloc: Global, radix: Radix, text: &[u8]) -> Result<Reading, Alloc
         let (line, after) = split_line(rest);
         match line_of(radix, line) {
             DumpLine::Row(row) if has_pair(row) => {
-                return read_from(alloc, radix, row, left, after);
+                return read_in_order(alloc, radix, row, left, after);
             }
             DumpLine::Repeat => return Ok(refused(alloc, left)),
             _ => rest = after,
@@ -111,8 +113,24 @@ fn refused(alloc: Global, left: usize) -> Reading
     }
 }
 
-/// Reads a dump from its first row on. `rest` comes after the row, and `left` is the number of characters from the
-/// row on.
+/// Reads a dump from its first row on. It is refused if the octets of the words in this row are in reverse. `rest` comes
+/// after the row, and `left` is the number of characters from the row on.
+fn read_in_order(
+    alloc: Global,
+    radix: Radix,
+    row: RowLine<'_>,
+    left: usize,
+    rest: &[u8],
+) -> Result<Reading, AllocError>
+    ensures { IfOk result (Reads (read_in_order radix (row_seen row.entry) left (dump_lines rest.now))) }
+{
+    if has_reversed_words(row) {
+        return Ok(refused(alloc, left));
+    }
+    read_from(alloc, radix, row, left, rest)
+}
+
+/// Reads a dump from its first row on, whatever its words are.
 fn read_from(
     alloc: Global,
     radix: Radix,

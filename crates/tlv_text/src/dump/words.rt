@@ -1,0 +1,88 @@
+//! Words of a hex dump whose octets are in reverse.
+ghost use Rattle.std.specs.Prelude.{◌≡◌, ◌<◌, ◌≤◌, length};
+ghost use Rattle.tlv_text.specs.Dump.{has_reversed_words};
+ghost use Rattle.tlv_text.specs.DumpWords.{are_reversed, is_text_of_words, place_in_word, shown_octet};
+ghost use Rattle.tlv_text.specs.Private.DumpSteps.{row_seen};
+ghost use Rattle.tlv_text.specs.Private.PairSteps.{AreWholePairs, pair_octets};
+
+use super::lines::RowLine;
+use super::pairs::{after_few, before_pairs, begins_pair, gap_of, take_first, take_pairs};
+use arrayvec::ArrayVec;
+
+/// The maximum number of octets of a row that are compared with its characters.
+const OCTETS: usize = 256;
+
+/// Whether the characters of a row show that the octets of its words are in reverse, as `xxd -e` writes them.
+pub(super) fn has_reversed_words(row: RowLine<'_>) -> bool
+    ensures { result ≡ has_reversed_words (row_seen row.entry) }
+{
+    let mut rest = before_pairs(row.rest);
+    if !begins_pair(rest) {
+        return false;
+    }
+    let mut digits = ArrayVec::new();
+    take_first(&mut rest, &mut digits);
+    take_pairs(OCTETS - 1, gap_of(1, row.rest), &mut rest, &mut digits);
+    are_pairs_reversed(digits.as_slice(), after_few(2, rest))
+}
+
+/// The same of the octets of these pairs of digits, at most 256.
+fn are_pairs_reversed(digits: &[u8], text: &[u8]) -> bool
+    requires pairs { AreWholePairs digits.now }
+    requires few { length digits.now ≤ 512 }
+    ensures { result ≡ are_reversed (pair_octets digits.now) text.now }
+{
+    let mut room = [0; OCTETS];
+    let octets = &mut room[..digits.len() / 2];
+    let _ = hex::decode_to_slice(digits, octets);
+    are_reversed(octets, text)
+}
+
+/// Whether a text is not the characters of these octets as they are, and is those of the same octets in words of 2, 4
+/// or 8, each of them reversed.
+fn are_reversed(octets: &[u8], text: &[u8]) -> bool
+    requires { length octets.now ≤ 256 }
+    ensures { result ≡ are_reversed octets.now text.now }
+{
+    !is_text_of_words(1, octets, text)
+        && (is_text_of_words(2, octets, text)
+            || is_text_of_words(4, octets, text)
+            || is_text_of_words(8, octets, text))
+}
+
+/// Whether a text is the characters of these octets, of which each word of this size is reversed.
+fn is_text_of_words(size: usize, octets: &[u8], text: &[u8]) -> bool
+    requires size { (0 < size) × (size ≤ 8) }
+    requires few { length octets.now ≤ 256 }
+    ensures { result ≡ is_text_of_words size octets.now text.now }
+{
+    if text.len() != octets.len() || octets.len() % size != 0 {
+        return false;
+    }
+    for at in 0..octets.len() {
+        let octet = octets.get(place_in_word(size, at)).copied().unwrap_or(0);
+        if text[at] != shown_octet(octet) {
+            return false;
+        }
+    }
+    true
+}
+
+/// The place of an octet after each word of this size is reversed.
+fn place_in_word(size: usize, at: usize) -> usize
+    requires size { (0 < size) × (size ≤ 8) }
+    requires few { at < 256 }
+    ensures { result ≡ place_in_word size at }
+{
+    (at + (size - 1)).saturating_sub(2 * (at % size))
+}
+
+/// The character that a dump shows for an octet: a full stop for what is not printable ASCII.
+fn shown_octet(octet: u8) -> u8
+    ensures { result ≡ shown_octet octet }
+{
+    match octet {
+        b' '..=b'~' => octet,
+        _ => b'.',
+    }
+}
