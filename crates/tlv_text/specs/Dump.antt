@@ -17,7 +17,7 @@ use Rattle.std.specs.List.{list_all}
 use Rattle.hex.specs.Hex.{is_hex_digit}
 use Rattle.tlv_text.specs.DumpLines.{LineKind, RowRead, TextLine, after_blanks, begins_colon, is_dump_blank, line_kind}
 use Rattle.tlv_text.specs.DumpLines.{dump_lines, has_od_offset}
-use Rattle.tlv_text.specs.DumpWords.{are_reversed}
+use Rattle.tlv_text.specs.DumpWords.{are_bits, are_reversed}
 use Rattle.tlv_text.specs.Pairs.{pair_octet}
 use Rattle.tlv_text.specs.TextRead.{TextRead, nothing_read, octets_then}
 use Rattle.tlv_text.specs.declared.dump.lines.Radix.{Radix}
@@ -119,12 +119,16 @@ single_row_octets r =
     let read : TextRead = pairs_at (length text) (gap_of 1 r.rest) text in
     octets_if (((r.offset == 0) || begins_colon r.rest) && begins_pair text && not (begins_digit read.rest)) read.octets
 
--- the characters of a row, behind two blanks, show that the octets of its words are in reverse. It is read as a single
--- row, of at most 256 pairs
-abbrev pub has_reversed_words : RowRead → Bool
-has_reversed_words r =
+-- what is behind pairs shows that they are not the octets in order. It comes behind two blanks, or behind more of them
+-- where the pairs are bits
+abbrev pub are_other_octets : List ℕ → List ℕ → Bool
+are_other_octets octets rest = are_reversed octets (after_few 2 rest) || are_bits octets (after_blanks rest)
+
+-- the same of the pairs of a row, which is read as a single one, of at most 256 pairs
+abbrev pub has_other_octets : RowRead → Bool
+has_other_octets r =
     let read : TextRead = pairs_at 256 (gap_of 1 r.rest) (before_pairs r.rest) in
-    are_reversed read.octets (after_few 2 read.rest)
+    are_other_octets read.octets read.rest
 
 -- a row with a pair; a row without a pair is an end, or, before the first row, another line
 abbrev pub has_pair : RowRead → Bool
@@ -260,10 +264,10 @@ read_from radix r left lines (Some size) =
     first_then (dump_row_octets size r.rest) left
     (rows_read radix size (dump_place_at Phase.Row r.offset (octets_or_none (dump_row_octets size r.rest))) lines)
 
--- what is read from the first row on. It is refused if its words are in reverse: the octets are others then
+-- what is read from the first row on, which is refused if its octets are others than its pairs
 abbrev pub read_in_order : Radix → RowRead → ℕ → List TextLine → DumpRead
 read_in_order radix r left lines =
-    if has_reversed_words r then refused_with left
+    if has_other_octets r then refused_with left
     else read_from radix r left lines (size_in radix r.offset lines)
 
 -- other lines before the first row are passed over; a text without a row is refused at its end

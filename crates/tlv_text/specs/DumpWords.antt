@@ -1,6 +1,8 @@
--- Words of a hex dump whose octets are in reverse, as `xxd -e` writes them. The characters behind them are in order.
-use Rattle.std.specs.Prelude.{ℕ, zero, suc, ◌+◌, ◌-◌, ◌*◌, ◌%◌, ◌==◌, Bool, true, ◌&&◌, ◌||◌, not, nat_le}
+-- Rows whose pairs are not their octets in order: words in reverse, as `xxd -e` writes them, and bits, as `xxd -b` does.
+-- The characters behind them tell.
+use Rattle.std.specs.Prelude.{ℕ, zero, suc, ◌+◌, ◌-◌, ◌*◌, ◌/◌, ◌%◌, ◌==◌, Bool, true, ◌&&◌, ◌||◌, not, nat_le}
 use Rattle.std.specs.Prelude.{if◌then◌else◌, List, get_or, length}
+use Rattle.std.specs.List.{list_all}
 
 -- the character that a dump shows for an octet: a full stop for what is not printable ASCII
 abbrev pub shown_octet : ℕ → ℕ
@@ -28,3 +30,11 @@ abbrev pub are_reversed : List ℕ → List ℕ → Bool
 are_reversed octets text =
     not (is_text_of_words 1 octets text)
     && (is_text_of_words 2 octets text || is_text_of_words 4 octets text || is_text_of_words 8 octets text)
+
+-- both digits of an octet are 0 or 1
+abbrev pub has_bits : ℕ → Bool
+has_bits x = nat_le (x / 16) 1 && nat_le (x % 16) 1
+
+-- for each character there are eight digits, all of them 0 or 1, and there is a character
+abbrev pub are_bits : List ℕ → List ℕ → Bool
+are_bits octets text = nat_le 1 (length text) && (length octets == 4 * length text) && list_all has_bits octets

@@ -24,7 +24,7 @@ use output::{Output, add_octets, no_octets};
 use pairs::{DIGITS, Gap, before_pairs, begins_pair, gap_of, row_digits, take_first, take_pairs};
 use rows::{LastRow, Phase, take_line};
 use std::alloc::{AllocError, Global};
-use words::has_reversed_words;
+use words::has_other_octets;
 
 /// The octets of a dump, and where it is refused.
 #[derive(Debug, Drop)]
@@ -113,8 +113,8 @@ fn refused(alloc: Global, left: usize) -> Reading
     }
 }
 
-/// Reads a dump from its first row on. It is refused if the octets of the words in this row are in reverse. `rest` comes
-/// after the row, and `left` is the number of characters from the row on.
+/// Reads a dump from its first row on. It is refused if the pairs of this row are not its octets in order. `rest`
+/// comes after the row, and `left` is the number of characters from the row on.
 fn read_in_order(
     alloc: Global,
     radix: Radix,
@@ -124,7 +124,7 @@ fn read_in_order(
 ) -> Result<Reading, AllocError>
     ensures { IfOk result (Reads (read_in_order radix (row_seen row.entry) left (dump_lines rest.now))) }
 {
-    if has_reversed_words(row) {
+    if has_other_octets(row) {
         return Ok(refused(alloc, left));
     }
     read_from(alloc, radix, row, left, rest)

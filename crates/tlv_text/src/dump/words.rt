@@ -1,20 +1,23 @@
-//! Words of a hex dump whose octets are in reverse.
+//! Rows whose pairs are not their octets in order.
+ghost use Rattle.std.specs.List.{list_all};
 ghost use Rattle.std.specs.Prelude.{◌≡◌, ◌<◌, ◌≤◌, length};
-ghost use Rattle.tlv_text.specs.Dump.{has_reversed_words};
-ghost use Rattle.tlv_text.specs.DumpWords.{are_reversed, is_text_of_words, place_in_word, shown_octet};
+ghost use Rattle.tlv_text.specs.Dump.{are_other_octets, has_other_octets};
+ghost use Rattle.tlv_text.specs.DumpWords.{are_bits, are_reversed, has_bits, is_text_of_words, place_in_word};
+ghost use Rattle.tlv_text.specs.DumpWords.{shown_octet};
 ghost use Rattle.tlv_text.specs.Private.DumpSteps.{row_seen};
 ghost use Rattle.tlv_text.specs.Private.PairSteps.{AreWholePairs, pair_octets};
 
-use super::lines::RowLine;
+use super::lines::{RowLine, after_blanks};
 use super::pairs::{after_few, before_pairs, begins_pair, gap_of, take_first, take_pairs};
 use arrayvec::ArrayVec;
 
 /// The maximum number of octets of a row that are compared with its characters.
 const OCTETS: usize = 256;
 
-/// Whether the characters of a row show that the octets of its words are in reverse, as `xxd -e` writes them.
-pub(super) fn has_reversed_words(row: RowLine<'_>) -> bool
-    ensures { result ≡ has_reversed_words (row_seen row.entry) }
+/// Whether the characters of a row show that its pairs are not its octets in order: its words are in reverse, as
+/// `xxd -e` writes them, or bits, as `xxd -b` does.
+pub(super) fn has_other_octets(row: RowLine<'_>) -> bool
+    ensures { result ≡ has_other_octets (row_seen row.entry) }
 {
     let mut rest = before_pairs(row.rest);
     if !begins_pair(rest) {
@@ -23,19 +26,47 @@ pub(super) fn has_reversed_words(row: RowLine<'_>) -> bool
     let mut digits = ArrayVec::new();
     take_first(&mut rest, &mut digits);
     take_pairs(OCTETS - 1, gap_of(1, row.rest), &mut rest, &mut digits);
-    are_pairs_reversed(digits.as_slice(), after_few(2, rest))
+    are_others_shown(digits.as_slice(), rest)
 }
 
-/// The same of the octets of these pairs of digits, at most 256.
-fn are_pairs_reversed(digits: &[u8], text: &[u8]) -> bool
+/// Whether what is behind these pairs of digits, at most 256, shows that they are not the octets in order.
+fn are_others_shown(digits: &[u8], rest: &[u8]) -> bool
     requires pairs { AreWholePairs digits.now }
     requires few { length digits.now ≤ 512 }
-    ensures { result ≡ are_reversed (pair_octets digits.now) text.now }
+    ensures { result ≡ are_other_octets (pair_octets digits.now) rest.now }
 {
     let mut room = [0; OCTETS];
     let octets = &mut room[..digits.len() / 2];
     let _ = hex::decode_to_slice(digits, octets);
-    are_reversed(octets, text)
+    are_other_octets(octets, rest)
+}
+
+/// Whether what is behind the pairs of these octets shows that they are not the octets in order.
+fn are_other_octets(octets: &[u8], rest: &[u8]) -> bool
+    requires { length octets.now ≤ 256 }
+    ensures { result ≡ are_other_octets octets.now rest.now }
+{
+    are_reversed(octets, after_few(2, rest)) || are_bits(octets, after_blanks(rest))
+}
+
+/// Whether for each character of a text there are eight digits, all of them 0 or 1, and there is a character.
+fn are_bits(octets: &[u8], text: &[u8]) -> bool
+    requires { length octets.now ≤ 256 }
+    ensures { result ≡ are_bits octets.now text.now }
+{
+    !text.is_empty() && text.len() <= OCTETS && octets.len() == 4 * text.len() && have_bits(octets)
+}
+
+/// Whether all digits of these octets are 0 or 1.
+fn have_bits(octets: &[u8]) -> bool
+    ensures { result ≡ list_all has_bits octets.now }
+{
+    for octet in octets {
+        if *octet / 16 > 1 || *octet % 16 > 1 {
+            return false;
+        }
+    }
+    true
 }
 
 /// Whether a text is not the characters of these octets as they are, and is those of the same octets in words of 2, 4

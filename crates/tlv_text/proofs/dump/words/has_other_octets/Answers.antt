@@ -1,10 +1,9 @@
 use Rattle.std.proofs.Common.{◌≡◌, ◌∙◌, Bool, List, ℕ, ap, arith, sym}
 use Rattle.tlv_text.proofs.DumpPairLemmas.{row-read}
-use Rattle.tlv_text.specs.Dump.{after_few, gap_of, pairs_at}
-use Rattle.tlv_text.specs.DumpWords.{are_reversed}
+use Rattle.tlv_text.specs.Dump.{are_other_octets, gap_of, pairs_at}
 use Rattle.tlv_text.specs.Private.PairSteps.{pair_octets}
 use Rattle.tlv_text.specs.TextRead.{TextRead}
-use Rattle.tlv_text.proofs.dump.words.has_reversed_words.Goals as goal
+use Rattle.tlv_text.proofs.dump.words.has_other_octets.Goals as goal
 
 pub returns : goal.returns
 returns c =
@@ -14,11 +13,11 @@ returns c =
     let line : List ℕ = c.args.row.rest.now in
     let begins = sym c.begins_pair.ensures.pair ∙ c.if-not-begins_pair.false in
     let read : pairs_at 256 (gap_of 1 line) c.before_pairs-rest.result.now
-        ≡ record { octets = pair_octets digits; rest = rest } =
+    ≡ record { octets = pair_octets digits; rest = rest } =
     row-read 256 c.take_pairs.result (gap_of 1 line) c.before_pairs-rest.result.now c.take_first.new.digits.items rest
     digits (omega arith) (omega arith) begins c.take_first.ensures.pair
     (rw (c.gap_of.ensures, c.take_first.ensures.rest) at t.read) t.count (rw c.gap_of.ensures at t.last) in
-    let found : TextRead → Bool = λ r. are_reversed r.octets (after_few 2 r.rest) in
-    c.are_pairs_reversed.ensures
-    ∙ rw (c.as_slice.ensures.value, c.after_few.ensures) (ap found (sym read))
+    let found : TextRead → Bool = λ r. are_other_octets r.octets r.rest in
+    c.are_others_shown.ensures
+    ∙ rw c.as_slice.ensures.value (ap found (sym read))
     ∙ ap (λ (text : List ℕ). found (pairs_at 256 (gap_of 1 line) text)) c.before_pairs-rest.ensures
