@@ -1,10 +1,12 @@
 //! `check`, over a source and a drain.
+ghost use Rattle.std.specs.Prelude.{◌≤◌};
 ghost use Rattle.tlv_walk.specs.Job.{Runs, device_states};
 ghost use Rattle.tlv_show.specs.Private.Suits.{Suits};
 ghost use Rattle.tlv_show.specs.ShowJob.{check_job};
 ghost use Rattle.tlv_show.specs.WantedJobs.{check_job_with};
 
 use crate::outcome::Outcome;
+use crate::wanted_order::wants_order;
 use crate::{Check, Rules, Wanted};
 use tlv_walk::{DeviceFault, Drain, Framing, Source, drive};
 
@@ -17,6 +19,7 @@ use tlv_walk::{DeviceFault, Drain, Framing, Source, drive};
 ///
 /// `ReadFailed` if and only if a read failed, and `WriteFailed` if and only if a write failed. `InputTooLong` if the
 /// source gave more than 2^40 octets, and none of the first 2^40 is refused.
+#[tactic(auto, unfolding(crate::specs::Private::Suits::Suits))]
 pub fn check<S: Source, D: Drain>(
     source: &mut S,
     drain: &mut D,
@@ -35,6 +38,7 @@ pub fn check<S: Source, D: Drain>(
 /// # Errors
 ///
 /// As [`check`].
+#[tactic(auto, unfolding(crate::specs::Private::Suits::Suits))]
 pub fn check_with<S: Source, D: Drain>(
     source: &mut S,
     drain: &mut D,
@@ -45,17 +49,22 @@ pub fn check_with<S: Source, D: Drain>(
         (device_states (S.state source.old) (D.state drain.old))
         (device_states (S.state source.new) (D.state drain.new)) result }
 {
-    check_by::<1, S, D>(source, drain, wanted, framing)
+    if wants_order(wanted) {
+        check_by::<128, S, D>(source, drain, wanted, framing)
+    } else {
+        check_by::<1, S, D>(source, drain, wanted, framing)
+    }
 }
 
-/// Lists the findings that are wanted. If `TRACKED` is 0, these are listed ones.
+/// Lists the findings that are wanted, with what is tracked for them.
 fn check_by<const TRACKED: usize, S: Source, D: Drain>(
     source: &mut S,
     drain: &mut D,
     wanted: Wanted,
     framing: &Framing<'_>,
 ) -> Result<Outcome, DeviceFault>
-    requires { Suits TRACKED wanted }
+    requires room { TRACKED ≤ 128 }
+    requires suits { Suits TRACKED wanted }
     ensures { Runs (check_job_with wanted framing.now)
         (device_states (S.state source.old) (D.state drain.old))
         (device_states (S.state source.new) (D.state drain.new)) result }

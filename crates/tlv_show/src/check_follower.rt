@@ -20,7 +20,7 @@ use tlv_walk::{Drain, Event, Follow, Go, Out, WriteFault};
 
 /// Lists what violates the rules, a line for each finding: the offset of the element, the code, and the text. A
 /// finding comes with the event that shows it: a header, the end of a primitive, or the end of an element that holds
-/// others. If `TRACKED` is 0, it lists the listed findings, else those that are wanted.
+/// others. If `TRACKED` is 0, these are the listed findings; if it is 128, those that are wanted.
 #[derive(Drop)]
 pub struct Check<const TRACKED: usize> {
     finder: Finder<TRACKED>,
@@ -36,6 +36,7 @@ impl<const TRACKED: usize> Model for Check<TRACKED> {
 
 impl Check<0> {
     /// A check of the listed findings by these rules, before the first event.
+    #[tactic(auto, unfolding(crate::specs::Private::Suits::Suits))]
     pub fn new(rules: Rules) -> Check<0>
         ensures { result ≡ new_check (listed_by rules) }
     {
@@ -43,9 +44,10 @@ impl Check<0> {
     }
 }
 
-impl Check<1> {
+impl Check<128> {
     /// A check of the findings that are wanted, before the first event.
-    pub fn new_with(wanted: Wanted) -> Check<1>
+    #[tactic(auto, unfolding(crate::specs::Private::Suits::Suits))]
+    pub fn new_with(wanted: Wanted) -> Check<128>
         ensures { result ≡ new_check wanted }
     {
         Check::of(wanted)
@@ -53,7 +55,7 @@ impl Check<1> {
 }
 
 impl<const TRACKED: usize> Check<TRACKED> {
-    /// A check of the findings that are wanted. If `TRACKED` is 0, these are listed ones.
+    /// A check of the findings that are wanted, with what is tracked for them.
     pub(crate) fn of(wanted: Wanted) -> Check<TRACKED>
         requires { Suits TRACKED wanted }
         ensures { result ≡ new_check wanted }

@@ -1,12 +1,34 @@
-//! The findings on contents.
+//! The findings on contents, and all those at the end of a primitive.
 ghost use Rattle.std.specs.Prelude.{◌≡◌, ◌≤◌, [], length};
 ghost use Rattle.tlv_show.specs.FinderState.{contents_findings_in};
 ghost use Rattle.tlv_show.specs.ListedFindings.{is_by};
-ghost use Rattle.tlv_show.specs.ShownFindings.{is_listed, is_shown};
+ghost use Rattle.tlv_show.specs.ShownFindings.{is_listed, is_shown, with_order_if};
 
+use crate::order_finding::insert_order_finding;
 use crate::{Rules, Scope, Wanted};
 use arrayvec::ArrayVec;
 use tlv_value::{Finding, ValueCheck};
+
+/// Adds the findings at the end of a primitive: those on its contents, if all of them have come, and that it is out of
+/// order.
+#[inline(always)]
+pub(crate) fn add_findings_at_end(
+    wanted: Wanted,
+    check: &ValueCheck,
+    is_out_of_order: bool,
+    found: &mut ArrayVec<Finding, 17>,
+)
+    requires { found.old.items ≡ [] }
+    ensures { found.new.items
+        ≡ with_order_if is_out_of_order (contents_findings_in wanted check.now) }
+{
+    if check.left() == 0 {
+        add_contents_findings(wanted, check, found);
+    }
+    if is_out_of_order {
+        insert_order_finding(found);
+    }
+}
 
 /// Adds the findings on the contents of a primitive, after all its contents octets.
 #[inline(never)]

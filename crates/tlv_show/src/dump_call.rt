@@ -1,10 +1,12 @@
 //! `dump`, over a source and a drain.
+ghost use Rattle.std.specs.Prelude.{◌≤◌};
 ghost use Rattle.tlv_walk.specs.Job.{Runs, device_states};
 ghost use Rattle.tlv_show.specs.Private.Suits.{Suits};
 ghost use Rattle.tlv_show.specs.ShowJob.{dump_job};
 ghost use Rattle.tlv_show.specs.WantedJobs.{dump_job_with, wanted_in};
 
-use crate::{Dump, FiniteNames, Options, Outcome, Scope};
+use crate::wanted_order::wants_order;
+use crate::{Dump, FiniteNames, Options, Outcome, Scope, Wanted};
 use tlv_walk::{DeviceFault, Drain, Source, drive};
 
 /// Writes the lines of the encodings that the source gives, up to its end or the first octet that is refused. Object
@@ -16,6 +18,7 @@ use tlv_walk::{DeviceFault, Drain, Source, drive};
 ///
 /// `ReadFailed` if and only if a read failed, and `WriteFailed` if and only if a write failed. `InputTooLong` if the
 /// source gave more than 2^40 octets, and none of the first 2^40 is refused.
+#[tactic(auto, unfolding(crate::specs::Private::Suits::Suits))]
 pub fn dump<N: FiniteNames, S: Source, D: Drain>(
     source: &mut S,
     drain: &mut D,
@@ -36,6 +39,7 @@ pub fn dump<N: FiniteNames, S: Source, D: Drain>(
 /// # Errors
 ///
 /// As [`dump`].
+#[tactic(auto, unfolding(crate::specs::Private::Suits::Suits))]
 pub fn dump_with<N: FiniteNames, S: Source, D: Drain>(
     source: &mut S,
     drain: &mut D,
@@ -48,10 +52,18 @@ pub fn dump_with<N: FiniteNames, S: Source, D: Drain>(
         (device_states (S.state source.old) (D.state drain.old))
         (device_states (S.state source.new) (D.state drain.new)) result }
 {
-    dump_by::<1, N, S, D>(source, drain, options, scope, with_text, names)
+    let wanted = Wanted {
+        rules: options.rules,
+        scope,
+    };
+    if wants_order(wanted) {
+        dump_by::<128, N, S, D>(source, drain, options, scope, with_text, names)
+    } else {
+        dump_by::<1, N, S, D>(source, drain, options, scope, with_text, names)
+    }
 }
 
-/// Writes a dump with the findings of this scope. If `TRACKED` is 0, these are listed ones.
+/// Writes a dump with the findings of this scope, with what is tracked for them.
 fn dump_by<const TRACKED: usize, N: FiniteNames, S: Source, D: Drain>(
     source: &mut S,
     drain: &mut D,
@@ -60,7 +72,8 @@ fn dump_by<const TRACKED: usize, N: FiniteNames, S: Source, D: Drain>(
     with_text: bool,
     names: &N,
 ) -> Result<Outcome, DeviceFault>
-    requires { Suits TRACKED (wanted_in scope options.now) }
+    requires room { TRACKED ≤ 128 }
+    requires suits { Suits TRACKED (wanted_in scope options.now) }
     ensures { Runs (dump_job_with scope with_text options.now (N.table names.now))
         (device_states (S.state source.old) (D.state drain.old))
         (device_states (S.state source.new) (D.state drain.new)) result }

@@ -25,7 +25,7 @@ use tlv_walk::{Drain, Event, Follow, Go, Out, WriteFault};
 /// Writes the lines that each event allows. An element that holds others has a line with its header and a line with
 /// its end; the lines of a primitive come as [`ValueText`](tlv_value::ValueText) writes them. A finding that the
 /// header shows has its line before the first line of its element; any other finding has it after the last line. If
-/// `TRACKED` is 0, it shows the listed findings, else those that are wanted.
+/// `TRACKED` is 0, it shows the listed findings; if it is 128, those that are wanted.
 #[derive(Drop)]
 pub struct Dump<'n, N: FiniteNames, const TRACKED: usize> {
     lines: Lines<'n, N>,
@@ -46,6 +46,7 @@ impl<'n, N: FiniteNames, const TRACKED: usize> Model for Dump<'n, N, TRACKED> {
 
 impl<'n, N: FiniteNames> Dump<'n, N, 0> {
     /// A dump that has written nothing yet. It reports the listed findings.
+    #[tactic(auto, unfolding(crate::specs::Private::Suits::Suits))]
     pub fn new(options: &Options<'_>, names: &'n N) -> Dump<'n, N, 0>
         ensures { result ≡ new_dump options.now.rules (top_layout options.now) (N.table names.now) }
     {
@@ -53,15 +54,16 @@ impl<'n, N: FiniteNames> Dump<'n, N, 0> {
     }
 }
 
-impl<'n, N: FiniteNames> Dump<'n, N, 1> {
+impl<'n, N: FiniteNames> Dump<'n, N, 128> {
     /// Like `new`, with the findings of this scope, and with text beside pairs of digits if `with_text` is set, as in
     /// [`ValueText::new_with`](tlv_value::ValueText::new_with).
+    #[tactic(auto, unfolding(crate::specs::Private::Suits::Suits))]
     pub fn new_with(
         options: &Options<'_>,
         scope: Scope,
         with_text: bool,
         names: &'n N,
-    ) -> Dump<'n, N, 1>
+    ) -> Dump<'n, N, 128>
         ensures { result ≡ new_dump_with with_text
             (wanted_in scope options.now) (top_layout options.now) (N.table names.now) }
     {
@@ -70,7 +72,7 @@ impl<'n, N: FiniteNames> Dump<'n, N, 1> {
 }
 
 impl<'n, N: FiniteNames, const TRACKED: usize> Dump<'n, N, TRACKED> {
-    /// A dump with the findings of this scope. If `TRACKED` is 0, these are listed ones.
+    /// A dump with the findings of this scope, with what is tracked for them.
     pub(crate) fn of(
         options: &Options<'_>,
         scope: Scope,

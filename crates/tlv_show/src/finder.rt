@@ -11,7 +11,7 @@ ghost use Rattle.tlv_show.specs.Private.FinderState.{PassesOrStays, ReturnsFindi
 ghost use Rattle.tlv_show.specs.Private.FinderState.{new_finder, with_check_state};
 
 use crate::Wanted;
-use crate::contents_findings::add_contents_findings;
+use crate::contents_findings::add_findings_at_end;
 use crate::header_findings::{
     add_end_findings, add_header_findings, has_no_header_findings, has_no_header_findings_if_usual,
 };
@@ -34,8 +34,11 @@ use tlv_head::Header;
 use tlv_value::{ValueCheck, is_clear};
 
 /// Finds what violates the rules, event by event. It keeps what it must know of the open elements that hold others,
-/// and of the open primitive. If `TRACKED` is 0, the listed findings alone may be wanted: the code for the order of
-/// SETs and for the characters of segments is then not there.
+/// and of the open primitive. `TRACKED` says what may be wanted; the code for all else is not there:
+///
+/// - 0: the listed findings alone.
+/// - 1: the characters of segments too.
+/// - 128: the order of SETs too. There is room for so many frames of open SETs.
 #[derive(Drop)]
 pub(crate) struct Finder<const TRACKED: usize> {
     wanted: Wanted,
@@ -48,7 +51,7 @@ pub(crate) struct Finder<const TRACKED: usize> {
     /// is not filled again each time.
     check: ValueCheck,
     /// What must be known of the open SETs, if their order is wanted.
-    order: SetOrder,
+    order: SetOrder<TRACKED>,
     /// What must be known of the open strings, if the characters of their segments are wanted.
     strings: SegmentCharacters,
     /// The number of findings so far.
@@ -237,12 +240,7 @@ impl<const TRACKED: usize> Finder<TRACKED> {
         }
         let level = self.holders.depth();
         self.last.restart(level, self.offset);
-        if check.left() == 0 {
-            add_contents_findings(self.wanted, check, &mut self.last.findings);
-        }
-        if is_out_of_order {
-            insert_order_finding(&mut self.last.findings);
-        }
+        add_findings_at_end(self.wanted, check, is_out_of_order, &mut self.last.findings);
         self.finding_count = self
             .finding_count
             .saturating_add(self.last.findings.len() as u64);

@@ -12,6 +12,8 @@ pub(crate) struct HolderFrame {
     pub offset: u64,
     /// The number of contents octets that its header announces.
     pub announced_length: u64,
+    /// The number of octets of the value in the segments so far. It stops at 1001.
+    pub value_length: u64,
     /// Whether it is primitive: a string that holds encodings.
     pub is_primitive: bool,
     /// Whether it is a constructed string, which holds segments.
@@ -26,8 +28,6 @@ pub(crate) struct HolderFrame {
     pub last_is_not_full: bool,
     /// Whether all elements that it holds so far are primitive.
     pub all_primitive: bool,
-    /// The number of octets of the value in the segments so far. It stops at 1001.
-    pub value_length: u64,
     /// Whether the last element that it holds is a primitive without contents octets.
     pub ends_empty: bool,
 }

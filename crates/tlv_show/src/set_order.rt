@@ -19,17 +19,17 @@ use tlv_head::Header;
 /// What is kept of the open SETs. An octet of the input counts for each SET around it, while no more than 64 octets of
 /// the element that is directly in this SET have come.
 #[derive(Drop)]
-pub(crate) struct SetOrder {
+pub(crate) struct SetOrder<const KEPT: usize> {
     /// The frame of the innermost open SET, or of the outside of all SETs.
     frame: SetFrame,
     /// The frames outside of it, outermost first.
-    outer: ArrayVec<SetFrame, 128>,
+    outer: ArrayVec<SetFrame, KEPT>,
     /// The number of these, from the outermost on, that need no more octets. When a frame needs no more, this is so of
     /// the frames outside of it too: their elements have begun before.
     full: usize,
 }
 
-impl Model for SetOrder {
+impl<const KEPT: usize> Model for SetOrder<KEPT> {
     ghost use Rattle.std.specs.Prelude.{reverse};
     ghost use Rattle.tlv_show.specs.Private.SetOrder.{NeedNoOctets};
     ghost use Rattle.tlv_show.specs.SetOrderState.{SetOrderState};
@@ -41,9 +41,9 @@ impl Model for SetOrder {
     ghost invariant = { λ s. NeedNoOctets s.full s.outer.items };
 }
 
-impl SetOrder {
+impl<const KEPT: usize> SetOrder<KEPT> {
     /// Before the first event.
-    pub fn new() -> SetOrder
+    pub fn new() -> SetOrder<KEPT>
         ensures { result ≡ new_set_order }
     {
         SetOrder {
@@ -87,7 +87,8 @@ impl SetOrder {
     /// An element that holds others begins. Of a BIT STRING that holds encodings, the first contents octet is taken too.
     #[inline(always)]
     pub fn open(&mut self, rules: Rules, header: &Header, octets: &[u8])
-        requires { octets.now ≡ octets_of header.now }
+        requires kept { KEPT ≡ 128 }
+        requires octets { octets.now ≡ octets_of header.now }
         ensures { self.new ≡ set_order_open_step rules self.old header.now }
     {
         self.begin(rules, header, octets);
@@ -98,10 +99,11 @@ impl SetOrder {
     /// The elements that come next are in the element with this header.
     #[inline(always)]
     fn enter(&mut self, header: &Header)
+        requires { KEPT ≡ 128 }
         ensures { self.new ≡ set_order_entered self.old header.now }
     {
         self.frame.open_count = self.frame.open_count.saturating_add(1);
-        if is_set(header) && self.outer.len() < 128 {
+        if is_set(header) && self.outer.len() < KEPT {
             self.outer.push(self.frame);
             self.frame = new_set_frame();
         }
@@ -160,7 +162,11 @@ impl SetOrder {
 /// Octets of the elements in these frames, of which the first ones need no more, as many as `full`. Returns for how many
 /// this is known afterwards.
 #[inline(always)]
-fn add_octets_outside(outer: &mut ArrayVec<SetFrame, 128>, full: usize, octets: &[u8]) -> usize
+fn add_octets_outside<const KEPT: usize>(
+    outer: &mut ArrayVec<SetFrame, KEPT>,
+    full: usize,
+    octets: &[u8],
+) -> usize
     requires { NeedNoOctets full outer.old.items }
     ensures frames { outer.new.items ≡ frames_after_octets octets.now outer.old.items }
     ensures full { NeedNoOctets result outer.new.items }
@@ -178,7 +184,11 @@ fn add_octets_outside(outer: &mut ArrayVec<SetFrame, 128>, full: usize, octets: 
 
 /// Octets of the elements in the frames from the index `first` on.
 #[inline(never)]
-fn add_octets_from(outer: &mut ArrayVec<SetFrame, 128>, first: usize, octets: &[u8])
+fn add_octets_from<const KEPT: usize>(
+    outer: &mut ArrayVec<SetFrame, KEPT>,
+    first: usize,
+    octets: &[u8],
+)
     ensures { outer.new.items ≡ frames_after_octets_from first octets.now outer.old.items }
 {
     for i in first..outer.len() {

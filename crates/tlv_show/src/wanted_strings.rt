@@ -1,4 +1,6 @@
 //! What is kept of the open strings, if the characters of their segments are wanted.
+#![tactic(auto, unfolding(crate::specs::Private::Suits::Suits))]
+
 ghost use Rattle.std.specs.Prelude.{◌≡◌, true};
 ghost use Rattle.tlv_head.specs.Header.{octets_of};
 ghost use Rattle.tlv_show.specs.FinderState.{end_octets_if, string_found, strings_if};

@@ -7,18 +7,18 @@ use Rattle.tlv_show.specs.SetOrderState.{has_all_compared}
 use Rattle.tlv_show.proofs.set_order.add_octets_outside.Goals as goal
 
 pub returns-then-full-len-clause-frames : goal.returns-then-full-len-clause-frames
-returns-then-full-len-clause-frames c =
+returns-then-full-len-clause-frames g c =
     let outer = c.args.outer.now.items in
     sym
     (after_all_full c.args.octets.now outer
     (full-fewer c.args.full _ outer (omega (arith, c.len.ensures.value, c.if-full-len.true)) c.requires))
 
 pub returns-then-has_all_compared-clause-frames : goal.returns-then-has_all_compared-clause-frames
-returns-then-has_all_compared-clause-frames c =
+returns-then-has_all_compared-clause-frames g c =
     c.add_octets_from.ensures ∙ after_from_full c.args.full c.args.octets.now c.args.outer.now.items c.requires
 
 pub returns-then-has_all_compared-clause-full : goal.returns-then-has_all_compared-clause-full
-returns-then-has_all_compared-clause-full c =
+returns-then-has_all_compared-clause-full g c =
     let outer = c.add_octets_from.new.outer.items in
     let few : c.args.full < length outer =
     omega (
@@ -35,10 +35,10 @@ returns-then-has_all_compared-clause-full c =
     full_next c.args.full outer _ rest few (sym one_more ∙ sym c.if-has_all_compared.ensures)
 
 pub returns-else-has_all_compared-clause-frames : goal.returns-else-has_all_compared-clause-frames
-returns-else-has_all_compared-clause-frames c =
+returns-else-has_all_compared-clause-frames g c =
     c.add_octets_from.ensures ∙ after_from_full c.args.full c.args.octets.now c.args.outer.now.items c.requires
 
 pub returns-else-has_all_compared-clause-full : goal.returns-else-has_all_compared-clause-full
-returns-else-has_all_compared-clause-full c =
+returns-else-has_all_compared-clause-full g c =
     subst (λ (l : List SetFrame). NeedNoOctets c.args.full l) (sym c.add_octets_from.ensures)
     (full_after c.args.full c.args.octets.now c.args.outer.now.items c.requires)

@@ -1,4 +1,5 @@
 use Rattle.std.proofs.Common.{refl, rules}
+use Rattle.std.proofs.lemmas.Result.{err_from_is_err_and}
 use Rattle.tlv_head.specs.HeaderFields.{new_header}
 use Rattle.tlv_walk.specs.Events.{Open}
 use Rattle.tlv_io.proofs.Puts.{puts_as, puts_failed_last}
@@ -6,13 +7,15 @@ use Rattle.tlv_show.proofs.FindingLemmas.CheckLaws.{one_on}
 use Rattle.tlv_show.proofs.check_follower.CheckFollow.open.Goals as goal
 
 pub returns-in_err-open : goal.returns-in_err-open
-returns-in_err-open g c = record {
-  has = record {
-    puts = puts_failed_last g.D.Drain.state _ _ _ _ _ (rw c.new.ensures at c.in_err-open.ensures.puts) (search rules);
-    state = search rules;
-  };
-  goes = search rules;
-}
+returns-in_err-open g c =
+    let failed = err_from_is_err_and c.from_residual.result c.from_residual.ensures.1 in
+    record {
+      has = record {
+        puts = puts_failed_last g.D.Drain.state _ _ _ _ _ (rw c.new.ensures at c.in_err-open.ensures.puts) (search rules);
+        state = rw failed.1 tt;
+      };
+      goes = rw failed.1 tt;
+    }
 
 pub returns : goal.returns
 returns g c = record {

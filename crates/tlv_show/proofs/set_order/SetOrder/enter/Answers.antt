@@ -6,7 +6,7 @@ use Rattle.tlv_show.proofs.SetOrderLemmas.KeptFrames.{full_pushed}
 use Rattle.tlv_show.proofs.set_order.SetOrder.enter.Goals as goal
 
 pub invariant_of-self : goal.invariant_of-self
-invariant_of-self c =
+invariant_of-self g c =
     let s = c.self.inside in
     subst (λ (l : List SetFrame). NeedNoOctets s.full l) (sym c.push.ensures.items)
     (full_pushed s.full s.outer.items _ c.self.invariant)

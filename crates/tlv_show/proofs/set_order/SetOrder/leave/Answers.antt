@@ -5,7 +5,7 @@ use Rattle.tlv_show.proofs.SetOrderLemmas.KeptFrames.{full_taken}
 use Rattle.tlv_show.proofs.set_order.SetOrder.leave.Goals as goal
 
 pub invariant_of-self : goal.invariant_of-self
-invariant_of-self c =
+invariant_of-self g c =
     let s = c.self.inside in
     let rest : List SetFrame = c.pop.new.self.items in
     subst (λ (n : ℕ). NeedNoOctets n rest) (sym (c.min-self-inside.ensures ∙ ap (min s.full) c.len.ensures.value))

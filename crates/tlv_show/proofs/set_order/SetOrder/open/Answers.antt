@@ -6,7 +6,7 @@ use Rattle.tlv_show.proofs.SetOrderLemmas.OneElement.{octets_step-append}
 use Rattle.tlv_show.proofs.set_order.SetOrder.open.Goals as goal
 
 pub returns : goal.returns
-returns c =
+returns g c =
     let h = c.args.header.now in
     let s : SetOrderState = set_order_started c.args.rules c.args.self.now h in
     c.enter.ensures

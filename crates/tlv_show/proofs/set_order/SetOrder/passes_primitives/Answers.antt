@@ -7,7 +7,7 @@ use Rattle.tlv_show.proofs.SetOrderLemmas.Passing.{primitives-pass}
 use Rattle.tlv_show.proofs.set_order.SetOrder.passes_primitives.Goals as goal
 
 pub returns : goal.returns
-returns c = λ e.
+returns g c = λ e.
     let s = c.self.inside in
     let direct : is_direct s.frame ≡ false = grind (arith, nat_tests, c.if-self-eq0.false) in
     let full : has_all_compared s.frame ≡ true = sym c.if-not-has_all_compared.ensures in
