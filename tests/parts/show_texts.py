@@ -97,7 +97,19 @@ def sound(checks, octets, has_iconv):
         if form not in ("dump", "runs", None):
             checks.same(f"{what}, without line ends", text.replace(b"\n", b""), octets)
             checks.same(f"{what}, spaces for line ends", text.replace(b"\n", b" "), octets)
+        if form == "dump":
+            in_one_line(checks, what, text)
         shown(checks, what, text, octets)
+
+
+def in_one_line(checks, what, text):
+    """A dump whose line ends are lost is refused: it does not give the octets of its first row."""
+    for end in (b"", b" "):
+        changed, here = text.replace(b"\n", end), f"{what}, {end!r} for line ends"
+        got = checks.raw(here, changed)
+        checks.part.expect(f"{here}: no octets", got.status != 0 and not got.out, *got.lines())
+        if ROW.match(text.split(b"\n", 1)[0]):
+            checks.refused(f"{here}, --as", changed, b"", "dump", 1)
 
 
 def shown(checks, what, text, octets):
@@ -176,14 +188,9 @@ def damaged_dumps(checks, octets):
             ("a line of another kind", 3 * width, 1, [*before, b"end\n", lines[at], *after]),
             ("a repeat of no row", 3 * width, 2, [*before, b"*\n", lines[at], *after]),
             ("a wrong offset", 3 * width, 1, [*before, offset, *after]),
-            ("a wrong digit", 3 * width + 1, 2, [*before, digit, *after]),
+            ("a wrong digit", 3 * width, 1, [*before, digit, *after]),
         ):
-            place = at + more
-            if name.startswith("od") and "-Ax" not in name:
-                # A dump with octal offsets is refused where it would be with
-                # hexadecimal ones: at its second row, which then does not fit.
-                kept, place = width, 2
-            checks.refused(f"{name}, {what}", b"".join(changed), octets[:kept], form, place)
+            checks.refused(f"{name}, {what}", b"".join(changed), octets[:kept], form, at + more)
 
 
 def repeats(checks):

@@ -97,21 +97,25 @@ def dump(rng, octets):
 
 
 def altered(rng, lines):
-    """Returns the lines of a dump with a wrong offset, a row that is too long or too short, or an inserted line."""
+    """Returns the lines of a dump with a wrong offset, a row that is too long or too short, a line inserted, or two lines
+    in one.
+    """
     if not lines:
         return lines
-    at, how = rng.randrange(len(lines)), rng.randrange(6)
+    at, how = rng.randrange(len(lines)), rng.randrange(7)
     line = lines[at]
     if how == 0:
         lines[at] = rng.choice("0123456789abcdefg") + line[1:]
     elif how == 1:
         lines[at] = line[: rng.randrange(len(line) + 1)]
     elif how == 2:
-        lines[at] = line + rng.choice([" 05", "05", "  05", " 05 ", "  |..|", " ."])
+        lines[at] = line + rng.choice([" 05", "05", "  05", " 05 ", "  |..|", " .", " " + "\u00e9" * 9, "..."])
     elif how == 3:
         lines.insert(at, rng.choice(["", "*", "* ", "**", "end", "0010", "00000010", "0000001z", " \t"]))
     elif how == 4:
         lines[at] = line.replace(" ", rng.choice(["  ", "\t", "", "-", ":"]))
-    else:
+    elif how == 5:
         lines[at] = lines[at].upper()
+    else:
+        lines[at : at + 2] = [rng.choice(["", " "]).join(lines[at : at + 2])]
     return lines

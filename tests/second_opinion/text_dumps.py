@@ -14,6 +14,9 @@ REPEAT, EMPTY = re.compile(rb"[ \t]*\*[ \t]*"), re.compile(rb"[ \t]*")
 # pair with a blank or the end of the line after it.
 DIGIT = re.compile(DIGITS[16])
 MORE = re.compile(rb"[ \t]%s(?=[ \t]|\Z)" % PAIR)
+# A character that counts behind the pairs of a row: no blank, and no further octet of a character of UTF-8. There may be
+# as many as the row has octets, and BARS more.
+BEHIND, BARS = re.compile(rb"[^ \t\x80-\xbf]"), 2
 # An offset as od writes it.
 OF_OD = re.compile(rb"[ \t]*(?:0[xX])?[0-7]{7}[ \t]")
 
@@ -43,11 +46,13 @@ class Line:
 
 
 def decoded(text):
-    """Returns what a hex dump gives. Offsets are octal if they are as od writes them and fit, and else hexadecimal."""
+    """Returns what a hex dump gives. Offsets are octal if they are as od writes them, and fit, or fit further than as
+    hexadecimal ones.
+    """
     dump = Dump(text, 16)
     if OF_OD.match(dump.first):
         octal = Dump(text, 8)
-        dump = octal if octal.place is None else dump
+        dump = octal if octal.fits_further(dump) else dump
     return Decoded(dump.octets(), dump.place)
 
 
@@ -88,6 +93,10 @@ class Dump:
         if sum(size for _, size in self.pieces) > MOST_OCTETS:
             raise TooLong
         return b"".join((octets * (size // len(octets) + 1))[:size] for octets, size in self.pieces)
+
+    def fits_further(self, other):
+        """Returns whether this reading is not refused, or is refused further on than another one."""
+        return self.place is None or other.place is not None and self.place > other.place
 
     def line_of(self, place, text):
         """Returns a line by its kind, or None if it is of no known kind."""
@@ -157,6 +166,8 @@ class Dump:
             return False
         octets, at = self.pairs(row)
         if DIGIT.match(row.text, at) or len(octets) == self.width and MORE.match(row.text, at):
+            return False
+        if len(BEHIND.findall(row.text, at)) > len(octets) + BARS:
             return False
         if not self.fits_offset(row.offset):
             return False

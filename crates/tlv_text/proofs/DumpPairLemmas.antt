@@ -11,9 +11,10 @@ use Rattle.hex.specs.Hex.{is_hex_digit}
 use Rattle.tlv_text.proofs.DumpLemmas.{pair_octets-length}
 use Rattle.tlv_text.proofs.PairLemmas.{pair_octets-more, pairs-and_one}
 use Rattle.tlv_text.proofs.Slices.{after-two, slice_from}
-use Rattle.tlv_text.specs.Dump.{after_few, after_gap, before_pairs, begins_digit, begins_lone_pair, begins_pair}
-use Rattle.tlv_text.specs.Dump.{dump_row_octets, gap_of, leading_octet, octets_if, octets_repeated, pairs_after}
-use Rattle.tlv_text.specs.Dump.{pairs_at, row_fits}
+use Rattle.tlv_text.specs.Dump.{octets_repeated}
+use Rattle.tlv_text.specs.DumpPairs.{after_few, after_gap, before_pairs, begins_digit, begins_lone_pair, begins_pair}
+use Rattle.tlv_text.specs.DumpPairs.{dump_row_octets, gap_of, has_few_others, leading_octet, octets_if, pairs_after}
+use Rattle.tlv_text.specs.DumpPairs.{pairs_at, row_fits}
 use Rattle.tlv_text.specs.Pairs.{pair_octet}
 use Rattle.tlv_text.specs.Private.PairSteps.{AreWholePairs, pair_octets}
 use Rattle.tlv_text.specs.TextRead.{TextRead, nothing_read, octets_then}
@@ -154,6 +155,11 @@ nothing-left size left gap rest digits few count last =
           ap (λ (n : ℕ). pairs_after n gap rest) none
     ]
 
+-- one octet is taken first
+pub one-pair : (first text : List ℕ) → first ≡ take 2 text → begins_pair text ≡ true → length (pair_octets first) ≡ 1
+one-pair first text f begins =
+    pair_octets-length first ∙ ap (λ (t : List ℕ). length t / 2) f ∙ ap (λ (n : ℕ). n / 2) (two-taken text begins)
+
 pub row-read : (size left : ℕ) (gap : Gap) (text first rest digits : List ℕ) → 0 < size → size ≤ 256
     → begins_pair text ≡ true → first ≡ take 2 text
     → octets_then (pair_octets first) (pairs_after (size - 1) gap (drop 2 text))
@@ -162,8 +168,7 @@ pub row-read : (size left : ℕ) (gap : Gap) (text first rest digits : List ℕ)
     → (length digits < 512 → pairs_after left gap rest ≡ nothing_read rest)
     → pairs_at size gap text ≡ record { octets = pair_octets digits; rest = rest }
 row-read size left gap text first rest digits some few begins f read count last =
-    let one : length (pair_octets first) ≡ 1 =
-    pair_octets-length first ∙ ap (λ (t : List ℕ). length t / 2) f ∙ ap (λ (n : ℕ). n / 2) (two-taken text begins) in
+    let one = one-pair first text f begins in
     pairs-from_first size gap text some begins
     ∙ ap (λ (t : List ℕ). octets_then (pair_octets t) (pairs_after (size - 1) gap (drop 2 text))) (sym f)
     ∙ read
@@ -172,7 +177,8 @@ row-read size left gap text first rest digits some few begins f read count last 
 
 pub row-octets : (size : ℕ) (line text rest octets : List ℕ) (fits : Bool) → text ≡ before_pairs line
     → begins_pair text ≡ true → pairs_at size (gap_of 2 line) text ≡ record { octets = octets; rest = rest }
-    → fits ≡ not (begins_digit rest || ((length octets == size) && begins_lone_pair (after_few 1 rest)))
+    → fits ≡ (not (begins_digit rest || ((length octets == size) && begins_lone_pair (after_few 1 rest)))
+    && has_few_others (length octets) rest)
     → octets_if fits octets ≡ dump_row_octets size line
 row-octets size line text rest octets fits e begins read f =
     let one : octets_if fits octets ≡ octets_if (row_fits size text (record { octets = octets; rest = rest })) octets =
@@ -183,6 +189,22 @@ row-octets size line text rest octets fits e begins read f =
     (pairs_at size (gap_of 2 line) t).octets) e
 
 -- ---- a row alone
+
+-- the number of pairs that may follow the pairs taken is the number of characters without these pairs
+pub pairs-left : (total size most left : ℕ) (old new : List ℕ) (before after : TextRead)
+    → octets_then old before ≡ octets_then new after
+    → length new + left ≡ length old + most
+    → total + most ≡ length before.octets + size
+    → total + left ≡ length after.octets + size
+pairs-left total size most left old new before after read count i =
+    omega (
+      arith,
+      ap (λ (r : TextRead). length r.octets) read,
+      length-append old before.octets,
+      length-append new after.octets,
+      count,
+      i,
+    )
 
 -- pairs are read, and others remain
 pub some-read : (left : ℕ) (gap : Gap) (rest digits : List ℕ) (read : TextRead)

@@ -208,12 +208,61 @@ none-row = refl
 refused-row : refused_in (codes "30 03\n") (dump_read (codes "30 03\n")).left ≡ Some 6
 refused-row = refl
 
--- a row of hexdump -C that is broken in its second half: with octal offsets, the first halves would be all octets
+-- a row of hexdump -C that is broken in its second half is not taken for a shorter row
 broken-row : dump_read (
     codes "00000000  30 31 32 33 34 35 36 37  38 39 3a 3b 3c 3d 3e 3f\n"
     ++ codes "00000010  30 31 32 33 34 35 36 37  38 3z 3a 3b 3c 3d 3e 3f\n"
     ++ codes "00000020  30 31 32 33 34 35 36 37  38\n"
     )
-    ≡ record { octets = octets_from 0x30 16 ++ octets_from 0x30 9; left = Some 38 }
+    ≡ record { octets = octets_from 0x30 16; left = Some 97 }
 unfolding octets_from
 broken-row = refl
+
+-- without its line feeds, a dump is refused in its first line, and not read as one row
+joined-row : dump_read (
+    codes "00000000: 3082 0122 0405 0607 0809 0a0b 0c0d 0e0f  0..\"............"
+    ++ codes "00000010: 3031                                     01"
+    )
+    ≡ refused_with 120
+joined-row = refl
+
+-- nor are two rows in one line read as one among others
+second-row : dump_read (codes "0000: 2e2f  ./0002: 3031  01\n0004: 3233  23\n") ≡ refused_with 44
+second-row = refl
+
+-- two bars are not too much, and three are
+bars-row : dump_read (codes "0000: 3031  |01|") ≡ whole more
+unfolding more whole
+bars-row = refl
+
+three_bars-row : dump_read (codes "0000: 3031  |01||") ≡ refused_with 17
+three_bars-row = refl
+
+-- a character counts once, though it has more octets: here four of two octets, as é is written
+further-row : dump_read (
+    codes "0000: 3031  " ++ 0xc3 ∷ 0xa9 ∷ 0xc3 ∷ 0xa9 ∷ 0xc3 ∷ 0xa9 ∷ 0xc3 ∷ 0xa9 ∷ []
+    )
+    ≡ whole more
+unfolding more whole
+further-row = refl
+
+-- a dump of od is refused where its octal offsets or its rows do not fit, though with hexadecimal offsets it would be
+-- refused at its second row
+od_broken-row : dump_read (
+    codes "0000000 30 82 01 22 04 05 06 07 08 09 0a 0b 0c 0d 0e 0f\n"
+    ++ codes "0000020 30 82 01 22 04 05 06 07 08 09 0a 0b 0c 0d 0e 0f\n"
+    ++ codes "0000040 30 82 z1 22 04 05 06\n0000060 31\n"
+    )
+    ≡ record { octets = octets ++ octets; left = Some 40 }
+unfolding octets
+od_broken-row = refl
+
+-- where hexadecimal offsets fit further, octal ones are not taken
+hexadecimal_further-row : dump_read (
+    codes "0000000 30 82 01 22 04 05 06 07 08 09 0a 0b 0c 0d 0e 0f\n"
+    ++ codes "0000010 30 82 01 22 04 05 06 07 08 09 0a 0b 0c 0d 0e 0f\n"
+    ++ codes "0000040 30 82\n"
+    )
+    ≡ record { octets = octets ++ octets; left = Some 14 }
+unfolding octets
+hexadecimal_further-row = refl

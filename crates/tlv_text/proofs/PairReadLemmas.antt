@@ -6,7 +6,7 @@ use Rattle.std.specs.Prelude.{if◌then◌else◌, unwrap_or}
 use Rattle.hex.specs.Hex.{is_hex_digit}
 use Rattle.tlv_text.proofs.Slices.{from-on, slice_from}
 use Rattle.tlv_text.proofs.TokenLemmas.{octets-and_more}
-use Rattle.tlv_text.specs.Dump.{begins_digit}
+use Rattle.tlv_text.specs.DumpPairs.{begins_digit}
 use Rattle.tlv_text.specs.Pairs.{is_between_pairs, pair_octet, pairs_read}
 use Rattle.tlv_text.specs.Private.PairSteps.{octet_of}
 use Rattle.tlv_text.specs.Separated.{are_separated}

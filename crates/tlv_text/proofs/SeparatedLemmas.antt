@@ -8,9 +8,10 @@ use Rattle.std.proofs.lemmas.List.Elements.{All-cons, All-drop, All-nil}
 use Rattle.std.proofs.lemmas.List.Sums.{list_all-from_AllPass}
 use Rattle.hex.specs.Hex.{is_hex_digit}
 use Rattle.tlv_text.specs.Blocks.{IsHexAlone, HasNoSeparatedBlock, only_block}
-use Rattle.tlv_text.specs.Dump.{begins_digit, dump_limit, dump_read, refused_with}
+use Rattle.tlv_text.specs.Dump.{dump_limit, dump_read, refused_with}
 use Rattle.tlv_text.specs.DumpLines.{TextLine, after_blanks, dump_lines, into_line, is_dump_blank, kind_from, line_kind}
 use Rattle.tlv_text.specs.DumpLines.{OffsetRead, new_text_line, offset_read, row_of, row_or_other, without_return}
+use Rattle.tlv_text.specs.DumpPairs.{begins_digit}
 use Rattle.tlv_text.specs.Pairs.{is_between_pairs}
 use Rattle.tlv_text.specs.Pem.{HasNoBlock, begin_marker, dashes}
 use Rattle.tlv_text.specs.Separated.{IsSeparated, are_separated}

@@ -10,129 +10,16 @@
 --   empty  = *blank
 --   gap    = "-" / 1*2blank                    "-" / blank in a single row; or nothing, if a colon follows the offset
 --                                              at once
-use Rattle.std.specs.Prelude.{ℕ, zero, suc, ◌+◌, ◌-◌, ◌/◌, ◌%◌, ◌==◌, Bool, true, false, ◌&&◌, ◌||◌, not, nat_le}
-use Rattle.std.specs.Prelude.{nat_lt, if◌then◌else◌, List, [], ◌∷◌, ◌++◌, drop, length, Option, Some, None, is_none}
-use Rattle.std.specs.Prelude.{option_map}
+--   others = *(blank / character)              not more characters than the row has octets, and two more: bars
+use Rattle.std.specs.Prelude.{ℕ, zero, suc, ◌+◌, ◌-◌, ◌/◌, ◌%◌, ◌==◌, Bool, true, false, ◌&&◌, nat_le, nat_lt}
+use Rattle.std.specs.Prelude.{if◌then◌else◌, List, [], ◌∷◌, ◌++◌, length, Option, Some, None, option_map}
 use Rattle.std.specs.List.{list_all}
-use Rattle.hex.specs.Hex.{is_hex_digit}
-use Rattle.tlv_text.specs.DumpLines.{LineKind, RowRead, TextLine, after_blanks, begins_colon, is_dump_blank, line_kind}
-use Rattle.tlv_text.specs.DumpLines.{dump_lines, has_od_offset}
-use Rattle.tlv_text.specs.DumpWords.{are_bits, are_reversed}
-use Rattle.tlv_text.specs.Pairs.{pair_octet}
-use Rattle.tlv_text.specs.TextRead.{TextRead, nothing_read, octets_then}
+use Rattle.tlv_text.specs.DumpLines.{LineKind, RowRead, TextLine, dump_lines, has_od_offset, is_dump_blank, line_kind}
+use Rattle.tlv_text.specs.DumpPairs.{dump_row_octets, has_pair, single_row_octets}
+use Rattle.tlv_text.specs.DumpWords.{has_other_octets}
 use Rattle.tlv_text.specs.declared.dump.lines.Radix.{Radix}
 use Rattle.tlv_text.specs.declared.dump.lines.Radix.TheVariants.{Hexadecimal, Octal}
-use Rattle.tlv_text.specs.declared.dump.pairs.Gap.{Gap}
 use Rattle.tlv_text.specs.declared.dump.rows.Phase.{Phase}
-
--- ---- the pairs of a row
-
--- the text without this character, if it comes first
-abbrev pub after_one : ℕ → List ℕ → List ℕ
-after_one c [] = []
-after_one c (x ∷ text) = if x == c then text else x ∷ text
-
--- the text after leading blanks, a colon, a hyphen and blanks
-abbrev pub before_pairs : List ℕ → List ℕ
-before_pairs rest = after_blanks (after_one 45 (after_one 58 (after_blanks rest)))
-
--- the text after at most this number of leading blanks
-abbrev pub after_few : ℕ → List ℕ → List ℕ
-after_few zero text = text
-after_few (suc n) [] = []
-after_few (suc n) (x ∷ text) = if is_dump_blank x then after_few n text else x ∷ text
-
--- the text after what may be between two pairs: a hyphen, or blanks, or nothing where pairs may be joined; where they
--- may not, no pair follows a pair at once
-abbrev pub after_gap : Gap → List ℕ → List ℕ
-after_gap gap [] = []
-after_gap gap (x ∷ text) =
-    if x == 45 then text
-    else (if gap.joined || is_dump_blank x then after_few gap.blanks (x ∷ text) else [])
-
--- the gap with at most this number of blanks. Pairs may be joined only if a colon follows the offset at once: without
--- one, they are words of 16 or 32 bits, as hexdump and od -tx2 write them, and their octets may be swapped
-abbrev pub gap_of : ℕ → List ℕ → Gap
-gap_of blanks rest = record { blanks = blanks; joined = begins_colon rest }
-
-abbrev pub begins_digit : List ℕ → Bool
-begins_digit [] = false
-begins_digit (x ∷ text) = is_hex_digit x
-
-abbrev pub begins_pair : List ℕ → Bool
-begins_pair (x ∷ y ∷ text) = is_hex_digit x && is_hex_digit y
-begins_pair text = false
-
--- the octet of the pair that a text begins with
-abbrev pub leading_octet : List ℕ → ℕ
-leading_octet (x ∷ y ∷ text) = pair_octet x y
-leading_octet text = 0
-
--- the octets of at most this number of pairs, each after a gap, and the rest after the last of them
-abbrev pub pairs_after : ℕ → Gap → List ℕ → TextRead
-pairs_after zero gap text = nothing_read text
-pairs_after (suc n) gap text =
-    let next : List ℕ = after_gap gap text in
-    if begins_pair next then octets_then (leading_octet next ∷ []) (pairs_after n gap (drop 2 next))
-    else nothing_read text
-
--- the same, with no gap before the first pair
-abbrev pub pairs_at : ℕ → Gap → List ℕ → TextRead
-pairs_at zero gap text = nothing_read text
-pairs_at (suc n) gap text =
-    if begins_pair text then octets_then (leading_octet text ∷ []) (pairs_after n gap (drop 2 text))
-    else nothing_read text
-
--- a blank or the end of the line comes first
-abbrev pub begins_blank : List ℕ → Bool
-begins_blank [] = true
-begins_blank (x ∷ text) = is_dump_blank x
-
--- the text begins with a pair that a blank or the end follows
-abbrev pub begins_lone_pair : List ℕ → Bool
-begins_lone_pair text = begins_pair text && begins_blank (drop 2 text)
-
--- a digit follows the pairs at once, or, after a full row, a lone pair follows after one blank
-abbrev pub has_more_digits : ℕ → TextRead → Bool
-has_more_digits size read =
-    begins_digit read.rest || ((length read.octets == size) && begins_lone_pair (after_few 1 read.rest))
-
--- one pair or more, and no more digits after them
-abbrev pub row_fits : ℕ → List ℕ → TextRead → Bool
-row_fits size text read = begins_pair text && not (has_more_digits size read)
-
-abbrev pub octets_if : Bool → List ℕ → Option (List ℕ)
-octets_if fits octets = if fits then Some octets else None
-
--- the octets of a row among others, if it fits; a row has `size` octets, and the last row may have fewer
-abbrev pub dump_row_octets : ℕ → List ℕ → Option (List ℕ)
-dump_row_octets size rest =
-    let text : List ℕ = before_pairs rest in
-    let read : TextRead = pairs_at size (gap_of 2 rest) text in
-    octets_if (row_fits size text read) read.octets
-
--- the octets of a single row: its offset is 0 or a colon follows it, and it has one or more pairs, with no digit
--- right after them
-abbrev pub single_row_octets : RowRead → Option (List ℕ)
-single_row_octets r =
-    let text : List ℕ = before_pairs r.rest in
-    let read : TextRead = pairs_at (length text) (gap_of 1 r.rest) text in
-    octets_if (((r.offset == 0) || begins_colon r.rest) && begins_pair text && not (begins_digit read.rest)) read.octets
-
--- what is behind pairs shows that they are not the octets in order. It comes behind two blanks, or behind more of them
--- where the pairs are bits
-abbrev pub are_other_octets : List ℕ → List ℕ → Bool
-are_other_octets octets rest = are_reversed octets (after_few 2 rest) || are_bits octets (after_blanks rest)
-
--- the same of the pairs of a row, which is read as a single one, of at most 256 pairs
-abbrev pub has_other_octets : RowRead → Bool
-has_other_octets r =
-    let read : TextRead = pairs_at 256 (gap_of 1 r.rest) (before_pairs r.rest) in
-    are_other_octets read.octets read.rest
-
--- a row with a pair; a row without a pair is an end, or, before the first row, another line
-abbrev pub has_pair : RowRead → Bool
-has_pair r = begins_pair (before_pairs r.rest)
 
 -- ---- rows
 
@@ -299,12 +186,19 @@ is_octal_first [] = false
 is_octal_first (line ∷ lines) =
     octal_first_at (line_kind Hexadecimal line.characters) (line_kind Octal line.characters) (is_octal_first lines)
 
--- offsets are hexadecimal. They are octal where they look like the offsets of od, unless the text read so is refused.
--- Other refused dumps are not read as octal: in rows of 16 in two halves, that would give the octets of the first
--- halves
+-- a reading is whole, or it is refused further on than another one, given the number of characters from where each is
+-- refused
+abbrev pub goes_further : Option ℕ → Option ℕ → Bool
+goes_further None other = true
+goes_further (Some left) None = false
+goes_further (Some left) (Some other) = nat_lt left other
+
+-- offsets are octal if they look like the offsets of od, and the text read so is not refused, or is refused further on
+-- than with hexadecimal offsets. Otherwise they are hexadecimal
 abbrev pub dump_read : List ℕ → DumpRead
 dump_read text =
-    if is_octal_first (dump_lines text) && is_none (dump_in Octal text).left then dump_in Octal text
+    if is_octal_first (dump_lines text) && goes_further (dump_in Octal text).left (dump_in Hexadecimal text).left then
+    dump_in Octal text
     else dump_in Hexadecimal text
 
 -- the number of characters before the place where a text is refused, if it is refused

@@ -12,6 +12,7 @@ pub mod Private
 pub mod Dump
 pub mod DumpFault
 pub mod DumpLines
+pub mod DumpPairs
 pub mod DumpWords
 pub mod Separated
 pub mod Blocks

@@ -1,7 +1,7 @@
 -- Texts of pairs of digits, none of which a digit follows at once.
 use Rattle.std.specs.Prelude.{◌≡◌, ℕ, Bool, true, ◌&&◌, ◌||◌, not, if◌then◌else◌, List, [], ◌∷◌}
 use Rattle.hex.specs.Hex.{is_hex_digit}
-use Rattle.tlv_text.specs.Dump.{begins_digit}
+use Rattle.tlv_text.specs.DumpPairs.{begins_digit}
 use Rattle.tlv_text.specs.Pairs.{is_between_pairs, pairs_read}
 
 -- a text has nothing but pairs, none of which a digit follows at once, and what may be between pairs; its last pair may

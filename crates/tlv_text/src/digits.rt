@@ -1,7 +1,7 @@
 //! Hexadecimal digits.
 ghost use Rattle.hex.specs.Hex.{is_hex_digit};
 ghost use Rattle.std.specs.Prelude.{◌≡◌, ◌<◌, ◌≤◌, nat_lt, true};
-ghost use Rattle.tlv_text.specs.Dump.{begins_digit};
+ghost use Rattle.tlv_text.specs.DumpPairs.{begins_digit};
 ghost use Rattle.tlv_text.specs.Pairs.{hex_value};
 ghost use Rattle.tlv_text.specs.Private.PairSteps.{octet_of, value_or_256};
 

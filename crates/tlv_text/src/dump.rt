@@ -1,9 +1,9 @@
 //! Octets of a hex dump with offsets.
 ghost use Rattle.std.specs.Prelude.{◌≡◌, ◌<◌, ◌≤◌, IfErr, IfOk, OnOk, Some, None, length, true};
-ghost use Rattle.tlv_text.specs.Dump.{begins_pair, dump_in, dump_limit, dump_read};
-ghost use Rattle.tlv_text.specs.Dump.{left_in, pairs_at, read_from, read_in_order};
-ghost use Rattle.tlv_text.specs.Dump.{refused_in, refused_with, rows_read, single_row_octets, size_in};
+ghost use Rattle.tlv_text.specs.Dump.{dump_in, dump_limit, dump_read, goes_further, left_in, read_from};
+ghost use Rattle.tlv_text.specs.Dump.{read_in_order, refused_in, refused_with, rows_read, size_in};
 ghost use Rattle.tlv_text.specs.DumpLines.{dump_lines};
+ghost use Rattle.tlv_text.specs.DumpPairs.{begins_pair, pairs_at, single_row_octets};
 ghost use Rattle.tlv_text.specs.DumpFault.{IsFault};
 ghost use Rattle.tlv_text.specs.Private.DumpSteps.{IsAdded, IsFirstRow, Reads, dump_place_of, row_seen};
 ghost use Rattle.tlv_text.specs.Private.PairSteps.{AreWholePairs};
@@ -21,7 +21,10 @@ use ahead::{from_first_row, has_pair, is_octal_first, size_in};
 use arrayvec::ArrayVec;
 use lines::{DumpLine, Radix, RowLine, begins_colon, line_of, split_line};
 use output::{Output, add_octets, no_octets};
-use pairs::{DIGITS, Gap, before_pairs, begins_pair, gap_of, row_digits, take_first, take_pairs};
+use pairs::{
+    DIGITS, Gap, before_pairs, begins_pair, gap_of, has_few_others, row_digits, take_first,
+    take_pairs,
+};
 use rows::{LastRow, Phase, take_line};
 use std::alloc::{AllocError, Global};
 use words::has_other_octets;
@@ -36,8 +39,10 @@ pub(crate) struct Reading {
 }
 
 /// Decodes a hex dump with offsets, as xxd, hexdump, od, Wireshark, tcpdump, Format-Hex and OpenSSL write it. A text
-/// is refused at the first line that does not fit. Offsets are hexadecimal. They are octal if the offset of the first
-/// row has seven octal digits and no colon after it, as od writes it, and the text read so is not refused.
+/// is refused at the first line that does not fit. A row does not fit if more characters come after its pairs than it
+/// has octets, besides two bars: its line then holds more than a row, as it does if line ends are lost. Offsets are
+/// hexadecimal. They are octal if the offset of the first row has seven octal digits and no colon after it, as od
+/// writes it, and the text read so is not refused, or is refused further on than with hexadecimal offsets.
 ///
 /// # Errors
 ///
@@ -75,13 +80,31 @@ fn read_dump(alloc: Global, text: &[u8]) -> Result<Reading, AllocError>
     ensures { IfOk result (Reads (dump_read text.now)) }
 {
     let rest = from_first_row(text);
-    if is_octal_first(rest) {
-        let octal = read_lines(alloc, Radix::Octal, text)?;
-        if octal.left.is_none() {
-            return Ok(octal);
-        }
+    if !is_octal_first(rest) {
+        return read_lines(alloc, Radix::Hexadecimal, rest);
     }
-    read_lines(alloc, Radix::Hexadecimal, rest)
+    let octal = read_lines(alloc, Radix::Octal, text)?;
+    if octal.left.is_none() {
+        return Ok(octal);
+    }
+    let hexadecimal = read_lines(alloc, Radix::Hexadecimal, rest)?;
+    if goes_further(octal.left, hexadecimal.left) {
+        Ok(octal)
+    } else {
+        Ok(hexadecimal)
+    }
+}
+
+/// Whether a reading is whole, or is refused further on than another one, given the number of characters from where
+/// each is refused.
+fn goes_further(left: Option<usize>, other: Option<usize>) -> bool
+    ensures { result ≡ goes_further left other }
+{
+    match (left, other) {
+        (None, _) => true,
+        (Some(_), None) => false,
+        (Some(left), Some(other)) => left < other,
+    }
 }
 
 /// Reads a dump with offsets of this radix.
@@ -206,20 +229,21 @@ fn add_single(alloc: Global, row: RowLine<'_>, output: &mut Output) -> Result<bo
     if !(row.offset == 0 || begins_colon(row.rest)) || !begins_pair(text) {
         return Ok(false);
     }
-    let rest = add_pairs(alloc, gap_of(1, row.rest), text, output)?;
-    Ok(!begins_digit(rest))
+    let (octets, rest) = add_pairs(alloc, gap_of(1, row.rest), text, output)?;
+    Ok(!begins_digit(rest) && has_few_others(octets, rest))
 }
 
-/// Adds the octets of the pairs of a single row. Returns the rest after them.
+/// Adds the octets of the pairs of a single row. Returns their number, and the rest after them.
 fn add_pairs<'a>(
     alloc: Global,
     gap: Gap,
     text: &'a [u8],
     output: &mut Output,
-) -> Result<&'a [u8], AllocError>
+) -> Result<(usize, &'a [u8]), AllocError>
     requires { begins_pair text.now ≡ true }
     ensures octets { OnOk result (IsAdded (pairs_at (length text.now) gap text.now).octets output.old output.new) }
-    ensures rest { IfOk result (λ rest. rest.now ≡ (pairs_at (length text.now) gap text.now).rest) }
+    ensures count { IfOk result (λ r. r.0 ≡ length (pairs_at (length text.now) gap text.now).octets) }
+    ensures rest { IfOk result (λ r. r.1.now ≡ (pairs_at (length text.now) gap text.now).rest) }
 {
     let mut rest = text;
     let mut digits = ArrayVec::new();
@@ -229,7 +253,7 @@ fn add_pairs<'a>(
         left = take_pairs(left, gap, &mut rest, &mut digits);
         add_octets(alloc, digits.as_slice(), 1, output)?;
         if digits.len() < DIGITS {
-            return Ok(rest);
+            return Ok((text.len() - left, rest));
         }
         digits.clear();
     }

@@ -42,7 +42,7 @@ static TOOLS: [&[u8]; 10] = [
 ];
 
 /// Short dumps, dumps that are refused, and texts that are no dump.
-static DUMPS: [Row<'static>; 14] = [
+static DUMPS: [Row<'static>; 19] = [
     (
         b"0000  30 03 02 01 05   0....",
         b"\x30\x03\x02\x01\x05",
@@ -79,14 +79,31 @@ static DUMPS: [Row<'static>; 14] = [
     ),
     // The second row lacks a digit.
     (b"00000000: 3003\n00000002: 020\n", b"\x30\x03", Some(15)),
-    // The second row has a wrong digit in its second half. It must not be taken for a shorter row, as it could be if
-    // offsets were octal.
+    // The second row has a wrong digit in its second half. It must not be taken for a shorter row.
     (
         b"00000000  30 31 32 33 34 35 36 37  38 39 3a 3b 3c 3d 3e 3f\n\
           00000010  30 31 32 33 34 35 36 37  38 3z 3a 3b 3c 3d 3e 3f\n\
           00000020  30 31 32 33 34 35 36 37  38\n",
-        b"0123456789:;<=>?012345678",
-        Some(118),
+        b"0123456789:;<=>?",
+        Some(59),
+    ),
+    // Rows without line feeds are not a single row.
+    (b"00000000: 3003 0201  0...00000004: 05    .", b"", Some(0)),
+    // Two bars are not too much, nor are characters of more than one octet, and three bars are.
+    (b"0000: 3031  |01|\n", b"01", None),
+    (
+        b"0000: 3031  \xc3\xa9\xc3\xa9\xc3\xa9\xc3\xa9\n",
+        b"01",
+        None,
+    ),
+    (b"0000: 3031  |01||\n", b"", Some(0)),
+    // A dump of od with octal offsets is refused in the row that does not fit.
+    (
+        b"0000000 30 31 32 33 34 35 36 37 38 39 3a 3b 3c 3d 3e 3f\n\
+          0000020 30 31 32 33 34 35 36 37 38 39 3a 3b 3c 3d 3e 3f\n\
+          0000050 30\n0000051\n",
+        b"0123456789:;<=>?0123456789:;<=>?",
+        Some(112),
     ),
     (b"no dump\n", b"", Some(8)),
     (b"3003 0201 05\n", b"", Some(0)),

@@ -1,8 +1,9 @@
 //! What the lines of a hex dump tell about it before they are read.
 ghost use Rattle.std.specs.List.{list_any};
 ghost use Rattle.std.specs.Prelude.{◌≡◌, ◌<◌, ◌≤◌, MatchOption};
-ghost use Rattle.tlv_text.specs.Dump.{dump_in, has_pair, is_octal_first, size_by, size_in};
+ghost use Rattle.tlv_text.specs.Dump.{dump_in, is_octal_first, size_by, size_in};
 ghost use Rattle.tlv_text.specs.DumpLines.{dump_lines};
+ghost use Rattle.tlv_text.specs.DumpPairs.{has_pair};
 ghost use Rattle.tlv_text.specs.Private.DumpSteps.{is_row_sign, row_seen};
 ghost use Rattle.tlv_text.specs.declared.dump.lines.Radix.TheVariants.{Hexadecimal};
 

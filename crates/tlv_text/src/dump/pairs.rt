@@ -1,7 +1,8 @@
 //! Pairs of digits in a row of a hex dump.
-ghost use Rattle.std.specs.Prelude.{◌≡◌, ◌<◌, ◌≤◌, ◌+◌, ◌||◌, ◌&&◌, [], drop, length, take, true};
-ghost use Rattle.tlv_text.specs.Dump.{after_few, after_gap, after_one, before_pairs, begins_blank, begins_digit};
-ghost use Rattle.tlv_text.specs.Dump.{begins_lone_pair, begins_pair, dump_row_octets, gap_of, octets_if, pairs_after};
+ghost use Rattle.std.specs.Prelude.{◌≡◌, ◌<◌, ◌≤◌, ◌+◌, ◌||◌, ◌&&◌, [], drop, length, not, take, true};
+ghost use Rattle.tlv_text.specs.DumpPairs.{after_few, after_gap, after_one, before_pairs, begins_blank, begins_digit};
+ghost use Rattle.tlv_text.specs.DumpPairs.{begins_lone_pair, begins_pair, dump_row_octets, gap_of, has_few_others};
+ghost use Rattle.tlv_text.specs.DumpPairs.{is_further, octets_if, others_count, pairs_after};
 ghost use Rattle.tlv_text.specs.Private.PairSteps.{AreWholePairs, pair_octets};
 ghost use Rattle.tlv_text.specs.TextRead.{nothing_read, octets_then};
 
@@ -35,7 +36,16 @@ pub(super) fn row_digits(size: usize, rest: &[u8], digits: &mut ArrayVec<u8, DIG
     }
     take_first(&mut after, digits);
     take_pairs(size - 1, gap_of(2, rest), &mut after, digits);
-    !has_more_digits(digits.len() / 2 == size, after)
+    let octets = digits.len() / 2;
+    ends_row(octets, octets == size, after)
+}
+
+/// Whether a row ends after its pairs, which are these many octets: no more digits, and few other characters follow.
+fn ends_row(octets: usize, full: bool, rest: &[u8]) -> bool
+    ensures { result ≡ (not (begins_digit rest.now || full && begins_lone_pair (after_few 1 rest.now))
+        && has_few_others octets rest.now) }
+{
+    !has_more_digits(full, rest) && has_few_others(octets, rest)
 }
 
 /// Whether a digit follows the pairs at once, or, after a full row, a lone pair follows after one blank.
@@ -43,6 +53,33 @@ fn has_more_digits(full: bool, rest: &[u8]) -> bool
     ensures { result ≡ begins_digit rest.now || full && begins_lone_pair (after_few 1 rest.now) }
 {
     begins_digit(rest) || full && begins_lone_pair(after_few(1, rest))
+}
+
+/// Whether not more characters come after the pairs of a row than the row has octets, besides two bars.
+pub(super) fn has_few_others(octets: usize, rest: &[u8]) -> bool
+    ensures { result ≡ has_few_others octets rest.now }
+{
+    others_count(rest).saturating_sub(2) <= octets
+}
+
+/// The number of characters of a text, without blanks.
+fn others_count(text: &[u8]) -> usize
+    ensures { result ≡ others_count text.now }
+{
+    let mut count = 0;
+    for character in text {
+        if !(is_blank(*character) || is_further(*character)) {
+            count += 1;
+        }
+    }
+    count
+}
+
+/// Whether this is a further octet of a character of UTF-8.
+fn is_further(character: u8) -> bool
+    ensures { result ≡ is_further character }
+{
+    matches!(character, 0x80..=0xbf)
 }
 
 /// The gap of a row, given what comes after its offset, with at most `blanks` blanks.

@@ -1,9 +1,8 @@
 //! Rows whose pairs are not their octets in order.
 ghost use Rattle.std.specs.List.{list_all};
 ghost use Rattle.std.specs.Prelude.{◌≡◌, ◌<◌, ◌≤◌, length};
-ghost use Rattle.tlv_text.specs.Dump.{are_other_octets, has_other_octets};
-ghost use Rattle.tlv_text.specs.DumpWords.{are_bits, are_reversed, has_bits, is_text_of_words, place_in_word};
-ghost use Rattle.tlv_text.specs.DumpWords.{shown_octet};
+ghost use Rattle.tlv_text.specs.DumpWords.{are_bits, are_other_octets, are_reversed, has_bits, has_other_octets};
+ghost use Rattle.tlv_text.specs.DumpWords.{is_text_of_words, place_in_word, shown_octet};
 ghost use Rattle.tlv_text.specs.Private.DumpSteps.{row_seen};
 ghost use Rattle.tlv_text.specs.Private.PairSteps.{AreWholePairs, pair_octets};
 

@@ -1,5 +1,5 @@
 use Rattle.std.proofs.Common.{◌≡◌}
-use Rattle.tlv_text.specs.Dump.{after_few}
+use Rattle.tlv_text.specs.DumpPairs.{after_few}
 use Rattle.tlv_text.proofs.dump.pairs.after_few.Given as goal
 
 abbrev pub invariant-loop-left : goal.invariant-loop-left

@@ -1,5 +1,5 @@
 use Rattle.std.proofs.Common.{◌≡◌, ◌+◌, length}
-use Rattle.tlv_text.specs.Dump.{pairs_after}
+use Rattle.tlv_text.specs.DumpPairs.{pairs_after}
 use Rattle.tlv_text.specs.Private.PairSteps.{AreWholePairs, pair_octets}
 use Rattle.tlv_text.specs.TextRead.{octets_then}
 use Rattle.tlv_text.proofs.dump.pairs.take_pairs.Given as goal

@@ -1,6 +1,6 @@
 use Rattle.std.proofs.Common.{◌≡◌, ◌∙◌, List, ℕ, ap, refl}
 use Rattle.tlv_text.proofs.DumpWordLemmas.{room-decoded}
-use Rattle.tlv_text.specs.Dump.{are_other_octets}
+use Rattle.tlv_text.specs.DumpWords.{are_other_octets}
 use Rattle.tlv_text.specs.Private.PairSteps.{pair_octets}
 use Rattle.tlv_text.proofs.dump.words.are_others_shown.Goals as goal
 

@@ -1,6 +1,7 @@
 use Rattle.std.proofs.Common.{◌≡◌, ◌∙◌, Bool, List, ℕ, ap, arith, sym}
 use Rattle.tlv_text.proofs.DumpPairLemmas.{row-read}
-use Rattle.tlv_text.specs.Dump.{are_other_octets, gap_of, pairs_at}
+use Rattle.tlv_text.specs.DumpPairs.{gap_of, pairs_at}
+use Rattle.tlv_text.specs.DumpWords.{are_other_octets}
 use Rattle.tlv_text.specs.Private.PairSteps.{pair_octets}
 use Rattle.tlv_text.specs.TextRead.{TextRead}
 use Rattle.tlv_text.proofs.dump.words.has_other_octets.Goals as goal
