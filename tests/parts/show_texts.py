@@ -112,6 +112,18 @@ def in_one_line(checks, what, text):
             checks.refused(f"{here}, --as", changed, b"", "dump", 1)
 
 
+def not_in_order(checks, octets):
+    """A dump whose pairs are not the octets in order is refused in its first line."""
+    checks.part.write("octets", octets)
+    for words in ("-e", "-e -g2", "-e -g8", "-e -c8", "-b", "-b -c4"):
+        command = ["xxd", *words.split(), "octets"]
+        text = subprocess.run(command, cwd=checks.part.folder, capture_output=True, timeout=60).stdout
+        what = f"xxd {words}, {len(octets)} octets"
+        got = checks.raw(what, text)
+        checks.part.expect(f"{what}: no octets", got.status != 0 and not got.out, *got.lines())
+        checks.refused(f"{what}, --as", text, b"", "dump", 1)
+
+
 def shown(checks, what, text, octets):
     """The dump of a text is that of its octets, on a pipe and as a file."""
     part, program = checks.part, checks.program
@@ -267,6 +279,9 @@ def test(part):
     _, rest = text_makers.dump(fixed[0], rows_of.xxd).split(b"\n", 1)
     checks.same("a dump that does not begin at 0", rest, fixed[0][16:])
     repeats(checks)
+    if "xxd" in checks.tools:
+        for octets in (*fixed, zeros, element(0x30, b"\x02\x01\x05"), element(0x30, element(4, b"text and more"))):
+            not_in_order(checks, octets)
     cuts(checks, fixed[0])
     cuts(checks, zeros)
     drawn(part, program)

@@ -59,12 +59,26 @@ def one_blank(offset, octets, width):
     return f"{offset:04x}: {octets.hex(' ')} {shown(octets)}"
 
 
+def xxd_in_words(offset, octets, width):
+    """Returns a row of xxd -e, with the octets of each word in reverse."""
+    reversed_words = (octets[at : at + 4][::-1].hex().rjust(8) for at in range(0, len(octets), 4))
+    return f"{offset:08x}: {' '.join(reversed_words):{width * 9 // 4}} {shown(octets)}"
+
+
+def xxd_in_bits(offset, octets, width):
+    """Returns a row of xxd -b."""
+    return f"{offset:08x}: {' '.join(f'{it:08b}' for it in octets):{width * 9}} {shown(octets)}"
+
+
 def words(offset, octets, width):
     """Returns a row of hexdump without options."""
     return f"{offset:07x} {joined(octets, 2)}"
 
 
-ROWS = (xxd, xxd, hexdump, hexdump, od, od, od_z, wireshark, tcpdump, bio_dump, powershell, one_blank, words)
+ROWS = (
+    xxd, xxd, hexdump, hexdump, od, od, od_z, wireshark, tcpdump, bio_dump, powershell, one_blank, words,
+    xxd_in_words, xxd_in_bits,
+)
 OCTAL = (od,)
 BEFORE = ("12:00:01.5 IP 10.0.0.1.22 > 10.0.0.2.5: Flags [P.], length 5", "# x", "", "Path: a", "0000 zz", "*", "abcd")
 ENDED = (hexdump, od, od_z, words)

@@ -3,7 +3,7 @@ import re
 from dataclasses import dataclass
 
 MOST_OCTETS = 1 << 30
-USUAL_WIDTH, MOST_WIDTH = 16, 256
+USUAL_WIDTH, MOST_WIDTH, WORD_SIZES = 16, 256, (2, 4, 8, 16)
 PAIR = rb"[0-9a-fA-F]{2}"
 OFFSET = rb"[ \t]*(?:0[xX])?(%s{4,16})"
 DIGITS = {16: rb"[0-9a-fA-F]", 8: rb"[0-7]"}
@@ -57,12 +57,10 @@ def decoded(text):
 
 
 def lines_of(text):
-    """Returns each line with the place where it begins. A carriage return before a line feed is dropped."""
+    """Returns each line with the place where it begins. A carriage return at its end is dropped."""
     found, place = [], 0
-    lines = text.split(b"\n")
-    for number, line in enumerate(lines, 1):
-        is_ended = number < len(lines)
-        found.append((place, line.removesuffix(b"\r") if is_ended else line))
+    for line in text.split(b"\n"):
+        found.append((place, line.removesuffix(b"\r")))
         place += len(line) + 1
     return found
 
@@ -130,6 +128,9 @@ class Dump:
         self.is_single = len(items) == 1
         self.width = None if self.is_single else width_of(items)
         self.next_offset, self.before, self.is_repeated = items[0].offset, None, False
+        if self.has_other_octets(items[0]):
+            self.place = items[0].place
+            return
         fits = {"row": self.fits_row, "repeat": self.fits_repeat, "end": self.fits_end}
         for item in items:
             if not fits[item.kind](item):
@@ -164,7 +165,7 @@ class Dump:
         """Adds the octets of a row. Returns whether it fits."""
         if self.is_short() or self.is_single and row.offset != 0 and not row.has_colon:
             return False
-        octets, at = self.pairs(row)
+        octets, at = self.pairs(row, self.width, 1 if self.is_single else 2)
         if DIGIT.match(row.text, at) or len(octets) == self.width and MORE.match(row.text, at):
             return False
         if len(BEHIND.findall(row.text, at)) > len(octets) + BARS:
@@ -175,18 +176,40 @@ class Dump:
         self.next_offset, self.before = row.offset + len(octets), octets
         return True
 
-    def pairs(self, row):
-        """Returns the octets of a row, up to the width, and the place after them."""
-        blanks = 0 if row.has_colon else 1, 1 if self.is_single else 2
+    def has_other_octets(self, row):
+        """Returns whether the characters of the first row show that its pairs are not its octets in order."""
+        octets, at = self.pairs(row, MOST_WIDTH, 1)
+        text = row.text[at:]
+        after_two = re.sub(rb"^[ \t]{1,2}", b"", text)
+        if after_two != shown(octets) and any(after_two == shown(reversed_words(octets, size)) for size in (*WORD_SIZES, len(octets))):
+            return True
+        text = text.lstrip(b" \t")
+        return bool(text) and len(octets) == 4 * len(text) and set(octets.hex()) <= {"0", "1"}
+
+    def pairs(self, row, width, most_blanks):
+        """Returns the octets of a row, up to this width, and the place after them."""
+        blanks = 0 if row.has_colon else 1, most_blanks
         gap = re.compile(rb"(?:-|[ \t]{%d,%d})(%s)" % (*blanks, PAIR))
         octets, at = bytes.fromhex(row.text[row.start : row.start + 2].decode()), row.start + 2
-        while len(octets) != self.width and (pair := gap.match(row.text, at)):
+        while len(octets) != width and (pair := gap.match(row.text, at)):
             octets, at = octets + bytes.fromhex(pair[1].decode()), pair.end()
         return octets, at
 
     def fits_end(self, end):
         """Returns whether the last offset fits: the offset after the last row, or the one up to which a repeat goes."""
         return self.fits_offset(end.offset)
+
+
+def shown(octets):
+    """Returns the characters of octets: a full stop for each that is not printable ASCII."""
+    return octets and bytes(octet if 0x20 <= octet <= 0x7E else ord(".") for octet in octets)
+
+
+def reversed_words(octets, size):
+    """Returns the octets with those of each word reversed, or None if they are not whole words of this size."""
+    if len(octets) % size:
+        return None
+    return b"".join(octets[at : at + size][::-1] for at in range(0, len(octets), size))
 
 
 def width_of(items):

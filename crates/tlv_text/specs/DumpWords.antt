@@ -27,12 +27,13 @@ abbrev pub is_text_of_words : ℕ → List ℕ → List ℕ → Bool
 is_text_of_words size octets text =
     (length text == length octets) && (length octets % size == 0) && show_words size octets text (length octets)
 
--- a text is not the characters of octets as they are, and is those of the same octets in words of 2, 4 or 8, each of
--- them reversed
+-- a text is not the characters of octets as they are, and is those of the same octets in words of 2, 4, 8 or 16, or in
+-- a single word, each of them reversed
 abbrev pub are_reversed : List ℕ → List ℕ → Bool
 are_reversed octets text =
     not (is_text_of_words 1 octets text)
-    && (is_text_of_words 2 octets text || is_text_of_words 4 octets text || is_text_of_words 8 octets text)
+    && (is_text_of_words 2 octets text || is_text_of_words 4 octets text || is_text_of_words 8 octets text
+    || is_text_of_words 16 octets text || is_text_of_words (length octets) octets text)
 
 -- both digits of an octet are 0 or 1
 abbrev pub has_bits : ℕ → Bool

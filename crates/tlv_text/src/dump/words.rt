@@ -1,6 +1,6 @@
 //! Rows whose pairs are not their octets in order.
 ghost use Rattle.std.specs.List.{list_all};
-ghost use Rattle.std.specs.Prelude.{◌≡◌, ◌<◌, ◌≤◌, length};
+ghost use Rattle.std.specs.Prelude.{◌≡◌, ◌<◌, ◌≤◌, ◌||◌, length};
 ghost use Rattle.tlv_text.specs.DumpWords.{are_bits, are_other_octets, are_reversed, has_bits, has_other_octets};
 ghost use Rattle.tlv_text.specs.DumpWords.{is_text_of_words, place_in_word, shown_octet};
 ghost use Rattle.tlv_text.specs.Private.DumpSteps.{row_seen};
@@ -68,21 +68,35 @@ fn have_bits(octets: &[u8]) -> bool
     true
 }
 
-/// Whether a text is not the characters of these octets as they are, and is those of the same octets in words of 2, 4
-/// or 8, each of them reversed.
+/// Whether a text is not the characters of these octets as they are, and is those of the same octets in words of 2, 4,
+/// 8 or 16, or in a single word, each of them reversed.
 fn are_reversed(octets: &[u8], text: &[u8]) -> bool
     requires { length octets.now ≤ 256 }
     ensures { result ≡ are_reversed octets.now text.now }
 {
-    !is_text_of_words(1, octets, text)
-        && (is_text_of_words(2, octets, text)
-            || is_text_of_words(4, octets, text)
-            || is_text_of_words(8, octets, text))
+    !octets.is_empty() && !is_text_of_words(1, octets, text) && are_in_words(octets, text)
+}
+
+/// Whether a text is the characters of these octets in words of 2, 4, 8 or 16, or in a single word, each of them
+/// reversed.
+fn are_in_words(octets: &[u8], text: &[u8]) -> bool
+    requires some { 0 < length octets.now }
+    requires few { length octets.now ≤ 256 }
+    ensures { result
+        ≡ (is_text_of_words 2 octets.now text.now || is_text_of_words 4 octets.now text.now
+        || is_text_of_words 8 octets.now text.now || is_text_of_words 16 octets.now text.now
+        || is_text_of_words (length octets.now) octets.now text.now) }
+{
+    is_text_of_words(2, octets, text)
+        || is_text_of_words(4, octets, text)
+        || is_text_of_words(8, octets, text)
+        || is_text_of_words(16, octets, text)
+        || is_text_of_words(octets.len(), octets, text)
 }
 
 /// Whether a text is the characters of these octets, of which each word of this size is reversed.
 fn is_text_of_words(size: usize, octets: &[u8], text: &[u8]) -> bool
-    requires size { (0 < size) × (size ≤ 8) }
+    requires size { (0 < size) × (size ≤ 256) }
     requires few { length octets.now ≤ 256 }
     ensures { result ≡ is_text_of_words size octets.now text.now }
 {
@@ -100,7 +114,7 @@ fn is_text_of_words(size: usize, octets: &[u8], text: &[u8]) -> bool
 
 /// The place of an octet after each word of this size is reversed.
 fn place_in_word(size: usize, at: usize) -> usize
-    requires size { (0 < size) × (size ≤ 8) }
+    requires size { (0 < size) × (size ≤ 256) }
     requires few { at < 256 }
     ensures { result ≡ place_in_word size at }
 {
