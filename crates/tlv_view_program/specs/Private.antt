@@ -1,2 +1,3 @@
 pub mod BlockParts
 pub mod Tables
+pub mod ShowsSome

@@ -29,9 +29,9 @@ pub(crate) fn explained_in(wanted: &Wanted, shown: &Viewed) -> Explained
 }
 
 /// The octets of a block.
-pub(crate) fn octets_of_contents(contents: &Contents) -> &[u8]
-    requires { contents_fit contents.now }
-    ensures octets { result.now ≡ octets_of_contents (block_contents contents.now) }
+pub(crate) fn octets_of_contents(contents: Contents<'_>) -> &[u8]
+    requires { contents_fit contents }
+    ensures octets { result.now ≡ octets_of_contents (block_contents contents.entry) }
     ensures short { length result.now ≤ input_limit }
 {
     match contents {

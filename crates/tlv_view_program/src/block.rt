@@ -68,7 +68,7 @@ impl Task<'_> {
             result.has_failed result.status }
     {
         let name = name_of(number, block);
-        let _ = write_contents_note(name, &block.contents, &mut streams.messages);
+        let _ = write_contents_note(name, block.contents, &mut streams.messages);
         let shown = self.titled(number, block, &mut streams.output);
         let _ = write_messages(
             name,
@@ -76,11 +76,11 @@ impl Task<'_> {
             shown.broken.as_slice(),
             &mut streams.messages,
         );
-        let outcome = self.explained(&block.contents, &shown, &mut streams.messages);
+        let outcome = self.explained(block.contents, &shown, &mut streams.messages);
         let refusal = reasons_report(outcome);
         let _ = write_messages(name, refusal.message.as_slice(), &[], &mut streams.messages);
         let shown_status = status_with(shown.report.status, shown.broken.as_slice());
-        let status = contents_status(&self.request.wanted, &block.contents, shown_status);
+        let status = contents_status(&self.request.wanted, block.contents, shown_status);
         BlockResult {
             status: highest(status, refusal.status),
             has_failed: has_failed_write(&shown.report),
@@ -90,12 +90,12 @@ impl Task<'_> {
     /// Writes the reasons that come after the messages.
     fn explained<D: Drain>(
         &self,
-        contents: &Contents,
+        contents: Contents<'_>,
         shown: &Viewed,
         drain: &mut D,
     ) -> Result<Result<(), WriteFault>, AllocError>
-        requires { contents_fit contents.now }
-        ensures { WritesReasons self.now.request.now.padding (octets_of_contents (block_contents contents.now))
+        requires { contents_fit contents }
+        ensures { WritesReasons self.now.request.now.padding (octets_of_contents (block_contents contents.entry))
             (D.state drain.old) (D.state drain.new)
             (explained_in self.now.request.now.wanted (report_value_of shown.now.report) shown.now.broken.items)
             result }
@@ -118,7 +118,7 @@ impl Task<'_> {
             (report_value_of result.report) result.broken.items }
     {
         match self.write_title(number, block, drain) {
-            Ok(()) => self.contents(&block.contents, drain),
+            Ok(()) => self.contents(block.contents, drain),
             Err(_) => self.reported(device_report(DeviceFault::WriteFailed)),
         }
     }
@@ -136,7 +136,7 @@ impl Task<'_> {
         if !has_titles(&self.request.wanted) || self.count <= 1 {
             return Ok(());
         }
-        let label = contents_name(&block.contents);
+        let label = contents_name(block.contents);
         write_block_line(
             number,
             self.count,
@@ -148,13 +148,13 @@ impl Task<'_> {
     }
 
     /// Shows what a block holds.
-    fn contents<D: Drain>(&self, contents: &Contents, drain: &mut D) -> Viewed
-        requires { contents_fit contents.now }
+    fn contents<D: Drain>(&self, contents: Contents<'_>, drain: &mut D) -> Viewed
+        requires { contents_fit contents }
         ensures { ShowsContents self.now.request.now self.now.names.now (D.state drain.old) (D.state drain.new)
-            (block_contents contents.now) (report_value_of result.report) result.broken.items }
+            (block_contents contents.entry) (report_value_of result.report) result.broken.items }
     {
         match contents {
-            Contents::Nothing(why) => self.reported(report_without_blocks(*why)),
+            Contents::Nothing(why) => self.reported(report_without_blocks(why)),
             Contents::Taken(taken) if has_octets(&taken.block) => show_octets(
                 self.alloc,
                 self.request,
@@ -196,11 +196,11 @@ fn name_of<'a>(number: usize, block: &InputBlock<'a>) -> BlockName<'a>
 /// Writes what is said about a block before it is shown.
 fn write_contents_note<D: Drain>(
     name: BlockName<'_>,
-    contents: &Contents,
+    contents: Contents<'_>,
     drain: &mut D,
 ) -> Result<(), WriteFault>
     ensures { Sends (D.state drain.old) (D.state drain.new)
-        (contents_note (name_value name.entry) (block_contents contents.now)) result }
+        (contents_note (name_value name.entry) (block_contents contents.entry)) result }
 {
     match contents {
         Contents::Nothing(_) => Ok(()),
@@ -209,8 +209,8 @@ fn write_contents_note<D: Drain>(
 }
 
 /// The name of a block in the line before it; empty if it has no label.
-fn contents_name(contents: &Contents) -> ArrayVec<u8, 64>
-    ensures { result.items ≡ contents_name (block_contents contents.now) }
+fn contents_name(contents: Contents<'_>) -> ArrayVec<u8, 64>
+    ensures { result.items ≡ contents_name (block_contents contents.entry) }
 {
     match contents {
         Contents::Nothing(_) => ArrayVec::new(),
@@ -233,8 +233,8 @@ fn is_undecoded(state: BlockState) -> bool
 }
 
 /// The status of a block, from the status of what is shown of it.
-fn contents_status(wanted: &Wanted, contents: &Contents, status: u8) -> u8
-    ensures { result ≡ contents_status wanted.now (block_contents contents.now) status }
+fn contents_status(wanted: &Wanted, contents: Contents<'_>, status: u8) -> u8
+    ensures { result ≡ contents_status wanted.now (block_contents contents.entry) status }
 {
     match contents {
         Contents::Taken(taken) if is_undecoded(taken.block.state) && status == 0 => {

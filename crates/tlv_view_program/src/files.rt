@@ -1,14 +1,21 @@
 //! All files: their blocks, one after another.
-ghost use Rattle.std.specs.Prelude.{◌≡◌, map, max};
+ghost use Rattle.std.specs.Prelude.{◌≡◌, ◌<◌, ◌+◌, ◌^◌, ◌∷◌, [], Ok, false, flat_map, length, map, max};
+ghost use Rattle.tlv_forms.specs.Taken.{taken_value};
 ghost use Rattle.tlv_run.specs.BorrowedText.{text_in};
-ghost use Rattle.tlv_view_program.specs.Private.BlockParts.{all_fit, blocks_place, input_block};
+ghost use Rattle.tlv_view_program.specs.InputBlocks.{BlockContents, block_of_file, blocks_taken};
+ghost use Rattle.tlv_view_program.specs.Private.BlockParts.{all_fit, blocks_place, file_blocks, file_fits};
+ghost use Rattle.tlv_view_program.specs.Private.BlockParts.{report_without_blocks, taken_fit};
+ghost use Rattle.tlv_view_program.specs.Private.ShowsSome.{ShowsSome};
 ghost use Rattle.tlv_view_program.specs.ShowsAll.{ShowsBlocks, ShowsFiles, file_of_word, files_of_words};
 ghost use Rattle.tlv_view_program.specs.Streams.{streams_value};
 
-use crate::block::Task;
-use crate::input_blocks::{InputBlock, blocks_of_files};
+use crate::block::{BlockResult, Task};
+use crate::input_blocks::{
+    Contents, FileBlocks, InputBlock, NoBlocks, block_count, blocks_of_files, file_block_count,
+};
 use crate::streams::Streams;
 use std::alloc::Global;
+use tlv_forms::Taken;
 use tlv_program::System;
 use tlv_run::write_message;
 use tlv_value::Names;
@@ -17,7 +24,8 @@ use tlv_view_words::Request;
 use tlv_walk::{Drain, Source};
 
 /// Reads the files of a request, or standard input if there are none, and shows their blocks in order. Returns the
-/// highest status. Shows no other block after a failed write to standard output.
+/// highest status. Shows no other block after a failed write to standard output. More blocks than a number can count
+/// are more than memory can hold, so they are reported as such.
 pub(crate) fn show_files<S: System, I: Source, O: Drain, M: Drain>(
     alloc: Global,
     request: &Request,
@@ -28,42 +36,128 @@ pub(crate) fn show_files<S: System, I: Source, O: Drain, M: Drain>(
         (streams_value I.state O.state M.state streams.old) (streams_value I.state O.state M.state streams.new)
         result }
 {
-    let Some(blocks) = blocks_of_files(alloc, request, streams) else {
+    let Some(files) = blocks_of_files(alloc, request, streams) else {
+        return write_message(&input_report(InputFault::Memory), &mut streams.messages);
+    };
+    let Some(count) = block_count(files.as_slice()) else {
         return write_message(&input_report(InputFault::Memory), &mut streams.messages);
     };
     let task = Task {
         alloc,
         request,
         names,
-        count: blocks.len(),
+        count,
         several_files: request.files.as_slice().len() > 1,
     };
-    show_blocks(&task, blocks, streams)
+    show_blocks(&task, files.as_slice(), streams)
 }
 
-/// Shows blocks in order, and drops each before the next is shown. Returns the highest status.
+/// Shows the blocks of all files in order. Returns the highest status.
 fn show_blocks<S: System, I: Source, O: Drain, M: Drain>(
     task: &Task<'_>,
-    blocks: Vec<InputBlock<'_>>,
+    files: &[FileBlocks<'_>],
     streams: &mut Streams<S, I, O, M>,
 ) -> u8
-    requires { all_fit blocks.items }
+    requires fit { all_fit files.now }
+    requires count { length (flat_map file_blocks files.now) < 2 ^ 64 }
     ensures { ShowsBlocks task.now.request.now task.now.names.now (blocks_place task.now) 1
-        (map input_block blocks.entry.items)
+        (flat_map file_blocks files.now)
         (streams_value I.state O.state M.state streams.old) (streams_value I.state O.state M.state streams.new)
         result }
 {
     let mut status = 0;
-    let mut number = 0;
-    for block in blocks {
+    let mut before = 0;
+    for file in files {
+        let outcome = show_file(task, before, file, streams);
+        status = highest(status, outcome.status);
+        if outcome.has_failed {
+            return status;
+        }
+        before += file_block_count(file);
+    }
+    status
+}
+
+/// Shows the blocks of a file, after so many blocks of other files.
+fn show_file<S: System, I: Source, O: Drain, M: Drain>(
+    task: &Task<'_>,
+    before: usize,
+    file: &FileBlocks<'_>,
+    streams: &mut Streams<S, I, O, M>,
+) -> BlockResult
+    requires fit { file_fits file.now }
+    requires count { before + length (file_blocks file.now) < 2 ^ 64 }
+    ensures { ShowsSome task.now.request.now task.now.names.now (blocks_place task.now) (before + 1)
+        (file_blocks file.now)
+        (streams_value I.state O.state M.state streams.old) (streams_value I.state O.state M.state streams.new)
+        result.has_failed result.status }
+{
+    match &file.taken {
+        Ok(taken) => show_taken(task, before, file.file, taken.as_slice(), streams),
+        Err(why) => show_nothing(task, before, file.file, *why, streams),
+    }
+}
+
+/// Shows the block of a file that gives none.
+fn show_nothing<S: System, I: Source, O: Drain, M: Drain>(
+    task: &Task<'_>,
+    before: usize,
+    file: Option<&str>,
+    why: NoBlocks,
+    streams: &mut Streams<S, I, O, M>,
+) -> BlockResult
+    requires { before + 1 < 2 ^ 64 }
+    ensures { ShowsSome task.now.request.now task.now.names.now (blocks_place task.now) (before + 1)
+        (block_of_file (text_in file.entry) false (BlockContents.reported (report_without_blocks why)) ∷ [])
+        (streams_value I.state O.state M.state streams.old) (streams_value I.state O.state M.state streams.new)
+        result.has_failed result.status }
+{
+    let block = InputBlock {
+        file,
+        is_one_of_several: false,
+        contents: Contents::Nothing(why),
+    };
+    task.block(before + 1, &block, streams)
+}
+
+/// Shows the blocks of a file that were taken for something.
+fn show_taken<S: System, I: Source, O: Drain, M: Drain>(
+    task: &Task<'_>,
+    before: usize,
+    file: Option<&str>,
+    taken: &[Taken],
+    streams: &mut Streams<S, I, O, M>,
+) -> BlockResult
+    requires fit { taken_fit taken.now }
+    requires count { before + length taken.now < 2 ^ 64 }
+    ensures { ShowsSome task.now.request.now task.now.names.now (blocks_place task.now) (before + 1)
+        (blocks_taken (text_in file.entry) (Ok (map taken_value taken.now)))
+        (streams_value I.state O.state M.state streams.old) (streams_value I.state O.state M.state streams.new)
+        result.has_failed result.status }
+{
+    let is_one_of_several = taken.len() > 1;
+    let mut status = 0;
+    let mut number = before;
+    for t in taken {
         number += 1;
+        let block = InputBlock {
+            file,
+            is_one_of_several,
+            contents: Contents::Taken(t),
+        };
         let shown = task.block(number, &block, streams);
         status = highest(status, shown.status);
         if shown.has_failed {
-            return status;
+            return BlockResult {
+                status,
+                has_failed: true,
+            };
         }
     }
-    status
+    BlockResult {
+        status,
+        has_failed: false,
+    }
 }
 
 /// The higher of two statuses.

@@ -1,15 +1,14 @@
 //! The blocks of all inputs.
-ghost use Rattle.std.specs.Prelude.{◌≡◌, ◌≤◌, ◌++◌, ◌∷◌, [], IfOk, IfSome, List, Ok, OnOk, false, length, map};
+ghost use Rattle.std.specs.Prelude.{◌≡◌, ◌≤◌, ◌<◌, ◌++◌, ◌^◌, IfOk, IfSome, List, OnOk, SomeIff, flat_map, length};
 ghost use Rattle.std.specs.Result.{result_map_both};
 ghost use Rattle.tlv_head.specs.Limits.{input_limit};
 ghost use Rattle.tlv_run.specs.BorrowedText.{text_in};
 ghost use Rattle.tlv_run.specs.Report.{report_value_of};
-ghost use Rattle.tlv_forms.specs.Taken.{taken_value};
-ghost use Rattle.tlv_view_program.specs.InputBlocks.{BlockContents, GetsAllBlocks, GetsBlocks, GetsOctets};
-ghost use Rattle.tlv_view_program.specs.InputBlocks.{InputBlockValue, TakesInput, block_of_file, blocks_taken};
-ghost use Rattle.tlv_view_program.specs.InputBlocks.{octets_or_report};
-ghost use Rattle.tlv_view_program.specs.Private.BlockParts.{all_fit, blocks_had, input_block, octets_had};
-ghost use Rattle.tlv_view_program.specs.Private.BlockParts.{report_without_blocks, taken_fit, taken_had};
+ghost use Rattle.tlv_view_program.specs.InputBlocks.{GetsAllBlocks, GetsBlocks, GetsOctets, InputBlockValue};
+ghost use Rattle.tlv_view_program.specs.InputBlocks.{TakesInput, octets_or_report};
+ghost use Rattle.tlv_view_program.specs.Private.BlockParts.{all_fit, blocks_given, blocks_had, file_blocks};
+ghost use Rattle.tlv_view_program.specs.Private.BlockParts.{octets_had, report_without_blocks, taken_fit};
+ghost use Rattle.tlv_view_program.specs.Private.BlockParts.{taken_had};
 ghost use Rattle.tlv_view_program.specs.ShowsAll.{files_of_words};
 ghost use Rattle.tlv_view_program.specs.Streams.{streams_value};
 
@@ -36,114 +35,122 @@ pub(crate) enum NoBlocks {
     Text(TextFault),
 }
 
-/// What a block holds.
+/// What a file gave: its blocks, or why there are none.
 #[derive(Debug, Drop)]
-pub(crate) enum Contents {
+pub(crate) struct FileBlocks<'a> {
+    /// The file; standard input has no name.
+    pub file: Option<&'a str>,
+    pub taken: Result<Vec<Taken>, NoBlocks>,
+}
+
+/// What a block holds.
+#[derive(Clone, Copy, Debug)]
+pub(crate) enum Contents<'a> {
     /// The file gives no block.
     Nothing(NoBlocks),
     /// What was taken for an encoding or a text.
-    Taken(Taken),
+    Taken(&'a Taken),
 }
 
 /// A block of all inputs.
-#[derive(Debug, Drop)]
+#[derive(Clone, Copy, Debug)]
 pub(crate) struct InputBlock<'a> {
     /// Its file; standard input has no name.
     pub file: Option<&'a str>,
     /// Whether the file has several blocks.
     pub is_one_of_several: bool,
-    pub contents: Contents,
+    pub contents: Contents<'a>,
 }
 
-/// The blocks of all files of a request, in order, or of standard input if there are no files. `None` if memory for the
-/// list of blocks is refused.
+/// What all files of a request gave, in order, or standard input if there are no files. `None` if memory for the list
+/// of files is refused.
 pub(crate) fn blocks_of_files<'a, S: System, I: Source, O: Drain, M: Drain>(
     alloc: Global,
     request: &'a Request,
     streams: &mut Streams<S, I, O, M>,
-) -> Option<Vec<InputBlock<'a>>>
+) -> Option<Vec<FileBlocks<'a>>>
     ensures gets { GetsAllBlocks S.allows request.now.form (files_of_words request.now.files)
         (streams_value I.state O.state M.state streams.old) (streams_value I.state O.state M.state streams.new)
         (blocks_had result) }
-    ensures within { IfSome result (λ blocks. all_fit blocks.items) }
+    ensures within { IfSome result (λ files. all_fit files.items) }
 {
-    let mut blocks = Vec::new(alloc);
+    let mut given = Vec::new(alloc);
     let files = request.files.as_slice();
-    if files.is_empty() && add_file(alloc, request.form, None, streams, &mut blocks).is_err() {
+    if files.is_empty() && add_file(alloc, request.form, None, streams, &mut given).is_err() {
         return None;
     }
     for word in files {
         let file = file_of_word(word.as_str());
-        if add_file(alloc, request.form, file, streams, &mut blocks).is_err() {
+        if add_file(alloc, request.form, file, streams, &mut given).is_err() {
             return None;
         }
     }
-    Some(blocks)
+    Some(given)
 }
 
-/// Adds the blocks of a file.
+/// Adds what a file gives.
 fn add_file<'a, S: System, I: Source, O: Drain, M: Drain>(
     alloc: Global,
     form: InputForm,
     file: Option<&'a str>,
     streams: &mut Streams<S, I, O, M>,
-    blocks: &mut Vec<InputBlock<'a>>,
+    given: &mut Vec<FileBlocks<'a>>,
 ) -> Result<(), AllocError>
-    requires { all_fit blocks.old.items }
+    requires { all_fit given.old.items }
     ensures gets { (added : List InputBlockValue) × GetsBlocks S.allows form (text_in file.entry)
         (streams_value I.state O.state M.state streams.old) (streams_value I.state O.state M.state streams.new) added
-        × OnOk result (map input_block blocks.new.items ≡ map input_block blocks.old.items ++ added) }
-    ensures within { OnOk result (all_fit blocks.new.items) }
+        × OnOk result (flat_map file_blocks given.new.items ≡ flat_map file_blocks given.old.items ++ added) }
+    ensures within { OnOk result (all_fit given.new.items) }
+{
+    let taken = blocks_of_file(alloc, form, file, streams);
+    given.push(FileBlocks { file, taken })?;
+    Ok(())
+}
+
+/// The blocks of a file, or why there are none.
+fn blocks_of_file<S: System, I: Source, O: Drain, M: Drain>(
+    alloc: Global,
+    form: InputForm,
+    file: Option<&str>,
+    streams: &mut Streams<S, I, O, M>,
+) -> Result<Vec<Taken>, NoBlocks>
+    ensures gets { GetsBlocks S.allows form (text_in file.entry)
+        (streams_value I.state O.state M.state streams.old) (streams_value I.state O.state M.state streams.new)
+        (blocks_given (text_in file.entry) result) }
+    ensures within { IfOk result (λ taken. taken_fit taken.items) }
 {
     match octets_of_file(alloc, file, streams) {
         Ok(octets) => match take(alloc, form, octets) {
-            Ok(taken) => add_taken(file, taken, blocks),
-            Err(fault) => add_nothing(file, NoBlocks::Text(fault), blocks),
+            Ok(taken) => Ok(taken),
+            Err(fault) => Err(NoBlocks::Text(fault)),
         },
-        Err(why) => add_nothing(file, why, blocks),
+        Err(why) => Err(why),
     }
 }
 
-/// Adds the block of a file that gives none.
-fn add_nothing<'a>(
-    file: Option<&'a str>,
-    why: NoBlocks,
-    blocks: &mut Vec<InputBlock<'a>>,
-) -> Result<(), AllocError>
-    requires { all_fit blocks.old.items }
-    ensures added { OnOk result (map input_block blocks.new.items ≡ map input_block blocks.old.items
-        ++ block_of_file (text_in file.entry) false (BlockContents.reported (report_without_blocks why)) ∷ []) }
-    ensures within { OnOk result (all_fit blocks.new.items) }
+/// The number of blocks of all files. `None` if it is too large for its type.
+pub(crate) fn block_count(files: &[FileBlocks<'_>]) -> Option<usize>
+    ensures { SomeIff result (length (flat_map file_blocks files.now) < 2 ^ 64)
+        (length (flat_map file_blocks files.now)) }
 {
-    blocks.push(InputBlock {
-        file,
-        is_one_of_several: false,
-        contents: Contents::Nothing(why),
-    })?;
-    Ok(())
+    let mut count: usize = 0;
+    for file in files {
+        let Some(more) = count.checked_add(file_block_count(file)) else {
+            return None;
+        };
+        count = more;
+    }
+    Some(count)
 }
 
-/// Adds the blocks of a file that were taken for something.
-fn add_taken<'a>(
-    file: Option<&'a str>,
-    taken: Vec<Taken>,
-    blocks: &mut Vec<InputBlock<'a>>,
-) -> Result<(), AllocError>
-    requires taken { taken_fit taken.items }
-    requires before { all_fit blocks.old.items }
-    ensures added { OnOk result (map input_block blocks.new.items ≡ map input_block blocks.old.items
-        ++ blocks_taken (text_in file.entry) (Ok (map taken_value taken.items))) }
-    ensures within { OnOk result (all_fit blocks.new.items) }
+/// The number of blocks of a file: one if it gives none, which says so.
+pub(crate) fn file_block_count(file: &FileBlocks<'_>) -> usize
+    ensures { result ≡ length (file_blocks file.now) }
 {
-    let is_one_of_several = taken.len() > 1;
-    for t in taken {
-        blocks.push(InputBlock {
-            file,
-            is_one_of_several,
-            contents: Contents::Taken(t),
-        })?;
+    match &file.taken {
+        Ok(taken) => taken.len(),
+        Err(_) => 1,
     }
-    Ok(())
 }
 
 /// What an input is taken for, by the requested form.

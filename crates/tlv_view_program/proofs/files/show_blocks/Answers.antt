@@ -1,64 +1,61 @@
-use Rattle.std.proofs.Common.{◌≡◌, ◌∷◌, ap, arith, length}
-use Rattle.std.proofs.lemmas.List.{nil_from_length}
-use Rattle.std.proofs.lemmas.List.Elements.{All-tail}
-use Rattle.std.specs.Vec.Iter.{into_iter_items}
-use Rattle.tlv_view_program.proofs.BlockSteps.{block-goes_on, block-stops, blocks-end}
-use Rattle.tlv_view_program.specs.Private.BlockParts.{blocks_place, contents_fit}
+use Rattle.std.proofs.Common.{◌+◌, ap, arith, drop, flat_map}
+use Rattle.tlv_view_program.proofs.BlockSteps.{all-shown, rest-ends, rest-goes_on, rest-stops}
+use Rattle.tlv_view_program.proofs.InputBlockLemmas.{counted-more, counted-within, next-blocks, no-blocks}
+use Rattle.tlv_view_program.specs.Private.BlockParts.{blocks_place, file_blocks}
 use Rattle.tlv_view_program.specs.Streams.{streams_value}
-use Rattle.tlv_view_program.specs.declared.input_blocks.InputBlock.{InputBlock}
 use Rattle.tlv_view_program.proofs.files.show_blocks.Goals as goal
 
-pub returns-then-shown : goal.returns-then-shown
-returns-then-shown g c =
+pub show_file-outcome-requires-clause-count : goal.show_file-outcome-requires-clause-count
+show_file-outcome-requires-clause-count g c =
+    let within =
+    counted-within c.args.files.now c.loop-file.file-index c.file-item.result c.loop-file-test.true c.file-item.is in
+    omega (arith, within, c.loop-file.invariant.count, c.requires.count)
+
+pub returns-then-outcome : goal.returns-then-outcome
+returns-then-outcome g c =
     rw c.highest-status.ensures
-    (block-stops c.args.task.now.request.now c.args.task.now.names.now (blocks_place c.args.task.now)
-    c.args.blocks.items (streams_value g.I.Source.state g.O.Drain.state g.M.Drain.state c.args.streams.now)
-    c.loop-block.number c.in-Some.block (into_iter_items c.next.new.self)
-    (into_iter_items c.loop-block.block-iterator) _ _ c.loop-block.status c.block-shown.result.status
-    c.in-Some.ensures.steps.0 c.loop-block.invariant.shows (rw c.if-shown.true at c.block-shown.ensures))
+    (all-shown c.args.task.now.request.now c.args.task.now.names.now (blocks_place c.args.task.now)
+    (rest-stops c.args.task.now.request.now c.args.task.now.names.now (blocks_place c.args.task.now) 1
+    (flat_map file_blocks c.args.files.now)
+    (streams_value g.I.Source.state g.O.Drain.state g.M.Drain.state c.args.streams.now)
+    c.loop-file.before c.loop-file.status c.show_file-outcome.result.status (file_blocks c.file-item.result)
+    (flat_map file_blocks (drop (c.loop-file.file-index + 1) c.args.files.now))
+    (flat_map file_blocks (drop c.loop-file.file-index c.args.files.now)) _ _
+    (next-blocks c.args.files.now c.loop-file.file-index c.file-item.result c.loop-file-test.true c.file-item.is)
+    c.loop-file.invariant.shows (rw c.if-outcome.true at c.show_file-outcome.ensures)))
 
-pub loop-block-preserved-else-shown : goal.loop-block-preserved-else-shown
-loop-block-preserved-else-shown g c =
-    let steps : into_iter_items c.loop-block.block-iterator ≡ c.in-Some.block ∷ into_iter_items c.next.new.self =
-    c.in-Some.ensures.steps.0 in
+pub overflow_add-before : goal.overflow_add-before
+overflow_add-before g c =
+    let within =
+    counted-within c.args.files.now c.loop-file.file-index c.file-item.result c.loop-file-test.true c.file-item.is in
+    omega (arith, within, c.loop-file.invariant.count, c.requires.count, c.file_block_count-before.ensures)
+
+pub loop-file-preserved : goal.loop-file-preserved
+loop-file-preserved g c =
+    let more =
+    counted-more c.args.files.now c.loop-file.file-index c.file-item.result c.loop-file-test.true c.file-item.is in
     record {
       shows =
           rw c.highest-status.ensures
-          (block-goes_on c.args.task.now.request.now c.args.task.now.names.now (blocks_place c.args.task.now)
-          c.args.blocks.items (streams_value g.I.Source.state g.O.Drain.state g.M.Drain.state c.args.streams.now)
-          c.loop-block.number c.in-Some.block (into_iter_items c.next.new.self)
-          (into_iter_items c.loop-block.block-iterator) _ _ c.loop-block.status c.block-shown.result.status
-          steps c.loop-block.invariant.shows (rw c.if-shown.false at c.block-shown.ensures));
-      fit =
-          All-tail (λ (b : InputBlock). contents_fit b.contents) c.in-Some.block _
-          (rw steps at c.loop-block.invariant.fit);
-      count = omega (arith, c.loop-block.invariant.count, ap length steps);
-      left = omega (arith, c.loop-block.invariant.left, c.in-Some.ensures.steps.1, ap length steps);
-    }
-
-pub loop-block-preserved : goal.loop-block-preserved
-loop-block-preserved g c =
-    let steps : into_iter_items c.loop-block.block-iterator ≡ c.in-Some.block ∷ into_iter_items c.next.new.self =
-    c.in-Some.ensures.steps.0 in
-    record {
-      shows =
-          rw c.highest-status.ensures
-          (block-goes_on c.args.task.now.request.now c.args.task.now.names.now (blocks_place c.args.task.now)
-          c.args.blocks.items (streams_value g.I.Source.state g.O.Drain.state g.M.Drain.state c.args.streams.now)
-          c.loop-block.number c.in-Some.block (into_iter_items c.next.new.self)
-          (into_iter_items c.loop-block.block-iterator) _ _ c.loop-block.status c.block-shown.result.status
-          steps c.loop-block.invariant.shows (rw c.if-shown.false at c.block-shown.ensures));
-      fit =
-          All-tail (λ (b : InputBlock). contents_fit b.contents) c.in-Some.block _
-          (rw steps at c.loop-block.invariant.fit);
-      count = omega (arith, c.loop-block.invariant.count, ap length steps);
-      left = omega (arith, c.loop-block.invariant.left, c.in-Some.ensures.steps.1, ap length steps);
+          (rest-goes_on c.args.task.now.request.now c.args.task.now.names.now (blocks_place c.args.task.now) 1
+          (flat_map file_blocks c.args.files.now)
+          (streams_value g.I.Source.state g.O.Drain.state g.M.Drain.state c.args.streams.now)
+          c.loop-file.before (c.loop-file.before + c.file_block_count-before.result) c.loop-file.status
+          c.show_file-outcome.result.status (file_blocks c.file-item.result)
+          (flat_map file_blocks (drop (c.loop-file.file-index + 1) c.args.files.now))
+          (flat_map file_blocks (drop c.loop-file.file-index c.args.files.now)) _ _
+          (next-blocks c.args.files.now c.loop-file.file-index c.file-item.result c.loop-file-test.true c.file-item.is)
+          (ap (λ n. c.loop-file.before + n) c.file_block_count-before.ensures) c.loop-file.invariant.shows
+          (rw c.if-outcome.false at c.show_file-outcome.ensures));
+      count = omega (arith, more, c.loop-file.invariant.count, c.file_block_count-before.ensures);
     }
 
 pub returns : goal.returns
 returns g c =
-    blocks-end c.args.task.now.request.now c.args.task.now.names.now (blocks_place c.args.task.now)
-    c.args.blocks.items (streams_value g.I.Source.state g.O.Drain.state g.M.Drain.state c.args.streams.now)
-    c.loop-block.number (into_iter_items c.loop-block.block-iterator) _ c.loop-block.status
-    (nil_from_length _ (omega (arith, c.loop-block.invariant.left, c.in-None.ensures.steps.0)))
-    c.loop-block.invariant.shows
+    all-shown c.args.task.now.request.now c.args.task.now.names.now (blocks_place c.args.task.now)
+    (rest-ends c.args.task.now.request.now c.args.task.now.names.now (blocks_place c.args.task.now) 1
+    (flat_map file_blocks c.args.files.now)
+    (streams_value g.I.Source.state g.O.Drain.state g.M.Drain.state c.args.streams.now)
+    c.loop-file.before c.loop-file.status (flat_map file_blocks (drop c.loop-file.file-index c.args.files.now)) _
+    (no-blocks c.args.files.now c.loop-file.file-index (omega (arith, c.loop-file-test.false)))
+    c.loop-file.invariant.shows)

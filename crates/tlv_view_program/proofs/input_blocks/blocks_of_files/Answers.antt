@@ -1,13 +1,13 @@
-use Rattle.std.proofs.Common.{◌≡◌, ◌++◌, ℕ, List, Option, ap, arith, get_or, map, ◌∙◌}
+use Rattle.std.proofs.Common.{◌≡◌, ◌++◌, ℕ, List, Option, ap, arith, flat_map, get_or, ◌∙◌}
 use Rattle.tlv_program.specs.System.{Allows}
 use Rattle.tlv_view_words.specs.declared.request.InputForm.{InputForm}
 use Rattle.tlv_view_program.proofs.InputBlockLemmas.{no-words, refused-alone, rest-alone, rest-begins, rest-ends}
 use Rattle.tlv_view_program.proofs.InputBlockLemmas.{rest-goes_on, rest-refused, some-words, without-error}
 use Rattle.tlv_view_program.specs.InputBlocks.{GetsBlocks, InputBlockValue}
-use Rattle.tlv_view_program.specs.Private.BlockParts.{input_block}
+use Rattle.tlv_view_program.specs.Private.BlockParts.{file_blocks}
 use Rattle.tlv_view_program.specs.ShowsAll.{file_of_word, files_of_words}
 use Rattle.tlv_view_program.specs.Streams.{StreamsValue}
-use Rattle.tlv_view_program.specs.declared.input_blocks.InputBlock.{InputBlock}
+use Rattle.tlv_view_program.specs.declared.input_blocks.FileBlocks.{FileBlocks}
 use Rattle.tlv_view_program.proofs.input_blocks.blocks_of_files.Goals as goal
 use Rattle.tlv_view_program.proofs.input_blocks.blocks_of_files.Goals.{else-is_empty-via-then-is_empty+else-is_err}
 use Rattle.tlv_view_program.proofs.input_blocks.blocks_of_files.Goals.{else-is_empty-via-else-is_empty}
@@ -27,24 +27,24 @@ returns-then-is_err-clause-gets g c =
 
 pub loop-word-init : goal.loop-word-init
 loop-word-init g c = elim c.else-is_empty.branch [
-  | else-is_empty-via-then-is_empty+else-is_err w ↦ rw (w.streams-is, w.blocks-is) record {
+  | else-is_empty-via-then-is_empty+else-is_err w ↦ rw (w.streams-is, w.given-is) record {
     gets =
         rest-alone g.S.System.allows c.args.request.now.form c.args.request.now.files _ _ _ w.add_file.ensures.gets.0
         (no-words c.args.request.now.files c.is_empty.result (rw (← c.as_slice-files.ensures) c.is_empty.ensures)
         w.if-is_empty.true)
         (without-error w.add_file.result _ _ w.is_err.ensures.value w.if-is_err.false w.add_file.ensures.gets.2
-        ∙ ap (λ (l : List InputBlock). map input_block l ++ w.add_file.ensures.gets.0) c.new-blocks.ensures.items)
+        ∙ ap (λ (l : List FileBlocks). flat_map file_blocks l ++ w.add_file.ensures.gets.0) c.new-given.ensures.items)
         w.add_file.ensures.gets.1;
     fit = without-error w.add_file.result _ _ w.is_err.ensures.value w.if-is_err.false w.add_file.ensures.within;
   }
-  | else-is_empty-via-else-is_empty w ↦ rw (w.streams-is, w.blocks-is) record {
+  | else-is_empty-via-else-is_empty w ↦ rw (w.streams-is, w.given-is) record {
     gets =
         rest-begins g.S.System.allows c.args.request.now.form (files_of_words c.args.request.now.files)
         c.args.request.now.files _ _
         (some-words c.args.request.now.files c.is_empty.result (rw (← c.as_slice-files.ensures) c.is_empty.ensures)
         w.if-is_empty.false)
-        (ap (map input_block) c.new-blocks.ensures.items);
-    fit = rw c.new-blocks.ensures.items (λ k d none. absurd (omega arith));
+        (ap (flat_map file_blocks) c.new-given.ensures.items);
+    fit = rw c.new-given.ensures.items (λ k d none. absurd (omega arith));
   }
 ]
 
