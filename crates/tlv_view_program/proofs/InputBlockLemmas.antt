@@ -1,11 +1,10 @@
 -- The blocks of all inputs, one after another.
 use Rattle.std.proofs.Common.{◌≡◌, ◌+◌, ◌<◌, ◌≤◌, ◌++◌, ℕ, Bool, true, false, List, [], ◌∷◌, Option, Some, None, ap}
-use Rattle.std.proofs.Common.{append-nil, append_assoc, arith, drop, flat_map, get_or, length, length-append, map, refl}
+use Rattle.std.proofs.Common.{append-nil, append_assoc, arith, drop, flat_map, get_or, length, map, refl}
 use Rattle.std.proofs.Common.{subst, sym, take, ◌∙◌}
 use Rattle.std.specs.Prelude.{Result, Ok, Err, OnOk, is_err, nat_lt, option_map, ◌==◌}
 use Rattle.std.proofs.lemmas.Bool.Decides.{nat_tests}
-use Rattle.std.proofs.lemmas.Grind.{flat_map-append}
-use Rattle.std.proofs.lemmas.List.{drop_all, drop_more, length-map, take_all, take_more}
+use Rattle.std.proofs.lemmas.List.{drop_all, drop_more, length-map, take_all}
 use Rattle.std.proofs.lemmas.List.Folds.{length-flat_map-take}
 use Rattle.tlv_forms.specs.Taken.{TakenValue, taken_value}
 use Rattle.tlv_forms.specs.declared.taken.Taken.{Taken}
@@ -39,43 +38,9 @@ blocks-taken file several ts e =
     (λ (b : Bool). map (λ (t : TakenValue). block_of_file file b (BlockContents.taken t)) (map taken_value ts))
     (e ∙ ap (nat_lt 1) (sym (length-map ts taken_value)))
 
--- the block at a place, and those after it
-pub next-taken : (file : Option (List ℕ)) (several : Bool) (ts : List Taken) (i : ℕ) (t : Taken) → i < length ts
-    → t ≡ get_or ts i t
-    → map (taken_block file several) (drop i ts)
-    ≡ (taken_block file several t ∷ []) ++ map (taken_block file several) (drop (i + 1) ts)
-next-taken file several ts i t some is =
-    ap (map (taken_block file several)) (drop_more ts i t some)
-    ∙ ap (λ (x : Taken). taken_block file several x ∷ map (taken_block file several) (drop (i + 1) ts)) (sym is)
-
-pub no-taken : (file : Option (List ℕ)) (several : Bool) (ts : List Taken) (i : ℕ) → length ts ≤ i
-    → map (taken_block file several) (drop i ts) ≡ []
-no-taken file several ts i none = ap (map (taken_block file several)) (drop_all i ts none)
-
 -- ---- the blocks of all files
 
--- the blocks of the file at a place, and those of the files after it
-pub next-blocks : (files : List FileBlocks) (i : ℕ) (f : FileBlocks) → i < length files → f ≡ get_or files i f
-    → flat_map file_blocks (drop i files) ≡ file_blocks f ++ flat_map file_blocks (drop (i + 1) files)
-next-blocks files i f some is =
-    ap (flat_map file_blocks) (drop_more files i f some)
-    ∙ ap (λ (x : FileBlocks). file_blocks x ++ flat_map file_blocks (drop (i + 1) files)) (sym is)
-
-pub no-blocks : (files : List FileBlocks) (i : ℕ) → length files ≤ i → flat_map file_blocks (drop i files) ≡ []
-no-blocks files i none = ap (flat_map file_blocks) (drop_all i files none)
-
--- their number
-pub counted-more : (files : List FileBlocks) (i : ℕ) (f : FileBlocks) → i < length files → f ≡ get_or files i f
-    → length (flat_map file_blocks (take i files)) + length (file_blocks f)
-    ≡ length (flat_map file_blocks (take (i + 1) files))
-counted-more files i f some is =
-    ap (λ (x : FileBlocks). length (flat_map file_blocks (take i files)) + length (file_blocks x)) is
-    ∙ sym (ap (λ (l : List FileBlocks). length (flat_map file_blocks l)) (take_more files i f some)
-    ∙ ap length (flat_map-append file_blocks (take i files) (get_or files i f ∷ []))
-    ∙ length-append (flat_map file_blocks (take i files)) (file_blocks (get_or files i f) ++ [])
-    ∙ ap (λ (l : List InputBlockValue). length (flat_map file_blocks (take i files)) + length l)
-    (append-nil (file_blocks (get_or files i f))))
-
+-- how many blocks there are in the files up to a place
 pub counted-within : (files : List FileBlocks) (i : ℕ) (f : FileBlocks) → i < length files → f ≡ get_or files i f
     → length (flat_map file_blocks (take i files)) + length (file_blocks f) ≤ length (flat_map file_blocks files)
 counted-within files i f some is =

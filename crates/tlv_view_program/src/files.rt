@@ -49,31 +49,32 @@ pub(crate) fn show_files<S: System, I: Source, O: Drain, M: Drain>(
         count,
         several_files: request.files.as_slice().len() > 1,
     };
-    show_blocks(&task, files.as_slice(), streams)
+    show_blocks(&task, files, streams)
 }
 
 /// Shows the blocks of all files in order. Returns the highest status.
 fn show_blocks<S: System, I: Source, O: Drain, M: Drain>(
     task: &Task<'_>,
-    files: &[FileBlocks<'_>],
+    files: Vec<FileBlocks<'_>>,
     streams: &mut Streams<S, I, O, M>,
 ) -> u8
-    requires fit { all_fit files.now }
-    requires count { length (flat_map file_blocks files.now) < 2 ^ 64 }
+    requires fit { all_fit files.items }
+    requires count { length (flat_map file_blocks files.items) < 2 ^ 64 }
     ensures { ShowsBlocks task.now.request.now task.now.names.now (blocks_place task.now) 1
-        (flat_map file_blocks files.now)
+        (flat_map file_blocks files.entry.items)
         (streams_value I.state O.state M.state streams.old) (streams_value I.state O.state M.state streams.new)
         result }
 {
     let mut status = 0;
     let mut before = 0;
     for file in files {
+        let count = file_block_count(&file);
         let outcome = show_file(task, before, file, streams);
         status = highest(status, outcome.status);
         if outcome.has_failed {
             return status;
         }
-        before += file_block_count(file);
+        before += count;
     }
     status
 }
@@ -82,19 +83,20 @@ fn show_blocks<S: System, I: Source, O: Drain, M: Drain>(
 fn show_file<S: System, I: Source, O: Drain, M: Drain>(
     task: &Task<'_>,
     before: usize,
-    file: &FileBlocks<'_>,
+    file: FileBlocks<'_>,
     streams: &mut Streams<S, I, O, M>,
 ) -> BlockResult
-    requires fit { file_fits file.now }
-    requires count { before + length (file_blocks file.now) < 2 ^ 64 }
+    requires fit { file_fits file }
+    requires count { before + length (file_blocks file) < 2 ^ 64 }
     ensures { ShowsSome task.now.request.now task.now.names.now (blocks_place task.now) (before + 1)
-        (file_blocks file.now)
+        (file_blocks file.entry)
         (streams_value I.state O.state M.state streams.old) (streams_value I.state O.state M.state streams.new)
         result.has_failed result.status }
 {
-    match &file.taken {
-        Ok(taken) => show_taken(task, before, file.file, taken.as_slice(), streams),
-        Err(why) => show_nothing(task, before, file.file, *why, streams),
+    let FileBlocks { file, taken } = file;
+    match taken {
+        Ok(taken) => show_taken(task, before, file, taken, streams),
+        Err(why) => show_nothing(task, before, file, why, streams),
     }
 }
 
@@ -120,30 +122,31 @@ fn show_nothing<S: System, I: Source, O: Drain, M: Drain>(
     task.block(before + 1, &block, streams)
 }
 
-/// Shows the blocks of a file that were taken for something.
+/// Shows the blocks of a file that were taken for something. Drops each before the next is shown, while its memory is
+/// still in the cache.
 fn show_taken<S: System, I: Source, O: Drain, M: Drain>(
     task: &Task<'_>,
     before: usize,
     file: Option<&str>,
-    taken: &[Taken],
+    taken: Vec<Taken>,
     streams: &mut Streams<S, I, O, M>,
 ) -> BlockResult
-    requires fit { taken_fit taken.now }
-    requires count { before + length taken.now < 2 ^ 64 }
+    requires fit { taken_fit taken.items }
+    requires count { before + length taken.items < 2 ^ 64 }
     ensures { ShowsSome task.now.request.now task.now.names.now (blocks_place task.now) (before + 1)
-        (blocks_taken (text_in file.entry) (Ok (map taken_value taken.now)))
+        (blocks_taken (text_in file.entry) (Ok (map taken_value taken.items)))
         (streams_value I.state O.state M.state streams.old) (streams_value I.state O.state M.state streams.new)
         result.has_failed result.status }
 {
     let is_one_of_several = taken.len() > 1;
     let mut status = 0;
     let mut number = before;
-    for t in taken {
+    for each in taken {
         number += 1;
         let block = InputBlock {
             file,
             is_one_of_several,
-            contents: Contents::Taken(t),
+            contents: Contents::Taken(&each),
         };
         let shown = task.block(number, &block, streams);
         status = highest(status, shown.status);

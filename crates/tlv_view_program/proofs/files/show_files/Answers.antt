@@ -60,4 +60,4 @@ returns g c =
     (flat_map file_blocks c.in-Some.files.items) _ _ _ _ _ (c.in-Some-block_count.ensures.1
     ∙ ap (λ (l : List FileBlocks). length (flat_map file_blocks l)) c.as_slice.ensures.value)
     (ap (λ (l : List (List ℕ)). nat_lt 1 (length l)) c.as_slice-2.ensures)
-    (rw c.as_slice-3.ensures.value at c.show_blocks.ensures))
+    c.show_blocks.ensures)
