@@ -77,11 +77,14 @@ class Dump:
         """Reads the text."""
         self.row = re.compile(OFFSET % DIGITS[base] + FRONT)
         self.end = re.compile(OFFSET % DIGITS[base] + rb"[ \t]*")
+        self.offset = re.compile(OFFSET % DIGITS[base] + rb"(?=[: \t]|\Z)")
         self.base, self.text_size = base, len(text)
         self.pieces, self.place, self.first = [], None, b""
-        items, misfit = self.items_of(lines_of(text))
+        lines = lines_of(text)
+        items, misfit = self.items_of(lines)
         if items:
             self.first = items[0].text
+            self.width = self.width_of(items[0], lines)
             self.read(items, misfit)
         else:
             self.place = len(text) if misfit is None else misfit
@@ -125,8 +128,7 @@ class Dump:
 
     def read(self, items, misfit):
         """Reads the lines up to the first that does not fit."""
-        self.is_single = len(items) == 1
-        self.width = None if self.is_single else width_of(items)
+        self.is_single = self.width is None
         self.next_offset, self.before, self.is_repeated = items[0].offset, None, False
         if self.has_other_octets(items[0]):
             self.place = items[0].place
@@ -179,11 +181,9 @@ class Dump:
     def has_other_octets(self, row):
         """Returns whether the characters of the first row show that its pairs are not its octets in order."""
         octets, at = self.pairs(row, MOST_WIDTH, 1)
-        text = row.text[at:]
-        after_two = re.sub(rb"^[ \t]{1,2}", b"", text)
-        if after_two != shown(octets) and any(after_two == shown(reversed_words(octets, size)) for size in (*WORD_SIZES, len(octets))):
+        text = row.text[at:].lstrip(b" \t")
+        if text != shown(octets) and any(text == shown(in_words(octets, size)) for size in (*WORD_SIZES, len(octets))):
             return True
-        text = text.lstrip(b" \t")
         return bool(text) and len(octets) == 4 * len(text) and set(octets.hex()) <= {"0", "1"}
 
     def pairs(self, row, width, most_blanks):
@@ -195,26 +195,31 @@ class Dump:
             octets, at = octets + bytes.fromhex(pair[1].decode()), pair.end()
         return octets, at
 
+    def width_of(self, first, lines):
+        """Returns the number of octets in a row: the difference of the first two offsets, or 16. None if there is no
+        second offset and no repeat.
+        """
+        for _, text in (line for line in lines if line[0] > first.place):
+            if REPEAT.fullmatch(text):
+                return USUAL_WIDTH
+            second = self.offset.match(text)
+            if second:
+                more = int(second[1], self.base) - first.offset
+                return more if 1 <= more <= MOST_WIDTH else USUAL_WIDTH
+        return None
+
     def fits_end(self, end):
         """Returns whether the last offset fits: the offset after the last row, or the one up to which a repeat goes."""
         return self.fits_offset(end.offset)
 
 
 def shown(octets):
-    """Returns the characters of octets: a full stop for each that is not printable ASCII."""
+    """Returns the characters of octets, or None for None: a full stop for each that is not printable ASCII."""
     return octets and bytes(octet if 0x20 <= octet <= 0x7E else ord(".") for octet in octets)
 
 
-def reversed_words(octets, size):
+def in_words(octets, size):
     """Returns the octets with those of each word reversed, or None if they are not whole words of this size."""
     if len(octets) % size:
         return None
     return b"".join(octets[at : at + size][::-1] for at in range(0, len(octets), size))
-
-
-def width_of(items):
-    """Returns the number of octets in a row: the difference of the first two offsets, or 16."""
-    if len(items) < 2 or items[1].kind == "repeat":
-        return USUAL_WIDTH
-    more = items[1].offset - items[0].offset
-    return more if 1 <= more <= MOST_WIDTH else USUAL_WIDTH

@@ -4,7 +4,7 @@ use Rattle.std.specs.Prelude.{ℕ, zero, suc, ◌+◌, ◌-◌, ◌*◌, ◌/◌
 use Rattle.std.specs.Prelude.{if◌then◌else◌, List, get_or, length}
 use Rattle.std.specs.List.{list_all}
 use Rattle.tlv_text.specs.DumpLines.{RowRead, after_blanks}
-use Rattle.tlv_text.specs.DumpPairs.{after_few, before_pairs, gap_of, pairs_at}
+use Rattle.tlv_text.specs.DumpPairs.{before_pairs, gap_of, pairs_at}
 use Rattle.tlv_text.specs.TextRead.{TextRead}
 
 -- the character that a dump shows for an octet: a full stop for what is not printable ASCII
@@ -43,13 +43,12 @@ has_bits x = nat_le (x / 16) 1 && nat_le (x % 16) 1
 abbrev pub are_bits : List ℕ → List ℕ → Bool
 are_bits octets text = nat_le 1 (length text) && (length octets == 4 * length text) && list_all has_bits octets
 
--- what is behind pairs shows that they are not the octets in order. It comes behind two blanks, or behind more of them
--- where the pairs are bits
+-- the characters behind pairs show that these are not the octets in order
 abbrev pub are_other_octets : List ℕ → List ℕ → Bool
-are_other_octets octets rest = are_reversed octets (after_few 2 rest) || are_bits octets (after_blanks rest)
+are_other_octets octets text = are_reversed octets text || are_bits octets text
 
--- the same of the pairs of a row, which is read as a single one, of at most 256 pairs
+-- so do those of a row, which is read as a single one, of at most 256 pairs
 abbrev pub has_other_octets : RowRead → Bool
 has_other_octets r =
     let read : TextRead = pairs_at 256 (gap_of 1 r.rest) (before_pairs r.rest) in
-    are_other_octets read.octets read.rest
+    are_other_octets read.octets (after_blanks read.rest)

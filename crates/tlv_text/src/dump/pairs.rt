@@ -163,7 +163,7 @@ fn after_gap(gap: Gap, text: &[u8]) -> &[u8]
 }
 
 /// The text after at most `most` leading blanks.
-pub(super) fn after_few(most: usize, text: &[u8]) -> &[u8]
+fn after_few(most: usize, text: &[u8]) -> &[u8]
     ensures { result.now ≡ after_few most text.now }
 {
     let mut rest = text;

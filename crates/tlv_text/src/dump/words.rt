@@ -7,7 +7,7 @@ ghost use Rattle.tlv_text.specs.Private.DumpSteps.{row_seen};
 ghost use Rattle.tlv_text.specs.Private.PairSteps.{AreWholePairs, pair_octets};
 
 use super::lines::{RowLine, after_blanks};
-use super::pairs::{after_few, before_pairs, begins_pair, gap_of, take_first, take_pairs};
+use super::pairs::{before_pairs, begins_pair, gap_of, take_first, take_pairs};
 use arrayvec::ArrayVec;
 
 /// The maximum number of octets of a row that are compared with its characters.
@@ -25,27 +25,27 @@ pub(super) fn has_other_octets(row: RowLine<'_>) -> bool
     let mut digits = ArrayVec::new();
     take_first(&mut rest, &mut digits);
     take_pairs(OCTETS - 1, gap_of(1, row.rest), &mut rest, &mut digits);
-    are_others_shown(digits.as_slice(), rest)
+    are_others_shown(digits.as_slice(), after_blanks(rest))
 }
 
-/// Whether what is behind these pairs of digits, at most 256, shows that they are not the octets in order.
-fn are_others_shown(digits: &[u8], rest: &[u8]) -> bool
+/// Whether a text behind these pairs of digits, at most 256, shows that they are not the octets in order.
+fn are_others_shown(digits: &[u8], text: &[u8]) -> bool
     requires pairs { AreWholePairs digits.now }
     requires few { length digits.now ≤ 512 }
-    ensures { result ≡ are_other_octets (pair_octets digits.now) rest.now }
+    ensures { result ≡ are_other_octets (pair_octets digits.now) text.now }
 {
     let mut room = [0; OCTETS];
     let octets = &mut room[..digits.len() / 2];
     let _ = hex::decode_to_slice(digits, octets);
-    are_other_octets(octets, rest)
+    are_other_octets(octets, text)
 }
 
-/// Whether what is behind the pairs of these octets shows that they are not the octets in order.
-fn are_other_octets(octets: &[u8], rest: &[u8]) -> bool
+/// Whether a text behind the pairs of these octets shows that they are not the octets in order.
+fn are_other_octets(octets: &[u8], text: &[u8]) -> bool
     requires { length octets.now ≤ 256 }
-    ensures { result ≡ are_other_octets octets.now rest.now }
+    ensures { result ≡ are_other_octets octets.now text.now }
 {
-    are_reversed(octets, after_few(2, rest)) || are_bits(octets, after_blanks(rest))
+    are_reversed(octets, text) || are_bits(octets, text)
 }
 
 /// Whether for each character of a text there are eight digits, all of them 0 or 1, and there is a character.

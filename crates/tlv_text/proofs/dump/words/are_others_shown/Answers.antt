@@ -9,4 +9,4 @@ returns c =
     let digits : List ℕ = c.args.digits.now in
     let out : c.decode_to_slice.new.out ≡ pair_octets digits =
     (rw (room-decoded digits _ c.requires.pairs c.requires.few refl) at c.decode_to_slice.ensures.value).1 in
-    c.are_other_octets.ensures ∙ ap (λ (octets : List ℕ). are_other_octets octets c.args.rest.now) out
+    c.are_other_octets.ensures ∙ ap (λ (octets : List ℕ). are_other_octets octets c.args.text.now) out

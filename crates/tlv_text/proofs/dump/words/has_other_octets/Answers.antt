@@ -1,5 +1,6 @@
 use Rattle.std.proofs.Common.{◌≡◌, ◌∙◌, Bool, List, ℕ, ap, arith, sym}
 use Rattle.tlv_text.proofs.DumpPairLemmas.{row-read}
+use Rattle.tlv_text.specs.DumpLines.{after_blanks}
 use Rattle.tlv_text.specs.DumpPairs.{gap_of, pairs_at}
 use Rattle.tlv_text.specs.DumpWords.{are_other_octets}
 use Rattle.tlv_text.specs.Private.PairSteps.{pair_octets}
@@ -18,7 +19,7 @@ returns c =
     row-read 256 c.take_pairs.result (gap_of 1 line) c.before_pairs-rest.result.now c.take_first.new.digits.items rest
     digits (omega arith) (omega arith) begins c.take_first.ensures.pair
     (rw (c.gap_of.ensures, c.take_first.ensures.rest) at t.read) t.count (rw c.gap_of.ensures at t.last) in
-    let found : TextRead → Bool = λ r. are_other_octets r.octets r.rest in
+    let found : TextRead → Bool = λ r. are_other_octets r.octets (after_blanks r.rest) in
     c.are_others_shown.ensures
-    ∙ rw c.as_slice.ensures.value (ap found (sym read))
+    ∙ rw (c.as_slice.ensures.value, c.after_blanks.ensures) (ap found (sym read))
     ∙ ap (λ (text : List ℕ). found (pairs_at 256 (gap_of 1 line) text)) c.before_pairs-rest.ensures
