@@ -56,8 +56,8 @@ pub fn check_with<S: Source, D: Drain>(
     }
 }
 
-/// Lists the findings that are wanted, with what is tracked for them. `TRACKED` is small, so that the follower has room in
-/// memory.
+/// Lists the findings that are wanted, with what is tracked for them. `TRACKED` is small, so that there is room for the
+/// follower in memory.
 fn check_by<const TRACKED: usize, S: Source, D: Drain>(
     source: &mut S,
     drain: &mut D,

@@ -63,8 +63,8 @@ pub fn dump_with<N: FiniteNames, S: Source, D: Drain>(
     }
 }
 
-/// Writes a dump with the findings of this scope, with what is tracked for them. `TRACKED` is small, so that the follower
-/// has room in memory.
+/// Writes a dump with the findings of this scope, with what is tracked for them. `TRACKED` is small, so that there is
+/// room for the follower in memory.
 fn dump_by<const TRACKED: usize, N: FiniteNames, S: Source, D: Drain>(
     source: &mut S,
     drain: &mut D,

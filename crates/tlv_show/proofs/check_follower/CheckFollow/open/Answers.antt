@@ -11,7 +11,9 @@ returns-in_err-open g c =
     let failed = err_from_is_err_and c.from_residual.result c.from_residual.ensures.1 in
     record {
       has = record {
-        puts = puts_failed_last g.D.Drain.state _ _ _ _ _ (rw c.new.ensures at c.in_err-open.ensures.puts) (search rules);
+        puts =
+            puts_failed_last g.D.Drain.state _ _ _ _ _ (rw c.new.ensures at c.in_err-open.ensures.puts)
+            (search rules);
         state = rw failed.1 tt;
       };
       goes = rw failed.1 tt;
