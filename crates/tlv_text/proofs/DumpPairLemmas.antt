@@ -3,18 +3,20 @@ use Rattle.std.proofs.Common.{◌≡◌, ℕ, zero, suc, ◌+◌, ◌-◌, ◌/�
 use Rattle.std.proofs.Common.{◌||◌, List, [], ◌∷◌, ◌++◌, length, take, drop, slice_index, refl, ap, sym, ◌∙◌}
 use Rattle.std.proofs.Common.{append_assoc, arith}
 use Rattle.std.proofs.Common.{inl, inr}
-use Rattle.std.specs.Prelude.{if◌then◌else◌}
-use Rattle.std.proofs.lemmas.Bool.{cases_lt}
+use Rattle.std.specs.Prelude.{if◌then◌else◌, nat_le}
+use Rattle.std.proofs.lemmas.Bool.{cases_Bool, cases_lt, le-leb, leb-false, leb-true, lt-leb}
 use Rattle.std.proofs.lemmas.List.{append-nil, length-append}
 use Rattle.std.proofs.lemmas.List.Elements.{All-nil}
+use Rattle.std.proofs.lemmas.List.Sums.{count_by-le-length}
 use Rattle.hex.specs.Hex.{is_hex_digit}
 use Rattle.tlv_text.proofs.DumpLemmas.{pair_octets-length}
 use Rattle.tlv_text.proofs.PairLemmas.{pair_octets-more, pairs-and_one}
 use Rattle.tlv_text.proofs.Slices.{after-two, slice_from}
 use Rattle.tlv_text.specs.Dump.{octets_repeated}
+use Rattle.tlv_text.specs.DumpLines.{after_blanks, is_dump_blank}
 use Rattle.tlv_text.specs.DumpPairs.{after_few, after_gap, before_pairs, begins_digit, begins_lone_pair, begins_pair}
 use Rattle.tlv_text.specs.DumpPairs.{dump_row_octets, gap_of, has_few_others, leading_octet, octets_if, pairs_after}
-use Rattle.tlv_text.specs.DumpPairs.{pairs_at, row_fits}
+use Rattle.tlv_text.specs.DumpPairs.{is_further, others_count, pairs_at, row_fits}
 use Rattle.tlv_text.specs.Pairs.{pair_octet}
 use Rattle.tlv_text.specs.Private.PairSteps.{AreWholePairs, pair_octets}
 use Rattle.tlv_text.specs.TextRead.{TextRead, nothing_read, octets_then}
@@ -136,6 +138,43 @@ pairs-from_first (suc n) gap (x ∷ []) some begins = cc begins
 pairs-from_first (suc n) gap (x ∷ y ∷ text) some begins =
     rw begins
     (ap (λ (m : ℕ). octets_then (pair_octet x y ∷ []) (pairs_after m gap text)) (omega arith))
+
+-- ---- the characters behind the pairs
+
+blank-not_counted : (x : ℕ) (text : List ℕ) → is_dump_blank x ≡ true → others_count (x ∷ text) ≡ others_count text
+blank-not_counted x text blank = rw blank refl
+
+-- leading blanks do not count
+pub others-after_blanks : (text : List ℕ) → others_count (after_blanks text) ≡ others_count text
+others-after_blanks [] = refl
+others-after_blanks (x ∷ text) =
+    let by : Bool → ℕ = λ b. others_count (if b then after_blanks text else x ∷ text) in
+    elim (cases_Bool (is_dump_blank x)) [
+      | inl blank ↦ ap by blank ∙ others-after_blanks text ∙ sym (blank-not_counted x text blank)
+      | inr not_blank ↦ ap by not_blank
+    ]
+
+-- a short text has few characters
+pub few-in_short : (octets : ℕ) (others rest : List ℕ) → others ≡ after_blanks rest → length others - 2 ≤ octets
+    → has_few_others octets rest ≡ true
+few-in_short octets others rest e short =
+    le-leb _ _ (
+    omega (
+      arith,
+      short,
+      count_by-le-length (λ x. not (is_dump_blank x || is_further x)) others,
+      ap others_count e ∙ others-after_blanks rest,
+    )
+    )
+
+pub few-counted : (octets count : ℕ) (others rest : List ℕ) → others ≡ after_blanks rest → count ≡ others_count others
+    → nat_le (count - 2) octets ≡ has_few_others octets rest
+few-counted octets count others rest e counted =
+    let same : count ≡ others_count rest = counted ∙ ap others_count e ∙ others-after_blanks rest in
+    elim (cases_Bool (nat_le (count - 2) octets)) [
+      | inl few ↦ few ∙ sym (le-leb _ _ (omega (arith, same, leb-true _ _ few)))
+      | inr many ↦ many ∙ sym (lt-leb _ _ (omega (arith, same, leb-false _ _ many)))
+    ]
 
 -- ---- a row among others
 

@@ -55,11 +55,13 @@ fn has_more_digits(full: bool, rest: &[u8]) -> bool
     begins_digit(rest) || full && begins_lone_pair(after_few(1, rest))
 }
 
-/// Whether not more characters come after the pairs of a row than the row has octets, besides two bars.
+/// Whether not more characters come after the pairs of a row than the row has octets, besides two bars. A usual row is
+/// too short for more of them, so they need not be counted.
 pub(super) fn has_few_others(octets: usize, rest: &[u8]) -> bool
     ensures { result ≡ has_few_others octets rest.now }
 {
-    others_count(rest).saturating_sub(2) <= octets
+    let others = after_blanks(rest);
+    others.len().saturating_sub(2) <= octets || others_count(others).saturating_sub(2) <= octets
 }
 
 /// The number of characters of a text, without blanks.
