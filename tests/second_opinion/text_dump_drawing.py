@@ -111,8 +111,8 @@ def dump(rng, octets):
 
 
 def altered(rng, lines):
-    """Returns the lines of a dump with a wrong offset, a row that is too long or too short, a line inserted, or two lines
-    in one.
+    """Returns the lines of a dump with a wrong offset, a row that is too long or too short, an inserted line, or two
+    lines in one.
     """
     if not lines:
         return lines

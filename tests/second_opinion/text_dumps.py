@@ -14,8 +14,8 @@ REPEAT, EMPTY = re.compile(rb"[ \t]*\*[ \t]*"), re.compile(rb"[ \t]*")
 # pair with a blank or the end of the line after it.
 DIGIT = re.compile(DIGITS[16])
 MORE = re.compile(rb"[ \t]%s(?=[ \t]|\Z)" % PAIR)
-# A character that counts behind the pairs of a row: no blank, and no further octet of a character of UTF-8. There may be
-# as many as the row has octets, and BARS more.
+# A character that counts behind the pairs of a row: no blank, and no further octet of a character of UTF-8. There may
+# be as many as the row has octets, and BARS more.
 BEHIND, BARS = re.compile(rb"[^ \t\x80-\xbf]"), 2
 # An offset as od writes it.
 OF_OD = re.compile(rb"[ \t]*(?:0[xX])?[0-7]{7}[ \t]")
