@@ -86,8 +86,7 @@ module _ {S : Type 0} (request : Request) (table : NamesValue) (p : BlocksPlace)
         → ShowsRest before left now status → ShowsSome request table p (before + 1) xs now between false worst
         → ShowsRest after ys between (max status worst)
     rest-goes_on before after status worst xs ys left now between is counted so x new failed rest others =
-        renumbered number number (max status (max worst rest)) (max (max status worst) rest) failed blocks first new refl
-        (max-three status worst rest)
+        renumbered number number _ _ failed blocks first new refl (max-three status worst rest)
         (so new failed (max worst rest)
         (subst
         (λ (l : List InputBlockValue). ShowsSome request table p (before + 1) l now new failed (max worst rest))

@@ -11,6 +11,7 @@ pub returns-then-outcome : goal.returns-then-outcome
 returns-then-outcome g c =
     let steps : into_iter_items c.loop-file.file-iterator ≡ c.in-Some.file ∷ into_iter_items c.next.new.self =
     c.in-Some.ensures.steps.0 in
+    let failed = c.if-outcome.true in
     rw c.highest-status.ensures
     (all-shown c.args.task.now.request.now c.args.task.now.names.now (blocks_place c.args.task.now)
     (rest-stops c.args.task.now.request.now c.args.task.now.names.now (blocks_place c.args.task.now) 1
@@ -19,7 +20,7 @@ returns-then-outcome g c =
     c.loop-file.before c.loop-file.status c.show_file-outcome.result.status (file_blocks c.in-Some.file)
     (flat_map file_blocks (into_iter_items c.next.new.self))
     (flat_map file_blocks (into_iter_items c.loop-file.file-iterator)) _ _
-    (ap (flat_map file_blocks) steps) c.loop-file.invariant.shows (rw c.if-outcome.true at c.show_file-outcome.ensures)))
+    (ap (flat_map file_blocks) steps) c.loop-file.invariant.shows (rw failed at c.show_file-outcome.ensures)))
 
 pub loop-file-preserved : goal.loop-file-preserved
 loop-file-preserved g c =

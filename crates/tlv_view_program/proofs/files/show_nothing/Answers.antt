@@ -5,5 +5,5 @@ use Rattle.tlv_view_program.proofs.files.show_nothing.Goals as goal
 
 pub returns : goal.returns
 returns g c =
-    one-shown c.args.task.now.request.now c.args.task.now.names.now (blocks_place c.args.task.now) (c.args.before + 1) _ _
-    _ _ _ c.block.ensures
+    let p = blocks_place c.args.task.now in
+    one-shown c.args.task.now.request.now c.args.task.now.names.now p (c.args.before + 1) _ _ _ _ _ c.block.ensures
