@@ -266,3 +266,14 @@ hexadecimal_further-row : dump_read (
     ≡ record { octets = octets ++ octets; left = Some 14 }
 unfolding octets
 hexadecimal_further-row = refl
+
+-- words in reverse, as `xxd -e` writes them, and bits, as `xxd -b` does, are refused; the same words in order are not
+reversed-row : dump_read (codes "00000000: 65623130  01be") ≡ refused_with 24
+reversed-row = refl
+
+in_order-row : dump_read (codes "00000000: 30316265  01be") ≡ whole (48 ∷ 49 ∷ 98 ∷ 101 ∷ [])
+unfolding whole
+in_order-row = refl
+
+written_bits-row : dump_read (codes "00000000: 00110000 00110001  01") ≡ refused_with 31
+written_bits-row = refl

@@ -42,7 +42,7 @@ static TOOLS: [&[u8]; 10] = [
 ];
 
 /// Short dumps, dumps that are refused, and texts that are no dump.
-static DUMPS: [Row<'static>; 19] = [
+static DUMPS: [Row<'static>; 22] = [
     (
         b"0000  30 03 02 01 05   0....",
         b"\x30\x03\x02\x01\x05",
@@ -105,6 +105,10 @@ static DUMPS: [Row<'static>; 19] = [
         b"0123456789:;<=>?0123456789:;<=>?",
         Some(112),
     ),
+    // Words in reverse (xxd -e), the same words in order, and bits (xxd -b).
+    (b"00000000: 65623130  01be\n", b"", Some(0)),
+    (b"00000000: 30316265  01be\n", b"01be", None),
+    (b"00000000: 00110000 00110001  01\n", b"", Some(0)),
     (b"no dump\n", b"", Some(8)),
     (b"3003 0201 05\n", b"", Some(0)),
     (b"", b"", Some(0)),
