@@ -1,6 +1,6 @@
 //! Hexadecimal digits.
 ghost use Rattle.hex.specs.Hex.{is_hex_digit};
-ghost use Rattle.std.specs.Prelude.{◌≡◌, ◌<◌, ◌≤◌, nat_lt, true};
+ghost use Rattle.std.specs.Prelude.{◌≡◌, ◌<◌, ◌≤◌, None, Some, nat_lt, true};
 ghost use Rattle.tlv_text.specs.DumpPairs.{begins_digit};
 ghost use Rattle.tlv_text.specs.Pairs.{hex_value};
 ghost use Rattle.tlv_text.specs.Private.PairSteps.{octet_of, value_or_256};
@@ -59,9 +59,18 @@ pub(crate) fn digit_value(digit: u8) -> u8
 pub(crate) fn octet_of(x: u8, y: u8) -> Option<u8>
     ensures { result ≡ octet_of x y }
 {
-    // One comparison tells whether both are digits, since the value of another character is 256.
-    let octet = value_or_256(x) * 16 + value_or_256(y);
+    let octet = octet_or_more(x, y);
     if octet < 256 { Some(octet as u8) } else { None }
+}
+
+/// The octet of two hexadecimal digits; more than 255 if one of the two characters is no digit. One comparison tells,
+/// since the value of another character is 256.
+#[inline(always)]
+pub(crate) fn octet_or_more(x: u8, y: u8) -> u32
+    ensures octet { result < 256 → octet_of x y ≡ Some result }
+    ensures none { 256 ≤ result → octet_of x y ≡ None }
+{
+    value_or_256(x) * 16 + value_or_256(y)
 }
 
 /// The value of a hexadecimal digit, or 256 for another character. A look-up costs less than a comparison with each

@@ -1,12 +1,13 @@
 //! Octets as pairs of hexadecimal digits.
-ghost use Rattle.std.specs.Prelude.{◌≡◌, ◌≤◌, IfOk, MatchOption, OnOk, length};
+ghost use Rattle.std.specs.Prelude.{◌≡◌, ◌<◌, ◌≤◌, IfOk, MatchOption, OnOk, Some, length, true};
 ghost use Rattle.tlv_text.specs.Pairs.{is_between_pairs, pairs_read};
+ghost use Rattle.tlv_text.specs.Private.PairSteps.{octet_of};
 ghost use Rattle.tlv_text.specs.Separated.{IsNotSeparated, IsSeparated, are_separated};
 ghost use Rattle.tlv_text.specs.TextRead.{octets_then, refused_at};
 
 use crate::Decoded;
 use crate::decoded::refused_at;
-use crate::digits::{begins_digit, octet_of};
+use crate::digits::{begins_digit, octet_of, octet_or_more};
 use std::alloc::{AllocError, Global};
 
 /// What may be between pairs, each at its own place, and `@` at every other place.
@@ -82,21 +83,32 @@ fn take_four_separated(text: &mut &[u8], octets: &mut Vec<u8>) -> Result<(), All
     ensures less { length text.new.now ≤ length text.old.now }
 {
     let mut rest = *text;
-    while let [a, b, c, d, e, f, g, h, i, j, k, l, more @ ..] = rest
-        && is_between_pairs(*c)
-        && is_between_pairs(*f)
-        && is_between_pairs(*i)
-        && is_between_pairs(*l)
-        && let Some(first) = octet_of(*a, *b)
-        && let Some(second) = octet_of(*d, *e)
-        && let Some(third) = octet_of(*g, *h)
-        && let Some(fourth) = octet_of(*j, *k)
-    {
-        octets.extend_from_slice(&[first, second, third, fourth])?;
+    while let [a, b, c, d, e, f, g, h, i, j, k, l, more @ ..] = rest {
+        let first = separated_octet(*a, *b, *c);
+        let second = separated_octet(*d, *e, *f);
+        let third = separated_octet(*g, *h, *i);
+        let fourth = separated_octet(*j, *k, *l);
+        // All four are computed before the first test, which then is a single one.
+        if first > 255 || second > 255 || third > 255 || fourth > 255 {
+            break;
+        }
+        octets.extend_from_slice(&[first as u8, second as u8, third as u8, fourth as u8])?;
         rest = more;
     }
     *text = rest;
     Ok(())
+}
+
+/// The octet of two digits with a character after them that may be between pairs; more than 255 for other characters.
+#[inline(always)]
+fn separated_octet(x: u8, y: u8, after: u8) -> u32
+    ensures { result < 256 → (octet_of x y ≡ Some result) × (is_between_pairs after ≡ true) }
+{
+    if is_between_pairs(after) {
+        octet_or_more(x, y)
+    } else {
+        256
+    }
 }
 
 /// Decodes a text of pairs of which none is followed by a digit at once. `None` for another text.
