@@ -60,13 +60,16 @@ fn take_four_pairs(text: &mut &[u8], octets: &mut Vec<u8>) -> Result<(), AllocEr
     ensures less { length text.new.now ≤ length text.old.now }
 {
     let mut rest = *text;
-    while let [a, b, c, d, e, f, g, h, more @ ..] = rest
-        && let Some(first) = octet_of(*a, *b)
-        && let Some(second) = octet_of(*c, *d)
-        && let Some(third) = octet_of(*e, *f)
-        && let Some(fourth) = octet_of(*g, *h)
-    {
-        octets.extend_from_slice(&[first, second, third, fourth])?;
+    while let [a, b, c, d, e, f, g, h, more @ ..] = rest {
+        let first = octet_or_more(*a, *b);
+        let second = octet_or_more(*c, *d);
+        let third = octet_or_more(*e, *f);
+        let fourth = octet_or_more(*g, *h);
+        // All four are computed before the first test, which then is a single one.
+        if first > 255 || second > 255 || third > 255 || fourth > 255 {
+            break;
+        }
+        octets.extend_from_slice(&[first as u8, second as u8, third as u8, fourth as u8])?;
         rest = more;
     }
     *text = rest;
@@ -88,7 +91,6 @@ fn take_four_separated(text: &mut &[u8], octets: &mut Vec<u8>) -> Result<(), All
         let second = separated_octet(*d, *e, *f);
         let third = separated_octet(*g, *h, *i);
         let fourth = separated_octet(*j, *k, *l);
-        // All four are computed before the first test, which then is a single one.
         if first > 255 || second > 255 || third > 255 || fourth > 255 {
             break;
         }
