@@ -104,12 +104,19 @@ def sound(checks, octets, has_iconv):
 
 def in_one_line(checks, what, text):
     """A dump whose line ends are lost is refused: it does not give the octets of its first row."""
-    for end in (b"", b" "):
+    for end in (b"", b" ", b"  "):
         changed, here = text.replace(b"\n", end), f"{what}, {end!r} for line ends"
         got = checks.raw(here, changed)
         checks.part.expect(f"{here}: no octets", got.status != 0 and not got.out, *got.lines())
         if ROW.match(text.split(b"\n", 1)[0]):
             checks.refused(f"{here}, --as", changed, b"", "dump", 1)
+
+
+def short_in_one_line(checks, octets):
+    """The same for dumps of a row and a short one, even without a column of characters, which leaves room for it."""
+    for name, form, text in checks.all_of(octets):
+        if form == "dump" and len(octets) > len_of_row(name):
+            in_one_line(checks, f"{name}, {len(octets)} octets", text.removeprefix(text_makers.CAPTURE))
 
 
 def not_in_order(checks, octets):
@@ -272,6 +279,8 @@ def test(part):
     has_iconv = part.has("iconv")
     for octets in (*fixed, zeros, *more):
         sound(checks, octets, has_iconv)
+    for octets in (element(0x30, b"\x02\x01\x05" * 5), element(0x30, b"\x02\x01\x05" * 4 + b"\x04\x02hi")):
+        short_in_one_line(checks, octets)
     for octets in fixed:
         damaged_base64(checks, octets)
         damaged_digits(checks, octets)

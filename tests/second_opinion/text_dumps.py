@@ -17,6 +17,8 @@ MORE = re.compile(rb"[ \t]%s(?=[ \t]|\Z)" % PAIR)
 # A character that counts behind the pairs of a row: no blank, and no further octet of a character of UTF-8. There may
 # be as many as the row has octets, and BARS more.
 BEHIND, BARS = re.compile(rb"[^ \t\x80-\xbf]"), 2
+# An offset in front of a line, by its base.
+FRONT_OFFSET = {base: re.compile(OFFSET % digits + rb"(?=[: \t]|\Z)") for base, digits in DIGITS.items()}
 # An offset as od writes it.
 OF_OD = re.compile(rb"[ \t]*(?:0[xX])?[0-7]{7}[ \t]")
 
@@ -77,7 +79,6 @@ class Dump:
         """Reads the text."""
         self.row = re.compile(OFFSET % DIGITS[base] + FRONT)
         self.end = re.compile(OFFSET % DIGITS[base] + rb"[ \t]*")
-        self.offset = re.compile(OFFSET % DIGITS[base] + rb"(?=[: \t]|\Z)")
         self.base, self.text_size = base, len(text)
         self.pieces, self.place, self.first = [], None, b""
         lines = lines_of(text)
@@ -170,7 +171,7 @@ class Dump:
         octets, at = self.pairs(row, self.width, 1 if self.is_single else 2)
         if DIGIT.match(row.text, at) or len(octets) == self.width and MORE.match(row.text, at):
             return False
-        if len(BEHIND.findall(row.text, at)) > len(octets) + BARS:
+        if len(BEHIND.findall(row.text, at)) > len(octets) + BARS or begins_row(row.text, at, row.offset + len(octets)):
             return False
         if not self.fits_offset(row.offset):
             return False
@@ -202,7 +203,7 @@ class Dump:
         for _, text in (line for line in lines if line[0] > first.place):
             if REPEAT.fullmatch(text):
                 return USUAL_WIDTH
-            second = self.offset.match(text)
+            second = FRONT_OFFSET[self.base].match(text)
             if second:
                 more = int(second[1], self.base) - first.offset
                 return more if 1 <= more <= MOST_WIDTH else USUAL_WIDTH
@@ -211,6 +212,12 @@ class Dump:
     def fits_end(self, end):
         """Returns whether the last offset fits: the offset after the last row, or the one up to which a repeat goes."""
         return self.fits_offset(end.offset)
+
+
+def begins_row(text, at, offset):
+    """Returns whether this offset begins here, behind blanks, as a hexadecimal number or an octal one."""
+    found = {base: pattern.match(text, at) for base, pattern in FRONT_OFFSET.items()}
+    return any(match and int(match[1], base) == offset for base, match in found.items())
 
 
 def shown(octets):

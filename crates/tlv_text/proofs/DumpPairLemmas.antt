@@ -3,7 +3,7 @@ use Rattle.std.proofs.Common.{◌≡◌, ℕ, zero, suc, ◌+◌, ◌-◌, ◌/�
 use Rattle.std.proofs.Common.{◌||◌, List, [], ◌∷◌, ◌++◌, length, take, drop, slice_index, refl, ap, sym, ◌∙◌}
 use Rattle.std.proofs.Common.{append_assoc, arith}
 use Rattle.std.proofs.Common.{inl, inr}
-use Rattle.std.specs.Prelude.{if◌then◌else◌, nat_le}
+use Rattle.std.specs.Prelude.{if◌then◌else◌, nat_le, Option}
 use Rattle.std.proofs.lemmas.Bool.{cases_Bool, cases_lt, le-leb, leb-false, leb-true, lt-leb}
 use Rattle.std.proofs.lemmas.List.{append-nil, length-append}
 use Rattle.std.proofs.lemmas.List.Elements.{All-nil}
@@ -13,10 +13,11 @@ use Rattle.tlv_text.proofs.DumpLemmas.{pair_octets-length}
 use Rattle.tlv_text.proofs.PairLemmas.{pair_octets-more, pairs-and_one}
 use Rattle.tlv_text.proofs.Slices.{after-two, slice_from}
 use Rattle.tlv_text.specs.Dump.{octets_repeated}
-use Rattle.tlv_text.specs.DumpLines.{after_blanks, is_dump_blank}
+use Rattle.tlv_text.specs.DumpLines.{RowRead, after_blanks, is_dump_blank}
 use Rattle.tlv_text.specs.DumpPairs.{after_few, after_gap, before_pairs, begins_digit, begins_lone_pair, begins_pair}
-use Rattle.tlv_text.specs.DumpPairs.{dump_row_octets, gap_of, has_few_others, leading_octet, octets_if, pairs_after}
-use Rattle.tlv_text.specs.DumpPairs.{is_further, others_count, pairs_at, row_fits}
+use Rattle.tlv_text.specs.DumpPairs.{dump_row_octets, ends_line, gap_of, has_few_others, has_single_offset}
+use Rattle.tlv_text.specs.DumpPairs.{is_further, leading_octet, octets_if, others_count, pairs_after, pairs_at}
+use Rattle.tlv_text.specs.DumpPairs.{row_fits, single_row_fits, single_row_octets}
 use Rattle.tlv_text.specs.Pairs.{pair_octet}
 use Rattle.tlv_text.specs.Private.PairSteps.{AreWholePairs, pair_octets}
 use Rattle.tlv_text.specs.TextRead.{TextRead, nothing_read, octets_then}
@@ -214,20 +215,40 @@ row-read size left gap text first rest digits some few begins f read count last 
     ∙ ap (octets_then (pair_octets digits)) (nothing-left size left gap rest digits few (omega arith) last)
     ∙ nothing-then (pair_octets digits) rest
 
-pub row-octets : (size : ℕ) (line text rest octets : List ℕ) (fits : Bool) → text ≡ before_pairs line
-    → begins_pair text ≡ true → pairs_at size (gap_of 2 line) text ≡ record { octets = octets; rest = rest }
+pub row-octets : (size : ℕ) (row : RowRead) (text rest octets : List ℕ) (fits : Bool) → text ≡ before_pairs row.rest
+    → begins_pair text ≡ true → pairs_at size (gap_of 2 row.rest) text ≡ record { octets = octets; rest = rest }
     → fits ≡ (not (begins_digit rest || ((length octets == size) && begins_lone_pair (after_few 1 rest)))
-    && has_few_others (length octets) rest)
-    → octets_if fits octets ≡ dump_row_octets size line
-row-octets size line text rest octets fits e begins read f =
-    let one : octets_if fits octets ≡ octets_if (row_fits size text (record { octets = octets; rest = rest })) octets =
+    && ends_line row.offset (length octets) rest)
+    → octets_if fits octets ≡ dump_row_octets size row
+row-octets size row text rest octets fits e begins read f =
+    let gap : Gap = gap_of 2 row.rest in
+    let one : octets_if fits octets
+    ≡ octets_if (row_fits size row.offset text (record { octets = octets; rest = rest })) octets =
     rw (begins, f) refl in
     one
-    ∙ ap (λ (r : TextRead). octets_if (row_fits size text r) r.octets) (sym read)
-    ∙ ap (λ (t : List ℕ). octets_if (row_fits size t (pairs_at size (gap_of 2 line) t))
-    (pairs_at size (gap_of 2 line) t).octets) e
+    ∙ ap (λ (r : TextRead). octets_if (row_fits size row.offset text r) r.octets) (sym read)
+    ∙ ap (λ (t : List ℕ). octets_if (row_fits size row.offset t (pairs_at size gap t)) (pairs_at size gap t).octets) e
 
 -- ---- a row alone
+
+pub single-octets : (row : RowRead) (gap : Gap) (text rest : List ℕ) (count : ℕ) (fits : Bool)
+    → has_single_offset row ≡ true → gap ≡ gap_of 1 row.rest → text ≡ before_pairs row.rest → begins_pair text ≡ true
+    → count ≡ length (pairs_at (length text) gap text).octets → rest ≡ (pairs_at (length text) gap text).rest
+    → begins_digit rest ≡ false → fits ≡ ends_line row.offset count rest
+    → octets_if fits (pairs_at (length text) gap text).octets ≡ single_row_octets row
+single-octets row gap text rest count fits single g e begins counted after no_digit f =
+    let read : TextRead = pairs_at (length text) gap text in
+    let ends : fits ≡ ends_line row.offset (length read.octets) read.rest =
+    f ∙ ap (λ (n : ℕ). ends_line row.offset n rest) counted
+    ∙ ap (λ (t : List ℕ). ends_line row.offset (length read.octets) t) after in
+    let digit : begins_digit read.rest ≡ false = sym (ap begins_digit after) ∙ no_digit in
+    let one : octets_if fits read.octets
+    ≡ octets_if (has_single_offset row && single_row_fits row.offset text read) read.octets =
+    rw (single, begins, digit, ends) refl in
+    let found : Gap → List ℕ → Option (List ℕ) = λ h t.
+    octets_if (has_single_offset row && single_row_fits row.offset t (pairs_at (length t) h t))
+    (pairs_at (length t) h t).octets in
+    one ∙ ap (λ (h : Gap). found h text) g ∙ ap (found (gap_of 1 row.rest)) e
 
 -- the number of pairs that may follow the pairs taken is the number of characters without these pairs
 pub pairs-left : (total size most left : ℕ) (old new : List ℕ) (before after : TextRead)

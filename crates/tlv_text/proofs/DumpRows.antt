@@ -230,6 +230,21 @@ joined-row = refl
 second-row : dump_read (codes "0000: 2e2f  ./0002: 3031  01\n0004: 3233  23\n") ≡ refused_with 44
 second-row = refl
 
+-- without characters, the row after the row begins behind its pairs
+joined_pairs-row : dump_read (codes "\t0x0000:  3082 0122 0405 0607 0809 0a0b 0c0d 0e0f\t0x0010:  3031")
+    ≡ refused_with 63
+joined_pairs-row = refl
+
+-- its offset may be octal
+joined_octal-row : dump_read (codes "0000000 30 82 01 22 04 05 06 07 08 09 0a 0b 0c 0d 0e 0f  0000020 30 31")
+    ≡ refused_with 70
+joined_octal-row = refl
+
+-- characters that look like another offset
+other_offset-row : dump_read (codes "0000: 3030 3136  0016") ≡ whole (48 ∷ 48 ∷ 49 ∷ 54 ∷ [])
+unfolding whole
+other_offset-row = refl
+
 -- two bars are not too much, and three are
 bars-row : dump_read (codes "0000: 3031  |01|") ≡ whole more
 unfolding more whole

@@ -7,6 +7,7 @@ use Rattle.tlv_text.proofs.DumpOutputLemmas.{added-both}
 use Rattle.tlv_text.specs.Dump.{DumpRead, DumpPlace, Step, first_then, dump_place_after, dump_place_at, refused_with, rows_read}
 use Rattle.tlv_text.specs.Dump.{dump_line_step, dump_step_then, times_before, times_in}
 use Rattle.tlv_text.specs.DumpLines.{LineKind, TextLine, line_kind, new_text_line}
+use Rattle.tlv_text.specs.DumpPairs.{octets_if}
 use Rattle.tlv_text.specs.Private.DumpSteps.{IsAdded, IsFirstRow, IsTaken, RowHolds, Reads, dump_place_of}
 use Rattle.tlv_text.specs.Private.PairSteps.{pair_octets}
 use Rattle.tlv_text.specs.declared.dump.Reading.{Reading}
@@ -112,6 +113,11 @@ all-read all more x y i none =
     subst (λ (t : List ℕ). IsAdded t x y) (sym are) i.added
 
 -- ---- the first row
+
+pub first-added : (fits : Bool) (octets : List ℕ) (old new : Output) → IsAdded octets old new
+    → IsFirstRow (octets_if fits octets) fits old new
+first-added true octets old new added = added
+first-added false octets old new added = record {}
 
 pub first-refused : (first : Option (List ℕ)) (fits : Bool) (x y : Output) (left : ℕ) (more : DumpRead)
     (reading : Reading) → fits ≡ false → IsFirstRow first fits x y → Reads (refused_with left) reading

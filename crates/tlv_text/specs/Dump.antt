@@ -10,7 +10,8 @@
 --   empty  = *blank
 --   gap    = "-" / 1*2blank                    "-" / blank in a single row; or nothing, if a colon follows the offset
 --                                              at once
---   others = *(blank / character)              not more characters than the row has octets, and two more: bars
+--   others = *(blank / character)              not more characters than the row has octets, and two more: bars; and not
+--                                              the row after it, behind blanks
 use Rattle.std.specs.Prelude.{ℕ, zero, suc, ◌+◌, ◌-◌, ◌/◌, ◌%◌, ◌==◌, Bool, true, false, ◌&&◌, nat_le, nat_lt}
 use Rattle.std.specs.Prelude.{if◌then◌else◌, List, [], ◌∷◌, ◌++◌, length, Option, Some, None, option_map}
 use Rattle.std.specs.List.{list_all}
@@ -80,7 +81,7 @@ dump_row_step size place r None = None
 dump_row_step size place r (Some times) =
     let before : List ℕ = octets_repeated times place.octets in
     if list_all is_dump_blank r.rest then Some (record { octets = before; place = record place { phase = Phase.End } })
-    else (if is_full size place then with_row before r.offset (dump_row_octets size r.rest) else None)
+    else (if is_full size place then with_row before r.offset (dump_row_octets size r) else None)
 
 -- what a line adds at a place, if it fits there; `left` is the number of characters from the line on
 abbrev pub dump_line_step : ℕ → DumpPlace → ℕ → LineKind → Option Step
@@ -148,8 +149,8 @@ abbrev pub read_from : Radix → RowRead → ℕ → List TextLine → Option �
 read_from radix r left lines None =
     first_then (single_row_octets r) left (rows_read radix 16 (dump_place_at Phase.End r.offset []) lines)
 read_from radix r left lines (Some size) =
-    first_then (dump_row_octets size r.rest) left
-    (rows_read radix size (dump_place_at Phase.Row r.offset (octets_or_none (dump_row_octets size r.rest))) lines)
+    first_then (dump_row_octets size r) left
+    (rows_read radix size (dump_place_at Phase.Row r.offset (octets_or_none (dump_row_octets size r))) lines)
 
 -- what is read from the first row on, which is refused if its octets are others than its pairs
 abbrev pub read_in_order : Radix → RowRead → ℕ → List TextLine → DumpRead

@@ -2,9 +2,10 @@
 use Rattle.std.specs.Prelude.{ℕ, zero, suc, ◌+◌, ◌==◌, Bool, true, false, ◌&&◌, ◌||◌, not, nat_le, if◌then◌else◌}
 use Rattle.std.specs.Prelude.{List, [], ◌∷◌, count_by, drop, length, Option, Some, None}
 use Rattle.hex.specs.Hex.{is_hex_digit}
-use Rattle.tlv_text.specs.DumpLines.{RowRead, after_blanks, begins_colon, is_dump_blank}
+use Rattle.tlv_text.specs.DumpLines.{RowRead, after_blanks, begins_colon, is_dump_blank, row_at}
 use Rattle.tlv_text.specs.Pairs.{pair_octet}
 use Rattle.tlv_text.specs.TextRead.{TextRead, nothing_read, octets_then}
+use Rattle.tlv_text.specs.declared.dump.lines.Radix.TheVariants.{Hexadecimal, Octal}
 use Rattle.tlv_text.specs.declared.dump.pairs.Gap.{Gap}
 
 -- the text without this character, if it comes first
@@ -90,36 +91,51 @@ others_count text = count_by (λ x. not (is_dump_blank x || is_further x)) text
 abbrev pub has_few_others : ℕ → List ℕ → Bool
 has_few_others octets rest = nat_le (others_count rest) (octets + 2)
 
--- one pair or more, no more digits after them, and few other characters
-abbrev pub row_fits : ℕ → List ℕ → TextRead → Bool
-row_fits size text read =
-    begins_pair text && not (has_more_digits size read) && has_few_others (length read.octets) read.rest
+-- a row has this offset
+abbrev pub has_offset : ℕ → Option RowRead → Bool
+has_offset offset None = false
+has_offset offset (Some r) = r.offset == offset
+
+-- behind blanks, a row with this offset begins, hexadecimal or octal
+abbrev pub begins_row_at : ℕ → List ℕ → Bool
+begins_row_at offset rest =
+    has_offset offset (row_at Hexadecimal (after_blanks rest)) || has_offset offset (row_at Octal (after_blanks rest))
+
+-- the line of a row with this offset and this number of octets holds no more than the row: few other characters come
+-- after the pairs, and the row after it does not begin there. If one does, a line end is lost
+abbrev pub ends_line : ℕ → ℕ → List ℕ → Bool
+ends_line offset octets rest = has_few_others octets rest && not (begins_row_at (offset + octets) rest)
+
+-- one pair or more, no more digits after them, and no more in the line than the row
+abbrev pub row_fits : ℕ → ℕ → List ℕ → TextRead → Bool
+row_fits size offset text read =
+    begins_pair text && not (has_more_digits size read) && ends_line offset (length read.octets) read.rest
 
 abbrev pub octets_if : Bool → List ℕ → Option (List ℕ)
 octets_if fits octets = if fits then Some octets else None
 
 -- the octets of a row among others, if it fits; a row has `size` octets, and the last row may have fewer
-abbrev pub dump_row_octets : ℕ → List ℕ → Option (List ℕ)
-dump_row_octets size rest =
-    let text : List ℕ = before_pairs rest in
-    let read : TextRead = pairs_at size (gap_of 2 rest) text in
-    octets_if (row_fits size text read) read.octets
+abbrev pub dump_row_octets : ℕ → RowRead → Option (List ℕ)
+dump_row_octets size r =
+    let text : List ℕ = before_pairs r.rest in
+    let read : TextRead = pairs_at size (gap_of 2 r.rest) text in
+    octets_if (row_fits size r.offset text read) read.octets
 
 -- the offset of a single row is 0, or a colon follows it
 abbrev pub has_single_offset : RowRead → Bool
 has_single_offset r = (r.offset == 0) || begins_colon r.rest
 
--- one pair or more, no digit right after them, and few other characters
-abbrev pub single_row_fits : List ℕ → TextRead → Bool
-single_row_fits text read =
-    begins_pair text && not (begins_digit read.rest) && has_few_others (length read.octets) read.rest
+-- one pair or more, no digit right after them, and no more in the line than the row
+abbrev pub single_row_fits : ℕ → List ℕ → TextRead → Bool
+single_row_fits offset text read =
+    begins_pair text && not (begins_digit read.rest) && ends_line offset (length read.octets) read.rest
 
 -- the octets of a single row, if it fits
 abbrev pub single_row_octets : RowRead → Option (List ℕ)
 single_row_octets r =
     let text : List ℕ = before_pairs r.rest in
     let read : TextRead = pairs_at (length text) (gap_of 1 r.rest) text in
-    octets_if (has_single_offset r && single_row_fits text read) read.octets
+    octets_if (has_single_offset r && single_row_fits r.offset text read) read.octets
 
 -- a row with a pair; a row without a pair is an end, or, before the first row, another line
 abbrev pub has_pair : RowRead → Bool

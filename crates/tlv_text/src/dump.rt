@@ -22,8 +22,7 @@ use arrayvec::ArrayVec;
 use lines::{DumpLine, Radix, RowLine, begins_colon, line_of, split_line};
 use output::{Output, add_octets, no_octets};
 use pairs::{
-    DIGITS, Gap, before_pairs, begins_pair, gap_of, has_few_others, row_digits, take_first,
-    take_pairs,
+    DIGITS, Gap, before_pairs, begins_pair, ends_line, gap_of, row_digits, take_first, take_pairs,
 };
 use rows::{LastRow, Phase, take_line};
 use std::alloc::{AllocError, Global};
@@ -40,9 +39,10 @@ pub(crate) struct Reading {
 
 /// Decodes a hex dump with offsets, as xxd, hexdump, od, Wireshark, tcpdump, Format-Hex and OpenSSL write it. A text
 /// is refused at the first line that does not fit. A row does not fit if more characters come after its pairs than it
-/// has octets, besides two bars: its line then holds more than a row, as it does if line ends are lost. Offsets are
-/// hexadecimal. They are octal if the offset of the first row has seven octal digits and no colon after it, as od
-/// writes it, and the text read so is not refused, or is refused further on than with hexadecimal offsets.
+/// has octets, besides two bars, or if the row after it begins there: its line then holds more than a row, as it does
+/// if line ends are lost. Offsets are hexadecimal. They are octal if the offset of the first row has seven octal digits
+/// and no colon after it, as od writes it, and the text read so is not refused, or is refused further on than with
+/// hexadecimal offsets.
 ///
 /// # Errors
 ///
@@ -185,7 +185,7 @@ fn read_among(
 {
     let mut output = no_octets(alloc);
     let mut digits = ArrayVec::new();
-    if !row_digits(size, row.rest, &mut digits) {
+    if !row_digits(size, row, &mut digits) {
         return Ok(refused(alloc, left));
     }
     add_octets(alloc, digits.as_slice(), 1, &mut output)?;
@@ -230,7 +230,7 @@ fn add_single(alloc: Global, row: RowLine<'_>, output: &mut Output) -> Result<bo
         return Ok(false);
     }
     let (octets, rest) = add_pairs(alloc, gap_of(1, row.rest), text, output)?;
-    Ok(!begins_digit(rest) && has_few_others(octets, rest))
+    Ok(!begins_digit(rest) && ends_line(row.offset, octets, rest))
 }
 
 /// Adds the octets of the pairs of a single row. Returns their number, and the rest after them.

@@ -42,7 +42,7 @@ static TOOLS: [&[u8]; 10] = [
 ];
 
 /// Short dumps, dumps that are refused, and texts that are no dump.
-static DUMPS: [Row<'static>; 22] = [
+static DUMPS: [Row<'static>; 25] = [
     (
         b"0000  30 03 02 01 05   0....",
         b"\x30\x03\x02\x01\x05",
@@ -89,6 +89,15 @@ static DUMPS: [Row<'static>; 22] = [
     ),
     // Rows without line feeds are not a single row.
     (b"00000000: 3003 0201  0...00000004: 05    .", b"", Some(0)),
+    // Nor are they where no characters are shown, with hexadecimal offsets or octal ones. Characters that look like
+    // another offset than that of the next row are characters.
+    (b"\t0x0000:  3003 0201\t0x0004:  05", b"", Some(0)),
+    (
+        b"0000000 30 31 32 33 34 35 36 37 38 39 3a 3b 3c 3d 3e 3f  0000020 40",
+        b"",
+        Some(0),
+    ),
+    (b"0000: 3030 3136  0016\n", b"0016", None),
     // Two bars are not too much, nor are characters of more than one octet, and three bars are.
     (b"0000: 3031  |01|\n", b"01", None),
     (

@@ -111,7 +111,7 @@ fn kind_from(radix: Radix, text: &[u8]) -> DumpLine<'_>
 
 /// The row whose offset begins here, if this is a row.
 #[inline(always)]
-fn row_at(radix: Radix, text: &[u8]) -> Option<RowLine<'_>>
+pub(super) fn row_at(radix: Radix, text: &[u8]) -> Option<RowLine<'_>>
     ensures { option_map row_seen result ≡ row_at radix text.now }
 {
     if !has_third_digit(radix, text) {

@@ -1,12 +1,14 @@
 //! Pairs of digits in a row of a hex dump.
-ghost use Rattle.std.specs.Prelude.{◌≡◌, ◌<◌, ◌≤◌, ◌+◌, ◌||◌, ◌&&◌, [], drop, length, not, take, true};
+ghost use Rattle.std.specs.Prelude.{◌≡◌, ◌<◌, ◌≤◌, ◌+◌, ◌||◌, ◌&&◌, [], drop, length, not, option_map, take, true};
 ghost use Rattle.tlv_text.specs.DumpPairs.{after_few, after_gap, after_one, before_pairs, begins_blank, begins_digit};
-ghost use Rattle.tlv_text.specs.DumpPairs.{begins_lone_pair, begins_pair, dump_row_octets, gap_of, has_few_others};
-ghost use Rattle.tlv_text.specs.DumpPairs.{is_further, octets_if, others_count, pairs_after};
+ghost use Rattle.tlv_text.specs.DumpPairs.{begins_lone_pair, begins_pair, begins_row_at, dump_row_octets, ends_line};
+ghost use Rattle.tlv_text.specs.DumpPairs.{gap_of, has_few_others, has_offset, is_further, octets_if, others_count};
+ghost use Rattle.tlv_text.specs.DumpPairs.{pairs_after};
+ghost use Rattle.tlv_text.specs.Private.DumpSteps.{row_seen};
 ghost use Rattle.tlv_text.specs.Private.PairSteps.{AreWholePairs, pair_octets};
 ghost use Rattle.tlv_text.specs.TextRead.{nothing_read, octets_then};
 
-use super::lines::{after_blanks, begins_colon, is_blank};
+use super::lines::{Radix, RowLine, after_blanks, begins_colon, is_blank, row_at};
 use crate::digits::{begins_digit, is_digit};
 use arrayvec::ArrayVec;
 
@@ -23,29 +25,30 @@ pub(crate) struct Gap {
 }
 
 /// Takes the digits of a row among others, if it fits; a row has `size` octets, and the last row may have fewer.
-pub(super) fn row_digits(size: usize, rest: &[u8], digits: &mut ArrayVec<u8, DIGITS>) -> bool
+pub(super) fn row_digits(size: usize, row: RowLine<'_>, digits: &mut ArrayVec<u8, DIGITS>) -> bool
     requires none { digits.old.items ≡ [] }
     requires some { 0 < size }
     requires few { size ≤ 256 }
     ensures pairs { AreWholePairs digits.new.items }
-    ensures octets { octets_if result (pair_octets digits.new.items) ≡ dump_row_octets size rest.now }
+    ensures octets { octets_if result (pair_octets digits.new.items) ≡ dump_row_octets size (row_seen row.entry) }
 {
-    let mut after = before_pairs(rest);
+    let mut after = before_pairs(row.rest);
     if !begins_pair(after) {
         return false;
     }
     take_first(&mut after, digits);
-    take_pairs(size - 1, gap_of(2, rest), &mut after, digits);
+    take_pairs(size - 1, gap_of(2, row.rest), &mut after, digits);
     let octets = digits.len() / 2;
-    ends_row(octets, octets == size, after)
+    ends_row(row.offset, octets, octets == size, after)
 }
 
-/// Whether a row ends after its pairs, which are these many octets: no more digits, and few other characters follow.
-fn ends_row(octets: usize, full: bool, rest: &[u8]) -> bool
+/// Whether a row with this offset ends after its pairs, which are these many octets: no more digits follow, and its
+/// line holds no more than the row.
+fn ends_row(offset: u64, octets: usize, full: bool, rest: &[u8]) -> bool
     ensures { result ≡ (not (begins_digit rest.now || full && begins_lone_pair (after_few 1 rest.now))
-        && has_few_others octets rest.now) }
+        && ends_line offset octets rest.now) }
 {
-    !has_more_digits(full, rest) && has_few_others(octets, rest)
+    !has_more_digits(full, rest) && ends_line(offset, octets, rest)
 }
 
 /// Whether a digit follows the pairs at once, or, after a full row, a lone pair follows after one blank.
@@ -55,9 +58,37 @@ fn has_more_digits(full: bool, rest: &[u8]) -> bool
     begins_digit(rest) || full && begins_lone_pair(after_few(1, rest))
 }
 
+/// Whether the line of a row with this offset holds no more than the row, given what comes after its pairs, which are
+/// `octets` octets: few other characters, and not the row after it.
+pub(super) fn ends_line(offset: u64, octets: usize, rest: &[u8]) -> bool
+    ensures { result ≡ ends_line offset octets rest.now }
+{
+    has_few_others(octets, rest) && !begins_next_row(offset, octets, rest)
+}
+
+/// Whether, behind blanks, the row after one with this offset and this number of octets begins. Its offset may be octal
+/// even where this offset was read as a hexadecimal one: the first offset of a dump is 0 in both.
+fn begins_next_row(offset: u64, octets: usize, rest: &[u8]) -> bool
+    ensures { result ≡ begins_row_at (offset + octets) rest.now }
+{
+    let text = after_blanks(rest);
+    is_next_row(row_at(Radix::Hexadecimal, text), offset, octets)
+        || is_next_row(row_at(Radix::Octal, text), offset, octets)
+}
+
+/// Whether this is the row after one with this offset and this number of octets.
+fn is_next_row(row: Option<RowLine<'_>>, offset: u64, octets: usize) -> bool
+    ensures { result ≡ has_offset (offset + octets) (option_map row_seen row.entry) }
+{
+    match row {
+        Some(row) => row.offset >= offset && row.offset - offset == octets as u64,
+        None => false,
+    }
+}
+
 /// Whether not more characters come after the pairs of a row than the row has octets, besides two bars. A usual row is
 /// too short for more of them, so they need not be counted.
-pub(super) fn has_few_others(octets: usize, rest: &[u8]) -> bool
+fn has_few_others(octets: usize, rest: &[u8]) -> bool
     ensures { result ≡ has_few_others octets rest.now }
 {
     let others = after_blanks(rest);

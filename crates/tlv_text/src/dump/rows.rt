@@ -99,7 +99,7 @@ fn take_row(
         return Ok(true);
     }
     let mut digits = ArrayVec::new();
-    if !is_full(size, last) || !row_digits(size, row.rest, &mut digits) {
+    if !is_full(size, last) || !row_digits(size, row, &mut digits) {
         return Ok(false);
     }
     add_octets(alloc, last.digits.as_slice(), times, output)?;
