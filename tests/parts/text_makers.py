@@ -60,6 +60,7 @@ def dumps(octets):
     """Returns hex dumps as written by programs that the machine may lack."""
     return [
         ("tcpdump -x", "dump", CAPTURE + dump(octets, lambda at, it, width: f"\t0x{at:04x}:  {rows.joined(it, 2)}")),
+        ("xxd without characters", "dump", dump(octets, lambda at, it, width: f"{at:08x}: {rows.joined(it, 2)}")),
         ("tcpdump -X", "dump", CAPTURE + dump(octets, rows.tcpdump)),
         ("tcpdump -XX", "dump", CAPTURE.replace(b"12:00:01.500000 ", b"2026-11-27 ") + dump(octets, rows.tcpdump)),
         ("Wireshark", "dump", dump(octets, rows.wireshark)),

@@ -10,9 +10,9 @@ DIGITS = {16: rb"[0-9a-fA-F]", 8: rb"[0-7]"}
 # What separates the offset from the first pair of digits.
 FRONT = rb"(:|[ \t]+:?)-?[ \t]*(?=%s)" % PAIR
 REPEAT, EMPTY = re.compile(rb"[ \t]*\*[ \t]*"), re.compile(rb"[ \t]*")
-# DIGIT may not follow the pairs of a row directly. MORE may not follow the pairs of a full row: it is a blank and a
+# AT_ONCE, a digit or a colon, may not follow the pairs of a row directly. MORE may not follow the pairs of a full row: it is a blank and a
 # pair with a blank or the end of the line after it.
-DIGIT = re.compile(DIGITS[16])
+AT_ONCE = re.compile(DIGITS[16] + rb"|:")
 MORE = re.compile(rb"[ \t]%s(?=[ \t]|\Z)" % PAIR)
 # A character that counts behind the pairs of a row: no blank, and no further octet of a character of UTF-8. There may
 # be as many as the row has octets, and BARS more.
@@ -169,7 +169,7 @@ class Dump:
         if self.is_short() or self.is_single and row.offset != 0 and not row.has_colon:
             return False
         octets, at = self.pairs(row, self.width, 1 if self.is_single else 2)
-        if DIGIT.match(row.text, at) or len(octets) == self.width and MORE.match(row.text, at):
+        if AT_ONCE.match(row.text, at) or len(octets) == self.width and MORE.match(row.text, at):
             return False
         if len(BEHIND.findall(row.text, at)) > len(octets) + BARS or begins_row(row.text, at, row.offset + len(octets)):
             return False

@@ -235,6 +235,10 @@ joined_pairs-row : dump_read (codes "\t0x0000:  3082 0122 0405 0607 0809 0a0b 0c
     ≡ refused_with 63
 joined_pairs-row = refl
 
+-- a colon shows that pairs are its offset
+joined_colon-row : dump_read (codes "0000: 3031 0002: 3233") ≡ refused_with 21
+joined_colon-row = refl
+
 -- its offset may be octal
 joined_octal-row : dump_read (codes "0000000 30 82 01 22 04 05 06 07 08 09 0a 0b 0c 0d 0e 0f  0000020 30 31")
     ≡ refused_with 70

@@ -1,13 +1,16 @@
 -- Steps of reading the rows of a dump.
 use Rattle.std.proofs.Common.{◌≡◌, ℕ, ◌+◌, ◌-◌, ◌≤◌, Bool, true, false, List, [], ◌∷◌, ◌++◌, length, refl, ap, sym}
 use Rattle.std.proofs.Common.{◌∙◌, append_assoc, arith, subst, Option, Some, None}
+use Rattle.std.specs.List.{list_all}
+use Rattle.std.specs.Prelude.{if◌then◌else◌}
 use Rattle.std.proofs.lemmas.Bool.{eq-eqb, ne_eqb}
 use Rattle.std.proofs.lemmas.List.{append-nil}
 use Rattle.tlv_text.proofs.DumpOutputLemmas.{added-both}
 use Rattle.tlv_text.specs.Dump.{DumpRead, DumpPlace, Step, first_then, dump_place_after, dump_place_at, refused_with, rows_read}
-use Rattle.tlv_text.specs.Dump.{dump_line_step, dump_step_then, times_before, times_in}
-use Rattle.tlv_text.specs.DumpLines.{LineKind, TextLine, line_kind, new_text_line}
-use Rattle.tlv_text.specs.DumpPairs.{octets_if}
+use Rattle.tlv_text.specs.Dump.{dump_line_step, dump_row_step, dump_step_then, is_full, octets_repeated, times_before}
+use Rattle.tlv_text.specs.Dump.{times_in, with_row}
+use Rattle.tlv_text.specs.DumpLines.{LineKind, RowRead, TextLine, is_dump_blank, line_kind, new_text_line}
+use Rattle.tlv_text.specs.DumpPairs.{dump_row_octets, octets_if}
 use Rattle.tlv_text.specs.Private.DumpSteps.{IsAdded, IsFirstRow, IsTaken, RowHolds, Reads, dump_place_of}
 use Rattle.tlv_text.specs.Private.PairSteps.{pair_octets}
 use Rattle.tlv_text.specs.declared.dump.Reading.{Reading}
@@ -103,6 +106,26 @@ line-taken all more radix size left last row line kind lines fits x y z i e k f 
       are = i.are ∙ ap (λ (r : DumpRead). i.so_far ++ r.octets) same ∙ sym (append_assoc i.so_far s.octets rest.octets);
       left = i.left ∙ ap (λ (r : DumpRead). r.left) same;
     }
+
+-- a row with pairs
+pub row-taken : (size times : ℕ) (place : DumpPlace) (r : RowRead) (row : LastRow) (x y z : Output)
+    → dump_place_of row ≡ dump_place_at Phase.Row r.offset (pair_octets row.digits.items)
+    → Some times ≡ times_before size place r.offset → list_all is_dump_blank r.rest ≡ false → is_full size place ≡ true
+    → Some (pair_octets row.digits.items) ≡ dump_row_octets size r → IsAdded (octets_repeated times place.octets) x y
+    → IsAdded (pair_octets row.digits.items) y z
+    → IsTaken (dump_row_step size place r (times_before size place r.offset)) true row x z
+row-taken size times place r row x y z at_row found pairs full octets first second =
+    let before : List ℕ = octets_repeated times place.octets in
+    let by : Bool → Bool → Option (List ℕ) → Option Step = λ blank is_full_row more.
+    if blank then Some (record { octets = before; place = record place { phase = Phase.End } })
+    else (if is_full_row then with_row before r.offset more else None) in
+    let step : dump_row_step size place r (Some times) ≡ by false true (Some (pair_octets row.digits.items)) =
+    ap (λ (b : Bool). by b (is_full size place) (dump_row_octets size r)) pairs
+    ∙ ap (λ (b : Bool). by false b (dump_row_octets size r)) full
+    ∙ ap (by false true) (sym octets) in
+    subst (λ (s : Option Step). IsTaken s true row x z)
+    (sym (ap (dump_row_step size place r) (sym found) ∙ step))
+    (at_row, added-both before (pair_octets row.digits.items) x y z first second)
 
 -- what is read of all lines
 pub all-read : (all more : DumpRead) (x y : Output) → IsDumpReadSoFar all more x y → more.octets ≡ []

@@ -11,7 +11,7 @@
 --   gap    = "-" / 1*2blank                    "-" / blank in a single row; or nothing, if a colon follows the offset
 --                                              at once
 --   others = *(blank / character)              not more characters than the row has octets, and two more: bars; and not
---                                              the row after it, behind blanks
+--                                              a colon first, nor the row after it, behind blanks
 use Rattle.std.specs.Prelude.{ℕ, zero, suc, ◌+◌, ◌-◌, ◌/◌, ◌%◌, ◌==◌, Bool, true, false, ◌&&◌, nat_le, nat_lt}
 use Rattle.std.specs.Prelude.{if◌then◌else◌, List, [], ◌∷◌, ◌++◌, length, Option, Some, None, option_map}
 use Rattle.std.specs.List.{list_all}

@@ -42,7 +42,7 @@ static TOOLS: [&[u8]; 10] = [
 ];
 
 /// Short dumps, dumps that are refused, and texts that are no dump.
-static DUMPS: [Row<'static>; 25] = [
+static DUMPS: [Row<'static>; 26] = [
     (
         b"0000  30 03 02 01 05   0....",
         b"\x30\x03\x02\x01\x05",
@@ -98,6 +98,7 @@ static DUMPS: [Row<'static>; 25] = [
         Some(0),
     ),
     (b"0000: 3030 3136  0016\n", b"0016", None),
+    (b"0000: 3031 0002: 3233\n", b"", Some(0)),
     // Two bars are not too much, nor are characters of more than one octet, and three bars are.
     (b"0000: 3031  |01|\n", b"01", None),
     (

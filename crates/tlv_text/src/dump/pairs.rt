@@ -59,11 +59,12 @@ fn has_more_digits(full: bool, rest: &[u8]) -> bool
 }
 
 /// Whether the line of a row with this offset holds no more than the row, given what comes after its pairs, which are
-/// `octets` octets: few other characters, and not the row after it.
+/// `octets` octets: few other characters, and not the row after it. A colon at once shows that the last pairs are the
+/// digits of an offset.
 pub(super) fn ends_line(offset: u64, octets: usize, rest: &[u8]) -> bool
     ensures { result ≡ ends_line offset octets rest.now }
 {
-    has_few_others(octets, rest) && !begins_next_row(offset, octets, rest)
+    has_few_others(octets, rest) && !(begins_colon(rest) || begins_next_row(offset, octets, rest))
 }
 
 /// Whether, behind blanks, the row after one with this offset and this number of octets begins. Its offset may be octal
