@@ -12,3 +12,4 @@ pub mod ShownText
 pub mod ShownValues
 pub mod ShownNames
 pub mod ShownDumps
+pub mod ShownOutputs

@@ -19,13 +19,13 @@ use Rattle.tlv_program.specs.declared.program.NoWords.{NoWords}
 use Rattle.tlv_view_words.specs.declared.request.InputForm.{InputForm}
 use Rattle.tlv_view_words.specs.declared.request.Request.{Request}
 use Rattle.tlv_view_words.specs.declared.request.Wanted.{Wanted}
-use Rattle.tlv_view_words.specs.declared.request.Wanted.TheVariants.{Check, Offsets}
+use Rattle.tlv_view_words.specs.declared.request.Wanted.TheVariants.{Extract, Raw}
 use Rattle.tlv_view_program.specs.InputBlocks.{BlockContents, InputBlockValue, TakesInput, blocks_taken}
 use Rattle.tlv_view_program.specs.Lines.{MessagePlace}
 use Rattle.tlv_view_program.specs.Notes.{note_line}
 use Rattle.tlv_view_program.specs.Reasons.{ReportsFindings, ShowsReasons, findings_line}
-use Rattle.tlv_view_program.specs.ShowsAll.{RunsShow, ShowsFiles, ShowsRequest}
-use Rattle.tlv_view_program.specs.ShowsBlock.{BlockPlace, ShowsTitled, block_messages, octets_of_contents, title}
+use Rattle.tlv_view_program.specs.ShowsAll.{RunsShow, ShowsRequest}
+use Rattle.tlv_view_program.specs.ShowsBlock.{BlockPlace, ShowsTitled, block_messages, title}
 use Rattle.tlv_view_program.specs.Streams.{StreamsValue}
 
 -- ---- lines
@@ -95,53 +95,23 @@ DumpsAreShown =
     → AreOctets octets → HasShownNames table
     → Views (view.Dump rules limit pure with_text) table closed padding octets old new report → TakesShown old new
 
--- what is wanted of octets is a list: of findings, or of offsets
-abbrev pub wants_list : Wanted → Bool
-wants_list (Check rules closed) = true
-wants_list Offsets = true
-wants_list wanted = false
+-- what is wanted is lines, and not octets as they are
+abbrev pub wants_lines : Wanted → Bool
+wants_lines (Extract offset contents) = false
+wants_lines Raw = false
+wants_lines wanted = true
 
--- all that is written to standard output if a list is wanted, whatever the names and the inputs are
-abbrev pub ListsAreShown : {S : Type 0} → Allows S → Type 0
-ListsAreShown {S} allows =
+-- all that is written to standard output if lines are wanted, whatever the names and the inputs are
+abbrev pub OutputsAreShown : {S : Type 0} → Allows S → Type 0
+OutputsAreShown {S} allows =
     (places : List (List ℕ)) (typed : Bool) (request : Request) (old new : StreamsValue S) (status : ℕ)
-    → wants_list request.wanted ≡ true → ShowsRequest allows places typed request old new status
+    → wants_lines request.wanted ≡ true → ShowsRequest allows places typed request old new status
     → TakesShown old.output new.output
 
--- the octets of a block are octets, each below 256
-abbrev pub HasOctets : InputBlockValue → Type 0
-HasOctets b = AreOctets (octets_of_contents b.contents)
-
-module _ {S : Type 0} {allows : Allows S} where
-  -- so are the octets of all blocks that are shown: of files
-  abbrev pub FilesHaveOctets : {request : Request} {table : NamesValue} {files : List (Option (List ℕ))}
-      {old new : StreamsValue S} {status : ℕ}
-      → ShowsFiles allows request table files old new status → Type 0
-  FilesHaveOctets (ShowsFiles.had had blocks status gets shows) = All HasOctets blocks
-  FilesHaveOctets (ShowsFiles.not_had had gets said) = Unit {0}
-
-  -- of all files of a request
-  abbrev pub RequestHasOctets : {places : List (List ℕ)} {typed : Bool} {request : Request} {old new : StreamsValue S}
-      {status : ℕ}
-      → ShowsRequest allows places typed request old new status → Type 0
-  RequestHasOctets (ShowsRequest.no_names fault between gets said) = Unit {0}
-  RequestHasOctets (ShowsRequest.shows table noted between warned ready status gets said typing files) =
-      FilesHaveOctets files
-
-  -- and in a run of the program
-  abbrev pub RunHasOctets : {places : List (List ℕ)} {typed : Bool} {old new : StreamsValue S}
-      {words : Result (List Text) NoWords} {status : ℕ}
-      → RunsShow allows places typed old new words status → Type 0
-  RunHasOctets (RunsShow.not_utf8 said) = Unit {0}
-  RunHasOctets (RunsShow.no_memory said) = Unit {0}
-  RunHasOctets (RunsShow.refused words why printed between is prints said) = Unit {0}
-  RunHasOctets (RunsShow.runs words request status asked run) = RequestHasOctets run
-
--- all that a run of the program writes to standard error, whatever the words, the names and the inputs are, if the
--- octets of all blocks are below 256, as all octets are: the definitions of a run do not say so. What `clap` has to
--- say about words is not written there: the system prints it
+-- all that a run of the program writes to standard error, whatever the words, the names and the inputs are. What `clap`
+-- has to say about words is not written there: the system prints it
 abbrev pub RunsAreShown : {S : Type 0} → Allows S → Type 0
 RunsAreShown {S} allows =
     (places : List (List ℕ)) (typed : Bool) (old new : StreamsValue S) (words : Result (List Text) NoWords)
-    (status : ℕ) (run : RunsShow allows places typed old new words status)
-    → RunHasOctets run → TakesShown old.messages new.messages
+    (status : ℕ)
+    → RunsShow allows places typed old new words status → TakesShown old.messages new.messages

@@ -7,6 +7,7 @@ use Rattle.tlv_io.specs.Device.{DrainState}
 use Rattle.tlv_io.specs.Out.{Sends}
 use Rattle.tlv_io.specs.declared.drain.WriteFault.{WriteFault}
 use Rattle.tlv_walk.specs.Ending.{IsEnding}
+use Rattle.tlv_walk.specs.Reading.{AreOctets}
 use Rattle.tlv_walk.specs.declared.ending.Ending.{Ending}
 use Rattle.tlv_walk.specs.declared.run.DeviceFault.TheVariants.{WriteFailed}
 use Rattle.tlv_value.specs.Names.{NamesValue}
@@ -213,6 +214,8 @@ block_messages place message broken =
 pub record ShowsBlock {S : Type 0} (request : Request) (table : NamesValue) (p : BlockPlace) (b : InputBlockValue)
     (old new : StreamsValue S) (failed : Bool) (status : ℕ)
     : Type 0 where
+  -- its octets are octets, each below 256
+  pub octets : AreOctets (octets_of_contents b.contents)
   -- the note
   pub noted : Result ⊤ WriteFault
   pub after_note : DrainState

@@ -1,6 +1,7 @@
 //! What is shown of a block of the inputs, and what is said about it.
 ghost use Rattle.std.specs.Prelude.{◌≡◌, []};
 ghost use Rattle.tlv_io.specs.Out.{Sends};
+ghost use Rattle.tlv_walk.specs.Reading.{AreOctets};
 ghost use Rattle.tlv_run.specs.Report.{report_value_of};
 ghost use Rattle.tlv_text.specs.Blocks.{block_value};
 ghost use Rattle.tlv_view_program.specs.Private.BlockParts.{block_contents, contents_fit, input_block, name_value};
@@ -95,10 +96,11 @@ impl Task<'_> {
         drain: &mut D,
     ) -> Result<Result<(), WriteFault>, AllocError>
         requires { contents_fit contents }
-        ensures { WritesReasons self.now.request.now.padding (octets_of_contents (block_contents contents.entry))
+        ensures reasons { WritesReasons self.now.request.now.padding (octets_of_contents (block_contents contents.entry))
             (D.state drain.old) (D.state drain.new)
             (explained_in self.now.request.now.wanted (report_value_of shown.now.report) shown.now.broken.items)
             result }
+        ensures octets { AreOctets (octets_of_contents (block_contents contents.entry)) }
     {
         let explained = explained_in(&self.request.wanted, shown);
         write_explained(

@@ -1,5 +1,5 @@
 //! Laws of what is said about inputs: each is the contract of a function that does nothing.
-ghost use Rattle.tlv_view_program.specs.ShownLines.{DumpsAreShown, FindingsLinesAreShown, ListsAreShown};
+ghost use Rattle.tlv_view_program.specs.ShownLines.{DumpsAreShown, FindingsLinesAreShown, OutputsAreShown};
 ghost use Rattle.tlv_view_program.specs.ShownLines.{MessagesAreShown, NamesAreShown, NotesAreShown, ReasonsAreShown};
 ghost use Rattle.tlv_view_program.specs.ShownLines.{RunsAreShown, TitlesAreShown};
 
@@ -41,14 +41,14 @@ pub fn dumps_are_shown()
     ensures { DumpsAreShown }
 {}
 
-/// All that is written to standard output with `--check` or `--offsets` is printable ASCII and line feeds.
-pub fn lists_are_shown<S: System>(_system: &S)
-    ensures { ListsAreShown S.allows }
+/// All that a run writes to standard output is printable ASCII and line feeds, whatever the names and the inputs are,
+/// unless octets are wanted as they are (`--raw`, `--offset`).
+pub fn outputs_are_shown<S: System>(_system: &S)
+    ensures { OutputsAreShown S.allows }
 {}
 
 /// All that a run of the program writes to standard error is printable ASCII and line feeds, whatever its words, the
-/// names and the inputs are, if the octets of blocks are below 256. This does not include what `clap` has to say
-/// about words: the system prints that.
+/// names and the inputs are. This does not include what `clap` has to say about words: the system prints that.
 pub fn runs_are_shown<S: System>(_system: &S)
     ensures { RunsAreShown S.allows }
 {}

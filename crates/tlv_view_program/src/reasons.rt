@@ -6,6 +6,7 @@ ghost use Rattle.tlv_open.specs.Opens.{AreOpened, closed_framing};
 ghost use Rattle.tlv_why.specs.Facts.{AreFacts};
 ghost use Rattle.tlv_why.specs.Why.{reasons_of, why_lines};
 ghost use Rattle.tlv_walk.specs.Inside.{are_rising};
+ghost use Rattle.tlv_walk.specs.Reading.{AreOctets};
 ghost use Rattle.tlv_view_program.specs.WritesReasons.{ExplainsFirst, ExplainsOctets, ExplainsString, WritesReasons};
 ghost use Rattle.tlv_view_program.specs.WritesReasons.{element_offset, explained_by, heading, offsets_up_to};
 ghost use Rattle.tlv_view_program.specs.WritesReasons.{suspect_offsets};
@@ -58,7 +59,8 @@ pub(crate) fn write_explained<D: Drain>(
     drain: &mut D,
 ) -> Result<Result<(), WriteFault>, AllocError>
     requires { length octets.now ≤ input_limit }
-    ensures { WritesReasons padding octets.now (D.state drain.old) (D.state drain.new) explained result }
+    ensures reasons { WritesReasons padding octets.now (D.state drain.old) (D.state drain.new) explained result }
+    ensures octets { AreOctets octets.now }
 {
     match explained {
         Explained::Nothing => Ok(Ok(())),

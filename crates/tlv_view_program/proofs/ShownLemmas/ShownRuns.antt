@@ -17,7 +17,7 @@ use Rattle.tlv_view_program.specs.InputBlocks.{InputBlockValue}
 use Rattle.tlv_view_program.specs.ShowsAll.{BlocksPlace, IsSaid, RunsShow, ShowsBlocks, ShowsFiles, ShowsRequest}
 use Rattle.tlv_view_program.specs.ShowsAll.{block_place, files_of_words, places_of}
 use Rattle.tlv_view_program.specs.ShowsBlock.{BlockPlace, ShowsBlock, message_place, octets_of_contents, reasons_report}
-use Rattle.tlv_view_program.specs.ShownLines.{FilesHaveOctets, HasOctets, RequestHasOctets, RunsAreShown, TakesShown}
+use Rattle.tlv_view_program.specs.ShownLines.{RunsAreShown, TakesShown}
 use Rattle.tlv_view_program.specs.Streams.{StreamsValue}
 use Rattle.tlv_view_program.specs.WritesReasons.{Outcome}
 use Rattle.tlv_view_program.proofs.ShownLemmas.ShownInputs.{AreShownBlocks, HasShownMessage, all-shown, all-silent}
@@ -37,9 +37,9 @@ told-shown (Err error) = input_report-shown input.Memory
 
 module _ {S : Type 0} (request : Request) (table : NamesValue) where
   block-takes : (p : BlockPlace) (b : InputBlockValue) (old new : StreamsValue S) (failed : Bool) (status : ℕ)
-      → IsShownBlock b → HasShownMessage b → HasOctets b → ShowsBlock request table p b old new failed status
+      → IsShownBlock b → HasShownMessage b → ShowsBlock request table p b old new failed status
       → TakesShown old.messages new.messages
-  block-takes p b old new failed status label report octets x =
+  block-takes p b old new failed status label report x =
       let place = message_place p b in
       takes-then old.messages x.after_note new.messages
       (sends-shown old.messages x.after_note _ x.noted (contents_note-shown place b.contents label) x.notes)
@@ -47,27 +47,27 @@ module _ {S : Type 0} (request : Request) (table : NamesValue) where
       (sends-shown x.after_note x.after_messages _ x.said
       (messages-shown request table p b old.output x.output x.report x.broken place report x.shows) x.says)
       (takes-then x.after_messages x.after_reasons new.messages
-      (writes-shown request.padding (octets_of_contents b.contents) octets _ x.after_messages x.after_reasons x.outcome
+      (writes-shown request.padding (octets_of_contents b.contents) x.octets _ x.after_messages x.after_reasons x.outcome
       x.reasons)
       (sends-shown x.after_reasons new.messages _ x.told
       (block_messages-shown place (reasons_report x.outcome).message [] (told-shown x.outcome)) x.tells)))
 
   blocks-take : (p : BlocksPlace) (number : ℕ) (blocks : List InputBlockValue) (old new : StreamsValue S)
       (status : ℕ)
-      → All IsShownBlock blocks → All HasShownMessage blocks → All HasOctets blocks
+      → All IsShownBlock blocks → All HasShownMessage blocks
       → ShowsBlocks request table p number blocks old new status
       → TakesShown old.messages new.messages
-  blocks-take p _ _ old _ _ labels reports octets ShowsBlocks.no_more = takes-nothing old.messages
-  blocks-take p _ _ old new _ labels reports octets
+  blocks-take p _ _ old _ _ labels reports ShowsBlocks.no_more = takes-nothing old.messages
+  blocks-take p _ _ old new _ labels reports
       (ShowsBlocks.goes_on {number} {status} {rest} {b} {bs} between x others) =
       takes-then old.messages between.messages new.messages
       (block-takes (block_place p number) b old between false status (All-head IsShownBlock b bs labels)
-      (All-head HasShownMessage b bs reports) (All-head HasOctets b bs octets) x)
+      (All-head HasShownMessage b bs reports) x)
       (blocks-take p (number + 1) bs between new rest (All-tail IsShownBlock b bs labels)
-      (All-tail HasShownMessage b bs reports) (All-tail HasOctets b bs octets) others)
-  blocks-take p _ _ old new _ labels reports octets (ShowsBlocks.stops {number} {status} {b} {bs} x) =
+      (All-tail HasShownMessage b bs reports) others)
+  blocks-take p _ _ old new _ labels reports (ShowsBlocks.stops {number} {status} {b} {bs} x) =
       block-takes (block_place p number) b old new true status (All-head IsShownBlock b bs labels)
-      (All-head HasShownMessage b bs reports) (All-head HasOctets b bs octets) x
+      (All-head HasShownMessage b bs reports) x
 
 -- ---- runs
 
@@ -78,36 +78,34 @@ module _ {S : Type 0} (allows : Allows S) where
       sends-shown old.messages new.messages (message_line message) said.0.0 (message_line-shown message shown) said.0.1
 
   files-take : (request : Request) (table : NamesValue) (files : List (Option (List ℕ))) (old new : StreamsValue S)
-      (status : ℕ) (shows : ShowsFiles allows request table files old new status)
-      → FilesHaveOctets shows → TakesShown old.messages new.messages
-  files-take request table files old new _ (ShowsFiles.had had blocks status gets shows) octets =
+      (status : ℕ)
+      → ShowsFiles allows request table files old new status → TakesShown old.messages new.messages
+  files-take request table files old new _ (ShowsFiles.had had blocks status gets shows) =
       let all : AreShownBlocks blocks = all-shown allows request.form files old had (Some blocks) gets in
       subst (λ m. TakesShown m new.messages)
       (ap (λ w. w.1) (all-silent allows request.form files old had (Some blocks) gets))
-      (blocks-take request table (places_of files blocks) 1 blocks had new status all.labels all.reports octets shows)
-  files-take request table files old new _ (ShowsFiles.not_had had gets said) none =
+      (blocks-take request table (places_of files blocks) 1 blocks had new status all.labels all.reports shows)
+  files-take request table files old new _ (ShowsFiles.not_had had gets said) =
       subst (λ m. TakesShown m new.messages) (ap (λ w. w.1) (all-silent allows request.form files old had None gets))
       (said-takes (input_report input.Memory).message had new (input_report-shown input.Memory) said)
 
   request-takes : (places : List (List ℕ)) (typed : Bool) (request : Request) (old new : StreamsValue S) (status : ℕ)
-      (run : ShowsRequest allows places typed request old new status)
-      → RequestHasOctets run → TakesShown old.messages new.messages
-  request-takes places typed request old new _ (ShowsRequest.no_names fault between gets said) none =
+      → ShowsRequest allows places typed request old new status → TakesShown old.messages new.messages
+  request-takes places typed request old new _ (ShowsRequest.no_names fault between gets said) =
       said-takes _ (record old { system = between }) new (names_report-shown fault) said
   request-takes places typed request old new _
-      (ShowsRequest.shows table noted between warned ready status gets said typing files) octets =
+      (ShowsRequest.shows table noted between warned ready status gets said typing files) =
       takes-then old.messages warned.messages new.messages
       (said-takes _ (record old { system = between }) warned (names_note-shown noted) said)
       (takes-then warned.messages ready.messages new.messages
       (said-takes _ warned ready (input_note-shown typed request.files) typing)
-      (files-take request table (files_of_words request.files) ready new status files octets))
+      (files-take request table (files_of_words request.files) ready new status files))
 
   pub runs-shown : RunsAreShown allows
-  runs-shown places typed old new _ _ (RunsShow.not_utf8 said) none =
-      said-takes not_utf8_report.message old new refl said
-  runs-shown places typed old new _ _ (RunsShow.no_memory said) none =
+  runs-shown places typed old new _ _ (RunsShow.not_utf8 said) = said-takes not_utf8_report.message old new refl said
+  runs-shown places typed old new _ _ (RunsShow.no_memory said) =
       said-takes (request_report fault.Memory).message old new (request_report-shown fault.Memory) said
-  runs-shown places typed old new _ _ (RunsShow.refused words why printed between is prints said) none =
+  runs-shown places typed old new _ _ (RunsShow.refused words why printed between is prints said) =
       said-takes _ (record old { system = between }) new (refused_report-shown why printed) said
-  runs-shown places typed old new _ _ (RunsShow.runs words request status asked run) octets =
-      request-takes places typed request old new status run octets
+  runs-shown places typed old new _ _ (RunsShow.runs words request status asked run) =
+      request-takes places typed request old new status run

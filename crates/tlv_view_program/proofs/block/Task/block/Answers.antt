@@ -20,6 +20,7 @@ pub returns : goal.returns
 returns g c =
     let placed = c.name_of-name.ensures (place_value c.args.number c.args.self.now) refl in
     let refused = c.reasons_report-refusal.ensures in record {
+      octets = c.explained-outcome.ensures.octets;
       noted = c.write_contents_note.result;
       after_note = g.M.Drain.state c.write_contents_note.new.drain;
       notes = rw placed at c.write_contents_note.ensures;
@@ -34,7 +35,7 @@ returns g c =
           c.write_messages.ensures;
       outcome = c.explained-outcome.result;
       after_reasons = g.M.Drain.state c.explained-outcome.new.drain;
-      reasons = c.explained-outcome.ensures;
+      reasons = c.explained-outcome.ensures.reasons;
       told = c.write_messages-2.result;
       tells =
           same-messages _ _ _ _ _ _ [] [] _ placed
