@@ -6,7 +6,8 @@ use Rattle.tlv_head.specs.UniversalTypes as universal
 use Rattle.tlv_head.specs.declared.type_table.Encodings.TheVariants.{Unjudged}
 use Rattle.tlv_value.specs.declared.finding.Finding.{Finding}
 use Rattle.tlv_value.specs.declared.finding.Finding.TheVariants.{B22, B27}
-use Rattle.tlv_value.specs.Types.{has_encodings, is_number_of}
+use Rattle.tlv_value.specs.Types.{has_encodings}
+use Rattle.tlv_head.specs.Lists.{is_among}
 use Rattle.tlv_show.specs.Conditions.{listed_end_conditions, listed_header_conditions}
 use Rattle.tlv_show.specs.Site.{Site}
 
@@ -40,7 +41,7 @@ component_types = universal.external ∷ universal.embedded_pdv ∷ universal.ch
 
 -- a constructed element of such a type
 abbrev pub has_components : HeaderValue → Bool
-has_components h = h.constructed && is_universal h.class && is_number_of component_types h.number
+has_components h = h.constructed && is_universal h.class && is_among h.number component_types
 
 -- all conditions of an end, listed or not
 abbrev pub end_conditions : HeaderValue → List HeaderValue → List (Bool × Finding)

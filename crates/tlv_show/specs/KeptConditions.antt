@@ -9,7 +9,7 @@ use Rattle.tlv_head.specs.declared.type_table.Encodings.TheVariants as encodings
 use Rattle.tlv_value.specs.declared.finding.Finding.{Finding}
 use Rattle.tlv_value.specs.declared.finding.Finding.TheVariants.{B01, B02, B03, B04, B05, B16, B17, B27}
 use Rattle.tlv_value.specs.declared.finding.Finding.TheVariants.{S01, D01, D02, C01, C02, C03, C04, C05, C06}
-use Rattle.tlv_value.specs.Types.{has_encodings, has_segments, is_a, is_primitive, is_string, is_unassigned}
+use Rattle.tlv_value.specs.Types.{has_encodings, has_segments, is_a, has_primitive_form, is_string, is_unassigned}
 use Rattle.tlv_walk.specs.Place.{is_indefinite}
 use Rattle.tlv_show.specs.declared.wanted.Wanted.{Wanted}
 use Rattle.tlv_show.specs.Conditions.{has_high_form}
@@ -24,7 +24,7 @@ is_high_form_needless h = has_high_form h && nat_lt h.number 31
 
 -- there are subsequent identifier octets, and bits 7 to 1 of the first are all 0
 abbrev pub begins_with_zero_bits : HeaderValue → Bool
-begins_with_zero_bits h = has_high_form h && slice_index h.identifier 1 % 128 == 0
+begins_with_zero_bits h = has_high_form h && slice_index h.identifier_octets 1 % 128 == 0
 
 -- the element is constructed, and the encodings of its type are primitive
 abbrev pub is_wrongly_constructed : HeaderValue → Bool
@@ -32,16 +32,16 @@ is_wrongly_constructed h = h.constructed && has_encodings encodings.Primitive h
 
 -- the element is primitive, and the encodings of its type are constructed
 abbrev pub is_wrongly_primitive : HeaderValue → Bool
-is_wrongly_primitive h = is_primitive h && has_encodings encodings.Constructed h
+is_wrongly_primitive h = has_primitive_form h && has_encodings encodings.Constructed h
 
 -- there are subsequent length octets
 abbrev pub has_long_form : HeaderValue → Bool
-has_long_form h = nat_lt 1 (length h.lengths)
+has_long_form h = nat_lt 1 (length h.length_octets)
 
 -- the length has more octets than it needs
 abbrev pub is_length_padded : HeaderValue → Bool
 is_length_padded h =
-    has_long_form h && (nat_lt (announced_length h.size) 128 || slice_index h.lengths 1 == 0)
+    has_long_form h && (nat_lt (announced_length h.size) 128 || slice_index h.length_octets 1 == 0)
 
 -- the type of the segments of a string, which is a BIT STRING or another one
 abbrev pub segment_type : Bool → ℕ
@@ -82,7 +82,7 @@ der_conditions h = (is_indefinite h.size, D01) ∷ (has_segments h, D02) ∷ []
 abbrev pub cer_conditions_in : Surroundings → HeaderValue → List (Bool × Finding)
 cer_conditions_in s h =
     (h.constructed && not (is_indefinite h.size), C01)
-    ∷ (is_primitive h && is_string h && nat_lt 1000 (announced_length h.size), C02)
+    ∷ (has_primitive_form h && is_string h && nat_lt 1000 (announced_length h.size), C02)
     ∷ (h.constructed && s.in_string, C03)
     ∷ (s.after_not_full, C04)
     ∷ []

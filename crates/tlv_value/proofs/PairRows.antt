@@ -57,8 +57,8 @@ zero_header size = record {
   constructed = false;
   number = 0;
   size = Definite size;
-  identifier = 0x80 ∷ [];
-  lengths = size ∷ [];
+  identifier_octets = 0x80 ∷ [];
+  length_octets = size ∷ [];
 }
 
 abbrev all_rows : Layout

@@ -10,7 +10,8 @@ use Rattle.tlv_value.specs.Checks.{begins_with, findings_by, is_short_time, list
 use Rattle.tlv_value.specs.Checks.{listed_strict_type_conditions, time_form}
 use Rattle.tlv_value.specs.Dates.{is_date_or_time, month_has_day, month_has_day_in_some_century}
 use Rattle.tlv_value.specs.Real.{is_canonical_real, is_real_form}
-use Rattle.tlv_value.specs.Types.{date_types, iri_types, is_number_of, wide_string_types}
+use Rattle.tlv_value.specs.Types.{date_types, iri_types, wide_string_types}
+use Rattle.tlv_head.specs.Lists.{is_among}
 
 -- X.680 46, 47: the month of the time has its day. The century of a UTCTime is not known
 abbrev pub time_has_day : ℕ → List ℕ → Bool
@@ -33,13 +34,13 @@ later_basic_type_conditions number contents =
     -- 8.5: a REAL is of a form, as `Real` has it
     (number == universal.real && not (is_real_form contents), B20)
     -- 8.26: a DATE, TIME-OF-DAY or DATE-TIME is one, as `Dates` has it
-    ∷ (is_number_of date_types number && not (is_date_or_time number contents), B21)
+    ∷ (is_among number date_types && not (is_date_or_time number contents), B21)
     -- 8.21: an OID-IRI is UTF-8 and begins with /. 8.22: a RELATIVE-OID-IRI is UTF-8, and is not empty
-    ∷ (is_number_of iri_types number && not (is_iri number contents), B23)
+    ∷ (is_among number iri_types && not (is_iri number contents), B23)
     -- 8.20.2: a RELATIVE-OID has one subidentifier or more
     ∷ (number == universal.relative_oid && length contents == 0, B24)
     -- 8.23: each whole unit of a BMPString or UniversalString is a character, as `Characters` has it
-    ∷ (is_number_of wide_string_types number && has_wrong_unit number contents, B25)
+    ∷ (is_among number wide_string_types && has_wrong_unit number contents, B25)
     -- X.680 46, 47: in a time of at most 64 octets that follows the grammar of its type, the month has the day
     ∷ (
       is_short_time number contents && time_form number contents

@@ -15,7 +15,8 @@ use Rattle.tlv_value.specs.declared.finding.Finding.TheVariants.{B15, B18, B19, 
 use Rattle.tlv_value.specs.Arcs.{parts_of}
 pub use Rattle.tlv_value.specs.ContentsOctets.{first_octet, is_padded_integer, last_octet}
 use Rattle.tlv_value.specs.Times as times
-use Rattle.tlv_value.specs.Types.{integer_types, is_number_of, object_types, time_types}
+use Rattle.tlv_value.specs.Types.{integer_types, object_types, time_types}
+use Rattle.tlv_head.specs.Lists.{is_among}
 use Rattle.tlv_value.specs.Units.{is_printable}
 
 -- the first octet is this one
@@ -51,7 +52,7 @@ allows number contents = list_all (λ row. not (number == row.0) || row.1 conten
 
 -- 8.25: a UTCTime or GeneralizedTime of at most 64 octets; the form of a longer one is not checked
 abbrev pub is_short_time : ℕ → List ℕ → Bool
-is_short_time number contents = is_number_of time_types number && nat_le (length contents) 64
+is_short_time number contents = is_among number time_types && nat_le (length contents) 64
 
 abbrev pub time_form : ℕ → times.Form
 time_form number = if number == universal.utc_time then times.utc_time_form else times.generalized_time_form
@@ -73,17 +74,17 @@ listed_basic_type_conditions number contents =
     -- B06, 8.2.1: a BOOLEAN has one octet
     (number == universal.boolean && not (length contents == 1), B06)
     -- B07, 8.3.1, 8.4: an INTEGER or ENUMERATED has one octet or more
-    ∷ (is_number_of integer_types number && length contents == 0, B07)
+    ∷ (is_among number integer_types && length contents == 0, B07)
     -- B08, 8.3.2, 8.4: its first nine bits are not all equal
-    ∷ (is_number_of integer_types number && is_padded_integer contents, B08)
+    ∷ (is_among number integer_types && is_padded_integer contents, B08)
     -- B09, 8.8.2: a NULL has no octets
     ∷ (number == universal.null && not (length contents == 0), B09)
     -- B10, 8.19.2: an OBJECT IDENTIFIER has one subidentifier or more
     ∷ (number == universal.object_identifier && length contents == 0, B10)
     -- B11, 8.19.2, 8.20.2: no subidentifier begins with 80
-    ∷ (is_number_of object_types number && list_any (begins_with 0x80) (parts_of contents), B11)
+    ∷ (is_among number object_types && list_any (begins_with 0x80) (parts_of contents), B11)
     -- B12, 8.19.2, 8.20.2: bit 8 is clear in the last octet of a subidentifier
-    ∷ (is_number_of object_types number && nat_le 128 (last_octet contents), B12)
+    ∷ (is_among number object_types && nat_le 128 (last_octet contents), B12)
     -- B13, 8.6.2: a BIT STRING has a first octet, the number of unused bits
     ∷ (number == universal.bit_string && length contents == 0, B13)
     -- B14, 8.6.2.2: it is at most 7

@@ -68,8 +68,8 @@ abbrev pub primitive_extent : HeaderValue → List ℕ → ℕ
 primitive_extent h contents = length (octets_of h) + length contents
 
 -- 8.1.1.1: the number of octets of a holder that has ended
-abbrev pub extent : HeaderValue → Forest → ℕ
-extent h children = length (opening h) + (length (spelling children) + length (end_octets h.size))
+abbrev pub holder_extent : HeaderValue → Forest → ℕ
+holder_extent h children = length (opening h) + (length (spelling children) + length (end_octets h.size))
 
 -- 8.1.5: the offset of the end-of-contents octets of a holder, if its length is indefinite
 abbrev pub end_octets_offset : HeaderValue → Forest → Option ℕ

@@ -8,7 +8,7 @@ use Rattle.tlv_walk.specs.declared.ending.Ending.TheVariants as ending
 use Rattle.tlv_walk.specs.declared.framing.Framing.{Framing}
 use Rattle.tlv_walk.specs.Ending.{IsEnding, OpenEnd, open_end}
 use Rattle.tlv_walk.specs.Forest.{Forest, Holder, OpenBitString, OpenEndOctets, OpenHeader, OpenHolder}
-use Rattle.tlv_walk.specs.Forest.{OpenPrimitive, PaddingOctet, Primitive, extent, primitive_extent}
+use Rattle.tlv_walk.specs.Forest.{OpenPrimitive, PaddingOctet, Primitive, holder_extent, primitive_extent}
 use Rattle.tlv_walk.specs.Place.{top_place}
 use Rattle.tlv_walk.specs.Reading.{IsReading}
 use Rattle.tlv_why.specs.declared.element.Element.{Element}
@@ -39,7 +39,7 @@ last_whole before end = before
 abbrev pub whole_end : ℕ → Forest → ℕ
 whole_end before (PaddingOctet rest) = whole_end before rest
 whole_end before (Primitive h contents rest) = whole_end (h.offset + primitive_extent h contents) rest
-whole_end before (Holder h children rest) = whole_end (h.offset + extent h children) rest
+whole_end before (Holder h children rest) = whole_end (h.offset + holder_extent h children) rest
 whole_end before end = before
 
 -- the offsets of the elements before the open end, the nearest first; the first argument holds those before the forest

@@ -19,7 +19,7 @@ use Rattle.tlv_walk.specs.Forest.{end_octets_offset}
 use Rattle.tlv_walk.specs.Events.{events}
 use Rattle.tlv_walk.specs.Follow.{Effect, effect_if_more, effect_of}
 use Rattle.tlv_walk.specs.Forest.{Forest, NoMore, PaddingOctet, Primitive, Holder, OpenPrimitive, OpenHolder}
-use Rattle.tlv_walk.specs.Forest.{OpenBitString, OpenHeader, OpenEndOctets, extent, opening, spelling}
+use Rattle.tlv_walk.specs.Forest.{OpenBitString, OpenHeader, OpenEndOctets, holder_extent, opening, spelling}
 use Rattle.tlv_walk.specs.Place.{ObeysGrammar, Place, place_after, place_of_children, top_place}
 use Rattle.tlv_walk.specs.Reading.{IsReading}
 use Rattle.tlv_head.proofs.ReaderLemmas.Prefix.{header-two}
@@ -249,7 +249,7 @@ module _ (wanted : Wanted) where
       omega (arith, a, header-two h v.0.0.header.valid, length-primitive h c rest)
   findings-within p s (Holder h inside rest) v =
       let i = findings-within (place_of_children p h) (site_of_children s h) inside v.1 in
-      let r = findings-within (place_after p (extent h inside)) (site_after_holder s h inside) rest v.2 in
+      let r = findings-within (place_after p (holder_extent h inside)) (site_after_holder s h inside) rest v.2 in
       let last : List Item =
       end_items (wanted_findings wanted) s h inside ++ items (wanted_findings wanted) (site_after_holder s h inside) rest in
       let b =
