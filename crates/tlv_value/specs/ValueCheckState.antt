@@ -211,49 +211,49 @@ is_kept_time number s = is_among number time_types && nat_le s.size 64
 
 -- the conditions of `type_conditions` (AllChecks.antt), said of what is kept of the contents. The law `FindingsEnd`
 -- says that the same is found
-abbrev pub kept_conditions : ℕ → ValueCheckState → List (Bool × Finding)
+abbrev pub kept_conditions : ℕ → ValueCheckState → List (Finding × Bool)
 kept_conditions number s =
-    (number == universal.boolean && not (s.size == 1), B06)
-    ∷ (is_among number integer_types && s.size == 0, B07)
-    ∷ (is_among number integer_types && is_padded_integer s.first_octets, B08)
-    ∷ (number == universal.null && not (s.size == 0), B09)
-    ∷ (number == universal.object_identifier && s.size == 0, B10)
-    ∷ (is_among number object_types && s.is_padded, B11)
-    ∷ (is_among number object_types && nat_le 128 s.last, B12)
-    ∷ (number == universal.bit_string && s.size == 0, B13)
-    ∷ (number == universal.bit_string && nat_lt 7 (first_octet s.first_octets), B14)
+    (B06, number == universal.boolean && not (s.size == 1))
+    ∷ (B07, is_among number integer_types && s.size == 0)
+    ∷ (B08, is_among number integer_types && is_padded_integer s.first_octets)
+    ∷ (B09, number == universal.null && not (s.size == 0))
+    ∷ (B10, number == universal.object_identifier && s.size == 0)
+    ∷ (B11, is_among number object_types && s.is_padded)
+    ∷ (B12, is_among number object_types && nat_le 128 s.last)
+    ∷ (B13, number == universal.bit_string && s.size == 0)
+    ∷ (B14, number == universal.bit_string && nat_lt 7 (first_octet s.first_octets))
     ∷ (
+      B15,
       number == universal.bit_string && s.size == 1
           && nat_le 1 (first_octet s.first_octets) && nat_le (first_octet s.first_octets) 7,
-      B15,
     )
-    ∷ (is_among number character_types && not (is_allowed s), B18)
-    ∷ (is_kept_time number s && not (time_form number s.time), B19)
-    ∷ (number == universal.real && not (is_of_form s.real), B20)
-    ∷ (is_among number date_types && not (is_kept_date number s), B21)
-    ∷ (is_among number iri_types && not (is_kept_iri number s), B23)
-    ∷ (number == universal.relative_oid && s.size == 0, B24)
-    ∷ (is_among number wide_string_types && not s.are_characters, B25)
+    ∷ (B18, is_among number character_types && not (is_allowed s))
+    ∷ (B19, is_kept_time number s && not (time_form number s.time))
+    ∷ (B20, number == universal.real && not (is_of_form s.real))
+    ∷ (B21, is_among number date_types && not (is_kept_date number s))
+    ∷ (B23, is_among number iri_types && not (is_kept_iri number s))
+    ∷ (B24, number == universal.relative_oid && s.size == 0)
+    ∷ (B25, is_among number wide_string_types && not s.are_characters)
     ∷ (
-      is_kept_time number s && time_form number s.time && not (time_has_day number s.time),
       B26,
+      is_kept_time number s && time_form number s.time && not (time_has_day number s.time),
     )
     ∷ (
+      S02,
       number == universal.boolean && s.size == 1
           && not (first_octet s.first_octets == 0 || first_octet s.first_octets == 0xff),
-      S02,
     )
     ∷ (
+      S03,
       number == universal.bit_string && nat_le 2 s.size && nat_le (first_octet s.first_octets) 7
           && not (s.last % 2 ^ first_octet s.first_octets == 0),
-      S03,
     )
     ∷ (
+      S04,
       is_kept_time number s && time_form number s.time
           && not (canonical_form number s.time),
-      S04,
     )
-    ∷ (number == universal.real && is_of_form s.real && not (is_canonical s.real), S06)
+    ∷ (S06, number == universal.real && is_of_form s.real && not (is_canonical s.real))
     ∷ []
 
 -- the findings on the contents, at their end

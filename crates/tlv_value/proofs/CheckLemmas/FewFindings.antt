@@ -24,16 +24,16 @@ one_if true = 1
 one_if false = 0
 
 -- how many conditions hold
-abbrev count : List (Bool × Finding) → ℕ
+abbrev count : List (Finding × Bool) → ℕ
 count [] = 0
-count (row ∷ rows) = one_if row.0 + count rows
+count (row ∷ rows) = one_if row.1 + count rows
 
-found-few : (rows : List (Bool × Finding)) → length (findings_by rows) ≤ count rows
+found-few : (rows : List (Finding × Bool)) → length (findings_by rows) ≤ count rows
 found-few [] = omega arith
-found-few (row ∷ rows) = one-more row.0 (found-few rows)
+found-few (row ∷ rows) = one-more row.1 (found-few rows)
   where
     one-more : (b : Bool) → length (findings_by rows) ≤ count rows
-        → length ((if b then row.1 ∷ [] else []) ++ findings_by rows) ≤ one_if b + count rows
+        → length ((if b then row.0 ∷ [] else []) ++ findings_by rows) ≤ one_if b + count rows
     one-more true e = omega (arith, e)
     one-more false e = omega (arith, e)
 
