@@ -3,7 +3,8 @@ use Rattle.std.specs.Prelude.{ℕ, List, [], ◌∷◌, Bool, false, ◌≡◌, 
 use Rattle.tlv_head.specs.declared.header.Size.TheVariants.{Indefinite}
 use Rattle.tlv_head.specs.Header.{HeaderValue}
 use Rattle.tlv_walk.specs.Forest.{Forest, Holder, NoMore, OpenBitString, OpenEndOctets, OpenHeader, OpenHolder}
-use Rattle.tlv_walk.specs.Forest.{OpenPrimitive, PaddingOctet, Primitive, extent, opening, primitive_extent, spelling}
+use Rattle.tlv_walk.specs.Forest.{OpenPrimitive, PaddingOctet, Primitive, holder_extent, opening, primitive_extent}
+use Rattle.tlv_walk.specs.Forest.{spelling}
 use Rattle.tlv_walk.specs.declared.ending.Ending.{Ending}
 use Rattle.tlv_walk.specs.declared.framing.Framing.{Framing}
 use Rattle.tlv_walk.specs.Job.{DeviceStates, Job, Runs}
@@ -14,7 +15,7 @@ use Rattle.tlv_walk.specs.Ending.{IsEnding}
 
 -- 8.1.3.6.1: the header with the octet 80 for its length octets
 abbrev pub indefinite_header : HeaderValue → HeaderValue
-indefinite_header h = record h { size = Indefinite; lengths = 128 ∷ [] }
+indefinite_header h = record h { size = Indefinite; length_octets = 128 ∷ [] }
 
 -- the same elements, each holder with an indefinite length: it is constructed, since `indef_framing` names no string. The
 -- octets of an open header are left out, and so is the first of the end-of-contents octets without the second
@@ -54,7 +55,7 @@ with_offsets_from n (Primitive h c rest) =
     (with_offsets_from (n + primitive_extent h c) rest)
 with_offsets_from n (Holder h children rest) =
     Holder (record h { offset = n }) (with_offsets_from (n + length (opening h)) children)
-    (with_offsets_from (n + extent h children) rest)
+    (with_offsets_from (n + holder_extent h children) rest)
 with_offsets_from n (OpenPrimitive h c) = OpenPrimitive (record h { offset = n }) c
 with_offsets_from n (OpenHolder h children) =
     OpenHolder (record h { offset = n }) (with_offsets_from (n + length (opening h)) children)

@@ -153,8 +153,8 @@ first class constructed number size identifier lengths = record {
   constructed = constructed;
   number = number;
   size = size;
-  identifier = identifier;
-  lengths = lengths;
+  identifier_octets = identifier;
+  length_octets = lengths;
 }
 
 -- 1f 02 01: an INTEGER of one contents octet

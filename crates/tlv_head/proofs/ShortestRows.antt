@@ -15,8 +15,8 @@ header class number length identifier lengths = record {
   constructed = false;
   number = number;
   size = Definite length;
-  identifier = identifier;
-  lengths = lengths;
+  identifier_octets = identifier;
+  length_octets = lengths;
 }
 
 -- 02 01

@@ -13,6 +13,6 @@ is_wrapper named class constructed number size =
       constructed = constructed;
       number = number;
       size = size;
-      identifier = [];
-      lengths = [];
+      identifier_octets = [];
+      length_octets = [];
     })

@@ -76,13 +76,12 @@ pub record HeaderValue : Type 0 where
   pub constructed : Bool
   pub number : ℕ
   pub size : Size
-  -- the identifier octets, and the length octets
-  pub identifier : List ℕ
-  pub lengths : List ℕ
+  pub identifier_octets : List ℕ
+  pub length_octets : List ℕ
 
 -- 8.1.1.1: identifier octets, then length octets
 abbrev pub octets_of : HeaderValue → List ℕ
-octets_of h = h.identifier ++ h.lengths
+octets_of h = h.identifier_octets ++ h.length_octets
 
 -- 8.1.3.3: the length, if it is definite
 abbrev pub definite_length : Size → Option ℕ
@@ -92,8 +91,8 @@ definite_length Indefinite = None
 -- 8.1.2, 8.1.3: `class`, `constructed` and `number` are those of the identifier octets, and `size` is that of the
 -- length octets. `offset` and `named` are not in the octets: `IsHeaderAt` of tlv_walk says what they are
 pub record IsHeader (h : HeaderValue) : Type 0 where
-  pub identifier : IsIdentifier h.class h.constructed h.number h.identifier
-  pub lengths : IsLength h.size h.lengths
+  pub identifier : IsIdentifier h.class h.constructed h.number h.identifier_octets
+  pub lengths : IsLength h.size h.length_octets
   -- 8.1.3.2 a): a primitive has a definite length
   pub allowed : (h.constructed || is_some (definite_length h.size)) ≡ true
 
@@ -131,4 +130,4 @@ holds h = h.constructed || wraps h
 
 -- 8.1.3.6: the identifier octets, and the indefinite form
 abbrev pub spell_indefinite : HeaderValue → List ℕ
-spell_indefinite h = h.identifier ++ 128 ∷ []
+spell_indefinite h = h.identifier_octets ++ 128 ∷ []

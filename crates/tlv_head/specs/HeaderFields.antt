@@ -12,8 +12,8 @@ new_header f octets = record {
   constructed = f.constructed;
   number = f.number;
   size = f.size;
-  identifier = take f.id_len octets;
-  lengths = drop f.id_len octets;
+  identifier_octets = take f.id_len octets;
+  length_octets = drop f.id_len octets;
 }
 
 -- the fields of a header: its meaning, without its octets
@@ -25,7 +25,7 @@ fields_of h = record {
   constructed = h.constructed;
   number = h.number;
   size = h.size;
-  id_len = length h.identifier;
+  id_len = length h.identifier_octets;
 }
 
 -- an element with these fields is a string that holds encodings, whatever its octets

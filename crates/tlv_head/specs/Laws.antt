@@ -65,7 +65,7 @@ abbrev pub ShortestHeadersAreOne : Type 0
 ShortestHeadersAreOne =
     (h g : HeaderValue) → IsHeader h → IsHeader g
     → HaveOneTagAndForm h g → h.size ≡ g.size → IsShortest h → IsShortest g
-    → (h.identifier ≡ g.identifier) × (h.lengths ≡ g.lengths)
+    → (h.identifier_octets ≡ g.identifier_octets) × (h.length_octets ≡ g.length_octets)
 
 -- if a header is as short as 8.1.2 and 10.1 say, no other header of its tag, form and size has fewer identifier
 -- octets or fewer length octets
@@ -73,7 +73,7 @@ abbrev pub NoHeaderIsShorter : Type 0
 NoHeaderIsShorter =
     (h g : HeaderValue) → IsHeader h → IsHeader g
     → HaveOneTagAndForm h g → h.size ≡ g.size → IsShortest h
-    → (length h.identifier ≤ length g.identifier) × (length h.lengths ≤ length g.lengths)
+    → (length h.identifier_octets ≤ length g.identifier_octets) × (length h.length_octets ≤ length g.length_octets)
 
 -- each header can be spelled as short as 8.1.2 and 10.1 say, except the header of the universal primitive 0, whose
 -- low form would be 00

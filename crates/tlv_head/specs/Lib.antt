@@ -1,4 +1,5 @@
 pub mod Limits
+pub mod Lists
 pub mod UniversalTypes
 pub mod Header
 pub mod StoredHeader

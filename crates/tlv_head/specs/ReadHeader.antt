@@ -22,4 +22,4 @@ pub record IsShortHeader (f : HeaderFields) (count : ℕ) : Type 0 where
 abbrev pub BeginsWithNoShortHeader : List ℕ → Type 0
 BeginsWithNoShortHeader octets =
     (h : HeaderValue) (rest : List ℕ) → IsHeader h → octets ≡ octets_of h ++ rest
-    → length h.identifier ≤ 3 → length h.lengths ≤ 3 → ⊥
+    → length h.identifier_octets ≤ 3 → length h.length_octets ≤ 3 → ⊥

@@ -14,8 +14,8 @@ pub record IsShortestLength (n : ℕ) (octets : List ℕ) : Type 0 where
 
 -- the identifier and the length are both as short as 8.1.2 and 10.1 say
 pub record IsShortest (h : HeaderValue) : Type 0 where
-  pub identifier : IsShortestIdentifier h.number h.identifier
-  pub lengths : IsShortestLength (announced_length h.size) h.lengths
+  pub identifier : IsShortestIdentifier h.number h.identifier_octets
+  pub lengths : IsShortestLength (announced_length h.size) h.length_octets
 
 -- 8.1.2: class, form and number are the same
 pub record HaveOneTagAndForm (h g : HeaderValue) : Type 0 where

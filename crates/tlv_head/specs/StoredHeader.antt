@@ -14,10 +14,10 @@ stored_header h = record {
   number = h.number;
   size = h.size;
   raw = record { items = octets_of h };
-  id_len = length h.identifier;
+  id_len = length h.identifier_octets;
   named = h.named;
-  second_identifier_octet = slice_index h.identifier 1;
-  second_length_octet = slice_index h.lengths 1;
+  second_identifier_octet = slice_index h.identifier_octets 1;
+  second_length_octet = slice_index h.length_octets 1;
 }
 
 -- the fields that are stored beside the octets of a header

@@ -210,7 +210,7 @@ impl Header {
 
     /// The identifier octets: the first [`Header::id_len`] of [`Header::raw`]. There are at most ten.
     pub fn identifier(&self) -> &[u8]
-        ensures value { result.now ≡ self.now.identifier }
+        ensures value { result.now ≡ self.now.identifier_octets }
         ensures short { length result.now ≤ 10 }
     {
         &self.raw.as_slice()[..usize::from(self.id_len)]
@@ -219,7 +219,7 @@ impl Header {
     /// The first subsequent identifier octet (8.1.2.4.2), or 0 if there is none.
     #[inline]
     pub fn second_identifier_octet(&self) -> u8
-        ensures { result ≡ slice_index self.now.identifier 1 }
+        ensures { result ≡ slice_index self.now.identifier_octets 1 }
     {
         self.second_identifier_octet
     }
@@ -227,7 +227,7 @@ impl Header {
     /// The first subsequent length octet (8.1.3.5), or 0 if there is none.
     #[inline]
     pub fn second_length_octet(&self) -> u8
-        ensures { result ≡ slice_index self.now.lengths 1 }
+        ensures { result ≡ slice_index self.now.length_octets 1 }
     {
         self.second_length_octet
     }

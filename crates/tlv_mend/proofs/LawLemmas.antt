@@ -106,15 +106,15 @@ lengths-said n lengths said (inr long) bound limit = by_digits long.digits long.
         × (length (length_octets_saying n o) ≡ length o)) (sym e) (inr long, omega (arith, many))
 
 pub header-said : (h : HeaderValue) (said n : ℕ) → IsHeader h → h.size ≡ Definite said
-    → n < length_bound (length h.lengths) → n < 2 ^ 40
+    → n < length_bound (length h.length_octets) → n < 2 ^ 40
     → IsHeader (with_length h n) × (length (octets_of (with_length h n)) ≡ length (octets_of h))
 header-said h said n valid z bound limit =
-    let l = lengths-said n h.lengths said (subst (λ (x : Size). IsLength x h.lengths) z valid.lengths) bound limit in (
+    let l = lengths-said n h.length_octets said (subst (λ (x : Size). IsLength x h.length_octets) z valid.lengths) bound limit in (
       record { identifier = valid.identifier; lengths = l.0; allowed = allows_definite h.constructed n },
       omega (
         arith,
         l.1,
-        length-append h.identifier h.lengths,
-        length-append h.identifier (length_octets_saying n h.lengths),
+        length-append h.identifier_octets h.length_octets,
+        length-append h.identifier_octets (length_octets_saying n h.length_octets),
       ),
     )

@@ -53,11 +53,11 @@ lengths-between xs id ls rest =
 
 -- changed in place, they are those of a header that says another length
 changed-octets : (n : ℕ) (xs rest : List ℕ) (h : HeaderValue) → h.offset ≡ length xs
-    → with_octets_saying (length xs + length h.identifier) (length xs + length (octets_of h)) n
+    → with_octets_saying (length xs + length h.identifier_octets) (length xs + length (octets_of h)) n
     (xs ++ (octets_of h ++ rest)) ≡ input_with_length (xs ++ (octets_of h ++ rest)) h n
 changed-octets n xs rest h o =
-    let id : List ℕ = h.identifier in
-    let ls : List ℕ = h.lengths in
+    let id : List ℕ = h.identifier_octets in
+    let ls : List ℕ = h.length_octets in
     let front : take (length xs + length id) (xs ++ ((id ++ ls) ++ rest)) ≡ xs ++ id =
     take-append-add xs ((id ++ ls) ++ rest) (length id)
     ∙ ap (λ ys. xs ++ take (length id) ys) (append_assoc id ls rest)
@@ -69,7 +69,7 @@ changed-octets n xs rest h o =
     (append_assoc xs id (said ++ rest) ∙ ap (λ ys. xs ++ ys) (sym (append_assoc id said rest)))
 
 changed-with : (n : ℕ) (octets rest : List ℕ) (h : HeaderValue) (offset id count : ℕ) → offset ≤ length octets
-    → h.offset ≡ offset → length h.identifier ≡ id → length (octets_of h) ≡ count
+    → h.offset ≡ offset → length h.identifier_octets ≡ id → length (octets_of h) ≡ count
     → drop offset octets ≡ octets_of h ++ rest
     → with_octets_saying (offset + id) (offset + count) n octets ≡ input_with_length octets h n
 changed-with n octets rest h offset id count within o i k d =
@@ -77,15 +77,15 @@ changed-with n octets rest h offset id count within o i k d =
     let size : length front ≡ offset = length-take-le offset octets within in
     let all : front ++ (octets_of h ++ rest) ≡ octets =
     ap (λ ys. front ++ ys) (sym d) ∙ take-append-drop offset octets in
-    let start : length front + length h.identifier ≡ offset + id = omega (arith, size, i) in
+    let start : length front + length h.identifier_octets ≡ offset + id = omega (arith, size, i) in
     let end : length front + length (octets_of h) ≡ offset + count = omega (arith, size, k) in
-    let e : with_octets_saying (length front + length h.identifier) (length front + length (octets_of h)) n
+    let e : with_octets_saying (length front + length h.identifier_octets) (length front + length (octets_of h)) n
     (front ++ (octets_of h ++ rest)) ≡ input_with_length (front ++ (octets_of h ++ rest)) h n =
     changed-octets n front rest h (o ∙ sym size) in
     subst (λ (xs : List ℕ). with_octets_saying (offset + id) (offset + count) n xs ≡ input_with_length xs h n) all
     (subst (λ (s : ℕ). with_octets_saying s (offset + count) n (front ++ (octets_of h ++ rest))
     ≡ input_with_length (front ++ (octets_of h ++ rest)) h n) start
-    (subst (λ (s : ℕ). with_octets_saying (length front + length h.identifier) s n (front ++ (octets_of h ++ rest))
+    (subst (λ (s : ℕ). with_octets_saying (length front + length h.identifier_octets) s n (front ++ (octets_of h ++ rest))
     ≡ input_with_length (front ++ (octets_of h ++ rest)) h n) end e))
 
 others-are : (w v : ℕ) (size : Size) (said : ℕ) (lengths : List ℕ) → w ≡ v → size ≡ Definite said
@@ -110,17 +110,17 @@ first-with framing octets offset start count fields said lengths r within b s si
     let raw : List ℕ = take count (drop offset octets) in
     let h : HeaderValue = new_header fields raw in
     let whole : length raw ≡ count = length-take-le count (drop offset octets) b.within in
-    let id : length h.identifier ≡ fields.id_len =
+    let id : length h.identifier_octets ≡ fields.id_len =
     length-take-le fields.id_len raw (omega (arith, b.sized.identifier)) in
     let all : length (octets_of h) ≡ count = ap length (take-append-drop fields.id_len raw) ∙ whole in
-    let room : length h.lengths ≡ (offset + count) - start =
+    let room : length h.length_octets ≡ (offset + count) - start =
     omega (arith, length-drop fields.id_len raw, whole, s) in
     let same : (n : ℕ) → with_octets_saying start (offset + count) n octets ≡ input_with_length octets h n =
     λ n. subst (λ (i : ℕ). with_octets_saying i (offset + count) n octets ≡ input_with_length octets h n) (sym s)
     (changed-with n octets b.begins.rest h offset fields.id_len count within b.begins.offset id all
     b.begins.octets_are) in
     let others : other_lengths h ≡ sayable ((offset + count) - start) lengths =
-    others-are (length h.lengths) ((offset + count) - start) fields.size said lengths room size l in
+    others-are (length h.length_octets) ((offset + count) - start) fields.size said lengths room size l in
     subst (λ (xs : List ℕ). IsFirstOf (WouldBeSound framing octets h) xs r) (sym others)
     (first-along (λ n. subst (λ (xs : List ℕ). IsSoundList framing xs) (same n))
     (λ n. subst (λ (xs : List ℕ). IsSoundList framing xs) (sym (same n))) f)
@@ -171,7 +171,7 @@ pub indefinite-none : (framing : Framing) (octets : List ℕ) (offset count : �
 indefinite-none framing octets offset count fields b k h p =
     let g : HeaderValue = new_header fields (take count (drop offset octets)) in
     let e : g ≡ h = begun-one g h b.begins p in
-    no-others (WouldBeSound framing octets h) (length h.lengths) h.size
+    no-others (WouldBeSound framing octets h) (length h.length_octets) h.size
     (λ n s. k n (ap (λ (x : HeaderValue). x.size) e ∙ s))
 
 -- offsets that are searched one after another

@@ -15,8 +15,8 @@ a_sequence size lengths = record {
   constructed = true;
   number = 16;
   size = size;
-  identifier = 0x30 ∷ [];
-  lengths = lengths;
+  identifier_octets = 0x30 ∷ [];
+  length_octets = lengths;
 }
 
 near-row : lengths_within 3 5 ≡ 4 ∷ 2 ∷ 5 ∷ 1 ∷ 6 ∷ 0 ∷ 7 ∷ 8 ∷ []

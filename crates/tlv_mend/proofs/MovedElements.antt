@@ -10,7 +10,7 @@ use Rattle.tlv_walk.proofs.GrammarLemmas.Readings.{Halted, run-reading}
 use Rattle.tlv_walk.proofs.GrammarLemmas.SoundElements.{sound-obeys_grammar_top}
 use Rattle.tlv_walk.specs.Ending.{IsEnding, IsRefusedAt, fault_ending, open_end, refused, stray_end}
 use Rattle.tlv_walk.specs.Forest.{Forest, Holder, NoMore, OpenBitString, OpenEndOctets, OpenHeader, OpenHolder}
-use Rattle.tlv_walk.specs.Forest.{OpenPrimitive, PaddingOctet, Primitive, end_octets, extent, lead}
+use Rattle.tlv_walk.specs.Forest.{OpenPrimitive, PaddingOctet, Primitive, end_octets, holder_extent, lead}
 use Rattle.tlv_walk.specs.Forest.{opening, primitive_extent, spelling}
 use Rattle.tlv_walk.specs.Place.{IsHeaderAt, Place, place_after, place_of_children, top_place}
 use Rattle.tlv_walk.specs.Reading.{IsReading, IsSound}
@@ -71,8 +71,8 @@ move p q (Holder h children rest) a s =
     let k : HeaderValue = header-at q h in
     let i : Moved (place_of_children q k) children =
     move (place_of_children p h) (place_of_children q k) children (loose-inside p q h k a) s.1 in
-    let n : ℕ = extent h children in
-    let m : ℕ = extent k i.forest in
+    let n : ℕ = holder_extent h children in
+    let m : ℕ = holder_extent k i.forest in
     let r : Moved (place_after q m) rest =
     move (place_after p n) (place_after q m) rest (loose-after p q n m a) s.2 in
     record {
@@ -104,7 +104,7 @@ zero-refused : (p : Place) (f : Forest) → IsSound p f → p.indefinite ≡ fal
 zero-refused p NoMore s i a = stray_end i a refl
 zero-refused p (PaddingOctet rest) s i a = let e : true ≡ false = sym s.0 ∙ a in absurd (cc)
 zero-refused p (Primitive h c rest) s i a = zero-refused (place_after p (primitive_extent h c)) rest s.1 i a
-zero-refused p (Holder h children rest) s i a = zero-refused (place_after p (extent h children)) rest s.2 i a
+zero-refused p (Holder h children rest) s i a = zero-refused (place_after p (holder_extent h children)) rest s.2 i a
 zero-refused p (OpenPrimitive h c) s i a = absurd s
 zero-refused p (OpenHolder h children) s i a = absurd s
 zero-refused p (OpenBitString h) s i a = absurd s

@@ -17,7 +17,7 @@ InputsHaveOneWrongLength = (framing : Framing) (octets candidates : List ℕ) (a
 -- a header with another length that its length octets can state is a header of the same number of octets
 abbrev pub OtherLengthsMakeHeaders : Type 0
 OtherLengthsMakeHeaders =
-    (h : HeaderValue) (said n : ℕ) → IsHeader h → h.size ≡ Definite said → n < length_bound (length h.lengths)
+    (h : HeaderValue) (said n : ℕ) → IsHeader h → h.size ≡ Definite said → n < length_bound (length h.length_octets)
     → n < 2 ^ 40
     → IsHeader (with_length h n) × (length (octets_of (with_length h n)) ≡ length (octets_of h))
 

@@ -32,7 +32,7 @@ length_bound count = if eqb count 1 then 128 else 256 ^ (count - 1)
 -- the other lengths that a header could state in as many octets, in the order in which they are tried
 abbrev pub other_lengths : HeaderValue → List ℕ
 other_lengths h =
-    filter (λ n. nat_lt n (length_bound (length h.lengths)))
+    filter (λ n. nat_lt n (length_bound (length h.length_octets)))
     (option_map_or (λ said. lengths_within said 5) (definite_length h.size) [])
 
 -- 8.1.3.5: octets, as many as the first argument says, that state n in base 256, the most significant first
@@ -48,7 +48,7 @@ length_octets_saying n (x ∷ y ∷ more) = x ∷ base_256 (length more + 1) n
 
 -- the header that states another length in as many octets
 abbrev pub with_length : HeaderValue → ℕ → HeaderValue
-with_length h n = record h { size = Definite n; lengths = length_octets_saying n h.lengths }
+with_length h n = record h { size = Definite n; length_octets = length_octets_saying n h.length_octets }
 
 -- the input with that header in place of this one
 abbrev pub input_with_length : List ℕ → HeaderValue → ℕ → List ℕ

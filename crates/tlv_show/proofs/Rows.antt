@@ -20,8 +20,8 @@ universal offset constructed number size identifier lengths = record {
   constructed = constructed;
   number = number;
   size = size;
-  identifier = identifier;
-  lengths = lengths;
+  identifier_octets = identifier;
+  length_octets = lengths;
 }
 
 ended : List ℕ → List ℕ

@@ -6,7 +6,8 @@ use Rattle.tlv_head.specs.UniversalTypes as universal
 use Rattle.tlv_head.specs.declared.type_table.Encodings.TheVariants.{Unjudged}
 use Rattle.tlv_value.specs.declared.finding.Finding.{Finding}
 use Rattle.tlv_value.specs.declared.finding.Finding.TheVariants.{B22, B27}
-use Rattle.tlv_value.specs.Types.{has_encodings, is_number_of}
+use Rattle.tlv_value.specs.Types.{has_encodings}
+use Rattle.tlv_head.specs.Lists.{is_among}
 use Rattle.tlv_show.specs.Conditions.{listed_end_conditions, listed_header_conditions}
 use Rattle.tlv_show.specs.Site.{Site}
 
@@ -21,14 +22,14 @@ abbrev pub is_constructed_time_or_iri : HeaderValue → Bool
 is_constructed_time_or_iri h = h.constructed && is_time_or_iri h
 
 -- by the rules of all encodings
-abbrev pub later_basic_conditions : HeaderValue → List (Bool × Finding)
+abbrev pub later_basic_conditions : HeaderValue → List (Finding × Bool)
 later_basic_conditions h =
     -- 8.21, 8.22, 8.26: the encodings of these types are primitive
-    (is_constructed_time_or_iri h, B22)
+    (B22, is_constructed_time_or_iri h)
     ∷ []
 
 -- all conditions of a header, listed or not: B22 comes after the seven listed ones of all encodings
-abbrev pub header_conditions : Site → HeaderValue → List (Bool × Finding)
+abbrev pub header_conditions : Site → HeaderValue → List (Finding × Bool)
 header_conditions s h =
     take 7 (listed_header_conditions s h) ++ later_basic_conditions h ++ drop 7 (listed_header_conditions s h)
 
@@ -40,11 +41,11 @@ component_types = universal.external ∷ universal.embedded_pdv ∷ universal.ch
 
 -- a constructed element of such a type
 abbrev pub has_components : HeaderValue → Bool
-has_components h = h.constructed && is_universal h.class && is_number_of component_types h.number
+has_components h = h.constructed && is_universal h.class && is_among h.number component_types
 
 -- all conditions of an end, listed or not
-abbrev pub end_conditions : HeaderValue → List HeaderValue → List (Bool × Finding)
+abbrev pub end_conditions : HeaderValue → List HeaderValue → List (Finding × Bool)
 end_conditions h children =
     -- 8.17, 8.18, 8.24: an EXTERNAL, EMBEDDED PDV or CHARACTER STRING holds an element or more
-    (has_components h && length children == 0, B27)
+    (B27, has_components h && length children == 0)
     ∷ listed_end_conditions h children

@@ -9,7 +9,7 @@ use Rattle.tlv_value.specs.declared.finding.Finding.TheVariants.{B01, B02, B03, 
 use Rattle.tlv_value.specs.declared.finding.Finding.TheVariants.{S01, D01, D02, C01, C02, C03, C04, C05, C06}
 use Rattle.tlv_head.specs.UniversalTypes as universal
 use Rattle.tlv_head.specs.declared.type_table.Encodings.TheVariants as encodings
-use Rattle.tlv_value.specs.Types.{has_encodings, has_segments, is_a, is_primitive, is_string, is_unassigned}
+use Rattle.tlv_value.specs.Types.{has_encodings, has_segments, is_a, has_primitive_form, is_string, is_unassigned}
 use Rattle.tlv_walk.specs.Forest.{Forest, Holder, PaddingOctet, Primitive}
 use Rattle.tlv_walk.specs.Place.{is_indefinite}
 use Rattle.tlv_show.specs.Site.{Site, in_bit_string, in_string}
@@ -18,7 +18,7 @@ use Rattle.tlv_show.specs.Site.{Site, in_bit_string, in_string}
 
 -- 8.1.2.4: there are subsequent identifier octets: those after the first one
 abbrev pub has_high_form : HeaderValue → Bool
-has_high_form h = nat_lt 1 (length h.identifier)
+has_high_form h = nat_lt 1 (length h.identifier_octets)
 
 -- 8.6.2.2: what is right before is a primitive BIT STRING whose first contents octet is not 0. It need not be a number
 -- of unused bits that B14 and B15 allow
@@ -26,49 +26,54 @@ abbrev pub leaves_unused_bits : Forest → Bool
 leaves_unused_bits (Primitive h (x ∷ c) rest) = is_a universal.bit_string h && not (x == 0)
 leaves_unused_bits _ = false
 
--- 9.2: what is right before is an element, but not a primitive with 1000 contents octets. A wrapper is a primitive too
+-- 9.2: what is right before is an element, but not a primitive with 1000 contents octets. A wrapper has the form of a
+-- primitive, and counts as one
 abbrev pub is_not_full : Forest → Bool
 is_not_full (Primitive h c rest) = not (announced_length h.size == 1000)
-is_not_full (Holder h children rest) = not (is_primitive h && announced_length h.size == 1000)
+is_not_full (Holder h children rest) = not (has_primitive_form h && announced_length h.size == 1000)
 is_not_full _ = false
 
 -- with a header at a site: the rules that it may violate. The letter of a code says whose rule it is
-abbrev pub listed_header_conditions : Site → HeaderValue → List (Bool × Finding)
+abbrev pub listed_header_conditions : Site → HeaderValue → List (Finding × Bool)
 listed_header_conditions s h =
     -- ---- of all encodings: B
     -- B01, 8.1.2.2: a number below 31 is in the single identifier octet
-    (has_high_form h && nat_lt h.number 31, B01)
+    (B01, has_high_form h && nat_lt h.number 31)
     -- B02, 8.1.2.4.2 c): bits 7 to 1 of the first subsequent octet are not all 0
-    ∷ (has_high_form h && slice_index h.identifier 1 % 128 == 0, B02)
+    ∷ (B02, has_high_form h && slice_index h.identifier_octets 1 % 128 == 0)
     -- B03, X.680, table 1: the universal number is the number of a type
-    ∷ (is_unassigned h, B03)
+    ∷ (B03, is_unassigned h)
     -- B04, 8.2.1, 8.3.1, 8.4, 8.5.1, 8.8.1, 8.19.1, 8.20.1: the encodings of these types are primitive
-    ∷ (h.constructed && has_encodings encodings.Primitive h, B04)
+    ∷ (B04, h.constructed && has_encodings encodings.Primitive h)
     -- B05, 8.9.1, 8.11.1, 8.17, 8.18, 8.24: the encodings of these types are constructed
-    ∷ (is_primitive h && has_encodings encodings.Constructed h, B05)
+    ∷ (B05, has_primitive_form h && has_encodings encodings.Constructed h)
     -- B16, 8.6.4: each segment of a BIT STRING but the last has a multiple of eight bits. A constructed segment right
     -- before is not looked into
-    ∷ (in_bit_string s && leaves_unused_bits s.previous, B16)
+    ∷ (B16, in_bit_string s && leaves_unused_bits s.previous)
     -- B17, 8.6.4, 8.7.3: a segment has the tag of BIT STRING in a BIT STRING, and of OCTET STRING in any other string
-    ∷ (in_string s && not (is_a (if in_bit_string s then universal.bit_string else universal.octet_string) h), B17)
+    ∷ (B17, in_string s && not (is_a (if in_bit_string s then universal.bit_string else universal.octet_string) h))
     -- ---- of DER and of CER: S
     -- S01, 9.1, 10.1: a definite length has the fewest octets. 9.1 says so of primitives; a constructed element has C01
     -- too. There are subsequent ones (8.1.3.5) only for 128 and more, and the first of these is not 00
-    ∷ (nat_lt 1 (length h.lengths) && (nat_lt (announced_length h.size) 128 || slice_index h.lengths 1 == 0), S01)
+    ∷ (
+      S01,
+      nat_lt 1 (length h.length_octets)
+          && (nat_lt (announced_length h.size) 128 || slice_index h.length_octets 1 == 0),
+    )
     -- ---- of DER alone: D
     -- D01, 10.1: lengths are definite
-    ∷ (is_indefinite h.size, D01)
+    ∷ (D01, is_indefinite h.size)
     -- D02, 10.2: strings are primitive
-    ∷ (has_segments h, D02)
+    ∷ (D02, has_segments h)
     -- ---- of CER alone: C
     -- C01, 9.1: the length of a constructed element is indefinite
-    ∷ (h.constructed && not (is_indefinite h.size), C01)
+    ∷ (C01, h.constructed && not (is_indefinite h.size))
     -- C02, 9.2: a primitive string has at most 1000 contents octets
-    ∷ (is_primitive h && is_string h && nat_lt 1000 (announced_length h.size), C02)
+    ∷ (C02, has_primitive_form h && is_string h && nat_lt 1000 (announced_length h.size))
     -- C03, 9.2: segments are primitive
-    ∷ (h.constructed && in_string s, C03)
+    ∷ (C03, h.constructed && in_string s)
     -- C04, 9.2: each segment but the last has 1000 contents octets
-    ∷ (in_string s && is_not_full s.previous, C04)
+    ∷ (C04, in_string s && is_not_full s.previous)
     ∷ []
 
 -- ---- With the end of a holder
@@ -90,16 +95,16 @@ length_as_primitive h segments =
 -- whether the last of the elements is a primitive without contents octets
 abbrev pub ends_empty : List HeaderValue → Bool
 ends_empty [] = false
-ends_empty (h ∷ []) = is_primitive h && announced_length h.size == 0
+ends_empty (h ∷ []) = has_primitive_form h && announced_length h.size == 0
 ends_empty (h ∷ g ∷ hs) = ends_empty (g ∷ hs)
 
 -- from the element's header and the headers of what it held
-abbrev pub listed_end_conditions : HeaderValue → List HeaderValue → List (Bool × Finding)
+abbrev pub listed_end_conditions : HeaderValue → List HeaderValue → List (Finding × Bool)
 listed_end_conditions h children =
     -- C05, 9.2: a string of at most 1000 contents octets is primitive. If a segment is constructed, C03 says so, and
     -- the contents octets are not counted
-    (has_segments h && list_all is_primitive children && nat_le (length_as_primitive h children) 1000, C05)
+    (C05, has_segments h && list_all has_primitive_form children && nat_le (length_as_primitive h children) 1000)
     -- C06, an inference of our own: 9.2 lets the last segment be shorter than 1000 octets, and does not say that it may
     -- be empty. A segment of a BIT STRING that has only its octet for unused bits does not count as empty
-    ∷ (has_segments h && ends_empty children, C06)
+    ∷ (C06, has_segments h && ends_empty children)
     ∷ []

@@ -4,11 +4,11 @@ use Rattle.std.specs.Prelude.{ℕ, if◌then◌else◌, List, [], ◌∷◌, ◌
 use Rattle.tlv_head.specs.Header.{HeaderValue}
 use Rattle.tlv_value.specs.declared.finding.Finding.{Finding}
 use Rattle.tlv_walk.specs.Forest.{Forest, Holder, NoMore, OpenBitString, OpenHolder, OpenPrimitive, PaddingOctet}
-use Rattle.tlv_walk.specs.Forest.{Primitive, end_octets_offset, extent, primitive_extent}
+use Rattle.tlv_walk.specs.Forest.{Primitive, end_octets_offset, holder_extent, primitive_extent}
 use Rattle.tlv_show.specs.ListedFindings.{ElementFindings}
 use Rattle.tlv_show.specs.Site.{Site, is_padding, site_after, site_of_children}
 
--- an item, with its depth: the number of elements that hold what it is about
+-- an item, with its depth: the number of holders around what it is about
 pub data Item : Type 0 where
   -- a finding in the element that begins at this offset
   FindingAt : (depth offset : ℕ) (finding : Finding) → Item
@@ -43,7 +43,7 @@ module _ (found : ElementFindings) where
       ++ (OpeningLine s.depth h ∷ items (site_of_children s h) children
       ++ (ClosingLine s.depth (end_octets_offset h children)
       ∷ finding_items s.depth h.offset (found.of_holder s h children)
-      ++ items (site_after s (extent h children) (Holder h children NoMore)) rest))
+      ++ items (site_after s (holder_extent h children) (Holder h children NoMore)) rest))
   items s (OpenPrimitive h c) =
       finding_items s.depth h.offset (found.of_header s h) ++ OpenPrimitiveLines s.depth h c ∷ []
   items s (OpenHolder h children) =

@@ -9,7 +9,7 @@ use Rattle.tlv_head.specs.declared.type_table.Encodings.TheVariants as encodings
 use Rattle.tlv_value.specs.declared.finding.Finding.{Finding}
 use Rattle.tlv_value.specs.declared.finding.Finding.TheVariants.{B01, B02, B03, B04, B05, B16, B17, B27}
 use Rattle.tlv_value.specs.declared.finding.Finding.TheVariants.{S01, D01, D02, C01, C02, C03, C04, C05, C06}
-use Rattle.tlv_value.specs.Types.{has_encodings, has_segments, is_a, is_primitive, is_string, is_unassigned}
+use Rattle.tlv_value.specs.Types.{has_encodings, has_segments, is_a, has_primitive_form, is_string, is_unassigned}
 use Rattle.tlv_walk.specs.Place.{is_indefinite}
 use Rattle.tlv_show.specs.declared.wanted.Wanted.{Wanted}
 use Rattle.tlv_show.specs.Conditions.{has_high_form}
@@ -24,7 +24,7 @@ is_high_form_needless h = has_high_form h && nat_lt h.number 31
 
 -- there are subsequent identifier octets, and bits 7 to 1 of the first are all 0
 abbrev pub begins_with_zero_bits : HeaderValue → Bool
-begins_with_zero_bits h = has_high_form h && slice_index h.identifier 1 % 128 == 0
+begins_with_zero_bits h = has_high_form h && slice_index h.identifier_octets 1 % 128 == 0
 
 -- the element is constructed, and the encodings of its type are primitive
 abbrev pub is_wrongly_constructed : HeaderValue → Bool
@@ -32,16 +32,16 @@ is_wrongly_constructed h = h.constructed && has_encodings encodings.Primitive h
 
 -- the element is primitive, and the encodings of its type are constructed
 abbrev pub is_wrongly_primitive : HeaderValue → Bool
-is_wrongly_primitive h = is_primitive h && has_encodings encodings.Constructed h
+is_wrongly_primitive h = has_primitive_form h && has_encodings encodings.Constructed h
 
 -- there are subsequent length octets
 abbrev pub has_long_form : HeaderValue → Bool
-has_long_form h = nat_lt 1 (length h.lengths)
+has_long_form h = nat_lt 1 (length h.length_octets)
 
 -- the length has more octets than it needs
 abbrev pub is_length_padded : HeaderValue → Bool
 is_length_padded h =
-    has_long_form h && (nat_lt (announced_length h.size) 128 || slice_index h.lengths 1 == 0)
+    has_long_form h && (nat_lt (announced_length h.size) 128 || slice_index h.length_octets 1 == 0)
 
 -- the type of the segments of a string, which is a BIT STRING or another one
 abbrev pub segment_type : Bool → ℕ
@@ -59,35 +59,35 @@ pub record Surroundings : Type 0 where
   -- right before this segment is one that is not a primitive of 1000 contents octets
   pub after_not_full : Bool
 
-abbrev pub first_basic_conditions_in : Surroundings → HeaderValue → List (Bool × Finding)
+abbrev pub first_basic_conditions_in : Surroundings → HeaderValue → List (Finding × Bool)
 first_basic_conditions_in s h =
-    (is_high_form_needless h, B01)
-    ∷ (begins_with_zero_bits h, B02)
-    ∷ (is_unassigned h, B03)
-    ∷ (is_wrongly_constructed h, B04)
-    ∷ (is_wrongly_primitive h, B05)
-    ∷ (s.after_unused_bits, B16)
-    ∷ (s.in_string && not (is_a (segment_type s.in_bit_string) h), B17)
+    (B01, is_high_form_needless h)
+    ∷ (B02, begins_with_zero_bits h)
+    ∷ (B03, is_unassigned h)
+    ∷ (B04, is_wrongly_constructed h)
+    ∷ (B05, is_wrongly_primitive h)
+    ∷ (B16, s.after_unused_bits)
+    ∷ (B17, s.in_string && not (is_a (segment_type s.in_bit_string) h))
     ∷ []
 
-abbrev pub basic_conditions_in : Surroundings → HeaderValue → List (Bool × Finding)
+abbrev pub basic_conditions_in : Surroundings → HeaderValue → List (Finding × Bool)
 basic_conditions_in s h = first_basic_conditions_in s h ++ later_basic_conditions h
 
-abbrev pub length_conditions : HeaderValue → List (Bool × Finding)
-length_conditions h = (is_length_padded h, S01) ∷ []
+abbrev pub length_conditions : HeaderValue → List (Finding × Bool)
+length_conditions h = (S01, is_length_padded h) ∷ []
 
-abbrev pub der_conditions : HeaderValue → List (Bool × Finding)
-der_conditions h = (is_indefinite h.size, D01) ∷ (has_segments h, D02) ∷ []
+abbrev pub der_conditions : HeaderValue → List (Finding × Bool)
+der_conditions h = (D01, is_indefinite h.size) ∷ (D02, has_segments h) ∷ []
 
-abbrev pub cer_conditions_in : Surroundings → HeaderValue → List (Bool × Finding)
+abbrev pub cer_conditions_in : Surroundings → HeaderValue → List (Finding × Bool)
 cer_conditions_in s h =
-    (h.constructed && not (is_indefinite h.size), C01)
-    ∷ (is_primitive h && is_string h && nat_lt 1000 (announced_length h.size), C02)
-    ∷ (h.constructed && s.in_string, C03)
-    ∷ (s.after_not_full, C04)
+    (C01, h.constructed && not (is_indefinite h.size))
+    ∷ (C02, has_primitive_form h && is_string h && nat_lt 1000 (announced_length h.size))
+    ∷ (C03, h.constructed && s.in_string)
+    ∷ (C04, s.after_not_full)
     ∷ []
 
-abbrev pub header_conditions_in : Surroundings → HeaderValue → List (Bool × Finding)
+abbrev pub header_conditions_in : Surroundings → HeaderValue → List (Finding × Bool)
 header_conditions_in s h =
     basic_conditions_in s h ++ length_conditions h ++ der_conditions h ++ cer_conditions_in s h
 
@@ -109,11 +109,11 @@ pub record Segments : Type 0 where
   -- the last one is a primitive without contents octets
   pub ends_empty : Bool
 
-abbrev pub end_conditions_in : Segments → List (Bool × Finding)
+abbrev pub end_conditions_in : Segments → List (Finding × Bool)
 end_conditions_in s =
-    (s.lacks_components, B27)
-    ∷ (s.in_string && s.all_primitive && nat_le s.length_as_primitive 1000, C05)
-    ∷ (s.in_string && s.ends_empty, C06)
+    (B27, s.lacks_components)
+    ∷ (C05, s.in_string && s.all_primitive && nat_le s.length_as_primitive 1000)
+    ∷ (C06, s.in_string && s.ends_empty)
     ∷ []
 
 abbrev pub end_findings_in : Wanted → Segments → List Finding

@@ -31,7 +31,7 @@ abbrev pub is_by : Rules → Finding → Bool
 is_by rules finding = list_any (λ letter. slice_index (finding_code finding) 0 == letter) (letters rules)
 
 -- of the findings by these conditions, the findings that the rules have
-abbrev pub findings_under : Rules → List (Bool × Finding) → List Finding
+abbrev pub findings_under : Rules → List (Finding × Bool) → List Finding
 findings_under rules conditions = filter (is_by rules) (findings_by conditions)
 
 -- the listed findings

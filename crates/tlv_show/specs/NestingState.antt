@@ -4,7 +4,7 @@ use Rattle.std.specs.Prelude.{List, [], ◌∷◌, length, min}
 use Rattle.tlv_head.specs.Limits.{depth_limit}
 use Rattle.tlv_head.specs.Header.{HeaderValue, announced_length}
 use Rattle.tlv_head.specs.UniversalTypes as universal
-use Rattle.tlv_value.specs.Types.{has_segments, is_a, is_primitive}
+use Rattle.tlv_value.specs.Types.{has_segments, is_a, has_primitive_form}
 use Rattle.tlv_show.specs.declared.holder_frame.HolderFrame.{HolderFrame}
 use Rattle.tlv_show.specs.AllConditions.{has_components}
 use Rattle.tlv_show.specs.KeptConditions.{Segments, Surroundings}
@@ -32,7 +32,7 @@ abbrev pub frame_of : HeaderValue → HolderFrame
 frame_of h = record top_frame {
   offset = h.offset;
   announced_length = announced_length h.size;
-  is_primitive = is_primitive h;
+  is_primitive = has_primitive_form h;
   has_segments = has_segments h;
   is_bit_string = has_segments h && is_a universal.bit_string h;
   lacks_components = has_components h;

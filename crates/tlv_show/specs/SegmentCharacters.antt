@@ -2,7 +2,8 @@
 use Rattle.std.specs.Prelude.{ℕ, Bool, false, ◌&&◌, ◌||◌, not, List, [], ◌++◌}
 use Rattle.std.specs.List.{list_all}
 use Rattle.tlv_head.specs.Header.{HeaderValue, is_universal}
-use Rattle.tlv_value.specs.Types.{is_number_of, is_primitive, tested_string_types}
+use Rattle.tlv_value.specs.Types.{has_primitive_form, tested_string_types}
+use Rattle.tlv_head.specs.Lists.{is_among}
 use Rattle.tlv_walk.specs.Forest.{Forest, Holder, OpenHolder}
 use Rattle.tlv_walk.specs.Forest.{PaddingOctet, Primitive, lead, spelling}
 use Rattle.tlv_show.specs.SetOrder.{offset_if}
@@ -10,7 +11,7 @@ use Rattle.tlv_value.specs.Characters.{allows_octet}
 
 -- 8.23, X.680 41: a constructed NumericString, PrintableString, IA5String or VisibleString
 abbrev pub is_tested_string : HeaderValue → Bool
-is_tested_string h = h.constructed && (is_universal h.class && is_number_of tested_string_types h.number)
+is_tested_string h = h.constructed && (is_universal h.class && is_among h.number tested_string_types)
 
 -- X.680 41: the type with this number does not allow all of these octets
 abbrev pub has_wrong_octet : ℕ → List ℕ → Bool
@@ -26,7 +27,7 @@ abbrev pub has_wrong_segment : ℕ → Forest → Bool
 has_wrong_segment number (PaddingOctet rest) = has_wrong_segment number rest
 has_wrong_segment number (Primitive h c rest) = has_wrong_octet number c || has_wrong_segment number rest
 has_wrong_segment number (Holder h children rest) =
-    (is_primitive h && has_wrong_octet number (held_contents h children)) || has_wrong_segment number rest
+    (has_primitive_form h && has_wrong_octet number (held_contents h children)) || has_wrong_segment number rest
 has_wrong_segment number _ = false
 
 -- 8.23, X.680 41: a string with this header that holds these elements has a segment with an octet that its type does

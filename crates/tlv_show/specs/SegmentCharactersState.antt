@@ -4,7 +4,7 @@ use Rattle.std.specs.Prelude.{◌≡◌, ℕ, ◌+◌, ◌-◌, Bool, false, ◌
 use Rattle.std.specs.Prelude.{◌∷◌, ◌++◌, length, map, min, Option, Some, None}
 use Rattle.tlv_head.specs.Limits.{depth_limit}
 use Rattle.tlv_head.specs.Header.{HeaderValue, octets_of}
-use Rattle.tlv_value.specs.Types.{is_primitive}
+use Rattle.tlv_value.specs.Types.{has_primitive_form}
 use Rattle.tlv_walk.specs.Events.{Begin, Bytes, Close, End, Enter, EventValue, Leave, Open, Pad, Unused, event_octets}
 use Rattle.tlv_walk.specs.Events.{events}
 use Rattle.tlv_walk.specs.Forest.{Forest, lead}
@@ -39,7 +39,7 @@ segment_after_octets w octets = record w {
 -- after the header of an element: its contents octets come, and are those of a primitive segment if it is a segment and
 -- is primitive
 abbrev pub segment_begun : SegmentFrame → HeaderValue → SegmentFrame
-segment_begun w h = record w { in_contents = if is_directly_in_string w then is_primitive h else w.in_contents }
+segment_begun w h = record w { in_contents = if is_directly_in_string w then has_primitive_form h else w.in_contents }
 
 -- one more holder is open in the string
 abbrev pub segment_entered : SegmentFrame → SegmentFrame

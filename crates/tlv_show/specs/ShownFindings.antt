@@ -54,7 +54,7 @@ all_by rules = record { rules = rules; scope = All }
 -- ---- What is found
 
 -- of the findings by these conditions, the findings that are wanted
-abbrev pub shown_findings : Wanted → List (Bool × Finding) → List Finding
+abbrev pub shown_findings : Wanted → List (Finding × Bool) → List Finding
 shown_findings wanted conditions = filter (is_shown wanted) (findings_by conditions)
 
 -- the findings of a header, on the contents of a primitive, and of the end of a holder, from its

@@ -82,8 +82,8 @@ universal_header number = record {
   constructed = false;
   number = number;
   size = Definite 0;
-  identifier = [];
-  lengths = [];
+  identifier_octets = [];
+  length_octets = [];
 }
 
 padded-integer : all_contents_findings (universal_header 2) (0 ∷ 127 ∷ []) ≡ B08 ∷ []

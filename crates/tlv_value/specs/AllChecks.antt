@@ -10,7 +10,8 @@ use Rattle.tlv_value.specs.Checks.{begins_with, findings_by, is_short_time, list
 use Rattle.tlv_value.specs.Checks.{listed_strict_type_conditions, time_form}
 use Rattle.tlv_value.specs.Dates.{is_date_or_time, month_has_day, month_has_day_in_some_century}
 use Rattle.tlv_value.specs.Real.{is_canonical_real, is_real_form}
-use Rattle.tlv_value.specs.Types.{date_types, iri_types, is_number_of, wide_string_types}
+use Rattle.tlv_value.specs.Types.{date_types, iri_types, wide_string_types}
+use Rattle.tlv_head.specs.Lists.{is_among}
 
 -- X.680 46, 47: the month of the time has its day. The century of a UTCTime is not known
 abbrev pub time_has_day : ℕ → List ℕ → Bool
@@ -28,35 +29,35 @@ is_iri number contents =
 
 -- the findings on these contents of a primitive of the type with this number that are not listed, beside their
 -- conditions: by the rules of all encodings
-abbrev pub later_basic_type_conditions : ℕ → List ℕ → List (Bool × Finding)
+abbrev pub later_basic_type_conditions : ℕ → List ℕ → List (Finding × Bool)
 later_basic_type_conditions number contents =
     -- 8.5: a REAL is of a form, as `Real` has it
-    (number == universal.real && not (is_real_form contents), B20)
+    (B20, number == universal.real && not (is_real_form contents))
     -- 8.26: a DATE, TIME-OF-DAY or DATE-TIME is one, as `Dates` has it
-    ∷ (is_number_of date_types number && not (is_date_or_time number contents), B21)
+    ∷ (B21, is_among number date_types && not (is_date_or_time number contents))
     -- 8.21: an OID-IRI is UTF-8 and begins with /. 8.22: a RELATIVE-OID-IRI is UTF-8, and is not empty
-    ∷ (is_number_of iri_types number && not (is_iri number contents), B23)
+    ∷ (B23, is_among number iri_types && not (is_iri number contents))
     -- 8.20.2: a RELATIVE-OID has one subidentifier or more
-    ∷ (number == universal.relative_oid && length contents == 0, B24)
+    ∷ (B24, number == universal.relative_oid && length contents == 0)
     -- 8.23: each whole unit of a BMPString or UniversalString is a character, as `Characters` has it
-    ∷ (is_number_of wide_string_types number && has_wrong_unit number contents, B25)
+    ∷ (B25, is_among number wide_string_types && has_wrong_unit number contents)
     -- X.680 46, 47: in a time of at most 64 octets that follows the grammar of its type, the month has the day
     ∷ (
+      B26,
       is_short_time number contents && time_form number contents
           && not (time_has_day number contents),
-      B26,
     )
     ∷ []
 
 -- and by the rules of DER, and of CER
-abbrev pub later_strict_type_conditions : ℕ → List ℕ → List (Bool × Finding)
+abbrev pub later_strict_type_conditions : ℕ → List ℕ → List (Finding × Bool)
 later_strict_type_conditions number contents =
     -- 11.3: a REAL of a form is canonical, as `Real` has it
-    (number == universal.real && is_real_form contents && not (is_canonical_real contents), S06)
+    (S06, number == universal.real && is_real_form contents && not (is_canonical_real contents))
     ∷ []
 
 -- all findings on these contents, listed or not, beside their conditions, in the order of the codes
-abbrev pub type_conditions : ℕ → List ℕ → List (Bool × Finding)
+abbrev pub type_conditions : ℕ → List ℕ → List (Finding × Bool)
 type_conditions number contents =
     listed_basic_type_conditions number contents
     ++ later_basic_type_conditions number contents
@@ -65,7 +66,7 @@ type_conditions number contents =
 
 -- the possible findings on these contents of a primitive with this header, beside their conditions. There are none if
 -- its class is not universal
-abbrev pub contents_conditions : HeaderValue → List ℕ → List (Bool × Finding)
+abbrev pub contents_conditions : HeaderValue → List ℕ → List (Finding × Bool)
 contents_conditions h contents = if is_universal h.class then type_conditions h.number contents else []
 
 -- the findings on these contents of a primitive of the type with this number, by the rules of BER, CER or DER, in

@@ -2,7 +2,7 @@
 use Rattle.std.specs.Prelude.{ℕ, ◌+◌, ◌*◌, ◌%◌, Bool, false, ◌&&◌, ◌||◌, not, ◌==◌, nat_le}
 use Rattle.std.specs.Prelude.{if◌then◌else◌, List, ◌∷◌}
 use Rattle.tlv_head.specs.UniversalTypes as universal
-use Rattle.tlv_value.specs.Times.{Form, minute, month_and_day, two_digit_number, two_digits, year_digits, ◌then◌}
+use Rattle.tlv_value.specs.Times.{Form, minute, month_and_day, two_digit_number, two_digits, year_digits, ◌followed_by◌}
 
 -- the Gregorian calendar: 4 divides a leap year, and 100 does not, or 400 does
 abbrev pub is_leap_year : ℕ → Bool
@@ -35,15 +35,15 @@ month_has_day_in_some_century text = false
 
 -- hhmmss
 abbrev pub time_of_day_form : Form
-time_of_day_form = two_digits 0 23 then minute then two_digits 0 59
+time_of_day_form = two_digits 0 23 followed_by minute followed_by two_digits 0 59
 
 -- YYYYMMDD
 abbrev pub date_form : Form
-date_form = year_digits then year_digits then month_and_day
+date_form = year_digits followed_by year_digits followed_by month_and_day
 
 -- YYYYMMDDhhmmss
 abbrev pub date_time_form : Form
-date_time_form = date_form then time_of_day_form
+date_time_form = date_form followed_by time_of_day_form
 
 -- 8.26: the contents of a DATE, TIME-OF-DAY or DATE-TIME, the type with this number, are such a date or time
 abbrev pub is_date_or_time : ℕ → List ℕ → Bool

@@ -4,7 +4,7 @@ use Rattle.std.specs.Prelude.{ℕ, ◌+◌, ◌/◌, ◌%◌, Bool, true, ◌&&�
 use Rattle.std.specs.Prelude.{if◌then◌else◌, List, [], ◌∷◌, length, take, drop}
 use Rattle.std.specs.List.{list_all}
 use Rattle.tlv_value.specs.ContentsOctets.{first_octet, is_padded_integer, last_octet}
-use Rattle.tlv_value.specs.TextForms.{Form, digits, mark, maybe, octet_between, sign, ◌or◌, ◌then◌}
+use Rattle.tlv_value.specs.TextForms.{Form, digits, mark, maybe, octet_between, sign, ◌or◌, ◌followed_by◌}
 
 -- ---- Binary: 8.5.7
 
@@ -73,7 +73,7 @@ leading_spaces text = list_all (λ x. x == 0x20) text
 
 -- one digit or more: 30 to 39 are the digits
 abbrev pub some_digits : Form
-some_digits = octet_between 0x30 0x39 then digits
+some_digits = octet_between 0x30 0x39 followed_by digits
 
 -- 2e is the point, 2c the comma
 abbrev pub decimal_mark : Form
@@ -81,25 +81,25 @@ decimal_mark = mark 0x2e or mark 0x2c
 
 -- digits with a mark after them, in them or before them
 abbrev pub marked_digits : Form
-marked_digits = (some_digits then decimal_mark then digits) or (decimal_mark then some_digits)
+marked_digits = (some_digits followed_by decimal_mark followed_by digits) or (decimal_mark followed_by some_digits)
 
 -- 45 is E, 65 is e
 abbrev pub exponent : Form
-exponent = (mark 0x45 or mark 0x65) then maybe sign then some_digits
+exponent = (mark 0x45 or mark 0x65) followed_by maybe sign followed_by some_digits
 
 -- spaces and a sign, if there are any
 abbrev pub number_prefix : Form
-number_prefix = leading_spaces then maybe sign
+number_prefix = leading_spaces followed_by maybe sign
 
 -- the forms of ISO 6093: NR1 is a whole number, NR2 one with a mark, NR3 one with an exponent
 abbrev pub nr1_form : Form
-nr1_form = number_prefix then some_digits
+nr1_form = number_prefix followed_by some_digits
 
 abbrev pub nr2_form : Form
-nr2_form = number_prefix then marked_digits
+nr2_form = number_prefix followed_by marked_digits
 
 abbrev pub nr3_form : Form
-nr3_form = number_prefix then (some_digits or marked_digits) then exponent
+nr3_form = number_prefix followed_by (some_digits or marked_digits) followed_by exponent
 
 -- 8.5.8: the first octet says which form it is; no other octet below 40 is allowed
 abbrev pub is_decimal_form : ℕ → List ℕ → Bool
@@ -114,16 +114,18 @@ nonzero_digit = octet_between 0x31 0x39
 
 -- 11.3.2.4: neither the first nor the last digit of the mantissa is 0
 abbrev pub canonical_mantissa : Form
-canonical_mantissa = nonzero_digit then maybe (digits then nonzero_digit)
+canonical_mantissa = nonzero_digit followed_by maybe (digits followed_by nonzero_digit)
 
 -- 11.3.2.6: an exponent of 0 is +0. Any other has no plus, and its first digit is not 0
 abbrev pub canonical_exponent : Form
-canonical_exponent = (mark 0x2b then mark 0x30) or (maybe (mark 0x2d) then nonzero_digit then digits)
+canonical_exponent =
+    (mark 0x2b followed_by mark 0x30) or (maybe (mark 0x2d) followed_by nonzero_digit followed_by digits)
 
 -- 11.3.2: NR3 with no spaces and no plus before the mantissa; the point and E come right after it
 abbrev pub canonical_nr3_form : Form
 canonical_nr3_form =
-    maybe (mark 0x2d) then canonical_mantissa then mark 0x2e then mark 0x45 then canonical_exponent
+    maybe (mark 0x2d) followed_by canonical_mantissa followed_by mark 0x2e followed_by mark 0x45
+    followed_by canonical_exponent
 
 -- ---- The conditions
 

@@ -13,9 +13,9 @@ splits [] = ([], []) ∷ []
 splits (x ∷ xs) = ([], x ∷ xs) ∷ map (λ split. (x ∷ split.0, split.1)) (splits xs)
 
 -- a text of the first form and a text of the second, one after the other: there is a split into such parts
-infixr 20 ◌then◌
-abbrev pub ◌then◌ : Form → Form → Form
-(first then second) text = list_any (λ split. first split.0 && second split.1) (splits text)
+infixr 20 ◌followed_by◌
+abbrev pub ◌followed_by◌ : Form → Form → Form
+(first followed_by second) text = list_any (λ split. first split.0 && second split.1) (splits text)
 
 -- a text of one form or of the other
 infixr 15 ◌or◌

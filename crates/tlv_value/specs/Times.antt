@@ -2,7 +2,7 @@
 use Rattle.std.specs.Prelude.{ℕ, ◌+◌, ◌-◌, ◌*◌, false, ◌&&◌, nat_le, ◌∷◌, []}
 use Rattle.std.specs.Char.{is_ascii_digit}
 pub use Rattle.tlv_value.specs.TextForms.{Form, digits, mark, maybe, no_octets, octet_between, sign, splits}
-pub use Rattle.tlv_value.specs.TextForms.{◌or◌, ◌then◌}
+pub use Rattle.tlv_value.specs.TextForms.{◌or◌, ◌followed_by◌}
 
 -- the number that two digits stand for: 30 is the digit 0
 abbrev pub two_digit_number : ℕ → ℕ → ℕ
@@ -23,7 +23,7 @@ year_digits = two_digits 0 99
 
 -- MMDD
 abbrev pub month_and_day : Form
-month_and_day = two_digits 1 12 then two_digits 1 31
+month_and_day = two_digits 1 12 followed_by two_digits 1 31
 
 abbrev pub hour : Form
 hour = two_digits 0 24
@@ -36,42 +36,45 @@ second = two_digits 0 60
 
 -- 5a is Z
 abbrev pub utc_zone : Form
-utc_zone = mark 0x5a or (sign then hour then minute)
+utc_zone = mark 0x5a or (sign followed_by hour followed_by minute)
 
 -- X.680 47.3
 abbrev pub utc_time_form : Form
-utc_time_form = year_digits then month_and_day then hour then minute then maybe second then utc_zone
+utc_time_form =
+    year_digits followed_by month_and_day followed_by hour followed_by minute followed_by maybe second
+    followed_by utc_zone
 
 -- one digit or more after a point or a comma: 2e is the point, 2c the comma, 30 to 39 are the digits
 abbrev pub fraction : Form
-fraction = (mark 0x2e or mark 0x2c) then octet_between 0x30 0x39 then digits
+fraction = (mark 0x2e or mark 0x2c) followed_by octet_between 0x30 0x39 followed_by digits
 
 abbrev pub generalized_zone : Form
-generalized_zone = mark 0x5a or (sign then hour then maybe minute)
+generalized_zone = mark 0x5a or (sign followed_by hour followed_by maybe minute)
 
 -- X.680 46.3: the fraction is that of the hour, minute or second before it
 abbrev pub generalized_time_form : Form
 generalized_time_form =
-    year_digits then year_digits then month_and_day then hour then maybe (minute then maybe second)
-    then maybe fraction then maybe generalized_zone
+    year_digits followed_by year_digits followed_by month_and_day followed_by hour
+    followed_by maybe (minute followed_by maybe second) followed_by maybe fraction followed_by maybe generalized_zone
 
 -- ---- The canonical forms: X.690 11.7, 11.8
 
 -- hour, minute and second. 11.7.2, 11.8.2: the second is always present. 11.7.5, 11.8.3: midnight is hour 0 of the
 -- following day, so no hour is 24
 abbrev pub canonical_clock : Form
-canonical_clock = two_digits 0 23 then minute then second
+canonical_clock = two_digits 0 23 followed_by minute followed_by second
 
 -- 11.8.1: the time ends with Z
 abbrev pub canonical_utc_time_form : Form
-canonical_utc_time_form = year_digits then month_and_day then canonical_clock then mark 0x5a
+canonical_utc_time_form = year_digits followed_by month_and_day followed_by canonical_clock followed_by mark 0x5a
 
 -- 11.7.4: the mark of a fraction is the point. 11.7.3: the last digit is not 0, and the point is left out with the
 -- digits: 31 to 39 are the digits 1 to 9
 abbrev pub canonical_fraction : Form
-canonical_fraction = mark 0x2e then digits then octet_between 0x31 0x39
+canonical_fraction = mark 0x2e followed_by digits followed_by octet_between 0x31 0x39
 
 -- 11.7.1: the time ends with Z
 abbrev pub canonical_generalized_time_form : Form
 canonical_generalized_time_form =
-    year_digits then year_digits then month_and_day then canonical_clock then maybe canonical_fraction then mark 0x5a
+    year_digits followed_by year_digits followed_by month_and_day followed_by canonical_clock
+    followed_by maybe canonical_fraction followed_by mark 0x5a

@@ -1,6 +1,5 @@
 -- What a tag says of an element, by the table of the universal types.
 use Rattle.std.specs.Prelude.{ℕ, Bool, false, ◌&&◌, ◌||◌, not, ◌==◌, List, [], ◌∷◌, ◌++◌}
-use Rattle.std.specs.List.{list_any}
 use Rattle.std.specs.Option.{is_none, option_map_or}
 use Rattle.tlv_head.specs.UniversalTypes as universal
 use Rattle.tlv_head.specs.Header.{HeaderValue, is_universal}
@@ -11,10 +10,6 @@ use Rattle.tlv_head.specs.declared.type_table.Encodings.TheVariants.{Constructed
 -- the tag is the tag of this type
 abbrev pub is_a : ℕ → HeaderValue → Bool
 is_a number h = is_universal h.class && h.number == number
-
--- the number is the number of one of these types
-abbrev pub is_number_of : List ℕ → ℕ → Bool
-is_number_of types number = list_any (λ t. number == t) types
 
 -- 8.3, 8.4
 abbrev pub integer_types : List ℕ
@@ -64,9 +59,9 @@ has_encodings encodings h =
 abbrev pub is_string : HeaderValue → Bool
 is_string h = has_encodings Segmented h
 
--- 8.1.2.5: the element is primitive, as a string that holds encodings is
-abbrev pub is_primitive : HeaderValue → Bool
-is_primitive h = not h.constructed
+-- 8.1.2.5: bit 6 of the identifier is 0, so the element is a primitive, or a wrapper
+abbrev pub has_primitive_form : HeaderValue → Bool
+has_primitive_form h = not h.constructed
 
 -- 8.6.4, 8.7.3: a constructed string, which holds segments
 abbrev pub has_segments : HeaderValue → Bool

@@ -18,7 +18,8 @@ use Rattle.tlv_value.specs.Dates.{is_date_or_time}
 use Rattle.tlv_value.specs.RealState.{is_canonical, is_of_form, new_real_check, real_check_after}
 use Rattle.tlv_value.specs.declared.real.RealCheck.{RealCheck}
 use Rattle.tlv_value.specs.RowsSoFar.{full_rows, open_row}
-use Rattle.tlv_value.specs.Types.{character_types, date_types, integer_types, iri_types, is_number_of}
+use Rattle.tlv_value.specs.Types.{character_types, date_types, integer_types, iri_types}
+use Rattle.tlv_head.specs.Lists.{is_among}
 use Rattle.tlv_value.specs.Types.{object_types, tested_string_types, time_types, wide_string_types}
 use Rattle.tlv_value.specs.UnitsSoFar.{are_characters_after, character_size, open_unit}
 
@@ -79,29 +80,25 @@ new_value_check h = new_value_check_of (type_number h) (announced_length h.size)
 -- the first octets and the last octet are checked: BOOLEAN, INTEGER, BIT STRING, ENUMERATED
 abbrev pub notes_first : ℕ → Bool
 notes_first number =
-    is_number_of
-    (universal.boolean ∷ universal.integer ∷ universal.bit_string ∷ universal.enumerated ∷ [])
-    number
+    is_among number (universal.boolean ∷ universal.integer ∷ universal.bit_string ∷ universal.enumerated ∷ [])
 
 -- each octet of the type with this number is checked: object identifiers, UTF8String, and the strings of some
 -- characters
 abbrev pub notes_each : ℕ → Bool
 notes_each number =
-    is_number_of
-    (universal.object_identifier ∷ universal.utf8_string ∷ universal.relative_oid ∷ tested_string_types)
-    number
+    is_among number (universal.object_identifier ∷ universal.utf8_string ∷ universal.relative_oid ∷ tested_string_types)
 
 -- the first octets are kept: the two times, and DATE, TIME-OF-DAY, DATE-TIME
 abbrev pub notes_time : ℕ → Bool
-notes_time number = is_number_of (time_types ++ date_types) number
+notes_time number = is_among number (time_types ++ date_types)
 
 -- each unit is checked: BMPString, UniversalString
 abbrev pub notes_units : ℕ → Bool
-notes_units number = is_number_of wide_string_types number
+notes_units number = is_among number wide_string_types
 
 -- the first octet and each row are checked: OID-IRI, RELATIVE-OID-IRI
 abbrev pub notes_iri : ℕ → Bool
-notes_iri number = is_number_of iri_types number
+notes_iri number = is_among number iri_types
 
 -- a REAL
 abbrev pub notes_real : ℕ → Bool
@@ -133,7 +130,7 @@ with_first_noted s octets = record s {
 abbrev pub with_each_noted : ValueCheckState → List ℕ → ValueCheckState
 with_each_noted s octets = record s {
   are_octets_allowed = s.are_octets_allowed && list_all (allows_octet s.number) octets;
-  is_padded = if is_number_of object_types s.number then is_padded_with s.is_padded s.last octets else s.is_padded;
+  is_padded = if is_among s.number object_types then is_padded_with s.is_padded s.last octets else s.is_padded;
   are_full_rows_utf8 =
       if s.number == universal.utf8_string
       then s.are_full_rows_utf8 && list_all is_utf8 (full_rows Utf8 s.row octets)
@@ -210,53 +207,53 @@ is_kept_iri number s =
 
 -- a UTCTime or GeneralizedTime, all of which is kept
 abbrev pub is_kept_time : ℕ → ValueCheckState → Bool
-is_kept_time number s = is_number_of time_types number && nat_le s.size 64
+is_kept_time number s = is_among number time_types && nat_le s.size 64
 
 -- the conditions of `type_conditions` (AllChecks.antt), said of what is kept of the contents. The law `FindingsEnd`
 -- says that the same is found
-abbrev pub kept_conditions : ℕ → ValueCheckState → List (Bool × Finding)
+abbrev pub kept_conditions : ℕ → ValueCheckState → List (Finding × Bool)
 kept_conditions number s =
-    (number == universal.boolean && not (s.size == 1), B06)
-    ∷ (is_number_of integer_types number && s.size == 0, B07)
-    ∷ (is_number_of integer_types number && is_padded_integer s.first_octets, B08)
-    ∷ (number == universal.null && not (s.size == 0), B09)
-    ∷ (number == universal.object_identifier && s.size == 0, B10)
-    ∷ (is_number_of object_types number && s.is_padded, B11)
-    ∷ (is_number_of object_types number && nat_le 128 s.last, B12)
-    ∷ (number == universal.bit_string && s.size == 0, B13)
-    ∷ (number == universal.bit_string && nat_lt 7 (first_octet s.first_octets), B14)
+    (B06, number == universal.boolean && not (s.size == 1))
+    ∷ (B07, is_among number integer_types && s.size == 0)
+    ∷ (B08, is_among number integer_types && is_padded_integer s.first_octets)
+    ∷ (B09, number == universal.null && not (s.size == 0))
+    ∷ (B10, number == universal.object_identifier && s.size == 0)
+    ∷ (B11, is_among number object_types && s.is_padded)
+    ∷ (B12, is_among number object_types && nat_le 128 s.last)
+    ∷ (B13, number == universal.bit_string && s.size == 0)
+    ∷ (B14, number == universal.bit_string && nat_lt 7 (first_octet s.first_octets))
     ∷ (
+      B15,
       number == universal.bit_string && s.size == 1
           && nat_le 1 (first_octet s.first_octets) && nat_le (first_octet s.first_octets) 7,
-      B15,
     )
-    ∷ (is_number_of character_types number && not (is_allowed s), B18)
-    ∷ (is_kept_time number s && not (time_form number s.time), B19)
-    ∷ (number == universal.real && not (is_of_form s.real), B20)
-    ∷ (is_number_of date_types number && not (is_kept_date number s), B21)
-    ∷ (is_number_of iri_types number && not (is_kept_iri number s), B23)
-    ∷ (number == universal.relative_oid && s.size == 0, B24)
-    ∷ (is_number_of wide_string_types number && not s.are_characters, B25)
+    ∷ (B18, is_among number character_types && not (is_allowed s))
+    ∷ (B19, is_kept_time number s && not (time_form number s.time))
+    ∷ (B20, number == universal.real && not (is_of_form s.real))
+    ∷ (B21, is_among number date_types && not (is_kept_date number s))
+    ∷ (B23, is_among number iri_types && not (is_kept_iri number s))
+    ∷ (B24, number == universal.relative_oid && s.size == 0)
+    ∷ (B25, is_among number wide_string_types && not s.are_characters)
     ∷ (
-      is_kept_time number s && time_form number s.time && not (time_has_day number s.time),
       B26,
+      is_kept_time number s && time_form number s.time && not (time_has_day number s.time),
     )
     ∷ (
+      S02,
       number == universal.boolean && s.size == 1
           && not (first_octet s.first_octets == 0 || first_octet s.first_octets == 0xff),
-      S02,
     )
     ∷ (
+      S03,
       number == universal.bit_string && nat_le 2 s.size && nat_le (first_octet s.first_octets) 7
           && not (s.last % 2 ^ first_octet s.first_octets == 0),
-      S03,
     )
     ∷ (
+      S04,
       is_kept_time number s && time_form number s.time
           && not (canonical_form number s.time),
-      S04,
     )
-    ∷ (number == universal.real && is_of_form s.real && not (is_canonical s.real), S06)
+    ∷ (S06, number == universal.real && is_of_form s.real && not (is_canonical s.real))
     ∷ []
 
 -- the findings on the contents, at their end

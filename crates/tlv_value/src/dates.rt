@@ -4,7 +4,7 @@ ghost use Rattle.tlv_head.specs.UniversalTypes.{date, date_time, time_of_day};
 ghost use Rattle.tlv_value.specs.Dates.{date_form, date_time_form, has_thirty_days, is_date_or_time, is_leap_year};
 ghost use Rattle.tlv_value.specs.Dates.{last_day, month_has_day, month_has_day_in_some_century, time_of_day_form};
 ghost use Rattle.tlv_value.specs.Private.TimeParts.{LeavesRest};
-ghost use Rattle.tlv_value.specs.Times.{month_and_day, two_digit_number, two_digits, ◌then◌};
+ghost use Rattle.tlv_value.specs.Times.{month_and_day, two_digit_number, two_digits, ◌followed_by◌};
 
 use crate::time::{after_month_and_day, after_two_digits};
 use tlv_head::universal;

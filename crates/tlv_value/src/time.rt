@@ -9,7 +9,7 @@ ghost use Rattle.tlv_value.specs.Times.{canonical_generalized_time_form, canonic
 ghost use Rattle.tlv_value.specs.Times.{digits, fraction, generalized_time_form};
 ghost use Rattle.tlv_value.specs.Times.{generalized_zone, hour, mark, maybe, minute, month_and_day};
 ghost use Rattle.tlv_value.specs.Times.{octet_between, second, sign, two_digits, utc_time_form, utc_zone};
-ghost use Rattle.tlv_value.specs.Times.{◌then◌};
+ghost use Rattle.tlv_value.specs.Times.{◌followed_by◌};
 
 /// Whether the octets follow the grammar of UTCTime: `YYMMDDhhmm`, `ss` or nothing, and `Z`, `+hhmm` or `-hhmm`.
 #[inline(never)]
@@ -115,7 +115,7 @@ fn is_utc_zone(octets: &[u8]) -> bool
 
 /// `+hhmm` or `-hhmm`, and no more.
 fn is_utc_difference(octets: &[u8]) -> bool
-    ensures { result ≡ (sign then hour then minute) octets.now }
+    ensures { result ≡ (sign followed_by hour followed_by minute) octets.now }
 {
     match after_difference(octets) {
         Some(rest) => is_minute(rest),
@@ -125,7 +125,7 @@ fn is_utc_difference(octets: &[u8]) -> bool
 
 /// `ss` or nothing, a fraction or nothing, and a zone or nothing.
 fn is_second_and_tail(octets: &[u8]) -> bool
-    ensures { result ≡ (maybe second then generalized_tail) octets.now }
+    ensures { result ≡ (maybe second followed_by generalized_tail) octets.now }
 {
     match after_two_digits(octets, 0, 60) {
         Some(after) => is_generalized_tail(after) || is_generalized_tail(octets),
@@ -142,7 +142,7 @@ fn is_generalized_tail(octets: &[u8]) -> bool
 
 /// A fraction, and a zone or nothing.
 fn is_fraction_and_zone(octets: &[u8]) -> bool
-    ensures { result ≡ (fraction then maybe generalized_zone) octets.now }
+    ensures { result ≡ (fraction followed_by maybe generalized_zone) octets.now }
 {
     let [b'.' | b',', b'0'..=b'9', rest @ ..] = octets else {
         return false;
@@ -163,7 +163,7 @@ fn is_generalized_zone_or_nothing(octets: &[u8]) -> bool
 
 /// `+hh`, `-hh`, `+hhmm` or `-hhmm`, and no more.
 fn is_generalized_difference(octets: &[u8]) -> bool
-    ensures { result ≡ (sign then hour then maybe minute) octets.now }
+    ensures { result ≡ (sign followed_by hour followed_by maybe minute) octets.now }
 {
     match after_difference(octets) {
         Some(rest) => rest.is_empty() || is_minute(rest),
@@ -173,7 +173,7 @@ fn is_generalized_difference(octets: &[u8]) -> bool
 
 /// Digits, the last of which is not 0, and `Z`, and no more.
 fn is_canonical_fraction_rest(octets: &[u8]) -> bool
-    ensures { result ≡ ((digits then octet_between 0x31 0x39) then mark 0x5a) octets.now }
+    ensures { result ≡ ((digits followed_by octet_between 0x31 0x39) followed_by mark 0x5a) octets.now }
 {
     let mut rest = octets;
     while let [b'0'..=b'9', more @ ..] = rest {
@@ -204,7 +204,7 @@ fn is_zulu(octets: &[u8]) -> bool
 
 /// What is after `+hh` or `-hh`.
 fn after_difference(octets: &[u8]) -> Option<&[u8]>
-    ensures { LeavesRest (sign then hour) octets.now (option_copied result) }
+    ensures { LeavesRest (sign followed_by hour) octets.now (option_copied result) }
 {
     match octets {
         [b'+' | b'-', rest @ ..] => after_two_digits(rest, 0, 24),

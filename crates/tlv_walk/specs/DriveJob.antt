@@ -11,7 +11,7 @@ use Rattle.tlv_walk.specs.Events.{EventValue, events, octets_of_events}
 use Rattle.tlv_walk.specs.Follow.{Effect, effect_of, followed_events, had_enough}
 use Rattle.tlv_walk.specs.Forest.{Forest, spelling}
 use Rattle.tlv_walk.specs.Job.{DeviceStates, Job, RunsUpTo, device_states, drain_result}
-use Rattle.tlv_walk.specs.Inside.{is_among}
+use Rattle.tlv_head.specs.Lists.{is_among}
 use Rattle.tlv_walk.specs.Wrappers.{first_without_wrapper, entered_offsets}
 
 -- the run over a forest whose events were all followed, with this ending

@@ -12,7 +12,7 @@ use Rattle.tlv_walk.specs.declared.ending.Ending.{Ending}
 use Rattle.tlv_walk.specs.declared.ending.Ending.TheVariants.{Done}
 use Rattle.tlv_walk.specs.declared.ending.Ending.TheVariants as ending
 use Rattle.tlv_walk.specs.Forest.{Forest, NoMore, PaddingOctet, Primitive, Holder, OpenHolder, OpenBitString}
-use Rattle.tlv_walk.specs.Forest.{OpenHeader, OpenEndOctets, extent, has_element, is_whole}
+use Rattle.tlv_walk.specs.Forest.{OpenHeader, OpenEndOctets, holder_extent, has_element, is_whole}
 use Rattle.tlv_walk.specs.Forest.{primitive_extent, spelling}
 use Rattle.tlv_walk.specs.Place.{Fits, IsHeaderAt, Place, announced_extent, place_after, place_of_children, top_place}
 use Rattle.tlv_walk.specs.Reading.{CannotBecomeSound, IsReading, IsSoundList}
@@ -32,7 +32,7 @@ end_at p f = record { place = p; forest = f }
 abbrev pub open_end : Place → Forest → OpenEnd
 open_end p (PaddingOctet rest) = open_end (place_after p 1) rest
 open_end p (Primitive h c rest) = open_end (place_after p (primitive_extent h c)) rest
-open_end p (Holder h children rest) = open_end (place_after p (extent h children)) rest
+open_end p (Holder h children rest) = open_end (place_after p (holder_extent h children)) rest
 open_end p (OpenHolder h children) = open_end (place_of_children p h) children
 open_end p end = end_at p end
 

@@ -1,6 +1,5 @@
 -- The offsets that a user may name.
-use Rattle.std.specs.Prelude.{ℕ, ◌+◌, Bool, true, ◌&&◌, ◌==◌, nat_le, List, [], ◌∷◌, length}
-use Rattle.std.specs.List.{list_any}
+use Rattle.std.specs.Prelude.{ℕ, ◌+◌, Bool, true, ◌&&◌, nat_le, List, [], ◌∷◌, length}
 use Rattle.tlv_head.specs.Limits.{input_limit}
 
 -- each offset is larger than the one before, none is below `least`, and none is above 2^40
@@ -11,7 +10,3 @@ are_rising least (n ∷ ns) = nat_le least n && (nat_le n input_limit && are_ris
 -- at most 16 rising offsets
 abbrev pub can_name : List ℕ → Bool
 can_name offsets = nat_le (length offsets) 16 && are_rising 0 offsets
-
--- the offset is one of these offsets
-abbrev pub is_among : ℕ → List ℕ → Bool
-is_among n offsets = list_any (λ offset. offset == n) offsets

@@ -8,9 +8,9 @@ use Rattle.tlv_head.specs.declared.header.Size.TheVariants.{Definite}
 use Rattle.tlv_head.specs.Header.{HeaderValue, IsHeader, announced_length, definite_length, holds, octets_of}
 use Rattle.tlv_head.specs.Refusal.{IsHeaderPrefix}
 use Rattle.tlv_walk.specs.declared.framing.Framing.{Framing}
-use Rattle.tlv_walk.specs.Inside.{is_among}
+use Rattle.tlv_head.specs.Lists.{is_among}
 use Rattle.tlv_walk.specs.Forest.{Forest, Holder, NoMore, OpenBitString, OpenEndOctets, OpenHeader}
-use Rattle.tlv_walk.specs.Forest.{OpenHolder, OpenPrimitive, PaddingOctet, Primitive, contents_length, extent}
+use Rattle.tlv_walk.specs.Forest.{OpenHolder, OpenPrimitive, PaddingOctet, Primitive, contents_length, holder_extent}
 use Rattle.tlv_walk.specs.Forest.{is_whole, is_wrapping_bit_string, opening, primitive_extent}
 
 -- where a forest is
@@ -19,9 +19,9 @@ pub record Place : Type 0 where
   pub offset : ℕ
   -- the number of open holders around it
   pub depth : ℕ
-  -- the end of the innermost definite element that holds it
+  -- the end of the innermost holder around it that has a definite length
   pub bound : Option ℕ
-  -- the innermost element that holds it has an indefinite length
+  -- the innermost holder around it has an indefinite length
   pub indefinite : Bool
   -- there may be padding
   pub padding : Bool
@@ -96,7 +96,7 @@ HasItsLength h children = IfSome (definite_length h.size) (λ n. contents_length
 -- no announced end lies beyond the bound
 abbrev pub ObeysGrammar : Place → Forest → Type 0
 ObeysGrammar p NoMore = Unit {0}
--- padding: at the top level only, where the last two conditions hold of themselves
+-- padding: at the top level only. There the last two conditions hold of themselves; the laws are for any `Place`
 ObeysGrammar p (PaddingOctet rest) =
     ((p.padding ≡ true) × (p.indefinite ≡ false) × Fits p 1) × ObeysGrammar (place_after p 1) rest
 -- 8.1.4: a primitive with all its contents octets
@@ -105,8 +105,8 @@ ObeysGrammar p (Primitive h c rest) =
     × ObeysGrammar (place_after p (primitive_extent h c)) rest
 -- 8.1.4, 8.1.5: a holder that has ended. 8.1.3.3: a definite length is the length of the contents
 ObeysGrammar p (Holder h children rest) =
-    (IsHolderAt p h (extent h children) × (is_whole children ≡ true) × HasItsLength h children)
-    × ObeysGrammar (place_of_children p h) children × ObeysGrammar (place_after p (extent h children)) rest
+    (IsHolderAt p h (holder_extent h children) × (is_whole children ≡ true) × HasItsLength h children)
+    × ObeysGrammar (place_of_children p h) children × ObeysGrammar (place_after p (holder_extent h children)) rest
 -- 8.1.4: a primitive that lacks contents octets
 ObeysGrammar p (OpenPrimitive h c) = IsPrimitiveAt p h (announced_extent h) × (length c < announced_length h.size)
 -- 8.1.4: a holder that is open: if all the elements that it holds are whole, and its length is definite, contents

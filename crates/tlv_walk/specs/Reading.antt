@@ -4,7 +4,7 @@ use Rattle.tlv_head.specs.Limits.{depth_limit}
 use Rattle.tlv_head.specs.declared.header.Size.TheVariants.{Definite}
 use Rattle.tlv_head.specs.Header.{holds}
 use Rattle.tlv_walk.specs.declared.framing.Framing.{Framing}
-use Rattle.tlv_walk.specs.Forest.{Forest, Holder, NoMore, PaddingOctet, Primitive, extent}
+use Rattle.tlv_walk.specs.Forest.{Forest, Holder, NoMore, PaddingOctet, Primitive, holder_extent}
 use Rattle.tlv_walk.specs.Forest.{has_element, primitive_extent, spelling}
 use Rattle.tlv_walk.specs.Place.{HasItsLength, IsHeaderAt, ObeysGrammar, Place, place_after, place_of_children}
 use Rattle.tlv_walk.specs.Place.{top_place}
@@ -37,7 +37,7 @@ IsSound p (Primitive h c rest) =
     × IsSound (place_after p (primitive_extent h c)) rest
 IsSound p (Holder h children rest) =
     (IsHeaderAt p h × (holds h ≡ true) × (p.depth < depth_limit) × HasItsLength h children)
-    × IsSound (place_of_children p h) children × IsSound (place_after p (extent h children)) rest
+    × IsSound (place_of_children p h) children × IsSound (place_after p (holder_extent h children)) rest
 IsSound p end = ⊥
 
 -- the octets of one or more sound elements, with padding if the framing allows it

@@ -1,7 +1,8 @@
 //! Where a walk is among the named offsets.
 ghost use Rattle.std.specs.Prelude.{◌≡◌, ◌≤◌, false, get_or, slice_get, true};
 ghost use Rattle.tlv_head.specs.Limits.{input_limit};
-ghost use Rattle.tlv_walk.specs.Inside.{are_rising, is_among};
+ghost use Rattle.tlv_walk.specs.Inside.{are_rising};
+ghost use Rattle.tlv_head.specs.Lists.{is_among};
 ghost use Rattle.tlv_walk.specs.Private.Cursor.{IsCursorAt, no_offset_mark};
 
 /// Where a walk is among the named offsets. Both the named offsets and the offsets of headers rise, so over a whole

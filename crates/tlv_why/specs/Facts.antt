@@ -8,7 +8,7 @@ use Rattle.tlv_walk.specs.declared.ending.Ending.TheVariants as ending
 use Rattle.tlv_walk.specs.declared.framing.Framing.{Framing}
 use Rattle.tlv_walk.specs.Ending.{IsEnding, OpenEnd, open_end}
 use Rattle.tlv_walk.specs.Forest.{Forest, Holder, OpenBitString, OpenEndOctets, OpenHeader, OpenHolder}
-use Rattle.tlv_walk.specs.Forest.{OpenPrimitive, PaddingOctet, Primitive, extent, primitive_extent}
+use Rattle.tlv_walk.specs.Forest.{OpenPrimitive, PaddingOctet, Primitive, holder_extent, primitive_extent}
 use Rattle.tlv_walk.specs.Place.{top_place}
 use Rattle.tlv_walk.specs.Reading.{IsReading}
 use Rattle.tlv_why.specs.declared.element.Element.{Element}
@@ -17,8 +17,8 @@ use Rattle.tlv_why.specs.declared.facts.Unfinished.{Unfinished}
 use Rattle.tlv_why.specs.declared.facts.Unfinished.TheVariants as unfinished
 use Rattle.tlv_why.specs.Elements.{element_of}
 
--- 8.1.4: the elements that hold others and have not ended, outermost first: those that are constructed, and the strings
--- that are named and hold encodings. A BIT STRING of these counts once its first contents octet is there
+-- 8.1.4: the holders that have not ended, outermost first: the constructed elements, and the strings that are named and
+-- hold encodings. A BIT STRING of these counts once its first contents octet is there
 abbrev pub open_holders : Forest → List Element
 open_holders (PaddingOctet rest) = open_holders rest
 open_holders (Primitive h contents rest) = open_holders rest
@@ -39,7 +39,7 @@ last_whole before end = before
 abbrev pub whole_end : ℕ → Forest → ℕ
 whole_end before (PaddingOctet rest) = whole_end before rest
 whole_end before (Primitive h contents rest) = whole_end (h.offset + primitive_extent h contents) rest
-whole_end before (Holder h children rest) = whole_end (h.offset + extent h children) rest
+whole_end before (Holder h children rest) = whole_end (h.offset + holder_extent h children) rest
 whole_end before end = before
 
 -- the offsets of the elements before the open end, the nearest first; the first argument holds those before the forest

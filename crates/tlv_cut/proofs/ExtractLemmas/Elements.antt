@@ -10,7 +10,7 @@ use Rattle.tlv_walk.specs.Events.{Begin, Bytes, End, Enter, EventValue, closing_
 use Rattle.tlv_walk.specs.Follow.{Effect, effect_with, go_of, no_effect}
 use Rattle.tlv_walk.specs.Forest.{Forest, NoMore, PaddingOctet, Primitive, Holder, OpenPrimitive, OpenHolder}
 use Rattle.tlv_walk.specs.Forest.{OpenBitString, OpenHeader, OpenEndOctets}
-use Rattle.tlv_walk.specs.Forest.{end_octets, extent, is_whole, lead, opening}
+use Rattle.tlv_walk.specs.Forest.{end_octets, holder_extent, is_whole, lead, opening}
 use Rattle.tlv_walk.specs.Place.{ObeysGrammar, Place, place_after, place_of_children}
 use Rattle.tlv_walk.proofs.FollowerLemmas.FollowedEvents.{followed-enough, followed-one}
 use Rattle.tlv_cut.specs.declared.extract_follower.Position.TheVariants as position
@@ -205,7 +205,7 @@ module _ (n : ℕ) (only : Bool) where
       let b = element_at n rest in
       whole-by_test (h.offset == n) (Some (Holder h inside NoMore)) (option_or a b) refl
       (either_there a b (whole_at (place_of_children p h) inside v.1 v.0.1)
-      (whole_at (place_after p (extent h inside)) rest v.2 w))
+      (whole_at (place_after p (holder_extent h inside)) rest v.2 w))
   whole_at p (OpenPrimitive h c) v w = absurd (cc (w))
   whole_at p (OpenHolder h inside) v w = absurd (cc (w))
   whole_at p (OpenBitString h) v w = absurd (cc (w))
@@ -274,7 +274,7 @@ module _ (n : ℕ) (only : Bool) where
       (ap (made_from before) (events-holder h inside rest) ∙ all))
       (λ e. passed_by p h inside rest v e
       (makes_text (place_of_children p h) inside v.1 (omega (arith, v.0.0.shallow)))
-      (makes_text (place_after p (extent h inside)) rest v.2 deep))
+      (makes_text (place_after p (holder_extent h inside)) rest v.2 deep))
   makes_text p (OpenPrimitive h c) v deep =
       let es = Begin h ∷ Bytes c ∷ [] in
       text-by_test (h.offset == n) (Some (OpenPrimitive h c)) None (made_from before es)

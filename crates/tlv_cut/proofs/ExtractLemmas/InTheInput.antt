@@ -7,7 +7,7 @@ use Rattle.std.proofs.lemmas.Bool.{eqb-true, true≢false}
 use Rattle.tlv_head.specs.Header.{HeaderValue, IsHeader, octets_of}
 use Rattle.tlv_walk.specs.Forest.{Forest, NoMore, PaddingOctet, Primitive, Holder, OpenPrimitive, OpenHolder}
 use Rattle.tlv_walk.specs.Forest.{OpenBitString, OpenHeader, OpenEndOctets}
-use Rattle.tlv_walk.specs.Forest.{end_octets, extent, is_whole, lead, opening, spelling}
+use Rattle.tlv_walk.specs.Forest.{end_octets, holder_extent, is_whole, lead, opening, spelling}
 use Rattle.tlv_walk.specs.Place.{IsHeaderAt, ObeysGrammar, Place, place_after, place_of_children}
 use Rattle.tlv_walk.proofs.GrammarLemmas.Spellings.{append_assoc-3, append_assoc-4}
 use Rattle.tlv_cut.specs.Extract.{contents_so_far, element_at, octets_so_far}
@@ -45,7 +45,7 @@ octets_so_far-prefix p (Holder h inside rest) plain v =
     (sym (append_assoc-3 (opening h) (spelling inside) e (spelling rest)))
     (ap (λ (k : List ℕ). opening h ++ (k ++ (e ++ octets_so_far rest))) (sym (i.all v.0.1))
     ∙ sym (append_assoc-3 (opening h) (spelling inside) e (octets_so_far rest))) refl
-    (octets_so_far-prefix (place_after p (extent h inside)) rest plain v.2)
+    (octets_so_far-prefix (place_after p (holder_extent h inside)) rest plain v.2)
 octets_so_far-prefix p (OpenPrimitive h c) plain v =
     record { rest = []; octets_are = sym (append-nil (octets_of h ++ c)); all = λ w. refl }
 octets_so_far-prefix p (OpenHolder h inside) plain v =
@@ -177,10 +177,10 @@ module _ (n : ℕ) where
       (λ some. found-further p (place_of_children p h) f inside d (opening h) (e ++ spelling rest) refl refl
       (found_in_input (place_of_children p h) inside v.1 d some))
       (λ some.
-      in_rest p (place_after p (extent h inside)) f rest d (opening h ++ (spelling inside ++ e))
+      in_rest p (place_after p (holder_extent h inside)) f rest d (opening h ++ (spelling inside ++ e))
       (sym (append_assoc-3 (opening h) (spelling inside) e (spelling rest)))
       (omega (arith, length-append (opening h) (spelling inside ++ e), length-append (spelling inside) e))
-      (found_in_input (place_after p (extent h inside)) rest v.2 d some))
+      (found_in_input (place_after p (holder_extent h inside)) rest v.2 d some))
       some)
       some
   found_in_input p (OpenPrimitive h c) v d some =

@@ -13,7 +13,7 @@ use Rattle.tlv_walk.proofs.GrammarLemmas.Leads.{end_offset}
 use Rattle.tlv_walk.specs.Follow.{Effect, and_then, effect_if_more, effect_of, effect_with}
 use Rattle.tlv_walk.specs.Forest.{Forest, NoMore, PaddingOctet, Primitive, Holder, OpenPrimitive, OpenHolder}
 use Rattle.tlv_walk.specs.Forest.{OpenBitString, OpenHeader, OpenEndOctets}
-use Rattle.tlv_walk.specs.Forest.{end_octets, extent, is_whole, lead, opening}
+use Rattle.tlv_walk.specs.Forest.{end_octets, holder_extent, is_whole, lead, opening}
 use Rattle.tlv_walk.proofs.GrammarLemmas.Leads.{lead_by}
 use Rattle.tlv_walk.specs.Place.{ObeysGrammar, Place, place_after, place_of_children}
 use Rattle.tlv_walk.proofs.FollowerLemmas.FollowedEvents.{followed-more, followed-one}
@@ -174,7 +174,7 @@ module _ (n : ℕ) (only : Bool) where
       (append_assoc (opening h) (octets_so_far inside ++ end_octets h.size) (octets_so_far rest)
       ∙ ap (λ (l : List ℕ). opening h ++ l)
       (append_assoc (octets_so_far inside) (end_octets h.size) (octets_so_far rest))) refl
-      (passed_on (place_after p (extent h inside)) count rest v.2 low deep)
+      (passed_on (place_after p (holder_extent h inside)) count rest v.2 low deep)
   passed_on p count (OpenPrimitive h c) v low deep =
       let all =
       made_from-begins (state_inside count) (state_inside (suc count)) (octets_of h) h c

@@ -9,7 +9,7 @@ use Rattle.tlv_walk.specs.Events.{opening_events}
 use Rattle.tlv_walk.specs.Follow.{Effect, effect_of, effect_with}
 use Rattle.tlv_walk.specs.Forest.{Forest, NoMore, PaddingOctet, Primitive, Holder, OpenPrimitive, OpenHolder}
 use Rattle.tlv_walk.specs.Forest.{OpenBitString, OpenHeader, OpenEndOctets}
-use Rattle.tlv_walk.specs.Forest.{end_octets_offset, extent, opening}
+use Rattle.tlv_walk.specs.Forest.{end_octets_offset, holder_extent, opening}
 use Rattle.tlv_walk.specs.Place.{ObeysGrammar, Place, place_after, place_of_children, top_place}
 use Rattle.tlv_walk.proofs.GrammarLemmas.Leads.{lead_by}
 use Rattle.tlv_cut.specs.Indef.{indef_framing, indef_text, indefinite_header}
@@ -84,7 +84,7 @@ events_text-events p (Holder h inside rest) n v =
     (events_text-append (events inside) (closing_event h inside ∷ events rest)
     ∙ ap₂ (λ (k l : List ℕ). k ++ l) (events_text-events (place_of_children p h) inside n v.1)
     (ap₂ (λ (k l : List ℕ). k ++ l) (closes_put h inside constructed)
-    (events_text-events (place_after p (extent h inside)) rest n v.2)))
+    (events_text-events (place_after p (holder_extent h inside)) rest n v.2)))
 events_text-events p (OpenPrimitive h c) n v = ap (λ (l : List ℕ). octets_of h ++ l) (append-nil c)
 events_text-events p (OpenHolder h inside) n v =
     events_text-append (opening_events h) (events inside)

@@ -10,7 +10,7 @@ use Rattle.tlv_head.specs.HeaderSoFar.{AllowsSize}
 use Rattle.tlv_head.proofs.Wraps.{is_wrapper}
 use Rattle.tlv_walk.specs.Forest.{Forest, NoMore, PaddingOctet, Primitive, Holder, OpenPrimitive, OpenHolder}
 use Rattle.tlv_walk.specs.Forest.{OpenBitString, OpenHeader, OpenEndOctets}
-use Rattle.tlv_walk.specs.Forest.{extent, has_element, is_whole, is_wrapping_bit_string, opening}
+use Rattle.tlv_walk.specs.Forest.{holder_extent, has_element, is_whole, is_wrapping_bit_string, opening}
 use Rattle.tlv_walk.specs.Place.{Fits, IsHeaderAt, ObeysGrammar, Place, announced_extent, place_after}
 use Rattle.tlv_walk.specs.Place.{place_of_children}
 use Rattle.tlv_cut.specs.Indef.{with_indefinite_lengths, indefinite_header, with_offsets_from}
@@ -22,7 +22,7 @@ is_whole-with_offsets_from offset NoMore = refl
 is_whole-with_offsets_from offset (PaddingOctet rest) = is_whole-with_offsets_from (offset + 1) rest
 is_whole-with_offsets_from offset (Primitive h c rest) =
     is_whole-with_offsets_from (offset + (length (octets_of h) + length c)) rest
-is_whole-with_offsets_from offset (Holder h inside rest) = is_whole-with_offsets_from (offset + extent h inside) rest
+is_whole-with_offsets_from offset (Holder h inside rest) = is_whole-with_offsets_from (offset + holder_extent h inside) rest
 is_whole-with_offsets_from offset (OpenPrimitive h c) = refl
 is_whole-with_offsets_from offset (OpenHolder h inside) = refl
 is_whole-with_offsets_from offset (OpenBitString h) = refl
@@ -128,8 +128,8 @@ constructed_holds q h constructed = ap (λ (c : Bool). c || is_wrapper h.named h
 
 -- the offsets of what an element holds do not move what follows the element
 offsets-rest_obeys_grammar : (q : Place) (h : HeaderValue) (offset : ℕ) (inside rest : Forest)
-    → ObeysGrammar (place_after q (extent (heading_at q h) inside)) rest
-    → ObeysGrammar (place_after q (extent (heading_at q h) (with_offsets_from offset inside))) rest
+    → ObeysGrammar (place_after q (holder_extent (heading_at q h) inside)) rest
+    → ObeysGrammar (place_after q (holder_extent (heading_at q h) (with_offsets_from offset inside))) rest
 offsets-rest_obeys_grammar q h offset inside rest v =
     subst (λ (l : List ℕ). ObeysGrammar (place_after q (length (opening (heading_at q h)) + (length l + 2))) rest)
     (sym (spelling-with_offsets_from offset inside)) v
@@ -156,14 +156,14 @@ obeys_grammar p q (Primitive h c rest) k v =
 obeys_grammar p q (Holder h inside rest) k v =
     let header = heading_at q h in
     let offset = q.offset + length (opening header) in
-    let n = extent header (with_indefinite_lengths inside) in
+    let n = holder_extent header (with_indefinite_lengths inside) in
     let constructed = constructed_at p h k.names v.0.0.header v.0.0.holding in (
       (
         record {
           header = constructed_header p q h k v.0.0.header constructed;
           holding = constructed_holds q h constructed;
           shallow = subst (λ (d : ℕ). d < 128) (sym k.depth) v.0.0.shallow;
-          fits = free_fits p q k (extent header (with_offsets_from offset (with_indefinite_lengths inside)));
+          fits = free_fits p q k (holder_extent header (with_offsets_from offset (with_indefinite_lengths inside)));
         },
         offsets-whole offset inside v.0.1,
         tt,
@@ -171,8 +171,8 @@ obeys_grammar p q (Holder h inside rest) k v =
       obeys_grammar (place_of_children p h) (place_of_children q header) inside (free_inside p q h header refl k) v.1,
       offsets-rest_obeys_grammar q h offset (with_indefinite_lengths inside)
           (with_offsets_from (q.offset + n) (with_indefinite_lengths rest))
-          (obeys_grammar (place_after p (extent h inside)) (place_after q n) rest (free_after p q
-          (extent h inside) n k) v.2),
+          (obeys_grammar (place_after p (holder_extent h inside)) (place_after q n) rest (free_after p q
+          (holder_extent h inside) n k) v.2),
     )
 obeys_grammar p q (OpenPrimitive h c) k v = (
   record {

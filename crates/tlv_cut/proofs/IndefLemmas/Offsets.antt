@@ -7,8 +7,8 @@ use Rattle.tlv_head.specs.Header.{HeaderValue, holds, octets_of}
 use Rattle.tlv_head.proofs.Wraps.{is_wrapper}
 use Rattle.tlv_walk.specs.Forest.{Forest, NoMore, PaddingOctet, Primitive, Holder, OpenPrimitive, OpenHolder}
 use Rattle.tlv_walk.specs.Forest.{OpenBitString, OpenHeader, OpenEndOctets}
-use Rattle.tlv_walk.specs.Forest.{end_octets, extent, opening, spelling}
-use Rattle.tlv_walk.specs.Inside.{is_among}
+use Rattle.tlv_walk.specs.Forest.{end_octets, holder_extent, opening, spelling}
+use Rattle.tlv_head.specs.Lists.{is_among}
 use Rattle.tlv_walk.specs.Place.{IsHeaderAt, Place}
 use Rattle.tlv_cut.specs.Indef.{indef_text, indefinite_header, with_indefinite_lengths, with_offsets_from}
 
@@ -40,7 +40,7 @@ spelling-with_offsets_from offset (Primitive h c rest) =
 spelling-with_offsets_from offset (Holder h inside rest) =
     ap₂ (λ (k l : List ℕ). opening h ++ (k ++ (end_octets h.size ++ l)))
     (spelling-with_offsets_from (offset + length (opening h)) inside)
-    (spelling-with_offsets_from (offset + extent h inside) rest)
+    (spelling-with_offsets_from (offset + holder_extent h inside) rest)
 spelling-with_offsets_from offset (OpenPrimitive h c) = refl
 spelling-with_offsets_from offset (OpenHolder h inside) =
     ap (λ (l : List ℕ). opening h ++ l) (spelling-with_offsets_from (offset + length (opening h)) inside)
@@ -63,7 +63,7 @@ stays_anywhere (Primitive h c rest) offset =
 stays_anywhere (Holder h inside rest) offset =
     let g = record (indefinite_header h) { offset = offset } in
     ap₂ (λ (j k : Forest). Holder g j k) (stays_anywhere inside (offset + length (opening g)))
-    (stays_anywhere rest (offset + extent g (with_indefinite_lengths inside)))
+    (stays_anywhere rest (offset + holder_extent g (with_indefinite_lengths inside)))
 stays_anywhere (OpenPrimitive h c) offset = refl
 stays_anywhere (OpenHolder h inside) offset =
     let g = record (indefinite_header h) { offset = offset } in

@@ -83,8 +83,8 @@ a-string =
       constructed = false;
       number = 4;
       size = Definite 2;
-      identifier = 4 ∷ [];
-      lengths = 2 ∷ [];
+      identifier_octets = 4 ∷ [];
+      length_octets = 2 ∷ [];
     }
 
 -- the header of a primitive stays, whichever event comes with it

@@ -335,9 +335,9 @@ length-bytes Indefinite l e = rw e (All-cons (λ x. x < 256) 128 [] (omega arith
 
 header-bytes : (h : HeaderValue) → IsHeader h → All (λ x. x < 256) (octets_of h)
 header-bytes h valid =
-    All-append (λ x. x < 256) h.identifier h.lengths
-    (identifier-bytes h.class h.constructed h.number h.identifier valid.identifier)
-    (length-bytes h.size h.lengths valid.lengths)
+    All-append (λ x. x < 256) h.identifier_octets h.length_octets
+    (identifier-bytes h.class h.constructed h.number h.identifier_octets valid.identifier)
+    (length-bytes h.size h.length_octets valid.lengths)
 
 All-prefix : (xs ys : List ℕ) → All (λ x. x < 256) (xs ++ ys) → All (λ x. x < 256) xs
 All-prefix xs ys each k d h = rw (get_or_append_left xs ys d k h) at (each k d (omega (arith, length-append xs ys)))

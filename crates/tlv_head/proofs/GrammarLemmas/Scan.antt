@@ -69,8 +69,8 @@ step at (Named c k n i) x =
       constructed = k;
       number = n;
       size = Definite x;
-      identifier = i;
-      lengths = x ∷ [];
+      identifier_octets = i;
+      length_octets = x ∷ [];
     }))
     (cond (eqb x 255) (Stuck ReservedLength)
     (cond (eqb x 128)
@@ -86,8 +86,8 @@ step at (Named c k n i) x =
       constructed = k;
       number = n;
       size = Indefinite;
-      identifier = i;
-      lengths = x ∷ [];
+      identifier_octets = i;
+      length_octets = x ∷ [];
     }))
     (Stuck IndefinitePrimitive))
     (Long c k n i (x - 128) [])))
@@ -101,8 +101,8 @@ step at (Long c k n i m ds) x =
       constructed = k;
       number = n;
       size = Definite (value_of 256 (ds ++ x ∷ []));
-      identifier = i;
-      lengths = (128 + m) ∷ (ds ++ x ∷ []);
+      identifier_octets = i;
+      length_octets = (128 + m) ∷ (ds ++ x ∷ []);
     })))
 step at (Ready h) x = Over
 step at (Stuck code) x = Over
@@ -212,8 +212,8 @@ long_head at c k n i m ds = record {
   constructed = k;
   number = n;
   size = Definite (value_of 256 ds);
-  identifier = i;
-  lengths = (128 + m) ∷ ds;
+  identifier_octets = i;
+  length_octets = (128 + m) ∷ ds;
 }
 
 scan-long : (at : Origin) (c : Class) (k : Bool) (n : ℕ) (i : List ℕ) (m : ℕ) (ds : List ℕ) (e : ℕ) (es : List ℕ)
@@ -236,8 +236,8 @@ head_of at c k n i size l = record {
   constructed = k;
   number = n;
   size = size;
-  identifier = i;
-  lengths = l;
+  identifier_octets = i;
+  length_octets = l;
 }
 
 scan-digits : (at : Origin) (c : Class) (k : Bool) (n : ℕ) (i : List ℕ) (ds : List ℕ) → 1 ≤ length ds
@@ -266,10 +266,10 @@ scan-length at c false n i Indefinite l e allowed = absurd (cc (allowed))
 pub scan-header : (h : HeaderValue) → IsHeader h → scan (origin_of h) (octets_of h) ≡ Ready h
 scan-header h valid =
     rw (
-      scan_from-append (origin_of h) Fresh h.identifier h.lengths,
-      scan-identifier (origin_of h) h.class h.constructed h.number h.identifier valid.identifier,
+      scan_from-append (origin_of h) Fresh h.identifier_octets h.length_octets,
+      scan-identifier (origin_of h) h.class h.constructed h.number h.identifier_octets valid.identifier,
     )
-    (scan-length (origin_of h) h.class h.constructed h.number h.identifier h.size h.lengths valid.lengths valid.allowed)
+    (scan-length (origin_of h) h.class h.constructed h.number h.identifier_octets h.size h.length_octets valid.lengths valid.allowed)
 
 -- more octets are needed
 abbrev pub is_more : Scan → Bool
@@ -308,7 +308,7 @@ scan_from-past at Over (x ∷ xs) h e some r = cc (scan_from-over at xs)
 
 -- a header read at any offset
 abbrev pub moved_header : Origin → HeaderValue → HeaderValue
-moved_header at h = head_of at h.class h.constructed h.number h.identifier h.size h.lengths
+moved_header at h = head_of at h.class h.constructed h.number h.identifier_octets h.size h.length_octets
 
 pub scan-moved_header : (at : Origin) (h : HeaderValue) → IsHeader h → scan at (octets_of h) ≡ Ready (moved_header at h)
 scan-moved_header at h valid = scan-header (moved_header at h) (record {

@@ -6,4 +6,4 @@ use Rattle.tlv_head.specs.HeaderFields.{fields_of, new_header}
 use Rattle.tlv_head.specs.Header.{HeaderValue, octets_of}
 
 pub made_again : (f : HeaderFields) (h : HeaderValue) → f ≡ fields_of h → new_header f (octets_of h) ≡ h
-made_again f h e = rw (e, take-append_seam h.identifier h.lengths, drop-append_seam h.identifier h.lengths) refl
+made_again f h e = rw (e, take-append_seam h.identifier_octets h.length_octets, drop-append_seam h.identifier_octets h.length_octets) refl

@@ -37,7 +37,7 @@ one_header_returned octets offset named f g m n p q =
     (sym p.begins.octets_are ∙ q.begins.octets_are)).0 in
     let count : f.id_len ≡ g.id_len =
     sym (identifier-count octets offset named f m p)
-    ∙ (ap (λ (x : HeaderValue). length x.identifier) same ∙ identifier-count octets offset named g n q) in (
+    ∙ (ap (λ (x : HeaderValue). length x.identifier_octets) same ∙ identifier-count octets offset named g n q) in (
       (λ i. record {
         offset = (same i).offset;
         named = (same i).named;

@@ -61,9 +61,9 @@ pub header-two : (h : HeaderValue) → IsHeader h → 2 ≤ length (octets_of h)
 header-two h v =
     omega (
       arith,
-      length-append h.identifier h.lengths,
-      identifier-some h.class h.constructed h.number h.identifier v.identifier,
-      lengths-some h.size h.lengths v.lengths,
+      length-append h.identifier_octets h.length_octets,
+      identifier-some h.class h.constructed h.number h.identifier_octets v.identifier,
+      lengths-some h.size h.length_octets v.lengths,
     )
 
 -- by their number the octets may be those of the header that was made

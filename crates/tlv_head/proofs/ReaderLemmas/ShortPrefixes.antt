@@ -229,9 +229,9 @@ no-third (x ∷ y ∷ z ∷ xs) id h some =
 -- a header begins with an identifier, and has an octet after it
 pub no-short_identifier : (os : List ℕ) → BeginsWithNoIdentifier os → BeginsWithNoShortHeader os
 no-short_identifier os none = λ h rest v e few less.
-    none h.class h.constructed h.number h.identifier (h.lengths ++ rest) v.identifier few
-    (λ z. some-length h.size h.lengths v.lengths (prefix-nil h.lengths rest z))
-    (e ∙ append_assoc h.identifier h.lengths rest)
+    none h.class h.constructed h.number h.identifier_octets (h.length_octets ++ rest) v.identifier few
+    (λ z. some-length h.size h.length_octets v.lengths (prefix-nil h.length_octets rest z))
+    (e ∙ append_assoc h.identifier_octets h.length_octets rest)
   where
     prefix-nil : (a b : List ℕ) → a ++ b ≡ [] → a ≡ []
     prefix-nil [] b e = refl
@@ -242,18 +242,18 @@ pub no-short_length : (os : List ℕ) (id : IdentifierFields) (id_len : ℕ) →
     → id_len ≡ id.id_len
     → BeginsWithNoLength (take (length os - id_len) (drop id_len os)) id.constructed → BeginsWithNoShortHeader os
 no-short_length os id id_len b at none = λ h rest v e few less.
-    let cut : os ≡ h.identifier ++ (h.lengths ++ rest) = e ∙ append_assoc h.identifier h.lengths rest in
-    let prefix : take id.id_len os ≡ h.identifier =
-    one-identifier _ h.class _ h.constructed _ h.number (take id.id_len os) h.identifier (drop id.id_len os)
-    (h.lengths ++ rest) b.carried.identifier v.identifier
+    let cut : os ≡ h.identifier_octets ++ (h.length_octets ++ rest) = e ∙ append_assoc h.identifier_octets h.length_octets rest in
+    let prefix : take id.id_len os ≡ h.identifier_octets =
+    one-identifier _ h.class _ h.constructed _ h.number (take id.id_len os) h.identifier_octets (drop id.id_len os)
+    (h.length_octets ++ rest) b.carried.identifier v.identifier
     (take-append-drop id.id_len os ∙ cut) in
     let form : id.constructed ≡ h.constructed =
-    one-form _ h.class _ h.constructed _ h.number (take id.id_len os) h.identifier b.carried.identifier
+    one-form _ h.class _ h.constructed _ h.number (take id.id_len os) h.identifier_octets b.carried.identifier
     v.identifier prefix in
-    let count : id_len ≡ length h.identifier = at ∙ (b.carried.count ∙ ap length prefix) in
-    let back : drop id_len os ≡ h.lengths ++ rest =
-    rw (cut, count) (drop-append_seam h.identifier (h.lengths ++ rest)) in
+    let count : id_len ≡ length h.identifier_octets = at ∙ (b.carried.count ∙ ap length prefix) in
+    let back : drop id_len os ≡ h.length_octets ++ rest =
+    rw (cut, count) (drop-append_seam h.identifier_octets (h.length_octets ++ rest)) in
     let all : take (length os - id_len) (drop id_len os) ≡ drop id_len os =
     take_all (length os - id_len) (drop id_len os) (omega (arith, length-drop id_len os)) in
-    none h.size h.lengths rest v.lengths (subst (λ (k : Bool). AllowsSize k h.size) (sym form) v.allowed) less
+    none h.size h.length_octets rest v.lengths (subst (λ (k : Bool). AllowsSize k h.size) (sym form) v.allowed) less
     (all ∙ back)

@@ -48,8 +48,8 @@ made_header at named id size os m = record {
   constructed = id.constructed;
   number = id.number;
   size = size;
-  identifier = m.identifier_octets;
-  lengths = m.length_octets;
+  identifier_octets = m.identifier_octets;
+  length_octets = m.length_octets;
 }
 
 made_header-valid : (at : ℕ) (named : Bool) (id : IdentifierFields) (size : Size) (os : List ℕ)
@@ -99,8 +99,8 @@ pub made_whole : (r : HeadReaderState) (id : IdentifierFields) (size : Size) (os
       constructed = id.constructed;
       number = id.number;
       size = size;
-      identifier = take id.id_len (os ++ x ∷ []);
-      lengths = drop id.id_len (os ++ x ∷ []);
+      identifier_octets = take id.id_len (os ++ x ∷ []);
+      length_octets = drop id.id_len (os ++ x ∷ []);
     })
 made_whole r id size os x m e =
     let count : id.id_len ≡ length m.identifier_octets = m.carried.count in

@@ -132,23 +132,23 @@ length-same (Definite n) xs ys (inr f) (inr g) e =
 
 -- the octets of the other header, with the fields of the first
 moved-identifier : (h g : HeaderValue) → IsHeader g → HaveOneTagAndForm h g
-    → IsIdentifier h.class h.constructed h.number g.identifier
+    → IsIdentifier h.class h.constructed h.number g.identifier_octets
 moved-identifier h g valid tag = rw (tag.class, tag.constructed, tag.number) valid.identifier
 
-moved-lengths : (h g : HeaderValue) → IsHeader g → h.size ≡ g.size → IsLength h.size g.lengths
+moved-lengths : (h g : HeaderValue) → IsHeader g → h.size ≡ g.size → IsLength h.size g.length_octets
 moved-lengths h g valid size = rw size valid.lengths
 
 -- no other is shorter
 pub shortest-identifier : (h g : HeaderValue) → IsHeader h → IsHeader g → HaveOneTagAndForm h g
-    → IsShortestIdentifier h.number h.identifier
-    → length h.identifier ≤ length g.identifier
+    → IsShortestIdentifier h.number h.identifier_octets
+    → length h.identifier_octets ≤ length g.identifier_octets
 shortest-identifier h g u v tag s =
-    identifier-le h.class h.constructed h.number h.identifier g.identifier u.identifier (moved-identifier h g v tag) s
+    identifier-le h.class h.constructed h.number h.identifier_octets g.identifier_octets u.identifier (moved-identifier h g v tag) s
 
 pub shortest-length : (h g : HeaderValue) → IsHeader h → IsHeader g → h.size ≡ g.size
-    → IsShortestLength (announced_length h.size) h.lengths
-    → length h.lengths ≤ length g.lengths
-shortest-length h g u v size s = length-le h.size h.lengths g.lengths u.lengths (moved-lengths h g v size) s
+    → IsShortestLength (announced_length h.size) h.length_octets
+    → length h.length_octets ≤ length g.length_octets
+shortest-length h g u v size s = length-le h.size h.length_octets g.length_octets u.lengths (moved-lengths h g v size) s
 
 pub shortest_are_shortest : NoHeaderIsShorter
 shortest_are_shortest h g u v tag size s =
@@ -160,13 +160,13 @@ one_tag-sym h g tag = record { class = sym tag.class; constructed = sym tag.cons
 
 pub shortest_are_one : ShortestHeadersAreOne
 shortest_are_one h g u v tag size s t =
-    let le : (length h.identifier ≤ length g.identifier) × (length h.lengths ≤ length g.lengths) =
+    let le : (length h.identifier_octets ≤ length g.identifier_octets) × (length h.length_octets ≤ length g.length_octets) =
     shortest_are_shortest h g u v tag size s in
-    let ge : (length g.identifier ≤ length h.identifier) × (length g.lengths ≤ length h.lengths) =
+    let ge : (length g.identifier_octets ≤ length h.identifier_octets) × (length g.length_octets ≤ length h.length_octets) =
     shortest_are_shortest g h v u (one_tag-sym h g tag) (sym size) t in (
-      identifier-same h.class h.constructed h.number h.identifier g.identifier u.identifier
+      identifier-same h.class h.constructed h.number h.identifier_octets g.identifier_octets u.identifier
           (moved-identifier h g v tag) (omega (arith, le.0, ge.0)),
-      length-same h.size h.lengths g.lengths u.lengths (moved-lengths h g v size) (omega (arith, le.1, ge.1)),
+      length-same h.size h.length_octets g.length_octets u.lengths (moved-lengths h g v size) (omega (arith, le.1, ge.1)),
     )
 
 -- ---- what makes a header as short as it can be
@@ -189,21 +189,21 @@ single-octet n m least some large small = elim (cases_lt 1 n) [
 ]
 
 pub identifier-from : (h : HeaderValue) → IsHeader h
-    → (1 < length h.identifier → (31 ≤ h.number) × (slice_index h.identifier 1 % 128 ≢ 0))
-    → IsShortestIdentifier h.number h.identifier
+    → (1 < length h.identifier_octets → (31 ≤ h.number) × (slice_index h.identifier_octets 1 % 128 ≢ 0))
+    → IsShortestIdentifier h.number h.identifier_octets
 identifier-from h valid high = record {
   single =
-      single-octet (length h.identifier) h.number 31
-      (identifier-some h.class h.constructed h.number h.identifier valid.identifier) (λ more. (high more).0);
+      single-octet (length h.identifier_octets) h.number 31
+      (identifier-some h.class h.constructed h.number h.identifier_octets valid.identifier) (λ more. (high more).0);
   leading = λ more. (high more).1;
 }
 
 pub lengths-from : (h : HeaderValue) → IsHeader h
-    → (1 < length h.lengths → (128 ≤ announced_length h.size) × (slice_index h.lengths 1 ≢ 0))
-    → IsShortestLength (announced_length h.size) h.lengths
+    → (1 < length h.length_octets → (128 ≤ announced_length h.size) × (slice_index h.length_octets 1 ≢ 0))
+    → IsShortestLength (announced_length h.size) h.length_octets
 lengths-from h valid long = record {
   single =
-      single-octet (length h.lengths) (announced_length h.size) 128 (lengths-some h.size h.lengths valid.lengths)
+      single-octet (length h.length_octets) (announced_length h.size) 128 (lengths-some h.size h.length_octets valid.lengths)
       (λ more. (long more).0);
   leading = λ more. (long more).1;
 }

@@ -149,19 +149,19 @@ short-length (Definite n) octets (inr f) = elim (cases_lt n 128) [
 
 with_identifier : (h : HeaderValue) → IsHeader h → (i : ShortIdentifier h.class h.constructed h.number)
     → IsHeader (record h {
-      identifier = i.octets;
+      identifier_octets = i.octets;
     })
 with_identifier h valid i = record { identifier = i.valid; lengths = valid.lengths; allowed = valid.allowed }
 
-with_lengths : (h : HeaderValue) → IsHeader h → (l : ShortLength h.size) → IsHeader (record h { lengths = l.octets })
+with_lengths : (h : HeaderValue) → IsHeader h → (l : ShortLength h.size) → IsHeader (record h { length_octets = l.octets })
 with_lengths h valid l = record { identifier = valid.identifier; lengths = l.valid; allowed = valid.allowed }
 
 pub shortest-there : HeadersHaveAShortest
 shortest-there h valid nonzero =
     let i : ShortIdentifier h.class h.constructed h.number =
-    short-identifier h.class h.constructed h.number h.identifier valid.identifier nonzero in
-    let l : ShortLength h.size = short-length h.size h.lengths valid.lengths in (
-      record h { identifier = i.octets; lengths = l.octets },
+    short-identifier h.class h.constructed h.number h.identifier_octets valid.identifier nonzero in
+    let l : ShortLength h.size = short-length h.size h.length_octets valid.lengths in (
+      record h { identifier_octets = i.octets; length_octets = l.octets },
       record { identifier = i.valid; lengths = l.valid; allowed = valid.allowed },
       record { class = refl; constructed = refl; number = refl },
       refl,
@@ -170,52 +170,52 @@ shortest-there h valid nonzero =
 
 -- a header that is not as short as it can be has a shorter one
 pub shorter-identifier : (h : HeaderValue) → IsHeader h → identifier_octet h.class h.constructed h.number ≢ 0
-    → (IsShortestIdentifier h.number h.identifier → ⊥) → HasShorter (λ k. k.identifier) h
+    → (IsShortestIdentifier h.number h.identifier_octets → ⊥) → HasShorter (λ k. k.identifier_octets) h
 shorter-identifier h valid nonzero none =
     let i : ShortIdentifier h.class h.constructed h.number =
-    short-identifier h.class h.constructed h.number h.identifier valid.identifier nonzero in
-    elim (cases_lt (length i.octets) (length h.identifier)) [
+    short-identifier h.class h.constructed h.number h.identifier_octets valid.identifier nonzero in
+    elim (cases_lt (length i.octets) (length h.identifier_octets)) [
       | inl fewer ↦ record {
-        other = record h { identifier = i.octets };
+        other = record h { identifier_octets = i.octets };
         valid = with_identifier h valid i;
         tag_and_form = record { class = refl; constructed = refl; number = refl };
         size = refl;
         fewer = fewer;
       }
       | inr le ↦
-          let ge : length i.octets ≤ length h.identifier =
-          identifier-le h.class h.constructed h.number i.octets h.identifier i.valid valid.identifier i.shortest in
-          let same : i.octets ≡ h.identifier =
-          identifier-same h.class h.constructed h.number i.octets h.identifier i.valid valid.identifier
+          let ge : length i.octets ≤ length h.identifier_octets =
+          identifier-le h.class h.constructed h.number i.octets h.identifier_octets i.valid valid.identifier i.shortest in
+          let same : i.octets ≡ h.identifier_octets =
+          identifier-same h.class h.constructed h.number i.octets h.identifier_octets i.valid valid.identifier
           (omega (arith, le, ge)) in
           absurd (none (subst (IsShortestIdentifier h.number) same i.shortest))
     ]
 
-pub shorter-length : (h : HeaderValue) → IsHeader h → (IsShortestLength (announced_length h.size) h.lengths → ⊥)
-    → HasShorter (λ k. k.lengths) h
+pub shorter-length : (h : HeaderValue) → IsHeader h → (IsShortestLength (announced_length h.size) h.length_octets → ⊥)
+    → HasShorter (λ k. k.length_octets) h
 shorter-length h valid none =
-    let l : ShortLength h.size = short-length h.size h.lengths valid.lengths in
-    elim (cases_lt (length l.octets) (length h.lengths)) [
+    let l : ShortLength h.size = short-length h.size h.length_octets valid.lengths in
+    elim (cases_lt (length l.octets) (length h.length_octets)) [
       | inl fewer ↦ record {
-        other = record h { lengths = l.octets };
+        other = record h { length_octets = l.octets };
         valid = with_lengths h valid l;
         tag_and_form = record { class = refl; constructed = refl; number = refl };
         size = refl;
         fewer = fewer;
       }
       | inr le ↦
-          let ge : length l.octets ≤ length h.lengths =
-          length-le h.size l.octets h.lengths l.valid valid.lengths l.shortest in
-          let same : l.octets ≡ h.lengths =
-          length-same h.size l.octets h.lengths l.valid valid.lengths (omega (arith, le, ge)) in
+          let ge : length l.octets ≤ length h.length_octets =
+          length-le h.size l.octets h.length_octets l.valid valid.lengths l.shortest in
+          let same : l.octets ≡ h.length_octets =
+          length-same h.size l.octets h.length_octets l.valid valid.lengths (omega (arith, le, ge)) in
           absurd (none (subst (IsShortestLength (announced_length h.size)) same l.shortest))
     ]
 
 -- and one that is as short as it can be has none
-pub no-shorter_identifier : (h : HeaderValue) → IsHeader h → IsShortestIdentifier h.number h.identifier
-    → HasShorter (λ k. k.identifier) h → ⊥
+pub no-shorter_identifier : (h : HeaderValue) → IsHeader h → IsShortestIdentifier h.number h.identifier_octets
+    → HasShorter (λ k. k.identifier_octets) h → ⊥
 no-shorter_identifier h valid s r = omega (arith, r.fewer, shortest-identifier h r.other valid r.valid r.tag_and_form s)
 
-pub no-shorter_length : (h : HeaderValue) → IsHeader h → IsShortestLength (announced_length h.size) h.lengths
-    → HasShorter (λ k. k.lengths) h → ⊥
+pub no-shorter_length : (h : HeaderValue) → IsHeader h → IsShortestLength (announced_length h.size) h.length_octets
+    → HasShorter (λ k. k.length_octets) h → ⊥
 no-shorter_length h valid s r = omega (arith, r.fewer, shortest-length h r.other valid r.valid r.size s)

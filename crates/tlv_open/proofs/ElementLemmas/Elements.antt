@@ -9,7 +9,7 @@ use Rattle.std.proofs.lemmas.List.{drop-drop, take_all}
 use Rattle.tlv_head.specs.Header.{HeaderValue, octets_of}
 use Rattle.tlv_head.proofs.ReaderLemmas.Prefix.{header-two}
 use Rattle.tlv_walk.specs.Forest.{Forest, Holder, NoMore, OpenBitString, OpenEndOctets, OpenHeader, OpenHolder}
-use Rattle.tlv_walk.specs.Forest.{OpenPrimitive, PaddingOctet, Primitive, end_octets, extent, lead, opening}
+use Rattle.tlv_walk.specs.Forest.{OpenPrimitive, PaddingOctet, Primitive, end_octets, holder_extent, lead, opening}
 use Rattle.tlv_walk.specs.Forest.{primitive_extent, spelling}
 use Rattle.tlv_walk.specs.Place.{Place, place_after, place_of_children}
 use Rattle.tlv_walk.specs.Reading.{IsSound}
@@ -47,7 +47,7 @@ then-sound p (Primitive h c NoMore) g likely o s k t l =
           ∙ ap (λ (x : List ℕ). octets_of h ++ (x ++ spelling g)) (append-nil c));
     }
 then-sound p (Holder h inside NoMore) g likely o s k t l =
-    let size : length (spelling (Holder h inside NoMore)) ≡ extent h inside =
+    let size : length (spelling (Holder h inside NoMore)) ≡ holder_extent h inside =
     omega (arith, length-holder h inside NoMore) in
     record {
       sound = (s.0, s.1, subst (λ (n : ℕ). IsSound (place_after p n) g) size t);
@@ -136,12 +136,12 @@ elements-cases p likely ends (Primitive h c f) rest octets z s k e g =
       size = refl;
     })
 elements-cases p likely ends (Holder h inside f) rest octets z s k e g =
-    let size : length (spelling (Holder h inside NoMore)) ≡ extent h inside =
+    let size : length (spelling (Holder h inside NoMore)) ≡ holder_extent h inside =
     omega (arith, length-holder h inside NoMore) in
     let whole : spelling (Holder h inside NoMore) ++ (spelling f ++ rest) ≡ octets =
     regroup-4 (opening h) (spelling inside) (end_octets h.size) [] (spelling f ++ rest)
     ∙ (sym (regroup-4 (opening h) (spelling inside) (end_octets h.size) (spelling f) rest) ∙ g) in
-    some (extent h inside) (length (spelling f))
+    some (holder_extent h inside) (length (spelling f))
     (record {
       element = Holder h inside NoMore;
       is_one = refl;

@@ -10,7 +10,7 @@ use Rattle.tlv_head.proofs.GrammarLemmas.Headers.{one-header}
 use Rattle.tlv_head.proofs.GrammarLemmas.Scan.{origin_of, scan, Ready, Stuck, scan-header, scan_from-past}
 use Rattle.tlv_head.proofs.ReaderLemmas.Prefix.{header-two}
 use Rattle.tlv_walk.specs.Forest.{Forest, Holder, NoMore, OpenBitString, OpenEndOctets, OpenHeader, OpenHolder}
-use Rattle.tlv_walk.specs.Forest.{OpenPrimitive, PaddingOctet, Primitive, end_octets, extent, lead}
+use Rattle.tlv_walk.specs.Forest.{OpenPrimitive, PaddingOctet, Primitive, end_octets, holder_extent, lead}
 use Rattle.tlv_walk.specs.Forest.{opening, primitive_extent, spelling}
 use Rattle.tlv_walk.specs.Place.{HasItsLength, IsHeaderAt, Place, place_after, place_of_children}
 use Rattle.tlv_walk.specs.Reading.{IsSound}
@@ -149,7 +149,7 @@ inside-alike p q h k a e = record {
   inside = a.inside;
 }
 
-extents : (h k : HeaderValue) (f g : Forest) → h ≡ k → spelling f ≡ spelling g → extent h f ≡ extent k g
+extents : (h k : HeaderValue) (f g : Forest) → h ≡ k → spelling f ≡ spelling g → holder_extent h f ≡ holder_extent k g
 extents h k f g e s =
     ap₂ (λ (z : HeaderValue) (o : List ℕ). length (opening z) + (length o + length (end_octets z.size))) e s
 
@@ -224,7 +224,7 @@ one-list p q ends (Holder h inside rest) (Holder k inside2 rest2) x y a z s t m 
     refl s.1 t.1 m' n' e'')
     e' in
     let i : AreOne (spelling rest) (spelling rest2) x y =
-    one-list (place_after p (extent h inside)) (place_after q (extent k inside2)) ends rest rest2 x y
+    one-list (place_after p (holder_extent h inside)) (place_after q (holder_extent k inside2)) ends rest rest2 x y
     (after-alike p q _ _ a (extents h k inside inside2 same r.1.0)) z s.2 t.2 m n r.1.1 in (
       ap (λ (z : HeaderValue). opening z ++ (spelling inside ++ (end_octets z.size ++ spelling rest))) same
           ∙ ap₂ (λ (u v : List ℕ). opening k ++ (u ++ (end_octets k.size ++ v))) r.1.0 i.0,

@@ -2,8 +2,8 @@
 use Rattle.std.proofs.Common.{◌≡◌, ℕ, ◌+◌, length, refl, sym, ap, ap₂, ◌∙◌, arith}
 use Rattle.tlv_head.specs.Header.{HeaderValue}
 use Rattle.tlv_walk.specs.Forest.{Forest, Holder, NoMore, OpenBitString, OpenEndOctets, OpenHeader, OpenHolder}
-use Rattle.tlv_walk.specs.Forest.{OpenPrimitive, PaddingOctet, Primitive, extent, opening, primitive_extent}
-use Rattle.tlv_walk.specs.Inside.{is_among}
+use Rattle.tlv_walk.specs.Forest.{OpenPrimitive, PaddingOctet, Primitive, holder_extent, opening, primitive_extent}
+use Rattle.tlv_head.specs.Lists.{is_among}
 use Rattle.tlv_walk.specs.Place.{IsHeaderAt, Place, place_after, place_of_children}
 use Rattle.tlv_walk.specs.Reading.{IsSound}
 
@@ -57,8 +57,8 @@ sound-alike p q (Primitive h c rest) a s = (
 sound-alike p q (Holder h inside rest) a s = (
   (header-alike p q h a s.0.0, s.0.1, omega (arith, a.depth, s.0.2), s.0.3),
   sound-alike (place_of_children p h) (place_of_children q h) inside (alike-children p q h a) s.1,
-  sound-alike (place_after p (extent h inside)) (place_after q (extent h inside)) rest
-      (alike-after p q (extent h inside) a) s.2,
+  sound-alike (place_after p (holder_extent h inside)) (place_after q (holder_extent h inside)) rest
+      (alike-after p q (holder_extent h inside) a) s.2,
 )
 sound-alike p q (OpenPrimitive h c) a s = absurd s
 sound-alike p q (OpenHolder h inside) a s = absurd s

@@ -61,10 +61,10 @@ object-first k more octets v form is e six high =
     let number : k.number ≡ 6 = eqb-true k.number 6 parts.1 in
     elim v.identifier [
       | inl low ↦
-          six (first_in k.identifier k.lengths more [] octets _ low.octets_are e
+          six (first_in k.identifier_octets k.length_octets more [] octets _ low.octets_are e
           ∙ (ap₂ (λ (b : Bool) (n : ℕ). identifier_octet k.class b n) form number ∙ omega (arith, class)))
       | inr long ↦
-          high (first_in k.identifier k.lengths more _ octets _ long.octets_are e
+          high (first_in k.identifier_octets k.length_octets more _ octets _ long.octets_are e
           ∙ (ap (λ (b : Bool). identifier_octet k.class b 31) form ∙ omega (arith, class)))
     ]
 
@@ -125,13 +125,13 @@ short-octets : (k : HeaderValue) (more octets : List ℕ) → IsHeader k → oct
     → get_or octets 0 0 ≡ 6 → get_or octets 1 0 < 128 → (x : ℕ) × ((y : ℕ) × (octets ≡ x ∷ y ∷ more))
 short-octets k more octets v e six less = elim v.identifier [
   | inl low ↦
-      let second : get_or octets 1 0 ≡ get_or (k.lengths ++ more) 0 0 =
+      let second : get_or octets 1 0 ≡ get_or (k.length_octets ++ more) 0 0 =
       ap (λ (o : List ℕ). get_or o 1 0) (sym e)
-      ∙ ap (λ (i : List ℕ). get_or ((i ++ k.lengths) ++ more) 1 0) low.octets_are in
-      let one = length-short k.size k.lengths more v.lengths (omega (arith, second, less)) in
+      ∙ ap (λ (i : List ℕ). get_or ((i ++ k.length_octets) ++ more) 1 0) low.octets_are in
+      let one = length-short k.size k.length_octets more v.lengths (omega (arith, second, less)) in
       (_, (one.0, sym e ∙ ap₂ (λ (i l : List ℕ). (i ++ l) ++ more) low.octets_are one.1))
   | inr long ↦
-      absurd (omega (arith, six, first_in k.identifier k.lengths more _ octets _ long.octets_are e))
+      absurd (omega (arith, six, first_in k.identifier_octets k.length_octets more _ octets _ long.octets_are e))
 ]
 
 -- an OBJECT IDENTIFIER of an extension that has a short header, by its first four octets

@@ -13,7 +13,7 @@ use Rattle.tlv_head.specs.HeaderSoFar.{AllowsSize}
 use Rattle.tlv_head.specs.HeaderFields.{new_header}
 use Rattle.tlv_head.specs.ReadHeader.{BeginsWithFields}
 use Rattle.tlv_walk.specs.Forest.{Forest, Holder, NoMore, OpenBitString, OpenEndOctets, OpenHeader, OpenHolder}
-use Rattle.tlv_walk.specs.Forest.{OpenPrimitive, PaddingOctet, Primitive, end_octets, extent, is_whole}
+use Rattle.tlv_walk.specs.Forest.{OpenPrimitive, PaddingOctet, Primitive, end_octets, holder_extent, is_whole}
 use Rattle.tlv_walk.specs.Forest.{opening, primitive_extent, spelling}
 use Rattle.tlv_walk.specs.Place.{ObeysGrammar, Place, place_after, place_of_children}
 use Rattle.tlv_walk.proofs.GrammarLemmas.Spellings.{length-holder, length-opening, length-primitive}
@@ -290,7 +290,7 @@ module _ (octets : List ℕ) (offset : ℕ) (f : HeaderFields) (count : ℕ)
           (append-nil (spelling inside) ∙ sym front) (inl refl) in
           let a' : AddsStrings (spot_before (spot_inside w h inside true) false []) inside (take m after) old new n =
           adds_in inside inner in
-          let number : extent h inside ≡ count + length (take m after) =
+          let number : holder_extent h inside ≡ count + length (take m after) =
           omega (
             arith,
             opening-size k,
@@ -306,7 +306,7 @@ module _ (octets : List ℕ) (offset : ℕ) (f : HeaderFields) (count : ℕ)
             added = a'.added;
             finds =
                 goes_on g
-                (read-on p (extent h inside) (count + length (take m after)) g w.depth offset ends octets rest
+                (read-on p (holder_extent h inside) (count + length (take m after)) g w.depth offset ends octets rest
                 (Holder h inside g) number r more left refl)
                 (λ ys o.
                 finds-holder (spot_before w ends rest) h inside g a'.found ys
@@ -401,7 +401,7 @@ module _ (octets : List ℕ) (offset : ℕ) (f : HeaderFields) (count : ℕ)
             let a' : AddsStrings (spot_before (spot_inside w h inside true) true (0 ∷ 0 ∷ (spelling g ++ rest))) inside
             after old new n = adds-in_indefinite p inside (0 ∷ 0 ∷ (spelling g ++ rest)) inner in
             let count_is : length (spelling inside) ≡ n = a'.size closed in
-            let number : extent h inside ≡ count + n + 2 =
+            let number : holder_extent h inside ≡ count + n + 2 =
             omega (arith, opening-size k, count_is, ap (λ (o : List ℕ). length o) the_end) in
             let end_there : drop n after ≡ 0 ∷ 0 ∷ (spelling g ++ rest) =
             ap₂ drop (sym count_is) (sym inner.spelled)
@@ -413,7 +413,7 @@ module _ (octets : List ℕ) (offset : ℕ) (f : HeaderFields) (count : ℕ)
               added = a'.added;
               finds =
                   goes_on g
-                  (read-on p (extent h inside) (count + n + 2) g w.depth offset ends octets rest (Holder h inside g)
+                  (read-on p (holder_extent h inside) (count + n + 2) g w.depth offset ends octets rest (Holder h inside g)
                   number r more left refl)
                   (λ ys o.
                   finds-holder (spot_before w ends rest) h inside g a'.found ys

@@ -14,9 +14,9 @@ use Rattle.tlv_head.specs.Refusal.{BeginsWithNoHeader, IsHeaderPrefix}
 use Rattle.tlv_head.proofs.GrammarLemmas.Scan.{no-prefix}
 use Rattle.tlv_head.proofs.ReaderLemmas.Prefix.{header-two}
 use Rattle.tlv_walk.specs.Forest.{Forest, Holder, NoMore, OpenBitString, OpenEndOctets, OpenHeader, OpenHolder}
-use Rattle.tlv_walk.specs.Forest.{OpenPrimitive, PaddingOctet, Primitive, end_octets, extent, is_whole}
+use Rattle.tlv_walk.specs.Forest.{OpenPrimitive, PaddingOctet, Primitive, end_octets, holder_extent, is_whole}
 use Rattle.tlv_walk.specs.Forest.{lead, opening, primitive_extent, spelling}
-use Rattle.tlv_walk.specs.Inside.{is_among}
+use Rattle.tlv_head.specs.Lists.{is_among}
 use Rattle.tlv_walk.specs.Place.{Fits, IsHeaderAt, ObeysGrammar, Place, place_after}
 use Rattle.tlv_walk.specs.Private.Stack.{bound_in}
 use Rattle.tlv_walk.specs.Stack.{IsWithin}
@@ -49,7 +49,7 @@ pub data IsReadFirst (p : Place) (h : HeaderValue) (after rest : List ℕ) : For
       → IfSome (definite_length h.size) (λ n. length (spelling inside) ≡ n) → is_whole inside ≡ true
       → ObeysGrammar (place_of_children p h) inside
       → spelling inside ++ (end_octets h.size ++ (spelling g ++ rest)) ≡ after
-      → ObeysGrammar (place_after p (extent h inside)) g
+      → ObeysGrammar (place_after p (holder_extent h inside)) g
       → IsReadFirst p h after rest (Holder h inside g)
   first_open_primitive : {c : List ℕ} → h.constructed ≡ false → (n : ℕ) → h.size ≡ Definite n → length c < n
       → c ≡ after → rest ≡ [] → IsReadFirst p h after rest (OpenPrimitive h c)

@@ -7,8 +7,8 @@ use Rattle.std.proofs.Math.Seq.{take-append_seam}
 use Rattle.tlv_head.specs.Header.{HeaderValue}
 use Rattle.tlv_walk.specs.declared.framing.Framing.{Framing}
 use Rattle.tlv_walk.specs.Forest.{Forest, Holder, NoMore, OpenBitString, OpenEndOctets, OpenHeader, OpenHolder}
-use Rattle.tlv_walk.specs.Forest.{OpenPrimitive, PaddingOctet, Primitive, extent, opening, primitive_extent, spelling}
-use Rattle.tlv_walk.specs.Inside.{is_among}
+use Rattle.tlv_walk.specs.Forest.{OpenPrimitive, PaddingOctet, Primitive, holder_extent, opening, primitive_extent, spelling}
+use Rattle.tlv_head.specs.Lists.{is_among}
 use Rattle.tlv_walk.specs.Place.{IsHeaderAt, Place, place_after, place_of_children, top_place}
 use Rattle.tlv_walk.specs.Reading.{AreOctets, IsReading, IsSound, IsSoundList}
 use Rattle.tlv_walk.proofs.GrammarLemmas.SoundElements.{sound-obeys_grammar_top}
@@ -89,8 +89,8 @@ sound-padded p q (Holder h inside rest) z o d i s = (
   (header-padded p q h o i s.0.0, s.0.1, omega (arith, s.0.2, d), s.0.3),
   sound-padded (place_of_children p h) (place_of_children q h) inside refl
       (ap (λ (n : ℕ). n + length (opening h)) o) (ap (λ (n : ℕ). n + 1) d) i s.1,
-  sound-padded (place_after p (extent h inside)) (place_after q (extent h inside)) rest z
-      (ap (λ (n : ℕ). n + extent h inside) o) d i s.2,
+  sound-padded (place_after p (holder_extent h inside)) (place_after q (holder_extent h inside)) rest z
+      (ap (λ (n : ℕ). n + holder_extent h inside) o) d i s.2,
 )
 sound-padded p q (OpenPrimitive h c) z o d i s = absurd s
 sound-padded p q (OpenHolder h inside) z o d i s = absurd s

@@ -9,7 +9,7 @@ use Rattle.tlv_show.specs.Site.{top_site}
 use Rattle.tlv_show.specs.declared.rules.Rules.TheVariants.{Ber}
 use Rattle.tlv_value.specs.declared.finding.Finding.{Finding}
 use Rattle.tlv_walk.specs.Forest.{Forest, Holder, NoMore, OpenBitString, OpenEndOctets, OpenHeader, OpenHolder}
-use Rattle.tlv_walk.specs.Forest.{OpenPrimitive, PaddingOctet, Primitive, extent, has_element, is_whole}
+use Rattle.tlv_walk.specs.Forest.{OpenPrimitive, PaddingOctet, Primitive, holder_extent, has_element, is_whole}
 use Rattle.tlv_walk.specs.Forest.{primitive_extent, spelling}
 use Rattle.tlv_walk.specs.Framing.{plain_framing}
 use Rattle.tlv_walk.specs.Place.{IsHeaderAt, Place, place_after, place_of_children, top_place}
@@ -37,7 +37,7 @@ sound-shallow p (Primitive h c rest) s = sound-shallow (place_after p (primitive
 sound-shallow p (Holder h inside rest) s =
     and-true _ _ (lt-ltb p.depth 128 s.0.2)
     (and-true _ _ (sound-shallow (place_of_children p h) inside s.1)
-    (sound-shallow (place_after p (extent h inside)) rest s.2))
+    (sound-shallow (place_after p (holder_extent h inside)) rest s.2))
 sound-shallow p (OpenPrimitive h c) s = refl
 sound-shallow p (OpenHolder h inside) s = refl
 sound-shallow p (OpenBitString h) s = refl
@@ -63,7 +63,7 @@ sound-at p depth (Holder h inside rest) s e =
     let others : (is_shallow (depth + 1) inside ≡ true) × (is_shallow depth rest ≡ true) = and_parts _ _ parts.1 in (
       (header-with p depth h s.0.0, s.0.1, ltb-true depth 128 parts.0, s.0.3),
       sound-at (place_of_children p h) (depth + 1) inside s.1 others.0,
-      sound-at (place_after p (extent h inside)) depth rest s.2 others.1,
+      sound-at (place_after p (holder_extent h inside)) depth rest s.2 others.1,
     )
 sound-at p depth (OpenPrimitive h c) s e = absurd s
 sound-at p depth (OpenHolder h inside) s e = absurd s

@@ -8,7 +8,7 @@ use Rattle.tlv_head.specs.declared.header.Size.TheVariants.{Definite}
 use Rattle.tlv_head.specs.Header.{HeaderValue, IsHeader, holds, is_universal, octets_of}
 use Rattle.tlv_head.proofs.ReaderLemmas.Prefix.{header-two}
 use Rattle.tlv_walk.specs.Forest.{Forest, Holder, NoMore, OpenBitString, OpenEndOctets, OpenHeader, OpenHolder}
-use Rattle.tlv_walk.specs.Forest.{OpenPrimitive, PaddingOctet, Primitive, end_octets, extent, has_element, is_whole}
+use Rattle.tlv_walk.specs.Forest.{OpenPrimitive, PaddingOctet, Primitive, end_octets, holder_extent, has_element, is_whole}
 use Rattle.tlv_walk.specs.Forest.{lead, opening, primitive_extent, spelling}
 use Rattle.tlv_walk.specs.Place.{IsHeaderAt, ObeysGrammar, Place, place_after, place_of_children}
 use Rattle.tlv_walk.specs.Reading.{IsSound}
@@ -56,7 +56,7 @@ ArePlain o (PaddingOctet rest) = ArePlain (o + 1) rest
 ArePlain o (Primitive h c rest) =
     (IsPlainHeader o false h × (h.size ≡ Definite (length c))) × ArePlain (o + primitive_extent h c) rest
 ArePlain o (Holder h inside rest) =
-    IsPlainHeader o true h × ArePlain (o + length (opening h)) inside × ArePlain (o + extent h inside) rest
+    IsPlainHeader o true h × ArePlain (o + length (opening h)) inside × ArePlain (o + holder_extent h inside) rest
 ArePlain o (OpenPrimitive h c) = IsPlainHeader o false h
 ArePlain o (OpenHolder h inside) = IsPlainHeader o true h × ArePlain (o + length (opening h)) inside
 ArePlain o (OpenBitString h) = ⊥
@@ -76,7 +76,7 @@ sound-plain p (Primitive h c rest) e s =
 sound-plain p (Holder h inside rest) e s = (
   plain-header p true h e s.0.0 s.0.1,
   sound-plain (place_of_children p h) inside e s.1,
-  sound-plain (place_after p (extent h inside)) rest e s.2,
+  sound-plain (place_after p (holder_extent h inside)) rest e s.2,
 )
 sound-plain p (OpenPrimitive h c) e s = absurd s
 sound-plain p (OpenHolder h inside) e s = absurd s
@@ -94,7 +94,7 @@ grammar-plain p (Primitive h c rest) e o = (
 grammar-plain p (Holder h inside rest) e o = (
   plain-header p true h e o.0.0.header o.0.0.holding,
   grammar-plain (place_of_children p h) inside e o.1,
-  grammar-plain (place_after p (extent h inside)) rest e o.2,
+  grammar-plain (place_after p (holder_extent h inside)) rest e o.2,
 )
 grammar-plain p (OpenPrimitive h c) e o = plain-header p false h e o.0.header o.0.holding
 grammar-plain p (OpenHolder h inside) e o =
@@ -164,7 +164,7 @@ opened-spelling o (closed {h = h} {contents = contents} n r) p =
     ap (λ (x : List ℕ). octets_of h ++ (contents ++ x)) (opened-spelling (o + primitive_extent h contents) r p.1)
 opened-spelling o (holder {h = h} {children = children} a r) p =
     ap₂ (λ (x y : List ℕ). opening h ++ (x ++ (end_octets h.size ++ y)))
-    (opened-spelling (o + length (opening h)) a p.1) (opened-spelling (o + extent h children) r p.2)
+    (opened-spelling (o + length (opening h)) a p.1) (opened-spelling (o + holder_extent h children) r p.2)
 opened-spelling o (open_holder {h = h} a) p =
     ap (λ (x : List ℕ). opening h ++ x) (opened-spelling (o + length (opening h)) a p.1)
 opened-spelling o open_primitive p = refl
@@ -218,7 +218,7 @@ opened-wrappers o (closed {h = h} {contents = contents} n r) p =
 opened-wrappers {w = w} o (holder {h = h} {children = children} a r) p =
     ap₂ (λ (x y : List ℕ). x ++ y) (own-offset h.constructed (w.start + h.offset) true p.0.form)
     (ap₂ (λ (x y : List ℕ). x ++ y) (opened-wrappers (o + length (opening h)) a p.1)
-    (opened-wrappers (o + extent h children) r p.2))
+    (opened-wrappers (o + holder_extent h children) r p.2))
 opened-wrappers {w = w} o (open_holder {h = h} a) p =
     ap₂ (λ (x y : List ℕ). x ++ y) (own-offset h.constructed (w.start + h.offset) true p.0.form)
     (opened-wrappers (o + length (opening h)) a p.1)
@@ -251,10 +251,10 @@ opened-rise {w = w} {xs = xs} o (closed {h = h} {contents = contents} {rest = re
     rise-within _ _ _ _ xs (omega arith) (omega (arith, length-primitive h contents rest))
     (opened-rise (o + primitive_extent h contents) r p.1)
 opened-rise {w = w} o (holder {h = h} {children = children} {rest = rest} {xs = xs} {ys = ys} a r) p =
-    rise-append _ (w.start + (o + extent h children)) _ xs ys
+    rise-append _ (w.start + (o + holder_extent h children)) _ xs ys
     (rise-within _ _ _ _ xs (omega arith) (omega arith) (opened-rise (o + length (opening h)) a p.1))
     (rise-within _ _ _ _ ys (omega arith) (omega (arith, length-holder h children rest))
-    (opened-rise (o + extent h children) r p.2))
+    (opened-rise (o + holder_extent h children) r p.2))
 opened-rise {w = w} {xs = xs} o (open_holder {h = h} {children = children} a) p =
     rise-within _ _ _ _ xs (omega arith) (omega (arith, length-append (opening h) (spelling children)))
     (opened-rise (o + length (opening h)) a p.1)

@@ -9,9 +9,9 @@ use Rattle.tlv_head.proofs.ReaderLemmas.Prefix.{header-two}
 use Rattle.tlv_walk.specs.Ending.{IsRefusedAt, OpenEnd, bad_end, bad_inside, end_at, missing_end, no_end, no_room}
 use Rattle.tlv_walk.specs.Ending.{open_end, overrun, refused_octet, stray_end, too_deep}
 use Rattle.tlv_walk.specs.Forest.{Forest, Holder, NoMore, OpenBitString, OpenEndOctets, OpenHeader, OpenHolder}
-use Rattle.tlv_walk.specs.Forest.{OpenPrimitive, Primitive, extent}
+use Rattle.tlv_walk.specs.Forest.{OpenPrimitive, Primitive, holder_extent}
 use Rattle.tlv_walk.specs.Forest.{lead, opening, primitive_extent, spelling}
-use Rattle.tlv_walk.specs.Inside.{is_among}
+use Rattle.tlv_head.specs.Lists.{is_among}
 use Rattle.tlv_walk.specs.Place.{Fits, IsHeaderAt, ObeysGrammar, Place, announced_extent}
 use Rattle.tlv_walk.specs.Private.Stack.{bound_in}
 use Rattle.tlv_walk.specs.Stack.{IsWithin}
@@ -154,7 +154,7 @@ opened-grammar {w = w} p q
     let m : IsMovedTo w.start p q = moved-to w.start p q z s in
     let size : h.size ≡ Definite (length contents) = o.0.1 in
     let string : HeaderValue = moved w.start true h in
-    let far : extent string (opened_forest a) ≡ primitive_extent h contents =
+    let far : holder_extent string (opened_forest a) ≡ primitive_extent h contents =
     held-extent w h contents inner rest xs ys p.offset held a r plain.0.0 size plain.1 q m.offset agrees in
     let sound : IsSound (place_of_children q string) (opened_forest a) =
     opened-sound (place_by_itself (w.depth + 1)) (place_of_children q string) a refl refl
@@ -170,8 +170,8 @@ opened-grammar {w = w} p q
     let all : length contents ≡ length (lead h) + length (spelling inner) =
     contents-size w h contents inner rest xs ys p.offset held a r plain.0.0 size plain.1 q m.offset agrees in
     let i : AreOpenedWell (place_after p (primitive_extent h contents))
-    (place_after q (extent string (opened_forest a))) rest (opened_forest r) =
-    opened-grammar (place_after p (primitive_extent h contents)) (place_after q (extent string (opened_forest a))) r e
+    (place_after q (holder_extent string (opened_forest a))) rest (opened_forest r) =
+    opened-grammar (place_after p (primitive_extent h contents)) (place_after q (holder_extent string (opened_forest a))) r e
     k z (same-after p q _ _ far s) o.1
     (agrees-rest w h contents inner rest xs ys p.offset held a r plain.0.0 size plain.1 q m.offset agrees) in
     let there = header-named w.start q p.offset w.depth h contents inner plain.0.0 size held m.offset
@@ -227,15 +227,15 @@ opened-grammar {w = w} p q (holder {h = h} {children = children} {rest = rest} {
     let plain : ArePlain p.offset (Holder h children rest) = grammar-plain p (Holder h children rest) e o in
     let m : IsMovedTo w.start p q = moved-to w.start p q z s in
     let head : HeaderValue = moved w.start false h in
-    let far : extent head (opened_forest a) ≡ extent h children =
+    let far : holder_extent head (opened_forest a) ≡ holder_extent h children =
     children-extent w _ h children rest xs ys p.offset refl a r plain.0 plain.1 plain.2 q m.offset agrees in
     let c : AreOpenedWell (place_of_children p h) (place_of_children q head) children (opened_forest a) =
     opened-grammar (place_of_children p h) (place_of_children q head) a e (ap (λ (n : ℕ). n + 1) k) z
     (same-children p q w.start false h s) o.1
     (agrees-children w _ h children rest xs ys p.offset refl a r plain.0 plain.1 plain.2 q m.offset agrees) in
-    let i : AreOpenedWell (place_after p (extent h children)) (place_after q (extent head (opened_forest a))) rest
+    let i : AreOpenedWell (place_after p (holder_extent h children)) (place_after q (holder_extent head (opened_forest a))) rest
     (opened_forest r) =
-    opened-grammar (place_after p (extent h children)) (place_after q (extent head (opened_forest a))) r e k z
+    opened-grammar (place_after p (holder_extent h children)) (place_after q (holder_extent head (opened_forest a))) r e k z
     (same-after p q _ _ far s) o.2
     (agrees-others w _ h children rest xs ys p.offset refl a r plain.0 plain.1 plain.2 q m.offset agrees) in
     let there = header-unnamed w.start q p.offset true h plain.0 m.offset

@@ -10,9 +10,9 @@ use Rattle.tlv_head.specs.Header.{HeaderValue, IsHeader, announced_length, defin
 use Rattle.tlv_head.specs.Header.{holds, octets_of}
 use Rattle.tlv_head.proofs.Wraps.{is_wrapper}
 use Rattle.tlv_head.proofs.ReaderLemmas.Prefix.{header-two}
-use Rattle.tlv_walk.specs.Forest.{Forest, Holder, Primitive, end_octets, extent, lead, opening}
+use Rattle.tlv_walk.specs.Forest.{Forest, Holder, Primitive, end_octets, holder_extent, lead, opening}
 use Rattle.tlv_walk.specs.Forest.{primitive_extent, spelling}
-use Rattle.tlv_walk.specs.Inside.{is_among}
+use Rattle.tlv_head.specs.Lists.{is_among}
 use Rattle.tlv_walk.specs.Place.{HasItsLength, IsHeaderAt, Place, place_after, place_of_children}
 use Rattle.tlv_walk.specs.Reading.{IsSound}
 use Rattle.tlv_walk.proofs.EventLemmas.Wrappers.{Rise}
@@ -125,7 +125,7 @@ module _ (w : Where) (h : HeaderValue) (contents : List ℕ) (inner rest : Fores
   contents-size =
       ap length (held-contents w.depth h contents inner k.form s) ∙ length-append (lead h) (spelling inner)
 
-  pub held-extent : extent string held_forest ≡ primitive_extent h contents
+  pub held-extent : holder_extent string held_forest ≡ primitive_extent h contents
   held-extent =
       let no_end : length (end_octets h.size) ≡ 0 = rw size refl in
       omega (arith, held-length, contents-size, no_end, length-opening h)
@@ -158,7 +158,7 @@ module _ (w : Where) (h : HeaderValue) (contents : List ℕ) (inner rest : Fores
       ∙ among-first i xs ys
       (before-none _ _ i ys (omega (arith, most, at, contents-size, length-opening h)) rise-rest))
 
-  pub agrees-rest : Agrees (place_after q (extent string held_forest)) ys (length (spelling rest))
+  pub agrees-rest : Agrees (place_after q (holder_extent string held_forest)) ys (length (spelling rest))
   agrees-rest i least most =
       agrees i (omega (arith, least)) (omega (arith, most, total, held-extent))
       ∙ (among-others i (w.start + h.offset) (xs ++ ys)
@@ -176,7 +176,7 @@ module _ (w : Where) (h : HeaderValue) (contents : List ℕ) (inner rest : Fores
 module _ (w v : Where) (h : HeaderValue) (children rest : Forest) (xs ys : List ℕ) (o : ℕ) (start : v.start ≡ w.start)
     (a : Opens v children xs) (r : Opens w rest ys)
     (k : IsPlainHeader o true h) (inside : ArePlain (o + length (opening h)) children)
-    (more : ArePlain (o + extent h children) rest) (q : Place) (at : q.offset ≡ w.start + o)
+    (more : ArePlain (o + holder_extent h children) rest) (q : Place) (at : q.offset ≡ w.start + o)
     (agrees : Agrees q (xs ++ ys) (length (spelling (Holder h children rest)))) where
   abbrev pub head : HeaderValue
   head = moved w.start false h
@@ -190,7 +190,7 @@ module _ (w v : Where) (h : HeaderValue) (children rest : Forest) (xs ys : List 
   pub children-length : length (spelling children_forest) ≡ length (spelling children)
   children-length = ap length (opened-spelling (o + length (opening h)) a inside)
 
-  pub children-extent : extent head children_forest ≡ extent h children
+  pub children-extent : holder_extent head children_forest ≡ holder_extent h children
   children-extent = ap (λ (n : ℕ). length (opening h) + (n + length (end_octets h.size))) children-length
 
   pub children-has_length : HasItsLength h children → HasItsLength head children_forest
@@ -204,10 +204,10 @@ module _ (w v : Where) (h : HeaderValue) (children rest : Forest) (xs ys : List 
       xs)
       start (opened-rise (o + length (opening h)) a inside)
 
-  rise-others : Rise (w.start + (o + extent h children)) (w.start + (o + extent h children) + length (spelling rest)) ys
-  rise-others = opened-rise (o + extent h children) r more
+  rise-others : Rise (w.start + (o + holder_extent h children)) (w.start + (o + holder_extent h children) + length (spelling rest)) ys
+  rise-others = opened-rise (o + holder_extent h children) r more
 
-  all : length (spelling (Holder h children rest)) ≡ extent h children + length (spelling rest)
+  all : length (spelling (Holder h children rest)) ≡ holder_extent h children + length (spelling rest)
   all = length-holder h children rest
 
   pub holder-unnamed : is_among q.offset q.inside ≡ false
@@ -222,7 +222,7 @@ module _ (w v : Where) (h : HeaderValue) (children rest : Forest) (xs ys : List 
       agrees i (omega (arith, least)) (omega (arith, most, all))
       ∙ among-first i xs ys (before-none _ _ i ys (omega (arith, most, at)) rise-others)
 
-  pub agrees-others : Agrees (place_after q (extent head children_forest)) ys (length (spelling rest))
+  pub agrees-others : Agrees (place_after q (holder_extent head children_forest)) ys (length (spelling rest))
   agrees-others i least most =
       agrees i (omega (arith, least)) (omega (arith, most, all, children-extent))
       ∙ among-second i xs ys (after-none _ _ i xs (omega (arith, least, at, children-extent)) rise-children)
@@ -242,7 +242,7 @@ opened-sound {w = w} p q (padded r) e k m s agrees = (
 opened-sound {w = w} p q (opened {h = h} {contents = contents} {rest = rest} {xs = xs} {ys = ys} may inner held a r)
     e k m s agrees =
     let plain : ArePlain p.offset (Primitive h contents rest) = sound-plain p (Primitive h contents rest) e s in
-    let far : extent (moved w.start true h) (opened_forest a) ≡ primitive_extent h contents =
+    let far : holder_extent (moved w.start true h) (opened_forest a) ≡ primitive_extent h contents =
     held-extent w h contents inner rest xs ys p.offset held a r plain.0.0 s.0.2 plain.1 q m.offset agrees in
     let named = header-named w.start q p.offset w.depth h contents inner plain.0.0 s.0.2 held m.offset
     (string-named w h contents inner rest xs ys p.offset held a r plain.0.0 s.0.2 plain.1 q m.offset agrees) in (
@@ -261,7 +261,7 @@ opened-sound {w = w} p q (opened {h = h} {contents = contents} {rest = rest} {xs
           held.sound
           (agrees-inner w h contents inner rest xs ys p.offset held a r plain.0.0 s.0.2 plain.1 q m.offset agrees),
       opened-sound (place_after p (primitive_extent h contents))
-          (place_after q (extent (moved w.start true h) (opened_forest a))) r e k
+          (place_after q (holder_extent (moved w.start true h) (opened_forest a))) r e k
           (record { offset = omega (arith, m.offset, far); depth = m.depth; padding = m.padding }) s.1
           (agrees-rest w h contents inner rest xs ys p.offset held a r plain.0.0 s.0.2 plain.1 q m.offset agrees),
     )
@@ -282,7 +282,7 @@ opened-sound {w = w} {xs = xs} p q (closed {h = h} {contents = contents} {rest =
     )
 opened-sound {w = w} p q (holder {h = h} {children = children} {rest = rest} {xs = xs} {ys = ys} a r) e k m s agrees =
     let plain : ArePlain p.offset (Holder h children rest) = sound-plain p (Holder h children rest) e s in
-    let far : extent (moved w.start false h) (opened_forest a) ≡ extent h children =
+    let far : holder_extent (moved w.start false h) (opened_forest a) ≡ holder_extent h children =
     children-extent w _ h children rest xs ys p.offset refl a r plain.0 plain.1 plain.2 q m.offset agrees in
     let there = header-unnamed w.start q p.offset true h plain.0 m.offset
     (holder-unnamed w _ h children rest xs ys p.offset refl a r plain.0 plain.1 plain.2 q m.offset agrees) in (
@@ -297,8 +297,8 @@ opened-sound {w = w} p q (holder {h = h} {children = children} {rest = rest} {xs
           (ap (λ (n : ℕ). n + 1) k)
           (record { offset = omega (arith, m.offset); depth = ap (λ (n : ℕ). n + 1) m.depth; padding = refl }) s.1
           (agrees-children w _ h children rest xs ys p.offset refl a r plain.0 plain.1 plain.2 q m.offset agrees),
-      opened-sound (place_after p (extent h children))
-          (place_after q (extent (moved w.start false h) (opened_forest a)))
+      opened-sound (place_after p (holder_extent h children))
+          (place_after q (holder_extent (moved w.start false h) (opened_forest a)))
           r e k (record { offset = omega (arith, m.offset, far); depth = m.depth; padding = m.padding }) s.2
           (agrees-others w _ h children rest xs ys p.offset refl a r plain.0 plain.1 plain.2 q m.offset agrees),
     )

@@ -6,7 +6,7 @@ use Rattle.std.specs.List.{filter}
 use Rattle.tlv_head.specs.Header.{HasAllContents, HeaderValue, is_universal}
 use Rattle.tlv_value.specs.declared.finding.Finding.{Finding}
 use Rattle.tlv_value.specs.AllChecks.{all_contents_findings}
-use Rattle.tlv_value.specs.Types.{is_number_of}
+use Rattle.tlv_head.specs.Lists.{is_among}
 use Rattle.tlv_value.specs.Types.{has_encodings, has_primitives, is_string, is_unassigned}
 use Rattle.tlv_head.specs.declared.type_table.Encodings.TheVariants as encodings
 use Rattle.tlv_walk.specs.declared.follow.Go.TheVariants as go
@@ -54,7 +54,7 @@ usual_primitive h primitive primitives =
       primitive_if_late = ap (λ (b : Bool). b && is_time_or_iri h) primitive;
       no_segments = ap (λ (b : Bool). b && is_string h) primitive;
       no_components =
-          ap (λ (b : Bool). b && is_universal h.class && is_number_of component_types h.number) primitive;
+          ap (λ (b : Bool). b && is_universal h.class && is_among h.number component_types) primitive;
     }
 
 -- after a primitive with which nothing is found, outside of strings

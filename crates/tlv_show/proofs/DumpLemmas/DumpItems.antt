@@ -12,12 +12,12 @@ use Rattle.tlv_head.specs.HeaderSoFar.{AllowsSize}
 use Rattle.tlv_value.specs.declared.finding.Finding.{Finding}
 use Rattle.tlv_value.specs.declared.layout.Layout.{Layout}
 use Rattle.tlv_value.specs.Names.{NamesValue}
-use Rattle.tlv_value.specs.ValueLines.{whole_lines_with}
+use Rattle.tlv_value.specs.TextBeside.{whole_lines_with}
 use Rattle.tlv_walk.specs.Events.{Begin, Bytes, End, EventValue, events, opening_events, closing_event}
 use Rattle.tlv_walk.proofs.GrammarLemmas.Leads.{end_offset}
 use Rattle.tlv_walk.specs.Forest.{end_octets_offset}
 use Rattle.tlv_walk.specs.Follow.{Effect, effect_of, effect_with}
-use Rattle.tlv_walk.specs.Forest.{Forest, is_whole, opening, spelling, end_octets, extent}
+use Rattle.tlv_walk.specs.Forest.{Forest, is_whole, opening, spelling, end_octets, holder_extent}
 use Rattle.tlv_walk.specs.Place.{Place, place_after, place_of_children, ObeysGrammar}
 use Rattle.tlv_show.specs.declared.holder_frame.HolderFrame.{HolderFrame}
 use Rattle.tlv_show.specs.declared.wanted.Wanted.{Wanted}
@@ -31,7 +31,8 @@ use Rattle.tlv_show.specs.KeptConditions.{header_findings_in}
 use Rattle.tlv_show.specs.Items.{Item, FindingAt, items, finding_items}
 use Rattle.tlv_show.specs.HolderLines.{closing_line, opening_line, opening_word}
 use Rattle.tlv_show.specs.Site.{Site, is_padding}
-use Rattle.tlv_show.specs.Texts.{item_text, layout_at}
+use Rattle.tlv_show.specs.Texts.{layout_at}
+use Rattle.tlv_show.specs.WantedJobs.{item_text_with}
 use Rattle.tlv_show.specs.ShownFindings.{wanted_findings}
 use Rattle.tlv_show.proofs.DumpLemmas.DumpTexts.{holder_shown, ends_in_padding, primitive_shown}
 use Rattle.tlv_show.proofs.DumpLemmas.DumpTexts.{lines_between, closer_shown}
@@ -40,12 +41,12 @@ use Rattle.tlv_show.proofs.FindingLemmas.FinderSteps.{after_contents, later_head
 use Rattle.tlv_show.proofs.FindingLemmas.FinderSteps.{primitive-find, check_between, after_end, closed-find}
 use Rattle.tlv_show.proofs.FindingLemmas.HeaderFindings.{Knows}
 use Rattle.tlv_show.proofs.DumpLemmas.DumpEvents.{dump_state, then_shown, texts, opens-by, primitive-by, closes-by}
-use Rattle.tlv_value.specs.Types.{is_primitive}
+use Rattle.tlv_value.specs.Types.{has_primitive_form}
 
 -- ---- elements, in this style, with these names and rules
 module _ (with_text : Bool) (style : Layout) (names : NamesValue) (wanted : Wanted) where
   abbrev pub item : Item → List ℕ
-  item i = item_text with_text (finite.get names) style i
+  item i = item_text_with with_text (finite.get names) style i
 
   abbrev pub item_texts : List Item → List ℕ
   item_texts l = flat_map item l
@@ -151,15 +152,15 @@ module _ (with_text : Bool) (style : Layout) (names : NamesValue) (wanted : Want
   pub closed-shown : (p : Place) (w : HolderFrame) (outer : List HolderFrame) (n : Kept) (h : HeaderValue)
       (inside : Forest)
       → ObeysGrammar (place_of_children p h) inside → is_whole inside ≡ true → h.offset ≡ p.offset
-      → AllowsSize h.constructed h.size → p.offset + extent h inside ≤ 2 ^ 64 - 1 → HasItsOffset wanted h inside n
+      → AllowsSize h.constructed h.size → p.offset + holder_extent h inside ≤ 2 ^ 64 - 1 → HasItsOffset wanted h inside n
       → effect_of dump_step
       (dump_state
       (lines_between with_text style names (p.depth + 1) (p.offset + length (opening h) + length (spelling inside)) false)
       (check_between wanted (frame_after_elements (frame_under w h) inside) (with_element w ∷ outer) n))
       (closing_event h inside ∷ [])
       ≡ effect_with
-      (start (place_after p (extent h inside)) false
-      (frame_after (with_element w) (is_primitive h) (announced_length h.size) false) outer (after_end wanted h inside n))
+      (start (place_after p (holder_extent h inside)) false
+      (frame_after (with_element w) (has_primitive_form h) (announced_length h.size) false) outer (after_end wanted h inside n))
       (closing_line (layout_at style p.depth) (end_octets_offset h inside)
       ++ styled_lines (Dump style.pure) (length outer) h.offset (found_at_end wanted h inside n))
   closed-shown p w outer n h inside v whole there allowed far known =
@@ -169,7 +170,7 @@ module _ (with_text : Bool) (style : Layout) (names : NamesValue) (wanted : Want
       let last : List ℕ =
       styled_lines (Dump style.pure) (length outer) h.offset (found_at_end wanted h inside n) in
       let after : CheckState =
-      check_between wanted (frame_after (with_element w) (is_primitive h) (announced_length h.size) false) outer
+      check_between wanted (frame_after (with_element w) (has_primitive_form h) (announced_length h.size) false) outer
       (after_end wanted h inside n) in
       closes-by (lines_between with_text style names (p.depth + 1) end false)
       (check_between wanted (frame_after_elements (frame_under w h) inside) (with_element w ∷ outer) n)

@@ -8,15 +8,15 @@ use Rattle.tlv_head.specs.Header.{HasAllContents, HeaderValue, announced_length,
 use Rattle.tlv_value.specs.declared.layout.Layout.{Layout}
 use Rattle.tlv_value.specs.ValueCheckState.{has_unused_bits, value_check_for}
 use Rattle.tlv_value.specs.Names.{NamesValue}
-use Rattle.tlv_value.specs.ValueLines.{incomplete_lines_with, whole_lines_with}
-use Rattle.tlv_value.specs.Types.{is_primitive}
+use Rattle.tlv_value.specs.TextBeside.{incomplete_lines_with, whole_lines_with}
+use Rattle.tlv_value.specs.Types.{has_primitive_form}
 use Rattle.tlv_walk.specs.declared.follow.Go.{Go}
 use Rattle.tlv_walk.specs.Events.{Begin, Bytes, End, EventValue, Pad, closing_event, events}
 use Rattle.tlv_walk.specs.Forest.{end_octets_offset}
 use Rattle.tlv_walk.specs.Events.{opening_events}
 use Rattle.tlv_walk.specs.Follow.{Effect, effect_of, effect_with}
 use Rattle.tlv_walk.specs.Forest.{Forest, NoMore, PaddingOctet, Primitive, Holder, OpenPrimitive, OpenHolder}
-use Rattle.tlv_walk.specs.Forest.{OpenBitString, OpenHeader, OpenEndOctets, extent, opening}
+use Rattle.tlv_walk.specs.Forest.{OpenBitString, OpenHeader, OpenEndOctets, holder_extent, opening}
 use Rattle.tlv_walk.specs.Forest.{spelling}
 use Rattle.tlv_walk.specs.Place.{ObeysGrammar, Place, place_after, place_of_children}
 use Rattle.tlv_walk.proofs.GrammarLemmas.Spellings.{length-holder, length-primitive}
@@ -172,14 +172,14 @@ module _ (with_text : Bool) (style : Layout) (names : NamesValue) (wanted : Want
       three a b c d = simp append_assoc
   shows_forest p holder previous w outer (Holder h inside rest) v b k =
       let s : Site = site with_text style names wanted p holder previous in
-      let q : Place = place_after p (extent h inside) in
+      let q : Place = place_after p (holder_extent h inside) in
       let i_place : Place = place_of_children p h in
       let size = length-holder h inside rest in
       let i =
       shows_forest i_place (Some h) NoMore (frame_under w h) (with_element w ∷ outer) inside v.1 (omega (arith, b, size))
       (knows-inside w s h, omega (arith, k.1), λ e. absurd (cc (e))) in
       let t =
-      shows_forest q holder (Holder h inside NoMore) (frame_after (with_element w) (is_primitive h) (announced_length h.size) false)
+      shows_forest q holder (Holder h inside NoMore) (frame_after (with_element w) (has_primitive_form h) (announced_length h.size) false)
       outer rest v.2 (omega (arith, b, size))
       (knows-after (with_element w) s (site_after_holder s h inside) h false k.0 refl refl refl, k.1, k.2) in
       let end : ℕ = p.offset + length (opening h) + length (spelling inside) in
@@ -219,7 +219,7 @@ module _ (with_text : Bool) (style : Layout) (names : NamesValue) (wanted : Want
       × (effect_of dump_step (start with_text style names wanted p (is_padding previous) w outer n)
       (opening_events h ++ (events inside ++ closing_event h inside ∷ []))
       ≡ effect_with
-      (start with_text style names wanted q false (frame_after (with_element w) (is_primitive h) (announced_length h.size) false) outer m)
+      (start with_text style names wanted q false (frame_after (with_element w) (has_primitive_form h) (announced_length h.size) false) outer m)
       ((first ++ line) ++ (held ++ (close ++ last)))) =
       λ n o.
       let a : Kept = later_header wanted w h n in
@@ -244,7 +244,7 @@ module _ (with_text : Bool) (style : Layout) (names : NamesValue) (wanted : Want
             v.0.0.header.valid.allowed (omega (arith, b, size)) (passed-offset wanted s n.seen e wrong closed o taken, has_wrong_string wanted h inside, string)
             ∙ ap₂ (λ (x y : Bool). effect_with
             (start with_text style names wanted q false
-            (frame_after (with_element w) (is_primitive h) (announced_length h.size) false) outer
+            (frame_after (with_element w) (has_primitive_form h) (announced_length h.size) false) outer
             (after_end wanted h inside r.0))
             (close
             ++ styled_lines (Dump style.pure) (length outer) h.offset
@@ -264,7 +264,7 @@ module _ (with_text : Bool) (style : Layout) (names : NamesValue) (wanted : Want
       let all = λ (n : Kept) (o : HasSeen wanted s n.seen).
       ap (effect_of dump_step (start with_text style names wanted p (is_padding previous) w outer n)) (sym joined)
       ∙ shown-after with_text style names wanted p q (is_padding previous) w outer n (element n o).0
-      (frame_after (with_element w) (is_primitive h) (announced_length h.size) false) holder (Holder h inside NoMore) es
+      (frame_after (with_element w) (has_primitive_form h) (announced_length h.size) false) holder (Holder h inside NoMore) es
       ((first ++ line) ++ (held ++ (close ++ last))) rest refl (element n o).2 t (next n o) in
       let others : List Item = items (wanted_findings wanted) (site_after_holder s h inside) rest in
       let closing : List Item =
@@ -293,7 +293,7 @@ module _ (with_text : Bool) (style : Layout) (names : NamesValue) (wanted : Want
                   ∙ ap (λ (offset : ℕ). dump_state
                   (lines_between with_text style names p.depth offset (ends_in_padding with_text style names false rest))
                   (check_between wanted
-                  (frame_after_elements (frame_after (with_element w) (is_primitive h) (announced_length h.size) false) rest) outer
+                  (frame_after_elements (frame_after (with_element w) (has_primitive_form h) (announced_length h.size) false) rest) outer
                   r.0))
                   (omega (arith, size)),
               after-holder wanted s n.seen h inside rest (element n o).0.seen r.0.seen o (element n o).1 r.2,

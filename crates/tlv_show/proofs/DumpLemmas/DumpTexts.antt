@@ -10,7 +10,7 @@ use Rattle.tlv_head.specs.Header.{HasAllContents, HeaderValue, announced_length,
 use Rattle.tlv_head.specs.HeaderSoFar.{AllowsSize}
 use Rattle.tlv_value.specs.declared.layout.Layout.{Layout}
 use Rattle.tlv_value.specs.Names.{NamesValue}
-use Rattle.tlv_value.specs.ValueLines.{incomplete_lines_with, whole_lines_with}
+use Rattle.tlv_value.specs.TextBeside.{incomplete_lines_with, whole_lines_with}
 use Rattle.tlv_value.specs.ValueTextState.{ValueTextState, begin_lines, contents_lines, end_lines}
 use Rattle.tlv_value.specs.ValueTextState.{new_value_text_with, value_text_after}
 use Rattle.tlv_value.specs.Value.{NameOf}
@@ -21,7 +21,7 @@ use Rattle.tlv_walk.proofs.GrammarLemmas.Leads.{end_offset}
 use Rattle.tlv_walk.specs.Forest.{end_octets_offset}
 use Rattle.tlv_walk.specs.Follow.{Effect, effect_if_more, effect_of, effect_with}
 use Rattle.tlv_walk.specs.Forest.{Forest, NoMore, PaddingOctet, Primitive, Holder, OpenPrimitive, OpenHolder}
-use Rattle.tlv_walk.specs.Forest.{OpenBitString, OpenHeader, OpenEndOctets, end_octets, extent, lead, opening, spelling}
+use Rattle.tlv_walk.specs.Forest.{OpenBitString, OpenHeader, OpenEndOctets, end_octets, holder_extent, lead, opening, spelling}
 use Rattle.tlv_walk.proofs.GrammarLemmas.Leads.{lead_by}
 use Rattle.tlv_walk.specs.Place.{ObeysGrammar, Place, place_after}
 use Rattle.tlv_walk.proofs.GrammarLemmas.Spellings.{length-opening}
@@ -230,7 +230,7 @@ module _ (with_text : Bool) (style : Layout) (names : NamesValue) where
   no_padding p NoMore e v = refl
   no_padding p (PaddingOctet rest) e v = absurd (true≢false (sym v.0.0 ∙ e))
   no_padding p (Primitive h c rest) e v = no_padding (place_after p (length (octets_of h) + length c)) rest e v.1
-  no_padding p (Holder h inside rest) e v = no_padding (place_after p (extent h inside)) rest e v.2
+  no_padding p (Holder h inside rest) e v = no_padding (place_after p (holder_extent h inside)) rest e v.2
   no_padding p (OpenPrimitive h c) e v = refl
   no_padding p (OpenHolder h inside) e v = refl
   no_padding p (OpenBitString h) e v = refl

@@ -19,7 +19,7 @@ use Rattle.tlv_walk.specs.Forest.{end_octets_offset}
 use Rattle.tlv_walk.specs.Events.{events}
 use Rattle.tlv_walk.specs.Follow.{Effect, effect_if_more, effect_of}
 use Rattle.tlv_walk.specs.Forest.{Forest, NoMore, PaddingOctet, Primitive, Holder, OpenPrimitive, OpenHolder}
-use Rattle.tlv_walk.specs.Forest.{OpenBitString, OpenHeader, OpenEndOctets, extent, opening, spelling}
+use Rattle.tlv_walk.specs.Forest.{OpenBitString, OpenHeader, OpenEndOctets, holder_extent, opening, spelling}
 use Rattle.tlv_walk.specs.Place.{ObeysGrammar, Place, place_after, place_of_children, top_place}
 use Rattle.tlv_walk.specs.Reading.{IsReading}
 use Rattle.tlv_head.proofs.ReaderLemmas.Prefix.{header-two}
@@ -152,10 +152,10 @@ counted-all s (e ∷ es) =
 -- ---- no count stops
 
 -- of each condition one finding at most
-held-few : (wanted : Wanted) (rows : List (Bool × Finding))
+held-few : (wanted : Wanted) (rows : List (Finding × Bool))
     → length (filter (is_shown wanted) (findings_by rows)) ≤ length rows
 held-few wanted [] = omega arith
-held-few wanted (row ∷ rows) = let e = one-few row.0 (held-few wanted rows) in omega (arith, e)
+held-few wanted (row ∷ rows) = let e = one-few row.1 (held-few wanted rows) in omega (arith, e)
   where
     kept-few : (k : Bool) (f : Finding) (l : List Finding) (n : ℕ) → length l ≤ n
         → length (if k then f ∷ l else l) ≤ n + 1
@@ -163,8 +163,8 @@ held-few wanted (row ∷ rows) = let e = one-few row.0 (held-few wanted rows) in
     kept-few false f l n e = omega (arith, e)
 
     one-few : (b : Bool) → length (filter (is_shown wanted) (findings_by rows)) ≤ length rows
-        → length (filter (is_shown wanted) ((if b then row.1 ∷ [] else []) ++ findings_by rows)) ≤ length rows + 1
-    one-few true e = kept-few (is_shown wanted row.1) row.1 (filter (is_shown wanted) (findings_by rows)) (length rows) e
+        → length (filter (is_shown wanted) ((if b then row.0 ∷ [] else []) ++ findings_by rows)) ≤ length rows + 1
+    one-few true e = kept-few (is_shown wanted row.0) row.0 (filter (is_shown wanted) (findings_by rows)) (length rows) e
     one-few false e = omega (arith, e)
 
 one-more : (gs : List Finding) → length (with_order gs) ≡ length gs + 1
@@ -192,7 +192,7 @@ module _ (wanted : Wanted) where
   few-pads true level offset l = refl
   few-pads false level offset l = refl
 
-  few-rows : (rows : List (Bool × Finding)) (n : ℕ) → nat_le (length rows) n ≡ true
+  few-rows : (rows : List (Finding × Bool)) (n : ℕ) → nat_le (length rows) n ≡ true
       → length (shown_findings wanted rows) ≤ n
   few-rows rows n few = let e = held-few wanted rows in grind (arith, nat_tests)
 
@@ -249,7 +249,7 @@ module _ (wanted : Wanted) where
       omega (arith, a, header-two h v.0.0.header.valid, length-primitive h c rest)
   findings-within p s (Holder h inside rest) v =
       let i = findings-within (place_of_children p h) (site_of_children s h) inside v.1 in
-      let r = findings-within (place_after p (extent h inside)) (site_after_holder s h inside) rest v.2 in
+      let r = findings-within (place_after p (holder_extent h inside)) (site_after_holder s h inside) rest v.2 in
       let last : List Item =
       end_items (wanted_findings wanted) s h inside ++ items (wanted_findings wanted) (site_after_holder s h inside) rest in
       let b =

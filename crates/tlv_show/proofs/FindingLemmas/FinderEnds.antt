@@ -33,9 +33,9 @@ none-judged wanted w e = by w.has_segments w.lacks_components e
   where
     by : (c a : Bool) → (c || a) ≡ false
         → shown_findings wanted
-        ((a, B27)
-        ∷ (c && w.all_primitive && nat_le (segments_in w).length_as_primitive 1000, C05)
-        ∷ (c && w.ends_empty, C06)
+        ((B27, a)
+        ∷ (C05, c && w.all_primitive && nat_le (segments_in w).length_as_primitive 1000)
+        ∷ (C06, c && w.ends_empty)
         ∷ [])
         ≡ []
     by false false e = refl

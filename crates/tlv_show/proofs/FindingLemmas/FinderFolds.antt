@@ -9,9 +9,9 @@ use Rattle.tlv_head.specs.Header.{HeaderValue, announced_length, octets_of, wrap
 use Rattle.tlv_value.specs.declared.finding.Finding.{Finding}
 use Rattle.tlv_value.specs.ValueCheckState.{has_unused_bits, value_check_for}
 use Rattle.tlv_head.specs.UniversalTypes.{bit_string}
-use Rattle.tlv_value.specs.Types.{has_segments, is_a, is_primitive}
+use Rattle.tlv_value.specs.Types.{has_segments, is_a, has_primitive_form}
 use Rattle.tlv_walk.specs.Forest.{Forest, NoMore, PaddingOctet, Primitive, Holder, OpenPrimitive, OpenHolder}
-use Rattle.tlv_walk.specs.Forest.{OpenBitString, OpenHeader, OpenEndOctets, extent, is_whole}
+use Rattle.tlv_walk.specs.Forest.{OpenBitString, OpenHeader, OpenEndOctets, holder_extent, is_whole}
 use Rattle.tlv_walk.specs.Place.{ObeysGrammar, Place, place_after}
 use Rattle.tlv_show.specs.declared.holder_frame.HolderFrame.{HolderFrame}
 use Rattle.tlv_show.specs.declared.wanted.Wanted.{Wanted}
@@ -33,7 +33,7 @@ frame_after_elements w (Primitive h c rest) =
     (frame_after (with_element w) true (announced_length h.size) (has_unused_bits (value_check_for h c)))
     rest
 frame_after_elements w (Holder h inside rest) =
-    frame_after_elements (frame_after (with_element w) (is_primitive h) (announced_length h.size) false) rest
+    frame_after_elements (frame_after (with_element w) (has_primitive_form h) (announced_length h.size) false) rest
 frame_after_elements w (OpenPrimitive h c) = w
 frame_after_elements w (OpenHolder h inside) = w
 frame_after_elements w (OpenBitString h) = w
@@ -50,7 +50,7 @@ frame_after_segments w (Primitive h c rest) =
     (has_unused_bits (value_check_for h c)))
     rest
 frame_after_segments w (Holder h inside rest) =
-    frame_after_segments (frame_after_segment (with_element w) (is_primitive h) (announced_length h.size) false) rest
+    frame_after_segments (frame_after_segment (with_element w) (has_primitive_form h) (announced_length h.size) false) rest
 frame_after_segments w (OpenPrimitive h c) = w
 frame_after_segments w (OpenHolder h inside) = w
 frame_after_segments w (OpenBitString h) = w
@@ -67,8 +67,8 @@ all-in-string w (Primitive h c rest) e =
     ∙ all-in-string (frame_after_segment (with_element w) true (announced_length h.size) u) rest e
 all-in-string w (Holder h inside rest) e =
     ap (λ (t : HolderFrame). frame_after_elements t rest)
-    (in-string (with_element w) (is_primitive h) (announced_length h.size) false e)
-    ∙ all-in-string (frame_after_segment (with_element w) (is_primitive h) (announced_length h.size) false) rest e
+    (in-string (with_element w) (has_primitive_form h) (announced_length h.size) false e)
+    ∙ all-in-string (frame_after_segment (with_element w) (has_primitive_form h) (announced_length h.size) false) rest e
 all-in-string w (OpenPrimitive h c) e = refl
 all-in-string w (OpenHolder h inside) e = refl
 all-in-string w (OpenBitString h) e = refl
@@ -110,8 +110,8 @@ frame-stays w (Primitive h c rest) =
     (frame_after (with_element w) true (announced_length h.size) (has_unused_bits (value_check_for h c)))
     rest)
 frame-stays w (Holder h inside rest) =
-    stays-then (stays-after w (is_primitive h) (announced_length h.size) false)
-    (frame-stays (frame_after (with_element w) (is_primitive h) (announced_length h.size) false) rest)
+    stays-then (stays-after w (has_primitive_form h) (announced_length h.size) false)
+    (frame-stays (frame_after (with_element w) (has_primitive_form h) (announced_length h.size) false) rest)
 frame-stays w (OpenPrimitive h c) = record { offset = refl; announced_length = refl; primitive = refl; segments = refl }
 frame-stays w (OpenHolder h inside) = record { offset = refl; announced_length = refl; primitive = refl; segments = refl }
 frame-stays w (OpenBitString h) = record { offset = refl; announced_length = refl; primitive = refl; segments = refl }
@@ -153,8 +153,8 @@ lacks-after w (Primitive h c rest) =
     ∙ ap (λ (k : Bool). k && length (headers rest) == 0) (with-it w true (announced_length h.size) u)
     ∙ none-lacking w.lacks_components (length (headers rest))
 lacks-after w (Holder h inside rest) =
-    lacks-after (frame_after (with_element w) (is_primitive h) (announced_length h.size) false) rest
-    ∙ ap (λ (k : Bool). k && length (headers rest) == 0) (with-it w (is_primitive h) (announced_length h.size) false)
+    lacks-after (frame_after (with_element w) (has_primitive_form h) (announced_length h.size) false) rest
+    ∙ ap (λ (k : Bool). k && length (headers rest) == 0) (with-it w (has_primitive_form h) (announced_length h.size) false)
     ∙ none-lacking w.lacks_components (length (headers rest))
 lacks-after w (OpenPrimitive h c) = and-true w.lacks_components
 lacks-after w (OpenHolder h inside) = and-true w.lacks_components
@@ -173,12 +173,12 @@ value_length_after bits n hs = fold (λ (m : ℕ) (g : HeaderValue). m + (announ
 -- whether the last of the elements is a primitive without contents octets; `empty` says so of the element before them
 abbrev ends_empty_after : Bool → List HeaderValue → Bool
 ends_empty_after empty [] = empty
-ends_empty_after empty (h ∷ hs) = ends_empty_after (is_primitive h && announced_length h.size == 0) hs
+ends_empty_after empty (h ∷ hs) = ends_empty_after (has_primitive_form h && announced_length h.size == 0) hs
 
 last-empty : (empty : Bool) (h : HeaderValue) (hs : List HeaderValue)
     → ends_empty_after empty (h ∷ hs) ≡ ends_empty (h ∷ hs)
 last-empty empty h [] = refl
-last-empty empty h (g ∷ hs) = last-empty (is_primitive h && announced_length h.size == 0) g hs
+last-empty empty h (g ∷ hs) = last-empty (has_primitive_form h && announced_length h.size == 0) g hs
 
 all-empty : (hs : List HeaderValue) → ends_empty_after false hs ≡ ends_empty hs
 all-empty [] = refl
@@ -187,7 +187,7 @@ all-empty (h ∷ hs) = last-empty false h hs
 record SumsUp (w : HolderFrame) (n : ℕ) (f : Forest) : Type 0 where
   pub segments : (frame_after_segments w f).has_segments ≡ w.has_segments
   pub bits : (frame_after_segments w f).is_bit_string ≡ w.is_bit_string
-  pub all : (frame_after_segments w f).all_primitive ≡ (w.all_primitive && list_all is_primitive (headers f))
+  pub all : (frame_after_segments w f).all_primitive ≡ (w.all_primitive && list_all has_primitive_form (headers f))
   pub value_length : (frame_after_segments w f).value_length
       ≡ min (value_length_after (bits_octet_count w.is_bit_string) n (headers f)) 1001
   pub empty : (frame_after_segments w f).ends_empty ≡ ends_empty_after w.ends_empty (headers f)
@@ -205,7 +205,7 @@ sums-up p w n (PaddingOctet rest) v e o =
     record { segments = r.segments; bits = r.bits; all = r.all; value_length = r.value_length; empty = r.empty }
 sums-up p w n (Primitive h c rest) v e o =
     let d : ℕ = announced_length h.size - bits_octet_count w.is_bit_string in
-    let k : is_primitive h ≡ true = ap not (not-constructed h.constructed (wraps h) v.0.0.holding) in
+    let k : has_primitive_form h ≡ true = ap not (not-constructed h.constructed (wraps h) v.0.0.holding) in
     let u : Bool = has_unused_bits (value_check_for h c) in
     let r =
     sums-up (place_after p (length (octets_of h) + length c))
@@ -215,8 +215,8 @@ sums-up p w n (Primitive h c rest) v e o =
       segments = r.segments;
       bits = r.bits;
       all =
-          r.all ∙ and_assoc w.all_primitive true (list_all is_primitive (headers rest))
-          ∙ ap (λ (b : Bool). w.all_primitive && (b && list_all is_primitive (headers rest))) (sym k);
+          r.all ∙ and_assoc w.all_primitive true (list_all has_primitive_form (headers rest))
+          ∙ ap (λ (b : Bool). w.all_primitive && (b && list_all has_primitive_form (headers rest))) (sym k);
       value_length = r.value_length;
       empty =
           r.empty ∙ ap (λ (b : Bool). ends_empty_after (b && announced_length h.size == 0) (headers rest)) (sym k);
@@ -224,13 +224,13 @@ sums-up p w n (Primitive h c rest) v e o =
 sums-up p w n (Holder h inside rest) v e o =
     let d : ℕ = announced_length h.size - bits_octet_count w.is_bit_string in
     let r =
-    sums-up (place_after p (extent h inside))
-    (frame_after_segment (with_element w) (is_primitive h) (announced_length h.size) false) (n + d) rest v.2 e
+    sums-up (place_after p (holder_extent h inside))
+    (frame_after_segment (with_element w) (has_primitive_form h) (announced_length h.size) false) (n + d) rest v.2 e
     (more-length w.value_length n d o) in
     record {
       segments = r.segments;
       bits = r.bits;
-      all = r.all ∙ and_assoc w.all_primitive (is_primitive h) (list_all is_primitive (headers rest));
+      all = r.all ∙ and_assoc w.all_primitive (has_primitive_form h) (list_all has_primitive_form (headers rest));
       value_length = r.value_length;
       empty = r.empty;
     }
@@ -243,7 +243,7 @@ sums-up p w n OpenEndOctets v e o = absurd (cc (e))
 -- what is found with an end, by what is asked of the holder and of what it held
 abbrev ended_by : Wanted → HeaderValue → List HeaderValue → Bool → List Finding
 ended_by wanted h hs lacks =
-    ends_by wanted lacks (has_segments h) (list_all is_primitive hs) (nat_le (length_as_primitive h hs) 1000)
+    ends_by wanted lacks (has_segments h) (list_all has_primitive_form hs) (nat_le (length_as_primitive h hs) 1000)
     (ends_empty hs)
 
 segments-summed : (wanted : Wanted) (p : Place) (h : HeaderValue) (inside : Forest) → ObeysGrammar p inside
@@ -256,7 +256,7 @@ segments-summed wanted p h inside v e =
     let lacks : Bool = w.lacks_components in
     let k : Bool = has_segments h in
     let b : Bool = is_a bit_string h in
-    let all : Bool = list_all is_primitive (headers inside) in
+    let all : Bool = list_all has_primitive_form (headers inside) in
     let few : Bool → ℕ → Bool = λ bits octets. nat_le (bits_octet_count bits + octets) 1000 in
     ap₂ (λ (x y : Bool). ends_by wanted lacks x w.all_primitive (few y w.value_length) w.ends_empty) r.segments r.bits
     ∙ ap₂ (λ (x y : Bool). ends_by wanted lacks k x (few (k && b) w.value_length) y) r.all
@@ -276,7 +276,7 @@ ends-outside wanted w e =
 asked-outside : (wanted : Wanted) (h : HeaderValue) (hs : List HeaderValue) (lacks : Bool) → has_segments h ≡ false
     → ended_by wanted h hs lacks ≡ ends_by wanted lacks false false false false
 asked-outside wanted h hs lacks e =
-    ap (λ (k : Bool). ends_by wanted lacks k (list_all is_primitive hs) (nat_le (length_as_primitive h hs) 1000)
+    ap (λ (k : Bool). ends_by wanted lacks k (list_all has_primitive_form hs) (nat_le (length_as_primitive h hs) 1000)
     (ends_empty hs))
     e
 
@@ -362,14 +362,14 @@ module _ (wanted : Wanted) (p : Place) (w : HolderFrame) (h : HeaderValue) (insi
 pub after-under : (w : HolderFrame) (h : HeaderValue) (inside : Forest)
     → frame_after w (frame_after_elements (frame_under w h) inside).is_primitive
     (frame_after_elements (frame_under w h) inside).announced_length false
-    ≡ frame_after w (is_primitive h) (announced_length h.size) false
+    ≡ frame_after w (has_primitive_form h) (announced_length h.size) false
 after-under w h inside = by w.has_segments refl
   where
     by : (k : Bool) → w.has_segments ≡ k
         → frame_after w
         (frame_after_elements (if k || has_segments h || has_components h then frame_of h else top_frame) inside).is_primitive
         (frame_after_elements (if k || has_segments h || has_components h then frame_of h else top_frame) inside).announced_length false
-        ≡ frame_after w (is_primitive h) (announced_length h.size) false
+        ≡ frame_after w (has_primitive_form h) (announced_length h.size) false
     by true e =
         let r =
         frame-stays (frame_of h) inside in ap₂ (λ (b : Bool) (size : ℕ). frame_after w b size false) r.primitive
@@ -377,4 +377,4 @@ after-under w h inside = by w.has_segments refl
     by false e =
         let f : HolderFrame = frame_after_elements (if has_segments h || has_components h then frame_of h else top_frame) inside in
         outside w f.is_primitive f.announced_length false e
-        ∙ sym (outside w (is_primitive h) (announced_length h.size) false e)
+        ∙ sym (outside w (has_primitive_form h) (announced_length h.size) false e)

@@ -7,12 +7,12 @@ use Rattle.std.specs.Prelude.{None}
 use Rattle.tlv_head.specs.Header.{HasAllContents, HeaderValue, announced_length, octets_of, wraps}
 use Rattle.tlv_value.specs.declared.finding.Finding.{Finding}
 use Rattle.tlv_value.specs.ValueCheckState.{has_unused_bits, value_check_for}
-use Rattle.tlv_value.specs.Types.{is_primitive}
+use Rattle.tlv_value.specs.Types.{has_primitive_form}
 use Rattle.tlv_walk.specs.Events.{EventValue, closing_event}
 use Rattle.tlv_walk.specs.Events.{events}
 use Rattle.tlv_walk.specs.Forest.{end_octets_offset}
 use Rattle.tlv_walk.specs.Forest.{Forest, NoMore, PaddingOctet, Primitive, Holder, OpenPrimitive, OpenHolder}
-use Rattle.tlv_walk.specs.Forest.{OpenBitString, OpenHeader, OpenEndOctets, extent, is_whole}
+use Rattle.tlv_walk.specs.Forest.{OpenBitString, OpenHeader, OpenEndOctets, holder_extent, is_whole}
 use Rattle.tlv_walk.specs.Place.{ObeysGrammar, Place, place_after, place_of_children}
 use Rattle.tlv_show.specs.declared.holder_frame.HolderFrame.{HolderFrame}
 use Rattle.tlv_show.specs.declared.wanted.Wanted.{Wanted}
@@ -151,8 +151,8 @@ module _ (wanted : Wanted) where
       finds_forest (place_of_children p h) (site_of_children s h) (frame_under w h) (with_element w ∷ outer) inside v.1
       (knows-inside w s h) (omega (arith, l)) (omega (arith, d)) (λ e. absurd (cc (e))) in
       let r =
-      finds_forest (place_after p (extent h inside)) (site_after_holder s h inside)
-      (frame_after (with_element w) (is_primitive h) (announced_length h.size) false) outer rest v.2
+      finds_forest (place_after p (holder_extent h inside)) (site_after_holder s h inside)
+      (frame_after (with_element w) (has_primitive_form h) (announced_length h.size) false) outer rest v.2
       (knows-after (with_element w) s (site_after_holder s h inside) h false k refl refl refl)
       l d free in
       let few : length outer < 128 = omega (arith, l, d, v.0.0.shallow) in
@@ -165,7 +165,7 @@ module _ (wanted : Wanted) where
       ≡ then_found (finding_items (length outer) h.offset (header_findings_in wanted (surroundings_in w) h))
       (then_found (only (items (wanted_findings wanted) (site_of_children s h) inside))
       (then_found (finding_items (length outer) h.offset (last_findings wanted s e (held_findings wanted h inside)))
-      (run_finder (check_between wanted (frame_after (with_element w) (is_primitive h) (announced_length h.size) false) outer m)
+      (run_finder (check_between wanted (frame_after (with_element w) (has_primitive_form h) (announced_length h.size) false) outer m)
       (events rest))))) =
       λ n o.
       let a : Kept = later_header wanted w h n in
@@ -188,7 +188,7 @@ module _ (wanted : Wanted) where
             (finding_items (length outer) h.offset
             (with_order_if b (with_characters_if k (end_findings wanted h (headers inside)))))
             (run_finder
-            (check_between wanted (frame_after (with_element w) (is_primitive h) (announced_length h.size) false) outer
+            (check_between wanted (frame_after (with_element w) (has_primitive_form h) (announced_length h.size) false) outer
             (after_end wanted h inside t.0))
             (events rest)))
             (passed-found wanted s n.seen e wrong closed o taken)

@@ -16,7 +16,7 @@ use Rattle.tlv_head.specs.Header.{HasAllContents, HeaderValue, announced_length}
 use Rattle.tlv_value.specs.declared.finding.Finding.{Finding}
 use Rattle.tlv_value.specs.ValueCheckState.{ValueCheckState, findings_in, has_unused_bits, value_check_for}
 use Rattle.tlv_value.specs.ValueCheckState.{new_value_check}
-use Rattle.tlv_value.specs.Types.{is_primitive}
+use Rattle.tlv_value.specs.Types.{has_primitive_form}
 use Rattle.tlv_value.proofs.CheckLemmas.CheckPieces.{checked-none, findings-end}
 use Rattle.tlv_walk.specs.Events.{Begin, Bytes, Close, End, Enter, EventValue, Leave, Open, Unused, closing_event}
 use Rattle.tlv_walk.specs.Events.{opening_events}
@@ -276,7 +276,7 @@ module _ (wanted : Wanted) where
       (closing_event h inside ∷ es)
       ≡ then_found (finding_items (length outer) h.offset (found_at_end h inside n))
       (run_finder
-      (check_between (frame_after (with_element w) (is_primitive h) (announced_length h.size) false) outer
+      (check_between (frame_after (with_element w) (has_primitive_form h) (announced_length h.size) false) outer
       (after_end h inside n))
       es)
   run-closing p w outer n h inside es v whole there =
@@ -351,7 +351,7 @@ module _ (wanted : Wanted) where
       (ends_with_octets wanted h inside)
       ≡ record {
         kept =
-            check_between (frame_after (with_element w) (is_primitive h) (announced_length h.size) false) outer (after_end h inside n);
+            check_between (frame_after (with_element w) (has_primitive_form h) (announced_length h.size) false) outer (after_end h inside n);
         level = length outer;
         offset =
             offset_at_end (is_holder_found h inside n) (seen_held wanted n.seen h inside).order (string_in n)

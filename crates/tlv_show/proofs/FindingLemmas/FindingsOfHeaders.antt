@@ -11,9 +11,9 @@ use Rattle.tlv_show.specs.ListedFindings.{findings_under, is_by, listed_findings
 use Rattle.tlv_show.specs.Site.{Site}
 
 -- one of the conditions holds whose findings the rules have, and pass the test
-abbrev pub any_of : (Finding → Bool) → Rules → List (Bool × Finding) → Bool
+abbrev pub any_of : (Finding → Bool) → Rules → List (Finding × Bool) → Bool
 any_of test rules [] = false
-any_of test rules (row ∷ rows) = (if is_by rules row.1 && test row.1 then row.0 else false) || any_of test rules rows
+any_of test rules (row ∷ rows) = (if is_by rules row.0 && test row.0 then row.1 else false) || any_of test rules rows
 
 -- one condition, and the findings of others
 one-found : (test : Finding → Bool) (rules : Rules) (there had asked : Bool) (f : Finding) (fs : List Finding)
@@ -27,12 +27,12 @@ one-found test rules true true true f fs s t = rw (s, t) refl
 one-found test rules true true false f fs s t = rw (s, t) refl
 one-found test rules true false asked f fs s t = rw s refl
 
-pub all-found : (test : Finding → Bool) (rules : Rules) (rows : List (Bool × Finding))
+pub all-found : (test : Finding → Bool) (rules : Rules) (rows : List (Finding × Bool))
     → list_any test (findings_under rules rows) ≡ any_of test rules rows
 all-found test rules [] = refl
 all-found test rules (row ∷ rows) =
-    one-found test rules row.0 (is_by rules row.1) (test row.1) row.1 (findings_by rows) refl refl
-    ∙ ap (λ (b : Bool). (if is_by rules row.1 && test row.1 then row.0 else false) || b) (all-found test rules rows)
+    one-found test rules row.1 (is_by rules row.0) (test row.0) row.0 (findings_by rows) refl refl
+    ∙ ap (λ (b : Bool). (if is_by rules row.0 && test row.0 then row.1 else false) || b) (all-found test rules rows)
 
 pub found-with_header : (test : Finding → Bool) (rules : Rules) (s : Site) (h : HeaderValue)
     → list_any test ((listed_findings rules).of_header s h) ≡ any_of test rules (listed_header_conditions s h)

@@ -7,7 +7,7 @@ use Rattle.tlv_head.specs.Header.{HeaderValue, announced_length, is_universal}
 use Rattle.tlv_value.specs.ValueCheckState.{begins_nonzero, has_unused_bits, value_check_after, value_check_for}
 use Rattle.tlv_value.specs.ValueCheckState.{new_value_check_of, type_number}
 use Rattle.tlv_head.specs.UniversalTypes.{bit_string, octet_string}
-use Rattle.tlv_value.specs.Types.{has_segments, is_a, is_primitive}
+use Rattle.tlv_value.specs.Types.{has_segments, is_a, has_primitive_form}
 use Rattle.tlv_value.proofs.CheckLemmas.CheckPieces.{checked-none}
 use Rattle.tlv_walk.specs.Forest.{Forest, NoMore, PaddingOctet, Primitive}
 use Rattle.tlv_show.specs.declared.holder_frame.HolderFrame.{HolderFrame}
@@ -91,7 +91,7 @@ unused-of h (x ∷ c) =
 
 -- a primitive, by its form and its length
 pub full-of : (h : HeaderValue) (c : List ℕ) → h.constructed ≡ false
-    → not (is_primitive h && announced_length h.size == 1000) ≡ is_not_full (Primitive h c NoMore)
+    → not (has_primitive_form h && announced_length h.size == 1000) ≡ is_not_full (Primitive h c NoMore)
 full-of h c e = ap (λ (k : Bool). not (not k && announced_length h.size == 1000)) e
 
 surroundings_with-eq : (a a' b b' c c' d d' : Bool) → a ≡ a' → b ≡ b' → c ≡ c' → d ≡ d'
@@ -100,8 +100,8 @@ surroundings_with-eq a a' b b' c c' d d' e f g h = rw (e, f, g, h) refl
 
 pub knows-after : (w : HolderFrame) (s t : Site) (h : HeaderValue) (unused_bits : Bool)
     → Knows w s → t.holder ≡ s.holder → unused_bits ≡ leaves_unused_bits t.previous
-    → not (is_primitive h && announced_length h.size == 1000) ≡ is_not_full t.previous
-    → Knows (frame_after w (is_primitive h) (announced_length h.size) unused_bits) t
+    → not (has_primitive_form h && announced_length h.size == 1000) ≡ is_not_full t.previous
+    → Knows (frame_after w (has_primitive_form h) (announced_length h.size) unused_bits) t
 knows-after w s t h unused_bits k e u full = by-segments w.has_segments refl
   where
     same : surroundings_in w ≡ around t.holder s.previous
@@ -114,7 +114,7 @@ knows-after w s t h unused_bits k e u full = by-segments w.has_segments refl
     bits = ap (λ (x : Surroundings). x.in_bit_string) same
 
     by-segments : (b : Bool) → w.has_segments ≡ b
-        → Knows (if b then frame_after_segment w (is_primitive h) (announced_length h.size) unused_bits else w) t
+        → Knows (if b then frame_after_segment w (has_primitive_form h) (announced_length h.size) unused_bits else w) t
     by-segments true c =
         surroundings_with-eq _ _ _ _ _ _ _ _ segments bits
         (ap₂ (λ (x y : Bool). x && y) bits u)

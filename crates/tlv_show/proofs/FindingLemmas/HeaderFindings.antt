@@ -37,16 +37,16 @@ Knows w s = surroundings_in w ≡ surroundings_of s
 -- ---- what the rules show
 
 -- what is found by conditions, of which the rules show some
-by-shown : (wanted : Wanted) (rows : List (Bool × Finding))
+by-shown : (wanted : Wanted) (rows : List (Finding × Bool))
     → shown_findings wanted rows ≡ findings_by (kept_rows (is_shown wanted) rows)
 by-shown wanted rows = kept-found (is_shown wanted) rows
 
 -- ---- with a header: list by list
 
-found-more : (xs ys : List (Bool × Finding)) → findings_by (xs ++ ys) ≡ findings_by xs ++ findings_by ys
-found-more xs ys = flat_map-append (λ row. if row.0 then row.1 ∷ [] else []) xs ys
+found-more : (xs ys : List (Finding × Bool)) → findings_by (xs ++ ys) ≡ findings_by xs ++ findings_by ys
+found-more xs ys = flat_map-append (λ row. if row.1 then row.0 ∷ [] else []) xs ys
 
-found-both : (scope : Scope) (s : Surroundings) (h : HeaderValue) (rows : List (Bool × Finding))
+found-both : (scope : Scope) (s : Surroundings) (h : HeaderValue) (rows : List (Finding × Bool))
     → findings_by ((first_basic_conditions_in s h ++ later_basic_conditions_in scope h) ++ rows)
     ≡ (findings_by (first_basic_conditions_in s h) ++ findings_by (later_basic_conditions_in scope h))
     ++ findings_by rows
@@ -55,7 +55,7 @@ found-both scope s h rows =
     ∙ ap (λ (l : List Finding). l ++ findings_by rows)
     (found-more (first_basic_conditions_in s h) (later_basic_conditions_in scope h))
 
-found-three : (scope : Scope) (s : Surroundings) (h : HeaderValue) (rows more : List (Bool × Finding))
+found-three : (scope : Scope) (s : Surroundings) (h : HeaderValue) (rows more : List (Finding × Bool))
     → findings_by (((first_basic_conditions_in s h ++ later_basic_conditions_in scope h) ++ rows) ++ more)
     ≡ ((findings_by (first_basic_conditions_in s h) ++ findings_by (later_basic_conditions_in scope h))
     ++ findings_by rows) ++ findings_by more
@@ -112,7 +112,7 @@ bits_octet_count-within false = omega arith
 -- and whether the last is empty
 abbrev pub ends_by : Wanted → Bool → Bool → Bool → Bool → Bool → List Finding
 ends_by wanted lacks k all few empty =
-    shown_findings wanted ((lacks, B27) ∷ (k && all && few, C05) ∷ (k && empty, C06) ∷ [])
+    shown_findings wanted ((B27, lacks) ∷ (C05, k && all && few) ∷ (C06, k && empty) ∷ [])
 
 -- b: of a BIT STRING
 pub end-by : (wanted : Wanted) (lacks k b all empty : Bool) (sum : ℕ → ℕ)

@@ -8,19 +8,19 @@ use Rattle.tlv_show.specs.ListedFindings.{findings_under, is_by}
 use Rattle.tlv_show.specs.ShownFindings.{is_listed, listed_by, shown_findings}
 
 -- the rows whose findings are kept
-abbrev pub kept_rows : (Finding → Bool) → List (Bool × Finding) → List (Bool × Finding)
-kept_rows keeps rows = filter (λ row. keeps row.1) rows
+abbrev pub kept_rows : (Finding → Bool) → List (Finding × Bool) → List (Finding × Bool)
+kept_rows keeps rows = filter (λ row. keeps row.0) rows
 
 -- of the findings by conditions those are kept that the kept rows have
-pub kept-found : (keeps : Finding → Bool) (rows : List (Bool × Finding))
+pub kept-found : (keeps : Finding → Bool) (rows : List (Finding × Bool))
     → filter keeps (findings_by rows) ≡ findings_by (kept_rows keeps rows)
 kept-found keeps [] = refl
-kept-found keeps (row ∷ rows) = by row.0 (keeps row.1) refl (kept-found keeps rows)
+kept-found keeps (row ∷ rows) = by row.1 (keeps row.0) refl (kept-found keeps rows)
   where
-    by : (there kept : Bool) → keeps row.1 ≡ kept
+    by : (there kept : Bool) → keeps row.0 ≡ kept
         → filter keeps (findings_by rows) ≡ findings_by (kept_rows keeps rows)
-        → filter keeps (findings_by ((there, row.1) ∷ rows)) ≡ findings_by (kept_rows keeps ((there, row.1) ∷ rows))
-    by true true e h = rw e (ap (λ (l : List Finding). row.1 ∷ l) h)
+        → filter keeps (findings_by ((row.0, there) ∷ rows)) ≡ findings_by (kept_rows keeps ((row.0, there) ∷ rows))
+    by true true e h = rw e (ap (λ (l : List Finding). row.0 ∷ l) h)
     by true false e h = rw e h
     by false true e h = rw e h
     by false false e h = rw e h
@@ -38,7 +38,7 @@ both-kept p q (f ∷ fs) = by (p f) (q f) refl refl (both-kept p q fs)
     by false false d e h = rw (e, d) h
 
 -- the findings by the rules, of the rows whose findings are listed
-pub listed-found : (rules : Rules) (rows : List (Bool × Finding))
+pub listed-found : (rules : Rules) (rows : List (Finding × Bool))
     → shown_findings (listed_by rules) rows ≡ findings_under rules (kept_rows is_listed rows)
 listed-found rules rows =
     both-kept (is_by rules) is_listed (findings_by rows) ∙ ap (filter (is_by rules)) (kept-found is_listed rows)

@@ -45,25 +45,25 @@ on-identifier Cer s h =
     ap (λ (b : Bool). is_high_form_needless h || b) (or-false (begins_with_zero_bits h))
 
 -- an identifier as short as it can be has none of them
-pub longer_identifier-absent : (h : HeaderValue) → IsShortestIdentifier h.number h.identifier
+pub longer_identifier-absent : (h : HeaderValue) → IsShortestIdentifier h.number h.identifier_octets
     → longer_identifier h ≡ false
-longer_identifier-absent h s = elim (cases_lt 1 (length h.identifier)) [
+longer_identifier-absent h s = elim (cases_lt 1 (length h.identifier_octets)) [
   | inl more ↦
       let large : 31 ≤ h.number = at-least h.number 31 (λ small. omega (arith, more, s.single small)) in
       let number : nat_lt h.number 31 ≡ false = grind (arith, nat_tests) in
-      let nonzero : slice_index h.identifier 1 % 128 ≢ 0 = s.leading more in
-      let bits : (slice_index h.identifier 1 % 128 == 0) ≡ false = grind (arith, nat_tests) in
+      let nonzero : slice_index h.identifier_octets 1 % 128 ≢ 0 = s.leading more in
+      let bits : (slice_index h.identifier_octets 1 % 128 == 0) ≡ false = grind (arith, nat_tests) in
       or_from _ _ (ap (λ (b : Bool). has_high_form h && b) number ∙ and-false (has_high_form h))
       (ap (λ (b : Bool). has_high_form h && b) bits ∙ and-false (has_high_form h))
   | inr le ↦
       let low : has_high_form h ≡ false = grind (arith, nat_tests) in
       or_from _ _ (ap (λ (b : Bool). b && nat_lt h.number 31) low)
-      (ap (λ (b : Bool). b && slice_index h.identifier 1 % 128 == 0) low)
+      (ap (λ (b : Bool). b && slice_index h.identifier_octets 1 % 128 == 0) low)
 ]
 
 -- and one that has none is as short as it can be
 identifier-shortest : (h : HeaderValue) → IsHeader h → longer_identifier h ≡ false
-    → IsShortestIdentifier h.number h.identifier
+    → IsShortestIdentifier h.number h.identifier_octets
 identifier-shortest h valid e =
     let both : (is_high_form_needless h ≡ false) × (begins_with_zero_bits h ≡ false) =
     or_parts _ _ e in
@@ -86,19 +86,19 @@ on-lengths Ber s h strict = absurd (strict refl)
 on-lengths Der s h strict = or-false (is_length_padded h)
 on-lengths Cer s h strict = or-false (is_length_padded h)
 
-pub length-not_padded : (h : HeaderValue) → IsShortestLength (announced_length h.size) h.lengths
+pub length-not_padded : (h : HeaderValue) → IsShortestLength (announced_length h.size) h.length_octets
     → is_length_padded h ≡ false
-length-not_padded h s = elim (cases_lt 1 (length h.lengths)) [
+length-not_padded h s = elim (cases_lt 1 (length h.length_octets)) [
   | inl more ↦
       let large : 128 ≤ announced_length h.size =
       at-least (announced_length h.size) 128 (λ small. omega (arith, more, s.single small)) in
       let number : nat_lt (announced_length h.size) 128 ≡ false = grind (arith, nat_tests) in
-      let nonzero : slice_index h.lengths 1 ≢ 0 = s.leading more in
-      let first : (slice_index h.lengths 1 == 0) ≡ false = grind (arith, nat_tests) in
+      let nonzero : slice_index h.length_octets 1 ≢ 0 = s.leading more in
+      let first : (slice_index h.length_octets 1 == 0) ≡ false = grind (arith, nat_tests) in
       ap (λ (b : Bool). has_long_form h && b) (or_from _ _ number first) ∙ and-false (has_long_form h)
   | inr le ↦
       let short : has_long_form h ≡ false = grind (arith, nat_tests) in
-      ap (λ (b : Bool). b && (nat_lt (announced_length h.size) 128 || slice_index h.lengths 1 == 0)) short
+      ap (λ (b : Bool). b && (nat_lt (announced_length h.size) 128 || slice_index h.length_octets 1 == 0)) short
 ]
 
 pub lengths-found : LongerLengthsAreFound

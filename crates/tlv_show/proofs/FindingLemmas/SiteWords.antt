@@ -2,7 +2,7 @@
 use Rattle.std.specs.Prelude.{ℕ, Bool, false, List, Option}
 use Rattle.std.specs.Option.{option_map_or}
 use Rattle.tlv_head.specs.Header.{HeaderValue}
-use Rattle.tlv_walk.specs.Forest.{Forest, Holder, NoMore, PaddingOctet, Primitive, extent, primitive_extent}
+use Rattle.tlv_walk.specs.Forest.{Forest, Holder, NoMore, PaddingOctet, Primitive, holder_extent, primitive_extent}
 use Rattle.tlv_show.specs.Items.{Item, finding_items}
 use Rattle.tlv_show.specs.ListedFindings.{ElementFindings}
 use Rattle.tlv_show.specs.Site.{Site, site_after}
@@ -15,7 +15,7 @@ abbrev pub site_after_primitive : Site → HeaderValue → List ℕ → Site
 site_after_primitive s h c = site_after s (primitive_extent h c) (Primitive h c NoMore)
 
 abbrev pub site_after_holder : Site → HeaderValue → Forest → Site
-site_after_holder s h children = site_after s (extent h children) (Holder h children NoMore)
+site_after_holder s h children = site_after s (holder_extent h children) (Holder h children NoMore)
 
 abbrev pub site_after_padding : Site → Site
 site_after_padding s = site_after s 1 (PaddingOctet NoMore)

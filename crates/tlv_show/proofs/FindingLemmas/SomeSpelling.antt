@@ -14,8 +14,9 @@ use Rattle.tlv_walk.specs.declared.framing.Framing.{Framing}
 use Rattle.tlv_walk.specs.AlikeElements.{AreAlike, holders, nothing, padding, primitives}
 use Rattle.tlv_walk.specs.Forest.{end_octets_offset}
 use Rattle.tlv_walk.specs.Forest.{Forest, NoMore, PaddingOctet, Primitive, Holder, OpenPrimitive, OpenHolder}
-use Rattle.tlv_walk.specs.Forest.{OpenBitString, OpenHeader, OpenEndOctets, extent, has_element, spelling}
-use Rattle.tlv_walk.specs.Inside.{are_rising, is_among}
+use Rattle.tlv_walk.specs.Forest.{OpenBitString, OpenHeader, OpenEndOctets, holder_extent, has_element, spelling}
+use Rattle.tlv_walk.specs.Inside.{are_rising}
+use Rattle.tlv_head.specs.Lists.{is_among}
 use Rattle.tlv_walk.proofs.EventLemmas.NamedOffsets.{AreRising, rising-from, rising-to}
 use Rattle.tlv_walk.specs.Place.{ObeysGrammar, Place, is_indefinite, place_after, place_of_children, top_place}
 use Rattle.tlv_walk.specs.Reading.{IsReading, IsSound, IsSoundList}
@@ -143,7 +144,7 @@ module _ (rules : Rules) (strict : rules ≢ Ber) where
       (both-none held (ClosingLine s.depth (end_octets_offset h inside) ∷ last)
       (none-found (place_of_children p h) (site_of_children s h) inside u.1 r.1)
       (both-none (end_items found s h inside) (items found (site_after_holder s h inside) rest) (end-none s h inside)
-      (none-found (place_after p (extent h inside)) (site_after_holder s h inside) rest u.2 r.2)))
+      (none-found (place_after p (holder_extent h inside)) (site_after_holder s h inside) rest u.2 r.2)))
   none-found p s (OpenPrimitive h c) u r = absurd u
   none-found p s (OpenHolder h inside) u r = absurd u
   none-found p s (OpenBitString h) u r = absurd u
@@ -162,20 +163,20 @@ rising-of least end (n ∷ ns) few r =
     (r.0, omega (arith, few, rise-le (n + 1) end ns r.1), rising-of (n + 1) end ns few r.1)
 
 -- an offset that is not the first is among the others
-among-others : (n x : ℕ) (ns : List ℕ) → eqb n x ≡ false → is_among x (n ∷ ns) ≡ true → is_among x ns ≡ true
+among-others : (n x : ℕ) (ns : List ℕ) → eqb x n ≡ false → is_among x (n ∷ ns) ≡ true → is_among x ns ≡ true
 among-others n x ns apart e = sym (ap (λ (k : Bool). k || is_among x ns) apart) ∙ e
 
 -- what is after the first offset is among the others
 among-later : (n least end : ℕ) (ns xs : List ℕ) → n < least → Rise least end xs → AreNamed (n ∷ ns) xs → AreNamed ns xs
 among-later n least end ns [] below r named = tt
 among-later n least end ns (x ∷ xs) below r named = (
-  among-others n x ns (ne_eqb n x (λ e. omega (arith, below, r.0, e))) named.0,
+  among-others n x ns (ne_eqb x n (λ e. omega (arith, below, r.0, e))) named.0,
   among-later n (x + 1) end ns xs (omega (arith, below, r.0)) r.1 named.1,
 )
 
 among-least : (least x : ℕ) (ns : List ℕ) → AreRising least ns → is_among x ns ≡ true → least ≤ x
 among-least least x [] rising e = absurd (true≢false (sym e))
-among-least least x (n ∷ ns) rising e = elim (eqb_tells n x) [
+among-least least x (n ∷ ns) rising e = elim (eqb_tells x n) [
   | inl same ↦ omega (arith, same.1, rising.0)
   | inr apart ↦ omega (arith, rising.0, among-least (n + 1) x ns rising.2 (among-others n x ns apart.0 e))
 ]
@@ -186,7 +187,7 @@ named-no_more : (inside xs : List ℕ) (low least end : ℕ) → AreRising low i
 named-no_more [] [] low least end rising r named = omega arith
 named-no_more (n ∷ ns) [] low least end rising r named = omega arith
 named-no_more [] (x ∷ xs) low least end rising r named = absurd (true≢false (sym named.0))
-named-no_more (n ∷ ns) (x ∷ xs) low least end rising r named = elim (eqb_tells n x) [
+named-no_more (n ∷ ns) (x ∷ xs) low least end rising r named = elim (eqb_tells x n) [
   | inl same ↦
       omega (
         arith,

@@ -18,7 +18,7 @@ use Rattle.tlv_walk.specs.declared.framing.Framing.{Framing}
 use Rattle.tlv_walk.specs.Ending.{IsEnding}
 use Rattle.tlv_walk.specs.Forest.{end_octets_offset}
 use Rattle.tlv_walk.specs.Forest.{Forest, NoMore, PaddingOctet, Primitive, Holder, OpenPrimitive, OpenHolder}
-use Rattle.tlv_walk.specs.Forest.{OpenBitString, OpenHeader, OpenEndOctets, extent, spelling}
+use Rattle.tlv_walk.specs.Forest.{OpenBitString, OpenHeader, OpenEndOctets, holder_extent, spelling}
 use Rattle.tlv_walk.specs.Place.{Place, is_indefinite, place_after, place_of_children, top_place}
 use Rattle.tlv_walk.specs.Reading.{IsReading, IsSound, IsSoundList}
 use Rattle.tlv_walk.proofs.GrammarLemmas.AlikeSpellings.{AreRegular, IsRegular, one_spelling}
@@ -63,23 +63,23 @@ none-of_four false false false true e = absurd (cc (e))
 
 pub high-form : (h : HeaderValue) → is_high_form_needless h ≡ false
     → begins_with_zero_bits h ≡ false
-    → 1 < length h.identifier → (31 ≤ h.number) × (slice_index h.identifier 1 % 128 ≢ 0)
+    → 1 < length h.identifier_octets → (31 ≤ h.number) × (slice_index h.identifier_octets 1 % 128 ≢ 0)
 high-form h a b more =
-    let high : nat_lt 1 (length h.identifier) ≡ true = grind (arith, nat_tests) in
+    let high : nat_lt 1 (length h.identifier_octets) ≡ true = grind (arith, nat_tests) in
     let large : nat_lt h.number 31 ≡ false = rw high at a in
-    let nonzero : (slice_index h.identifier 1 % 128 == 0) ≡ false = rw high at b in
+    let nonzero : (slice_index h.identifier_octets 1 % 128 == 0) ≡ false = rw high at b in
     (grind (arith, nat_tests), grind (arith, nat_tests))
 
 pub long-form : (h : HeaderValue)
     → is_length_padded h ≡ false
-    → 1 < length h.lengths → (128 ≤ announced_length h.size) × (slice_index h.lengths 1 ≢ 0)
+    → 1 < length h.length_octets → (128 ≤ announced_length h.size) × (slice_index h.length_octets 1 ≢ 0)
 long-form h a more =
-    let long : nat_lt 1 (length h.lengths) ≡ true = grind (arith, nat_tests) in
-    let neither : (nat_lt (announced_length h.size) 128 || slice_index h.lengths 1 == 0) ≡ false = rw long at a in
-    let both : (nat_lt (announced_length h.size) 128 ≡ false) × ((slice_index h.lengths 1 == 0) ≡ false) =
+    let long : nat_lt 1 (length h.length_octets) ≡ true = grind (arith, nat_tests) in
+    let neither : (nat_lt (announced_length h.size) 128 || slice_index h.length_octets 1 == 0) ≡ false = rw long at a in
+    let both : (nat_lt (announced_length h.size) 128 ≡ false) × ((slice_index h.length_octets 1 == 0) ≡ false) =
     or_parts _ _ neither in
     let large : nat_lt (announced_length h.size) 128 ≡ false = both.0 in
-    let nonzero : (slice_index h.lengths 1 == 0) ≡ false = both.1 in
+    let nonzero : (slice_index h.length_octets 1 == 0) ≡ false = both.1 in
     (grind (arith, nat_tests), grind (arith, nat_tests))
 
 shortest : (h : HeaderValue) → IsHeader h → is_high_form_needless h ≡ false
@@ -160,7 +160,7 @@ module _ (rules : Rules) (strict : rules ≢ Ber) where
       let others = none-in (end_items found s h inside) (items found (site_after_holder s h inside) rest) held.1 in (
         no_findings-regular rules s h strict u.0.0.valid header.0,
         all-regular (place_of_children p h) (site_of_children s h) inside u.1 held.0,
-        all-regular (place_after p (extent h inside)) (site_after_holder s h inside) rest u.2 others.1,
+        all-regular (place_after p (holder_extent h inside)) (site_after_holder s h inside) rest u.2 others.1,
       )
   all-regular p s (OpenPrimitive h c) u e = absurd u
   all-regular p s (OpenHolder h inside) u e = absurd u

@@ -19,7 +19,7 @@ use Rattle.tlv_show.proofs.FindingLemmas.HeaderFindings.{basic-found, cer-found,
 
 none-of_seven : (a b c d e f g : Bool) → a ≡ false → b ≡ false → c ≡ false → d ≡ false → e ≡ false → f ≡ false
     → g ≡ false
-    → findings_by ((a, B01) ∷ (b, B02) ∷ (c, B03) ∷ (d, B04) ∷ (e, B05) ∷ (f, B16) ∷ (g, B17) ∷ []) ≡ []
+    → findings_by ((B01, a) ∷ (B02, b) ∷ (B03, c) ∷ (B04, d) ∷ (B05, e) ∷ (B16, f) ∷ (B17, g) ∷ []) ≡ []
 none-of_seven a b c d e f g p q r s t u v = rw (p, q, r, s, t, u, v) refl
 
 none-later : (scope : Scope) (h : HeaderValue) → IsUsual h → findings_by (later_basic_conditions_in scope h) ≡ []

@@ -9,7 +9,7 @@ use Rattle.tlv_head.specs.declared.header.Size.{Size}
 use Rattle.tlv_head.specs.declared.header.Size.TheVariants.{Definite, Indefinite}
 use Rattle.tlv_head.specs.Header.{HeaderValue, octets_of}
 use Rattle.tlv_head.specs.HeaderSoFar.{AllowsSize}
-use Rattle.tlv_value.specs.Types.{is_primitive}
+use Rattle.tlv_value.specs.Types.{has_primitive_form}
 use Rattle.tlv_walk.specs.Events.{Begin, Bytes, Close, End, Enter, EventValue, Leave, Open, Unused, closing_event}
 use Rattle.tlv_walk.specs.Events.{event_octets, opening_events}
 use Rattle.tlv_walk.proofs.GrammarLemmas.Leads.{end_offset}
@@ -69,7 +69,7 @@ primitive-passed [] h c primitive between = refl
 primitive-passed (w ∷ outer) h c primitive between =
     ap₂ (λ (v : SegmentFrame) (l : List SegmentFrame). v ∷ l) (frame-taken w h c between)
     (all-after-append (octets_of h) c outer)
-    ∙ passed-same (octets_of h ++ c) (λ n. is_primitive h && has_wrong_octet n c) (λ n. has_wrong_octet n c) (w ∷ outer)
+    ∙ passed-same (octets_of h ++ c) (λ n. has_primitive_form h && has_wrong_octet n c) (λ n. has_wrong_octet n c) (w ∷ outer)
     (λ n. ap (λ (k : Bool). not k && has_wrong_octet n c) primitive)
 
 -- ---- an element that holds others begins
@@ -255,7 +255,7 @@ taken-passed : (frames : List SegmentFrame) (h : HeaderValue) (held end : List �
     → AreFewOpen 254 frames
     → holder_taken frames h held end
     ≡ passed (octets_of h ++ (lead h ++ (held ++ end)))
-    (λ n. is_primitive h && has_wrong_octet n (lead h ++ (held ++ end)))
+    (λ n. has_primitive_form h && has_wrong_octet n (lead h ++ (held ++ end)))
     frames
 taken-passed [] h held end between few = refl
 taken-passed (w ∷ outer) h held end between few =
@@ -289,7 +289,7 @@ pub holder-passed : (frames : List SegmentFrame) (h : HeaderValue) (inside : For
     → AreBetweenSegments frames → AreFewOpen 254 frames → AllowsSize h.constructed h.size
     → segments_closed (held_passed inside (segments_opened frames h)) (end_octets h.size)
     ≡ passed (octets_of h ++ (lead h ++ (spelling inside ++ end_octets h.size)))
-    (λ n. is_primitive h && has_wrong_octet n (held_contents h inside))
+    (λ n. has_primitive_form h && has_wrong_octet n (held_contents h inside))
     frames
 holder-passed frames h inside room between few allowed =
     let octets : List ℕ = lead h ++ (spelling inside ++ end_octets h.size) in
@@ -297,7 +297,7 @@ holder-passed frames h inside room between few allowed =
     ∙ ap (λ (l : List SegmentFrame). at_innermost segment_closed (segments_after_octets (end_octets h.size) l))
     (left-as (is_tested_string h) h inside (begun_frames frames h))
     ∙ taken-passed frames h (spelling inside) (end_octets h.size) between few
-    ∙ passed-same (octets_of h ++ octets) (λ n. is_primitive h && has_wrong_octet n octets)
-    (λ n. is_primitive h && has_wrong_octet n (held_contents h inside))
+    ∙ passed-same (octets_of h ++ octets) (λ n. has_primitive_form h && has_wrong_octet n octets)
+    (λ n. has_primitive_form h && has_wrong_octet n (held_contents h inside))
     frames
     (λ n. contents-wrong h.constructed h.size (lead h) (spelling inside) n allowed)

@@ -3,10 +3,10 @@ use Rattle.std.proofs.Common.{◌≡◌, ℕ, ◌<◌, ◌≤◌, ◌&&◌, Bool
 use Rattle.std.proofs.Common.{sym, ap, ap₂, ◌∙◌, arith, append_assoc}
 use Rattle.std.proofs.lemmas.Bool.{true≢false}
 use Rattle.tlv_head.specs.Header.{octets_of, wraps}
-use Rattle.tlv_value.specs.Types.{is_primitive}
+use Rattle.tlv_value.specs.Types.{has_primitive_form}
 use Rattle.tlv_walk.specs.Events.{EventValue, closing_event, events}
 use Rattle.tlv_walk.specs.Forest.{Forest, Holder, NoMore, OpenBitString, OpenEndOctets, OpenHeader, OpenHolder}
-use Rattle.tlv_walk.specs.Forest.{OpenPrimitive, PaddingOctet, Primitive, end_octets, extent, is_whole, lead}
+use Rattle.tlv_walk.specs.Forest.{OpenPrimitive, PaddingOctet, Primitive, end_octets, holder_extent, is_whole, lead}
 use Rattle.tlv_walk.specs.Forest.{primitive_extent, spelling}
 use Rattle.tlv_walk.specs.Place.{ObeysGrammar, Place, place_after, place_of_children, top_place}
 use Rattle.tlv_walk.proofs.GrammarLemmas.ShortHeaders.{not-holding}
@@ -73,7 +73,7 @@ segments-forest p frames (Primitive h c rest) v between few short free =
           (append_assoc (octets_of h) c (spelling rest));
     }
 segments-forest p frames (Holder h inside rest) v between few short free =
-    let wrong : ℕ → Bool = λ n. is_primitive h && has_wrong_octet n (held_contents h inside) in
+    let wrong : ℕ → Bool = λ n. has_primitive_form h && has_wrong_octet n (held_contents h inside) in
     let octets : List ℕ = octets_of h ++ (lead h ++ (spelling inside ++ end_octets h.size)) in
     let t : List SegmentFrame = passed octets wrong frames in
     let room : length frames < 128 = omega (arith, short, v.0.0.shallow) in
@@ -85,7 +85,7 @@ segments-forest p frames (Holder h inside rest) v between few short free =
     (opened-few frames h p.depth room few) (omega (arith, short, longer))
     (λ x. absurd (true≢false (sym x))) in
     let r =
-    segments-forest (place_after p (extent h inside)) t rest v.2 (passed-between octets wrong frames between)
+    segments-forest (place_after p (holder_extent h inside)) t rest v.2 (passed-between octets wrong frames between)
     (passed-few octets wrong p.depth frames few) (omega (arith, same, short))
     (λ padding. ap (passed octets wrong) (free padding)) in
     let u : List SegmentFrame = (run_segments opened (events inside)).frames in

@@ -7,7 +7,7 @@ use Rattle.std.proofs.lemmas.List.Folds.{list_all-append}
 use Rattle.std.specs.List.{list_all}
 use Rattle.std.specs.Prelude.{⊤}
 use Rattle.tlv_head.specs.Header.{HeaderValue, octets_of}
-use Rattle.tlv_value.specs.Types.{is_primitive}
+use Rattle.tlv_value.specs.Types.{has_primitive_form}
 use Rattle.tlv_show.specs.declared.segment_frame.SegmentFrame.{SegmentFrame}
 use Rattle.tlv_show.specs.SegmentCharacters.{has_wrong_octet}
 use Rattle.tlv_show.specs.SegmentCharactersState.{is_directly_in_string, segment_after_octets, segment_begun, segment_closed}
@@ -146,11 +146,11 @@ passed-more a b u v (w ∷ outer) =
 
 pub frame-taken : (w : SegmentFrame) (h : HeaderValue) (c : List ℕ) → (is_directly_in_string w ≡ true → w.in_contents ≡ false)
     → segment_ended (segment_after_octets (segment_begun (segment_after_octets w (octets_of h)) h) c)
-    ≡ frame_passed (octets_of h ++ c) (λ n. is_primitive h && has_wrong_octet n c) w
+    ≡ frame_passed (octets_of h ++ c) (λ n. has_primitive_form h && has_wrong_octet n c) w
 frame-taken w h c between =
     let n : ℕ = w.number in
     let d : Bool = is_directly_in_string w in
-    let p : Bool = is_primitive h in
+    let p : Bool = has_primitive_form h in
     ap₂ (λ (i k : Bool). record w { in_contents = i; has_wrong = k })
     (contents d w.in_contents p between)
     (wrong w.has_wrong d w.in_contents p (has_wrong_octet n (octets_of h)) (has_wrong_octet n c) between

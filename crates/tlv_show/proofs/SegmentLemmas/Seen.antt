@@ -5,7 +5,7 @@ use Rattle.std.specs.Prelude.{Some, None}
 use Rattle.std.specs.Option.{is_some}
 use Rattle.tlv_head.specs.Header.{HeaderValue, octets_of}
 use Rattle.tlv_head.specs.HeaderSoFar.{AllowsSize}
-use Rattle.tlv_value.specs.Types.{is_primitive}
+use Rattle.tlv_value.specs.Types.{has_primitive_form}
 use Rattle.tlv_walk.specs.Forest.{Forest, Holder, NoMore, Primitive, end_octets, lead, opening, spelling}
 use Rattle.tlv_walk.proofs.GrammarLemmas.Spellings.{append_assoc-3}
 use Rattle.tlv_show.specs.declared.segment_frame.SegmentFrame.{SegmentFrame}
@@ -188,7 +188,7 @@ module _ (wanted : Wanted) where
   seen_held o h inside = seen_closed wanted o (order.ends_with_octets wanted h inside)
 
   abbrev pub is_wrong_held : HeaderValue → Forest → ℕ → Bool
-  is_wrong_held h inside n = is_primitive h && has_wrong_octet n (held_contents h inside)
+  is_wrong_held h inside n = has_primitive_form h && has_wrong_octet n (held_contents h inside)
 
   pub holder-seen : (s : Site) (o : SeenState) (h : HeaderValue) (inside : Forest) (u : SeenState) → HasSeen s o
       → s.depth < 128 → AllowsSize h.constructed h.size → HasSeenAll (seen_opened wanted o h) inside u

@@ -7,7 +7,7 @@ use Rattle.std.specs.Prelude.{Option, Some, None}
 use Rattle.tlv_head.specs.Header.{HeaderValue, octets_of}
 use Rattle.tlv_walk.specs.Events.{EventValue, closing_event, events}
 use Rattle.tlv_walk.specs.Forest.{Forest, Holder, NoMore, OpenBitString, OpenEndOctets, OpenHeader, OpenHolder}
-use Rattle.tlv_walk.specs.Forest.{OpenPrimitive, PaddingOctet, Primitive, end_octets, extent, is_whole, opening}
+use Rattle.tlv_walk.specs.Forest.{OpenPrimitive, PaddingOctet, Primitive, end_octets, holder_extent, is_whole, opening}
 use Rattle.tlv_walk.specs.Forest.{primitive_extent, spelling}
 use Rattle.tlv_walk.specs.Place.{ObeysGrammar, Place, place_after, place_of_children, top_place}
 use Rattle.tlv_walk.proofs.GrammarLemmas.Spellings.{append_assoc-3}
@@ -115,7 +115,7 @@ module _ (rules : Rules) where
       (omega (arith, limit, opened.open_count)) (omega (arith, few, opened.few))
       (λ x. absurd (true≢false (sym x))) in
       let r =
-      order-forest (place_after p (extent h inside)) t holder (Some e) rest v.2 taken.knows
+      order-forest (place_after p (holder_extent h inside)) t holder (Some e) rest v.2 taken.knows
       (omega (arith, limit, taken.open_count)) (omega (arith, few, same)) free in
       let u : SetOrderState = (run_set_order rules (opened_state rules s h) (events inside)).state in
       let closed : set_order_close_step u (end_octets h.size) ≡ t =

@@ -19,6 +19,6 @@ pub record IsUsual (h : HeaderValue) : Type 0 where
   pub no_components : has_components h ≡ false
 
 -- the later conditions of all encodings, if the scope has their findings
-abbrev pub later_basic_conditions_in : Scope → HeaderValue → List (Bool × Finding)
+abbrev pub later_basic_conditions_in : Scope → HeaderValue → List (Finding × Bool)
 later_basic_conditions_in Listed h = []
 later_basic_conditions_in All h = later_basic_conditions h

@@ -5,13 +5,13 @@ use Rattle.std.proofs.lemmas.Bool.{leb-true}
 use Rattle.std.proofs.lemmas.Bool.Decides.{nat_tests}
 use Rattle.std.proofs.lemmas.List.{take_all}
 use Rattle.tlv_value.specs.Dates.{date_form, date_time_form, is_date_or_time, month_has_day, time_of_day_form}
-use Rattle.tlv_value.specs.Times.{Form, month_and_day, two_digits, ◌then◌}
+use Rattle.tlv_value.specs.Times.{Form, month_and_day, two_digits, ◌followed_by◌}
 use Rattle.tlv_value.proofs.CheckLemmas.Forms.{and-false, are_two_digits, then-assoc, two-then}
 
 -- a longer text has none of the forms
 
 long-then : (low high n : ℕ) (g : Form) → ((xs : List ℕ) → n < length xs → g xs ≡ false) → (xs : List ℕ)
-    → n + 2 < length xs → (two_digits low high then g) xs ≡ false
+    → n + 2 < length xs → (two_digits low high followed_by g) xs ≡ false
 long-then low high n g e [] h = absurd (omega (arith, h))
 long-then low high n g e (x ∷ []) h = absurd (omega (arith, h))
 long-then low high n g e (x ∷ y ∷ xs) h =
@@ -31,14 +31,14 @@ long-time = long-then 0 23 4 _ (long-then 0 59 2 _ (long-two 0 59))
 long-date : (xs : List ℕ) → 8 < length xs → date_form xs ≡ false
 long-date = long-then 0 99 6 _ (long-then 0 99 4 _ (long-then 1 12 2 _ (long-two 1 31)))
 
-long-rest : (xs : List ℕ) → 10 < length xs → (month_and_day then time_of_day_form) xs ≡ false
+long-rest : (xs : List ℕ) → 10 < length xs → (month_and_day followed_by time_of_day_form) xs ≡ false
 long-rest xs h =
     then-assoc (two_digits 1 12) (two_digits 1 31) time_of_day_form xs
     ∙ long-then 1 12 8 _ (long-then 1 31 6 _ long-time) xs h
 
 long-date_time : (xs : List ℕ) → 14 < length xs → date_time_form xs ≡ false
 long-date_time xs h =
-    then-assoc (two_digits 0 99) (two_digits 0 99 then month_and_day) time_of_day_form xs
+    then-assoc (two_digits 0 99) (two_digits 0 99 followed_by month_and_day) time_of_day_form xs
     ∙ long-then 0 99 12 _
     (λ ys g. then-assoc (two_digits 0 99) month_and_day time_of_day_form ys ∙ long-then 0 99 10 _ long-rest ys g) xs h
 

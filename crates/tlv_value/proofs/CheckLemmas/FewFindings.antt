@@ -14,7 +14,8 @@ use Rattle.tlv_value.specs.Checks.{allows, begins_with, canonical_form, findings
 use Rattle.tlv_value.specs.Checks.{is_short_time, last_octet, time_form}
 use Rattle.tlv_value.specs.Dates.{is_date_or_time}
 use Rattle.tlv_value.specs.Real.{is_canonical_real, is_real_form}
-use Rattle.tlv_value.specs.Types.{date_types, integer_types, iri_types, is_number_of, object_types}
+use Rattle.tlv_value.specs.Types.{date_types, integer_types, iri_types, object_types}
+use Rattle.tlv_head.specs.Lists.{is_among}
 use Rattle.tlv_value.specs.Types.{wide_string_types}
 
 -- 1, if the condition holds
@@ -23,16 +24,16 @@ one_if true = 1
 one_if false = 0
 
 -- how many conditions hold
-abbrev count : List (Bool × Finding) → ℕ
+abbrev count : List (Finding × Bool) → ℕ
 count [] = 0
-count (row ∷ rows) = one_if row.0 + count rows
+count (row ∷ rows) = one_if row.1 + count rows
 
-found-few : (rows : List (Bool × Finding)) → length (findings_by rows) ≤ count rows
+found-few : (rows : List (Finding × Bool)) → length (findings_by rows) ≤ count rows
 found-few [] = omega arith
-found-few (row ∷ rows) = one-more row.0 (found-few rows)
+found-few (row ∷ rows) = one-more row.1 (found-few rows)
   where
     one-more : (b : Bool) → length (findings_by rows) ≤ count rows
-        → length ((if b then row.1 ∷ [] else []) ++ findings_by rows) ≤ one_if b + count rows
+        → length ((if b then row.0 ∷ [] else []) ++ findings_by rows) ≤ one_if b + count rows
     one-more true e = omega (arith, e)
     one-more false e = omega (arith, e)
 
@@ -61,10 +62,10 @@ integer-by n c true b e f h = rw (eqb-true n 2 e) refl
 integer-by n c false true e f h = rw (eqb-true n 10 f) refl
 integer-by n c false false e f h = absurd cc
 
-integer-allowed : (n : ℕ) (c : List ℕ) → is_number_of integer_types n ≡ true → not (allows n c) ≡ false
+integer-allowed : (n : ℕ) (c : List ℕ) → is_among n integer_types ≡ true → not (allows n c) ≡ false
 integer-allowed n c h = integer-by n c (eqb n 2) (eqb n 10) refl refl h
 
-real-no_iri : (n : ℕ) → (n == universal.real) ≡ true → is_number_of iri_types n ≡ false
+real-no_iri : (n : ℕ) → (n == universal.real) ≡ true → is_among n iri_types ≡ false
 real-no_iri n e = grind (arith, nat_tests)
 
 type-few : (n : ℕ) (c : List ℕ) → length (findings_by (type_conditions n c)) ≤ 15
@@ -74,21 +75,21 @@ type-few n c =
     either-few (n == universal.boolean) (n == universal.null) (not (length c == 1)) (not (length c == 0))
     (λ e. grind (arith, nat_tests, e)) in
     let boolean-integer =
-    either-few (n == universal.boolean) (is_number_of integer_types n) (length c == 1) (length c == 0)
+    either-few (n == universal.boolean) (is_among n integer_types) (length c == 1) (length c == 0)
     (λ e. grind (arith, nat_tests, e)) in
     let boolean =
     fewer (n == universal.boolean && length c == 1) (not (first_octet c == 0 || first_octet c == 0xff)) in
     let integer-characters =
-    either-fewer (is_number_of integer_types n) (is_padded_integer c) (not (allows n c)) (integer-allowed n c) in
+    either-fewer (is_among n integer_types) (is_padded_integer c) (not (allows n c)) (integer-allowed n c) in
     let object-bits =
     either-few (n == universal.object_identifier) (n == universal.bit_string) (length c == 0) (length c == 0)
     (λ e. grind (arith, nat_tests, e)) in
     let padded-bits =
-    either-few (is_number_of object_types n) (n == universal.bit_string)
+    either-few (is_among n object_types) (n == universal.bit_string)
     (list_any (begins_with 0x80) (parts_of c)) (nat_lt 7 (first_octet c))
     (λ e. grind (arith, nat_tests, e)) in
     let last-bits =
-    either-few (is_number_of object_types n) (n == universal.bit_string) (nat_le 128 (last_octet c))
+    either-few (is_among n object_types) (n == universal.bit_string) (nat_le 128 (last_octet c))
     (length c == 1) (λ e. grind (arith, nat_tests, e)) in
     let unused = fewer (n == universal.bit_string && length c == 1) (nat_le 1 (first_octet c)) in
     let unused-most =
@@ -102,13 +103,13 @@ type-few n c =
     (not (last_octet c % 2 ^ first_octet c == 0)) in
     let b19 = one-few (is_short_time n c && not (time_form n c)) in
     let real-date =
-    either-few (n == universal.real) (is_number_of date_types n) (not (is_real_form c)) (not (is_date_or_time n c))
+    either-few (n == universal.real) (is_among n date_types) (not (is_real_form c)) (not (is_date_or_time n c))
     (λ e. grind (arith, nat_tests, e)) in
     let real-iri =
-    either-few (n == universal.real && is_real_form c) (is_number_of iri_types n) (not (is_canonical_real c))
+    either-few (n == universal.real && is_real_form c) (is_among n iri_types) (not (is_canonical_real c))
     (not (is_iri n c))
     (λ e. real-no_iri n ((and_parts (n == universal.real) (is_real_form c) e).0)) in
-    let b25 = one-few (is_number_of wide_string_types n && has_wrong_unit n c) in
+    let b25 = one-few (is_among n wide_string_types && has_wrong_unit n c) in
     let b26 = one-few (is_short_time n c && time_form n c && not (time_has_day n c)) in
     let s04 = one-few (is_short_time n c && time_form n c && not (canonical_form n c)) in
     omega (

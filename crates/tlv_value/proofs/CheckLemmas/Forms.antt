@@ -7,7 +7,7 @@ use Rattle.std.specs.Prelude.{Some, None, map, Option, ◌==◌}
 use Rattle.std.specs.Char.{is_ascii_digit}
 use Rattle.std.specs.List.{list_any}
 use Rattle.tlv_value.specs.Times.{Form, digits, mark, maybe, no_octets, octet_between, splits}
-use Rattle.tlv_value.specs.Times.{two_digit_number, two_digits, ◌or◌, ◌then◌}
+use Rattle.tlv_value.specs.Times.{two_digit_number, two_digits, ◌or◌, ◌followed_by◌}
 use Rattle.tlv_value.specs.Private.TimeParts.{LeavesRest}
 
 -- ---- tests of lists
@@ -75,25 +75,25 @@ assoc-more false b c p q = refl
 
 -- a text with a first octet is split before that octet or behind it
 pub then-more : (f g : Form) (x : ℕ) (xs : List ℕ)
-    → (f then g) (x ∷ xs) ≡ ((f [] && g (x ∷ xs)) || ((λ (ys : List ℕ). f (x ∷ ys)) then g) xs)
+    → (f followed_by g) (x ∷ xs) ≡ ((f [] && g (x ∷ xs)) || ((λ (ys : List ℕ). f (x ∷ ys)) followed_by g) xs)
 then-more f g x xs =
     ap (λ (b : Bool). (f [] && g (x ∷ xs)) || b)
     (any-map (λ (split : List ℕ × List ℕ). f split.0 && g split.1)
     (λ (split : List ℕ × List ℕ). (x ∷ split.0, split.1)) (splits xs))
 
 pub then-same : (f h g k : Form) → ((xs : List ℕ) → f xs ≡ h xs) → ((xs : List ℕ) → g xs ≡ k xs) → (xs : List ℕ)
-    → (f then g) xs ≡ (h then k) xs
+    → (f followed_by g) xs ≡ (h followed_by k) xs
 then-same f h g k e w xs =
     any-same (λ (split : List ℕ × List ℕ). f split.0 && g split.1) (λ (split : List ℕ × List ℕ). h split.0 && k split.1)
     (λ (split : List ℕ × List ℕ). rw (e split.0, w split.1) refl) (splits xs)
 
 -- a first part of a form that no text has
-pub none-then : (f g : Form) → ((xs : List ℕ) → f xs ≡ false) → (xs : List ℕ) → (f then g) xs ≡ false
+pub none-then : (f g : Form) → ((xs : List ℕ) → f xs ≡ false) → (xs : List ℕ) → (f followed_by g) xs ≡ false
 none-then f g e xs =
     any-none (λ (split : List ℕ × List ℕ). f split.0 && g split.1)
     (λ (split : List ℕ × List ℕ). and-none (f split.0) (g split.1) (e split.0)) (splits xs)
 
-pub or-then : (f g h : Form) (xs : List ℕ) → ((f or g) then h) xs ≡ ((f then h) xs || (g then h) xs)
+pub or-then : (f g h : Form) (xs : List ℕ) → ((f or g) followed_by h) xs ≡ ((f followed_by h) xs || (g followed_by h) xs)
 or-then f g h xs =
     any-same (λ (split : List ℕ × List ℕ). (f split.0 || g split.0) && h split.1)
     (λ (split : List ℕ × List ℕ). (f split.0 && h split.1) || (g split.0 && h split.1))
@@ -103,47 +103,47 @@ or-then f g h xs =
 
 -- a condition on a first part
 pub if-then : (a : Bool) (f g : Form) (xs : List ℕ)
-    → ((λ (ys : List ℕ). a && f ys) then g) xs ≡ (a && (f then g) xs)
+    → ((λ (ys : List ℕ). a && f ys) followed_by g) xs ≡ (a && (f followed_by g) xs)
 if-then true f g xs = refl
 if-then false f g xs = none-then (λ (ys : List ℕ). false) g (λ ys. refl) xs
 
 -- parts may be put together
-pub then-assoc : (f g h : Form) (xs : List ℕ) → ((f then g) then h) xs ≡ (f then (g then h)) xs
+pub then-assoc : (f g h : Form) (xs : List ℕ) → ((f followed_by g) followed_by h) xs ≡ (f followed_by (g followed_by h)) xs
 then-assoc f g h [] = assoc-empty (f []) (g []) (h [])
 then-assoc f g h (x ∷ xs) =
     let fx : Form = λ (ys : List ℕ). f (x ∷ ys) in
     let gx : Form = λ (ys : List ℕ). g (x ∷ ys) in
-    let fg : Form = λ (ys : List ℕ). (f then g) (x ∷ ys) in
-    then-more (f then g) h x xs
+    let fg : Form = λ (ys : List ℕ). (f followed_by g) (x ∷ ys) in
+    then-more (f followed_by g) h x xs
     ∙ ap (λ (b : Bool). (((f [] && g []) || false) && h (x ∷ xs)) || b)
-    (then-same fg ((λ (ys : List ℕ). f [] && gx ys) or (fx then g)) h h (λ ys. then-more f g x ys) (λ ys. refl) xs
-    ∙ or-then (λ (ys : List ℕ). f [] && gx ys) (fx then g) h xs
-    ∙ ap (λ (b : Bool). b || ((fx then g) then h) xs) (if-then (f []) gx h xs)
-    ∙ ap (λ (b : Bool). (f [] && (gx then h) xs) || b) (then-assoc fx g h xs))
-    ∙ assoc-more (f []) (g []) (h (x ∷ xs)) ((gx then h) xs) ((fx then (g then h)) xs)
-    ∙ ap (λ (b : Bool). (f [] && b) || (fx then (g then h)) xs) (sym (then-more g h x xs))
-    ∙ sym (then-more f (g then h) x xs)
+    (then-same fg ((λ (ys : List ℕ). f [] && gx ys) or (fx followed_by g)) h h (λ ys. then-more f g x ys) (λ ys. refl) xs
+    ∙ or-then (λ (ys : List ℕ). f [] && gx ys) (fx followed_by g) h xs
+    ∙ ap (λ (b : Bool). b || ((fx followed_by g) followed_by h) xs) (if-then (f []) gx h xs)
+    ∙ ap (λ (b : Bool). (f [] && (gx followed_by h) xs) || b) (then-assoc fx g h xs))
+    ∙ assoc-more (f []) (g []) (h (x ∷ xs)) ((gx followed_by h) xs) ((fx followed_by (g followed_by h)) xs)
+    ∙ ap (λ (b : Bool). (f [] && b) || (fx followed_by (g followed_by h)) xs) (sym (then-more g h x xs))
+    ∙ sym (then-more f (g followed_by h) x xs)
 
 -- the same of forms, and of more parts
-assoc-form : (f g h : Form) → ((f then g) then h) ≡ (f then (g then h))
+assoc-form : (f g h : Form) → ((f followed_by g) followed_by h) ≡ (f followed_by (g followed_by h))
 assoc-form f g h = λ i xs. then-assoc f g h xs i
 
-three-parts : (f g h next : Form) → ((f then g then h) then next) ≡ (f then g then h then next)
-three-parts f g h next = assoc-form f (g then h) next ∙ ap (λ (n : Form). f then n) (assoc-form g h next)
+three-parts : (f g h next : Form) → ((f followed_by g followed_by h) followed_by next) ≡ (f followed_by g followed_by h followed_by next)
+three-parts f g h next = assoc-form f (g followed_by h) next ∙ ap (λ (n : Form). f followed_by n) (assoc-form g h next)
 
-pub three-apart : (f g h next : Form) (xs : List ℕ) → ((f then g then h) then next) xs ≡ (f then g then h then next) xs
+pub three-apart : (f g h next : Form) (xs : List ℕ) → ((f followed_by g followed_by h) followed_by next) xs ≡ (f followed_by g followed_by h followed_by next) xs
 three-apart f g h next xs = ap (λ (n : Form). n xs) (three-parts f g h next)
 
 pub four-apart : (f g h k next : Form) (xs : List ℕ)
-    → ((f then g then h then k) then next) xs ≡ (f then g then h then k then next) xs
+    → ((f followed_by g followed_by h followed_by k) followed_by next) xs ≡ (f followed_by g followed_by h followed_by k followed_by next) xs
 four-apart f g h k next xs =
-    then-assoc f (g then h then k) next xs ∙ ap (λ (n : Form). (f then n) xs) (three-parts g h k next)
+    then-assoc f (g followed_by h followed_by k) next xs ∙ ap (λ (n : Form). (f followed_by n) xs) (three-parts g h k next)
 
 -- ---- the empty text
 
 -- nothing else has the form of the first part
 pub only-empty-then : (f g : Form) → ((x : ℕ) (xs : List ℕ) → f (x ∷ xs) ≡ false) → (xs : List ℕ)
-    → (f then g) xs ≡ (f [] && g xs)
+    → (f followed_by g) xs ≡ (f [] && g xs)
 only-empty-then f g e [] = or-false (f [] && g [])
 only-empty-then f g e (x ∷ xs) =
     then-more f g x xs
@@ -154,22 +154,22 @@ and-true : (a : Bool) → (a && true) ≡ a
 and-true true = refl
 and-true false = refl
 
-pub then-nothing : (f : Form) (xs : List ℕ) → (f then no_octets) xs ≡ f xs
+pub then-nothing : (f : Form) (xs : List ℕ) → (f followed_by no_octets) xs ≡ f xs
 then-nothing f [] = or-false (f [] && true) ∙ and-true (f [])
 then-nothing f (x ∷ xs) =
     then-more f no_octets x xs
-    ∙ ap (λ (b : Bool). b || ((λ (ys : List ℕ). f (x ∷ ys)) then no_octets) xs) (and-false (f []))
+    ∙ ap (λ (b : Bool). b || ((λ (ys : List ℕ). f (x ∷ ys)) followed_by no_octets) xs) (and-false (f []))
     ∙ then-nothing (λ (ys : List ℕ). f (x ∷ ys)) xs
 
-pub maybe-then : (f g : Form) (xs : List ℕ) → (maybe f then g) xs ≡ ((f then g) xs || g xs)
+pub maybe-then : (f g : Form) (xs : List ℕ) → (maybe f followed_by g) xs ≡ ((f followed_by g) xs || g xs)
 maybe-then f g xs =
     or-then f no_octets g xs
-    ∙ ap (λ (b : Bool). (f then g) xs || b) (only-empty-then no_octets g (λ x ys. refl) xs)
+    ∙ ap (λ (b : Bool). (f followed_by g) xs || b) (only-empty-then no_octets g (λ x ys. refl) xs)
 
 -- ---- octets and digits
 
 pub octet-then : (low high : ℕ) (g : Form) (x : ℕ) (xs : List ℕ)
-    → (octet_between low high then g) (x ∷ xs) ≡ ((nat_le low x && nat_le x high) && g xs)
+    → (octet_between low high followed_by g) (x ∷ xs) ≡ ((nat_le low x && nat_le x high) && g xs)
 octet-then low high g x xs =
     then-more (octet_between low high) g x xs
     ∙ only-empty-then (λ (ys : List ℕ). octet_between low high (x ∷ ys)) g (λ y ys. refl) xs
@@ -180,14 +180,14 @@ are_two_digits low high x y =
     is_ascii_digit x && is_ascii_digit y && nat_le low (two_digit_number x y) && nat_le (two_digit_number x y) high
 
 pub two-then : (low high : ℕ) (g : Form) (x y : ℕ) (xs : List ℕ)
-    → (two_digits low high then g) (x ∷ y ∷ xs) ≡ (are_two_digits low high x y && g xs)
+    → (two_digits low high followed_by g) (x ∷ y ∷ xs) ≡ (are_two_digits low high x y && g xs)
 two-then low high g x y xs =
     then-more (two_digits low high) g x (y ∷ xs)
     ∙ then-more (λ (ys : List ℕ). two_digits low high (x ∷ ys)) g y xs
     ∙ only-empty-then (λ (ys : List ℕ). two_digits low high (x ∷ y ∷ ys)) g (λ z zs. refl) xs
 
 pub digits-then : (g : Form) (x : ℕ) (xs : List ℕ)
-    → (digits then g) (x ∷ xs) ≡ (g (x ∷ xs) || (is_ascii_digit x && (digits then g) xs))
+    → (digits followed_by g) (x ∷ xs) ≡ (g (x ∷ xs) || (is_ascii_digit x && (digits followed_by g) xs))
 digits-then g x xs =
     then-more digits g x xs
     ∙ ap (λ (b : Bool). g (x ∷ xs) || b) (if-then (is_ascii_digit x) digits g xs)
@@ -196,21 +196,21 @@ digits-then g x xs =
 
 -- two parts
 pub rest_then : (f g : Form) (xs rest : List ℕ) (left : Option (List ℕ)) → LeavesRest f xs (Some rest)
-    → LeavesRest g rest left → LeavesRest (f then g) xs left
-rest_then f g xs rest left e h = λ next. then-assoc f g next xs ∙ e (g then next) ∙ h next
+    → LeavesRest g rest left → LeavesRest (f followed_by g) xs left
+rest_then f g xs rest left e h = λ next. then-assoc f g next xs ∙ e (g followed_by next) ∙ h next
 
 -- the first part is not there
-pub no_rest_then : (f g : Form) (xs : List ℕ) → LeavesRest f xs None → LeavesRest (f then g) xs None
-no_rest_then f g xs e = λ next. then-assoc f g next xs ∙ e (g then next)
+pub no_rest_then : (f g : Form) (xs : List ℕ) → LeavesRest f xs None → LeavesRest (f followed_by g) xs None
+no_rest_then f g xs e = λ next. then-assoc f g next xs ∙ e (g followed_by next)
 
 -- a part that may be left out, and is there
-pub maybe-there : (f g : Form) (c : List ℕ) (r : Bool) → r ≡ (f then g) c → r ≡ true
-    → r ≡ (maybe f then g) c
+pub maybe-there : (f g : Form) (c : List ℕ) (r : Bool) → r ≡ (f followed_by g) c → r ≡ true
+    → r ≡ (maybe f followed_by g) c
 maybe-there f g c r e h = rw (maybe-then f g c, ← e, h) refl
 
 -- a part that may be left out, and is not there
-pub maybe-left : (f g : Form) (c : List ℕ) (r s : Bool) → r ≡ (f then g) c → r ≡ false → s ≡ g c
-    → s ≡ (maybe f then g) c
+pub maybe-left : (f g : Form) (c : List ℕ) (r s : Bool) → r ≡ (f followed_by g) c → r ≡ false → s ≡ g c
+    → s ≡ (maybe f followed_by g) c
 maybe-left f g c r s e h q = rw (maybe-then f g c, ← e, h) q
 
 pub two-left : (x y : ℕ) (xs : List ℕ) → take (length (x ∷ y ∷ xs) - 2) xs ≡ xs
@@ -235,17 +235,17 @@ no-two low high (x ∷ y ∷ xs) e =
 -- one octet that passes this test
 pub record IsOne (f : Form) (test : ℕ → Bool) : Type 0 where
   pub empty : f [] ≡ false
-  pub one : (g : Form) (x : ℕ) (xs : List ℕ) → (f then g) (x ∷ xs) ≡ (test x && g xs)
+  pub one : (g : Form) (x : ℕ) (xs : List ℕ) → (f followed_by g) (x ∷ xs) ≡ (test x && g xs)
 
 -- the octet is one of these two
 abbrev pub is_either : ℕ → ℕ → ℕ → Bool
 is_either m n x = (nat_le m x && nat_le x m) || (nat_le n x && nat_le x n)
 
 pub either-then : (m n : ℕ) (g : Form) (x : ℕ) (xs : List ℕ)
-    → ((mark m or mark n) then g) (x ∷ xs) ≡ (is_either m n x && g xs)
+    → ((mark m or mark n) followed_by g) (x ∷ xs) ≡ (is_either m n x && g xs)
 either-then m n g x xs =
     or-then (mark m) (mark n) g (x ∷ xs)
-    ∙ ap (λ (b : Bool). b || (mark n then g) (x ∷ xs)) (octet-then m m g x xs)
+    ∙ ap (λ (b : Bool). b || (mark n followed_by g) (x ∷ xs)) (octet-then m m g x xs)
     ∙ ap (λ (b : Bool). ((nat_le m x && nat_le x m) && g xs) || b) (octet-then n n g x xs)
     ∙ sym (and-over-or (nat_le m x && nat_le x m) (nat_le n x && nat_le x n) (g xs))
 
@@ -283,12 +283,12 @@ no-octets-is (x ∷ xs) = grind (arith, nat_tests)
 -- ---- the last part
 
 -- two parts, and what comes after them
-pub third : (f g h : Form) (xs rest : List ℕ) → LeavesRest (f then g) xs (Some rest)
-    → (f then (g then h)) xs ≡ h rest
+pub third : (f g h : Form) (xs rest : List ℕ) → LeavesRest (f followed_by g) xs (Some rest)
+    → (f followed_by (g followed_by h)) xs ≡ h rest
 third f g h xs rest e = sym (then-assoc f g h xs) ∙ e h
 
-pub no-third : (f g h : Form) (xs : List ℕ) → LeavesRest (f then g) xs None
-    → false ≡ (f then (g then h)) xs
+pub no-third : (f g h : Form) (xs : List ℕ) → LeavesRest (f followed_by g) xs None
+    → false ≡ (f followed_by (g followed_by h)) xs
 no-third f g h xs e = sym (sym (then-assoc f g h xs) ∙ e h)
 
 or-true : (a : Bool) → true ≡ (a || true)

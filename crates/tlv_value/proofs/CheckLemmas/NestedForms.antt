@@ -10,7 +10,7 @@ use Rattle.tlv_value.specs.Dates.{month_has_day, month_has_day_in_some_century}
 use Rattle.tlv_value.specs.Times.{Form, canonical_fraction, canonical_generalized_time_form, canonical_utc_time_form}
 use Rattle.tlv_value.specs.Times.{digits, generalized_time_form, hour, mark, maybe, minute}
 use Rattle.tlv_value.specs.Times.{month_and_day, no_octets, octet_between, second, sign, splits, two_digit_number}
-use Rattle.tlv_value.specs.Times.{two_digits, utc_time_form, year_digits, ◌or◌, ◌then◌}
+use Rattle.tlv_value.specs.Times.{two_digits, utc_time_form, year_digits, ◌or◌, ◌followed_by◌}
 use Rattle.tlv_value.specs.Private.TimeFindings.{generalized_time_findings, time_findings, utc_time_findings}
 use Rattle.tlv_value.proofs.CheckLemmas.Forms.{digits-then, octet-then, then-assoc}
 use Rattle.tlv_value.specs.Private.TimeParts.{generalized_tail}
@@ -43,7 +43,7 @@ any-weaker p q w (x ∷ xs) h = or-both (p x) (list_any p xs) (q x) (list_any q 
 within-same : (f : Form) → Within f f
 within-same f = record { has = λ text h. h }
 
-within-then : {f g h k : Form} → Within f h → Within g k → Within (f then g) (h then k)
+within-then : {f g h k : Form} → Within f h → Within g k → Within (f followed_by g) (h followed_by k)
 within-then {f} {g} {h} {k} v w = record {
   has = λ text e.
       any-weaker (λ (split : List ℕ × List ℕ). f split.0 && g split.1)
@@ -61,7 +61,7 @@ within-first : {f g : Form} (h : Form) → Within f g → Within f (g or h)
 within-first {f} {g} h v = record { has = λ text e. or-left (g text) (h text) (v.has text e) }
 
 -- a first part, and then two parts within one
-within-prefix : {f k : Form} (g h m : Form) → Within f k → Within (g then h) m → Within ((f then g) then h) (k then m)
+within-prefix : {f k : Form} (g h m : Form) → Within f k → Within (g followed_by h) m → Within ((f followed_by g) followed_by h) (k followed_by m)
 within-prefix {f} g h m v w = record {
   has = λ text e. (within-then v w).has text (sym (then-assoc f g h text) ∙ e);
 }
@@ -94,33 +94,33 @@ digit-is (x ∷ []) h = grind (arith, nat_tests)
 digit-is (x ∷ y ∷ ys) h = absurd cc
 
 -- a digit before digits
-digits-behind : (x : ℕ) (xs : List ℕ) → ((digits then octet_between 49 57) xs ≡ true → digits xs ≡ true)
-    → (octet_between 49 57 (x ∷ xs) ≡ true) ⊎ ((is_ascii_digit x && (digits then octet_between 49 57) xs) ≡ true)
+digits-behind : (x : ℕ) (xs : List ℕ) → ((digits followed_by octet_between 49 57) xs ≡ true → digits xs ≡ true)
+    → (octet_between 49 57 (x ∷ xs) ≡ true) ⊎ ((is_ascii_digit x && (digits followed_by octet_between 49 57) xs) ≡ true)
     → digits (x ∷ xs) ≡ true
 digits-behind x xs more (inl e) = digit-is (x ∷ xs) e
 digits-behind x xs more (inr e) =
-    let both = and_parts (is_ascii_digit x) ((digits then octet_between 49 57) xs) e in rw (both.0, more both.1) refl
+    let both = and_parts (is_ascii_digit x) ((digits followed_by octet_between 49 57) xs) e in rw (both.0, more both.1) refl
 
-digits-more : (text : List ℕ) → (digits then octet_between 49 57) text ≡ true → digits text ≡ true
+digits-more : (text : List ℕ) → (digits followed_by octet_between 49 57) text ≡ true → digits text ≡ true
 digits-more [] h = absurd cc
 digits-more (x ∷ xs) h =
     digits-behind x xs (digits-more xs)
-    (or_cases (octet_between 49 57 (x ∷ xs)) (is_ascii_digit x && (digits then octet_between 49 57) xs)
+    (or_cases (octet_between 49 57 (x ∷ xs)) (is_ascii_digit x && (digits followed_by octet_between 49 57) xs)
     (sym (digits-then (octet_between 49 57) x xs) ∙ h))
 
-one-or-more : (text : List ℕ) → (digits then octet_between 49 57) text ≡ true → digits text ≡ true
-    → (octet_between 48 57 then digits) text ≡ true
+one-or-more : (text : List ℕ) → (digits followed_by octet_between 49 57) text ≡ true → digits text ≡ true
+    → (octet_between 48 57 followed_by digits) text ≡ true
 one-or-more [] h d = absurd cc
 one-or-more (x ∷ xs) h d = octet-then 48 57 digits x xs ∙ d
 
 -- digits of which the last is not 0 are one digit or more
-within-digits : Within (digits then octet_between 49 57) (octet_between 48 57 then digits)
+within-digits : Within (digits followed_by octet_between 49 57) (octet_between 48 57 followed_by digits)
 within-digits = record { has = λ text h. one-or-more text h (digits-more text h) }
 
 within-hour : Within (two_digits 0 23) hour
 within-hour = within-two_digits 0 23 24 (omega arith)
 
-within-second : {f g : Form} → Within f g → Within (second then f) (maybe second then g)
+within-second : {f g : Form} → Within f g → Within (second followed_by f) (maybe second followed_by g)
 within-second w = within-then (within-first no_octets (within-same second)) w
 
 -- 11.8
@@ -130,13 +130,13 @@ utc-within =
     (within-then (within-same month_and_day)
     (within-prefix _ _ _ within-hour
     (within-prefix _ _ _ (within-same minute)
-    (within-second (within-first (sign then hour then minute) (within-same (mark 90)))))))
+    (within-second (within-first (sign followed_by hour followed_by minute) (within-same (mark 90)))))))
 
-generalized-tail : Within (maybe canonical_fraction then mark 90) generalized_tail
+generalized-tail : Within (maybe canonical_fraction followed_by mark 90) generalized_tail
 generalized-tail =
     within-then
     (within-or (within-then (within-first (mark 44) (within-same (mark 46))) within-digits) (within-same no_octets))
-    (within-first no_octets (within-first (sign then hour then maybe minute) (within-same (mark 90))))
+    (within-first no_octets (within-first (sign followed_by hour followed_by maybe minute) (within-same (mark 90))))
 
 -- 11.7
 generalized-within : Within canonical_generalized_time_form generalized_time_form

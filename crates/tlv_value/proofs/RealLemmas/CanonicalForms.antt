@@ -4,7 +4,7 @@ use Rattle.std.proofs.Common.{ap₂, ◌∙◌, arith}
 use Rattle.std.proofs.Math.Bool.{and-true}
 use Rattle.std.proofs.lemmas.Bool.Decides.{nat_tests}
 use Rattle.std.specs.Char.{is_ascii_digit}
-use Rattle.tlv_value.specs.TextForms.{Form, digits, mark, maybe, no_octets, ◌then◌}
+use Rattle.tlv_value.specs.TextForms.{Form, digits, mark, maybe, no_octets, ◌followed_by◌}
 use Rattle.tlv_value.specs.Real.{canonical_exponent, canonical_mantissa, canonical_nr3_form, nonzero_digit}
 use Rattle.tlv_value.specs.RealState.{begin_exponent, begin_mantissa, is_nonzero_digit, is_whole_canonical}
 use Rattle.tlv_value.specs.RealState.{next_canonical_place}
@@ -19,23 +19,23 @@ use Rattle.tlv_value.proofs.RealLemmas.NumberForms.{none}
 -- ---- What may follow each part of a number
 
 abbrev after_point : Form
-after_point = mark 0x45 then canonical_exponent
+after_point = mark 0x45 followed_by canonical_exponent
 
 abbrev point_tail : Form
-point_tail = mark 0x2e then after_point
+point_tail = mark 0x2e followed_by after_point
 
 -- digits of which the last is not 0, and the point
 abbrev zero_tail : Form
-zero_tail = (digits then nonzero_digit) then point_tail
+zero_tail = (digits followed_by nonzero_digit) followed_by point_tail
 
 abbrev nonzero_tail : Form
-nonzero_tail = maybe (digits then nonzero_digit) then point_tail
+nonzero_tail = maybe (digits followed_by nonzero_digit) followed_by point_tail
 
 abbrev mantissa_tail : Form
-mantissa_tail = canonical_mantissa then point_tail
+mantissa_tail = canonical_mantissa followed_by point_tail
 
 abbrev scale_digits : Form
-scale_digits = nonzero_digit then digits
+scale_digits = nonzero_digit followed_by digits
 
 abbrev pub canonical_tail : CanonicalPlace → Form
 canonical_tail Begin = canonical_nr3_form
@@ -78,14 +78,14 @@ plus-no_minus x h = grind (arith, nat_tests)
 
 -- ---- Parts
 
-octet-then_is : (m : ℕ) (g : Form) (x : ℕ) (xs : List ℕ) → (mark m then g) (x ∷ xs) ≡ (x == m && g xs)
+octet-then_is : (m : ℕ) (g : Form) (x : ℕ) (xs : List ℕ) → (mark m followed_by g) (x ∷ xs) ≡ (x == m && g xs)
 octet-then_is m g x xs = octet-then m m g x xs ∙ ap (λ (b : Bool). b && g xs) (same-octet m x)
 
 octet-alone : (m x : ℕ) (xs : List ℕ) → mark m (x ∷ xs) ≡ (x == m && no_octets xs)
 octet-alone m x [] = same-octet m x ∙ sym (and-true (x == m))
 octet-alone m x (y ∷ ys) = sym (and-false (x == m))
 
-nonzero-then : (g : Form) (x : ℕ) (xs : List ℕ) → (nonzero_digit then g) (x ∷ xs) ≡ (is_nonzero_digit x && g xs)
+nonzero-then : (g : Form) (x : ℕ) (xs : List ℕ) → (nonzero_digit followed_by g) (x ∷ xs) ≡ (is_nonzero_digit x && g xs)
 nonzero-then g x xs = octet-then 0x31 0x39 g x xs
 
 -- ---- The mantissa
@@ -97,7 +97,7 @@ begin-by false xs = refl
 
 mantissa-step : (x : ℕ) (xs : List ℕ) → mantissa_tail (x ∷ xs) ≡ canonical_tail (begin_mantissa x) xs
 mantissa-step x xs =
-    then-assoc nonzero_digit (maybe (digits then nonzero_digit)) point_tail (x ∷ xs)
+    then-assoc nonzero_digit (maybe (digits followed_by nonzero_digit)) point_tail (x ∷ xs)
     ∙ nonzero-then nonzero_tail x xs
     ∙ begin-by (is_nonzero_digit x) xs
 
@@ -124,7 +124,7 @@ zero-is : (x : ℕ) (xs : List ℕ)
     ≡ ((is_nonzero_digit x && point_tail xs) || ((is_nonzero_digit x || x == 0x30) && zero_tail xs))
 zero-is x xs =
     then-assoc digits nonzero_digit point_tail (x ∷ xs)
-    ∙ digits-then (nonzero_digit then point_tail) x xs
+    ∙ digits-then (nonzero_digit followed_by point_tail) x xs
     ∙ ap₂ (λ (a b : Bool). a || b) (nonzero-then point_tail x xs)
     (ap₂ (λ (a b : Bool). a && b) (digit-parts x) (sym (then-assoc digits nonzero_digit point_tail xs)))
 
@@ -135,7 +135,7 @@ or-swap false b = sym (or-false b)
 
 nonzero-tail_is : (xs : List ℕ) → (point_tail xs || zero_tail xs) ≡ nonzero_tail xs
 nonzero-tail_is xs =
-    or-swap (point_tail xs) (zero_tail xs) ∙ sym (maybe-then (digits then nonzero_digit) point_tail xs)
+    or-swap (point_tail xs) (zero_tail xs) ∙ sym (maybe-then (digits followed_by nonzero_digit) point_tail xs)
 
 zero-by : (n z : Bool) (xs : List ℕ)
     → ((n && point_tail xs) || ((n || z) && zero_tail xs))
@@ -159,7 +159,7 @@ nonzero-by false false false xs h k = refl
 
 nonzero-step : (x : ℕ) (xs : List ℕ) → nonzero_tail (x ∷ xs) ≡ canonical_tail (next_canonical_place NonzeroDigit x) xs
 nonzero-step x xs =
-    maybe-then (digits then nonzero_digit) point_tail (x ∷ xs)
+    maybe-then (digits followed_by nonzero_digit) point_tail (x ∷ xs)
     ∙ ap₂ (λ (a b : Bool). a || b) (zero-is x xs) (octet-then_is 0x2e after_point x xs)
     ∙ nonzero-by (is_nonzero_digit x) (x == 0x30) (x == 0x2e) xs (nonzero-no_point x) (zero-no_point x)
 

@@ -3,7 +3,7 @@ use Rattle.std.proofs.Common.{◌≡◌, ℕ, Bool, true, false, ◌&&◌, ◌||
 use Rattle.std.proofs.Common.{ap₂, ◌∙◌, arith}
 use Rattle.std.proofs.lemmas.Bool.Decides.{nat_tests}
 use Rattle.std.specs.Char.{is_ascii_digit}
-use Rattle.tlv_value.specs.TextForms.{Form, digits, maybe, octet_between, sign, ◌or◌, ◌then◌}
+use Rattle.tlv_value.specs.TextForms.{Form, digits, maybe, octet_between, sign, ◌or◌, ◌followed_by◌}
 use Rattle.tlv_value.specs.Real.{decimal_mark, exponent, marked_digits, some_digits, leading_spaces}
 use Rattle.tlv_value.specs.RealState.{after_digits, after_fraction, begin_number, exponent_digit, is_decimal_mark}
 use Rattle.tlv_value.specs.RealState.{is_exponent_mark, is_sign, is_whole_number, next_place}
@@ -22,28 +22,28 @@ abbrev pub none : Form
 none text = false
 
 abbrev signed_digits : Form
-signed_digits = maybe sign then some_digits
+signed_digits = maybe sign followed_by some_digits
 
 -- after the spaces and the sign
 abbrev pub number_tail : NumberForm → Form
 number_tail Nr1 = some_digits
 number_tail Nr2 = marked_digits
-number_tail Nr3 = (some_digits or marked_digits) then exponent
+number_tail Nr3 = (some_digits or marked_digits) followed_by exponent
 
 abbrev digits_tail : NumberForm → Form
 digits_tail Nr1 = digits
-digits_tail Nr2 = digits then decimal_mark then digits
-digits_tail Nr3 = (digits then exponent) or (digits then ((decimal_mark then digits) then exponent))
+digits_tail Nr2 = digits followed_by decimal_mark followed_by digits
+digits_tail Nr3 = (digits followed_by exponent) or (digits followed_by ((decimal_mark followed_by digits) followed_by exponent))
 
 abbrev mark_tail : NumberForm → Form
 mark_tail Nr1 = none
 mark_tail Nr2 = some_digits
-mark_tail Nr3 = some_digits then exponent
+mark_tail Nr3 = some_digits followed_by exponent
 
 abbrev fraction_tail : NumberForm → Form
 fraction_tail Nr1 = none
 fraction_tail Nr2 = digits
-fraction_tail Nr3 = digits then exponent
+fraction_tail Nr3 = digits followed_by exponent
 
 abbrev if_nr3 : NumberForm → Form → Form
 if_nr3 Nr1 form = none
@@ -51,7 +51,7 @@ if_nr3 Nr2 form = none
 if_nr3 Nr3 form = form
 
 abbrev pub place_tail : NumberForm → DecimalPlace → Form
-place_tail form Spaces = leading_spaces then (maybe sign then number_tail form)
+place_tail form Spaces = leading_spaces followed_by (maybe sign followed_by number_tail form)
 place_tail form Sign = number_tail form
 place_tail form Digits = digits_tail form
 place_tail form Mark = mark_tail form
@@ -92,10 +92,10 @@ space-no_sign x h = grind (arith, nat_tests)
 
 -- ---- Parts
 
-mark-then : (g : Form) (x : ℕ) (xs : List ℕ) → (decimal_mark then g) (x ∷ xs) ≡ (is_decimal_mark x && g xs)
+mark-then : (g : Form) (x : ℕ) (xs : List ℕ) → (decimal_mark followed_by g) (x ∷ xs) ≡ (is_decimal_mark x && g xs)
 mark-then g x xs = either-then 0x2e 0x2c g x xs ∙ ap (λ (b : Bool). b && g xs) (either-is 0x2e 0x2c x)
 
-sign-then : (g : Form) (x : ℕ) (xs : List ℕ) → (sign then g) (x ∷ xs) ≡ (is_sign x && g xs)
+sign-then : (g : Form) (x : ℕ) (xs : List ℕ) → (sign followed_by g) (x ∷ xs) ≡ (is_sign x && g xs)
 sign-then g x xs = either-then 0x2b 0x2d g x xs ∙ ap (λ (b : Bool). b && g xs) (either-is 0x2b 0x2d x)
 
 exponent-is : (x : ℕ) (xs : List ℕ) → exponent (x ∷ xs) ≡ (is_exponent_mark x && signed_digits xs)
@@ -105,23 +105,23 @@ exponent-is x xs =
 some-is : (x : ℕ) (xs : List ℕ) → some_digits (x ∷ xs) ≡ (is_ascii_digit x && digits xs)
 some-is x xs = octet-then 0x30 0x39 digits x xs
 
-some-then : (g : Form) (x : ℕ) (xs : List ℕ) → (some_digits then g) (x ∷ xs) ≡ (is_ascii_digit x && (digits then g) xs)
+some-then : (g : Form) (x : ℕ) (xs : List ℕ) → (some_digits followed_by g) (x ∷ xs) ≡ (is_ascii_digit x && (digits followed_by g) xs)
 some-then g x xs =
-    then-assoc (octet_between 0x30 0x39) digits g (x ∷ xs) ∙ octet-then 0x30 0x39 (digits then g) x xs
+    then-assoc (octet_between 0x30 0x39) digits g (x ∷ xs) ∙ octet-then 0x30 0x39 (digits followed_by g) x xs
 
 spaces-then : (g : Form) (x : ℕ) (xs : List ℕ)
-    → (leading_spaces then g) (x ∷ xs) ≡ (g (x ∷ xs) || (x == 0x20 && (leading_spaces then g) xs))
+    → (leading_spaces followed_by g) (x ∷ xs) ≡ (g (x ∷ xs) || (x == 0x20 && (leading_spaces followed_by g) xs))
 spaces-then g x xs =
     then-more leading_spaces g x xs
     ∙ ap (λ (b : Bool). g (x ∷ xs) || b) (if-then (x == 0x20) leading_spaces g xs)
 
 -- digits before the exponent
 scaled-then : (x : ℕ) (xs : List ℕ)
-    → (digits then exponent) (x ∷ xs)
-    ≡ ((is_exponent_mark x && signed_digits xs) || (is_ascii_digit x && (digits then exponent) xs))
+    → (digits followed_by exponent) (x ∷ xs)
+    ≡ ((is_exponent_mark x && signed_digits xs) || (is_ascii_digit x && (digits followed_by exponent) xs))
 scaled-then x xs =
     digits-then exponent x xs
-    ∙ ap (λ (b : Bool). b || (is_ascii_digit x && (digits then exponent) xs)) (exponent-is x xs)
+    ∙ ap (λ (b : Bool). b || (is_ascii_digit x && (digits followed_by exponent) xs)) (exponent-is x xs)
 
 -- ---- The first digit or mark
 
@@ -134,13 +134,13 @@ begin-two false true xs h = refl
 begin-two false false xs h = refl
 
 begin-three : (d m : Bool) (xs : List ℕ) → (d && m) ≡ false
-    → ((d && (digits then exponent) xs)
-    || ((d && (digits then ((decimal_mark then digits) then exponent)) xs) || (m && mark_tail Nr3 xs)))
+    → ((d && (digits followed_by exponent) xs)
+    || ((d && (digits followed_by ((decimal_mark followed_by digits) followed_by exponent)) xs) || (m && mark_tail Nr3 xs)))
     ≡ place_tail Nr3 (if d then Digits else if m then Mark else Nowhere) xs
 begin-three true true xs h = absurd cc
 begin-three true false xs h =
-    ap (λ (b : Bool). (digits then exponent) xs || b)
-    (or-false ((digits then ((decimal_mark then digits) then exponent)) xs))
+    ap (λ (b : Bool). (digits followed_by exponent) xs || b)
+    (or-false ((digits followed_by ((decimal_mark followed_by digits) followed_by exponent)) xs))
 begin-three false true xs h = refl
 begin-three false false xs h = refl
 
@@ -152,16 +152,16 @@ begin-step : (form : NumberForm) (x : ℕ) (xs : List ℕ)
     → number_tail form (x ∷ xs) ≡ place_tail form (begin_number form x) xs
 begin-step Nr1 x xs = some-is x xs ∙ begin-one (is_ascii_digit x) xs
 begin-step Nr2 x xs =
-    ap₂ (λ (a b : Bool). a || b) (some-then (decimal_mark then digits) x xs) (mark-then some_digits x xs)
+    ap₂ (λ (a b : Bool). a || b) (some-then (decimal_mark followed_by digits) x xs) (mark-then some_digits x xs)
     ∙ begin-two (is_ascii_digit x) (is_decimal_mark x) xs (digit-no_mark x)
 begin-step Nr3 x xs =
     or-then some_digits marked_digits exponent (x ∷ xs)
     ∙ ap₂ (λ (a b : Bool). a || b) (some-then exponent x xs)
-    (or-then (some_digits then decimal_mark then digits) (decimal_mark then some_digits) exponent (x ∷ xs)
+    (or-then (some_digits followed_by decimal_mark followed_by digits) (decimal_mark followed_by some_digits) exponent (x ∷ xs)
     ∙ ap₂ (λ (a b : Bool). a || b)
-    (then-assoc some_digits (decimal_mark then digits) exponent (x ∷ xs)
-    ∙ some-then ((decimal_mark then digits) then exponent) x xs)
-    (then-assoc decimal_mark some_digits exponent (x ∷ xs) ∙ mark-then (some_digits then exponent) x xs))
+    (then-assoc some_digits (decimal_mark followed_by digits) exponent (x ∷ xs)
+    ∙ some-then ((decimal_mark followed_by digits) followed_by exponent) x xs)
+    (then-assoc decimal_mark some_digits exponent (x ∷ xs) ∙ mark-then (some_digits followed_by exponent) x xs))
     ∙ begin-three (is_ascii_digit x) (is_decimal_mark x) xs (digit-no_mark x)
 
 nothing-begins : (form : NumberForm) (x : ℕ) → is_ascii_digit x ≡ false → is_decimal_mark x ≡ false
@@ -188,7 +188,7 @@ prefix-step form next false false xs h n k = or-false (place_tail form next xs)
 spaces-step : (form : NumberForm) (x : ℕ) (xs : List ℕ)
     → place_tail form Spaces (x ∷ xs) ≡ place_tail form (next_place form Spaces x) xs
 spaces-step form x xs =
-    spaces-then (maybe sign then number_tail form) x xs
+    spaces-then (maybe sign followed_by number_tail form) x xs
     ∙ ap (λ (b : Bool). b || (x == 0x20 && place_tail form Spaces xs))
     (maybe-then sign (number_tail form) (x ∷ xs)
     ∙ ap₂ (λ (a b : Bool). a || b) (sign-then (number_tail form) x xs) (begin-step form x xs))
@@ -207,17 +207,17 @@ digits-two false true xs h = or-false (digits xs)
 digits-two false false xs h = refl
 
 abbrev with_mark : Form
-with_mark = digits then ((decimal_mark then digits) then exponent)
+with_mark = digits followed_by ((decimal_mark followed_by digits) followed_by exponent)
 
 digits-three : (d m e : Bool) (xs : List ℕ) → (d && m) ≡ false → (d && e) ≡ false → (m && e) ≡ false
-    → (((e && signed_digits xs) || (d && (digits then exponent) xs))
-    || ((m && (digits then exponent) xs) || (d && with_mark xs)))
+    → (((e && signed_digits xs) || (d && (digits followed_by exponent) xs))
+    || ((m && (digits followed_by exponent) xs) || (d && with_mark xs)))
     ≡ place_tail Nr3 (if d then Digits else if m then Fraction else if e then ExponentMark else Nowhere) xs
 digits-three true true e xs h k l = absurd cc
 digits-three true false true xs h k l = absurd cc
 digits-three true false false xs h k l = refl
 digits-three false true true xs h k l = absurd cc
-digits-three false true false xs h k l = or-false ((digits then exponent) xs)
+digits-three false true false xs h k l = or-false ((digits followed_by exponent) xs)
 digits-three false false true xs h k l = or-false (signed_digits xs || false) ∙ or-false (signed_digits xs)
 digits-three false false false xs h k l = refl
 
@@ -225,14 +225,14 @@ digits-step : (form : NumberForm) (x : ℕ) (xs : List ℕ)
     → digits_tail form (x ∷ xs) ≡ place_tail form (after_digits form x) xs
 digits-step Nr1 x xs = begin-one (is_ascii_digit x) xs
 digits-step Nr2 x xs =
-    digits-then (decimal_mark then digits) x xs
+    digits-then (decimal_mark followed_by digits) x xs
     ∙ ap (λ (b : Bool). b || (is_ascii_digit x && digits_tail Nr2 xs)) (mark-then digits x xs)
     ∙ digits-two (is_ascii_digit x) (is_decimal_mark x) xs (digit-no_mark x)
 digits-step Nr3 x xs =
     ap₂ (λ (a b : Bool). a || b) (scaled-then x xs)
-    (digits-then ((decimal_mark then digits) then exponent) x xs
+    (digits-then ((decimal_mark followed_by digits) followed_by exponent) x xs
     ∙ ap (λ (b : Bool). b || (is_ascii_digit x && with_mark xs))
-    (then-assoc decimal_mark digits exponent (x ∷ xs) ∙ mark-then (digits then exponent) x xs))
+    (then-assoc decimal_mark digits exponent (x ∷ xs) ∙ mark-then (digits followed_by exponent) x xs))
     ∙ digits-three (is_ascii_digit x) (is_decimal_mark x) (is_exponent_mark x) xs (digit-no_mark x)
     (digit-no_exponent x) (mark-no_exponent x)
 
@@ -254,7 +254,7 @@ mark-step Nr2 x xs = some-is x xs ∙ if-digit Nr2 (is_ascii_digit x) xs
 mark-step Nr3 x xs = some-then exponent x xs ∙ if-digit Nr3 (is_ascii_digit x) xs
 
 fraction-three : (d e : Bool) (xs : List ℕ) → (d && e) ≡ false
-    → ((e && signed_digits xs) || (d && (digits then exponent) xs))
+    → ((e && signed_digits xs) || (d && (digits followed_by exponent) xs))
     ≡ place_tail Nr3 (if d then Fraction else if e then ExponentMark else Nowhere) xs
 fraction-three true true xs h = absurd cc
 fraction-three true false xs h = refl

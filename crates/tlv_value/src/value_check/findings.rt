@@ -3,7 +3,8 @@ ghost use Rattle.std.specs.Prelude.{◌≡◌, ◌<◌, ◌≤◌, ◌%◌, ◌^
 ghost use Rattle.tlv_head.specs.UniversalTypes.{bit_string, boolean, generalized_time, real, utc_time, utf8_string};
 ghost use Rattle.tlv_value.specs.Checks.{findings_by};
 ghost use Rattle.tlv_value.specs.Private.TimeFindings.{time_findings};
-ghost use Rattle.tlv_value.specs.Types.{is_number_of, tested_string_types};
+ghost use Rattle.tlv_value.specs.Types.{tested_string_types};
+ghost use Rattle.tlv_head.specs.Lists.{is_among};
 ghost use Rattle.tlv_value.specs.ValueCheckState.{finding_if, findings_in, is_allowed, is_kept_date, is_kept_iri};
 ghost use Rattle.tlv_value.specs.ValueCheckState.{kept_conditions};
 
@@ -165,7 +166,7 @@ impl ValueCheck {
 
 /// Whether the type with this number is a string of characters of one octet, or UTF8String.
 fn is_tested_string_type(number: u64) -> bool
-    ensures { result ≡ is_number_of (utf8_string ∷ tested_string_types) number }
+    ensures { result ≡ is_among number (utf8_string ∷ tested_string_types) }
 {
     matches!(
         number,

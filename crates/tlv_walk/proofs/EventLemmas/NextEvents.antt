@@ -6,7 +6,7 @@ use Rattle.std.proofs.lemmas.List.{map_push}
 use Rattle.tlv_head.specs.declared.fault.FaultCode.TheVariants.{BadEnd, BadInside, MissingEnd}
 use Rattle.tlv_head.specs.Header.{HeaderValue, announced_length, octets_of}
 use Rattle.tlv_walk.specs.Forest.{Forest, NoMore, PaddingOctet, Primitive, Holder, OpenPrimitive, OpenHolder}
-use Rattle.tlv_walk.specs.Forest.{OpenBitString, OpenHeader, OpenEndOctets, extent, lead}
+use Rattle.tlv_walk.specs.Forest.{OpenBitString, OpenHeader, OpenEndOctets, holder_extent, lead}
 use Rattle.tlv_walk.specs.Place.{ObeysGrammar, Place, place_after, place_of_children}
 use Rattle.tlv_walk.specs.Events.{Begin, Bytes, End, Enter, EventValue, Pad, Unused, closing_event, events}
 use Rattle.tlv_walk.specs.Events.{opening_events, single_octets}
@@ -33,7 +33,7 @@ abbrev pub gain_events : Place → Forest → ℕ → List EventValue
 gain_events p NoMore x = step_events (push p NoMore x)
 gain_events p (PaddingOctet rest) x = gain_events (place_after p 1) rest x
 gain_events p (Primitive h c rest) x = gain_events (place_after p (length (octets_of h) + length c)) rest x
-gain_events p (Holder h inside rest) x = gain_events (place_after p (extent h inside)) rest x
+gain_events p (Holder h inside rest) x = gain_events (place_after p (holder_extent h inside)) rest x
 gain_events p (OpenPrimitive h c) x =
     Bytes (x ∷ []) ∷ cond (eqb (length (c ++ x ∷ [])) (announced_length h.size)) (End ∷ []) []
 gain_events p (OpenHolder h inside) x =
@@ -147,7 +147,7 @@ push-brings p (Holder h inside rest) x w =
     let brings : Brings ((earlier ++ events rest) ++ gain_events p (Holder h inside rest) x)
     (push p (Holder h inside rest) x) =
     follow-brings (Holder h inside) earlier (events rest) _ _ split
-    (push-brings (place_after p (extent h inside)) rest x w.2) in
+    (push-brings (place_after p (holder_extent h inside)) rest x w.2) in
     subst
     (λ (es : List EventValue). Brings (es ++ gain_events p (Holder h inside rest) x) (push p (Holder h inside rest) x))
     (sym (split rest)) brings

@@ -10,7 +10,8 @@ use Rattle.tlv_walk.specs.Walker.{Between, InBitString, InEndOctets, InHeader, I
 use Rattle.tlv_walk.specs.Walker.{WalkerState, unused_offset}
 use Rattle.tlv_walk.specs.Events.{AreEqualJoined, EventValue, events}
 use Rattle.tlv_walk.specs.Forest.{Forest}
-use Rattle.tlv_walk.specs.Inside.{are_rising, is_among}
+use Rattle.tlv_walk.specs.Inside.{are_rising}
+use Rattle.tlv_head.specs.Lists.{is_among}
 use Rattle.tlv_walk.specs.Private.WrapperCount.{next_wrapper_count, wrapper_count_after}
 use Rattle.tlv_walk.specs.Place.{ObeysGrammar, top_place}
 use Rattle.tlv_walk.specs.WalkerReads.{Stands, filled_end_events, is_end_at, waiting_events, waiting_events_in}
@@ -23,7 +24,7 @@ use Rattle.tlv_walk.proofs.EventLemmas.Wrappers.{wrapper_offsets-rise}
 
 -- an offset is not that of another
 not_among : (n offset : ℕ) (offsets : List ℕ) → n ≢ offset → is_among n (offset ∷ offsets) ≡ is_among n offsets
-not_among n offset offsets e = rw (ne_eqb offset n (λ z. e (sym z))) refl
+not_among n offset offsets e = rw (ne_eqb n offset e) refl
 
 is_first : (n : ℕ) (offsets : List ℕ) → is_among n (n ∷ offsets) ≡ true
 is_first n offsets = rw (eq-eqb n n refl) refl

@@ -5,8 +5,8 @@ use Rattle.std.proofs.lemmas.Bool.{cases_Bool, true≢false}
 use Rattle.tlv_head.specs.Header.{HeaderValue, holds, octets_of}
 use Rattle.tlv_head.proofs.Wraps.{is_wrapper}
 use Rattle.tlv_walk.specs.Forest.{Forest, NoMore, PaddingOctet, Primitive, Holder, OpenPrimitive, OpenHolder}
-use Rattle.tlv_walk.specs.Forest.{OpenBitString, OpenHeader, OpenEndOctets, extent, lead, opening, spelling}
-use Rattle.tlv_walk.specs.Inside.{is_among}
+use Rattle.tlv_walk.specs.Forest.{OpenBitString, OpenHeader, OpenEndOctets, holder_extent, lead, opening, spelling}
+use Rattle.tlv_head.specs.Lists.{is_among}
 use Rattle.tlv_walk.specs.Place.{IsHeaderAt, ObeysGrammar, Place, place_after, place_of_children}
 use Rattle.tlv_walk.specs.Events.{Begin, Bytes, Close, End, Enter, EventValue, Leave, Open, Pad, Unused, closing_event}
 use Rattle.tlv_walk.specs.Events.{events, opening_events, single_octets}
@@ -102,7 +102,7 @@ wrapper_offsets-entered p (Holder h inside rest) w = sym
     (sym (wrapper_offsets-entered (place_of_children p h) inside w.1))
     ∙ ap (λ (t : List ℕ). wrapper_offsets inside ++ t)
     (enters-closes h inside (events rest)
-    ∙ sym (wrapper_offsets-entered (place_after p (extent h inside)) rest w.2)))))
+    ∙ sym (wrapper_offsets-entered (place_after p (holder_extent h inside)) rest w.2)))))
 wrapper_offsets-entered p (OpenPrimitive h c) w = refl
 wrapper_offsets-entered p (OpenHolder h inside) w =
     sym (enters-opens h (events inside)
@@ -154,17 +154,17 @@ wrapper_offsets-rise p (Primitive h c rest) w =
     (wrapper_offsets-rise (place_after p (length (octets_of h) + length c)) rest w.1)
 wrapper_offsets-rise p (Holder h inside rest) w =
     let two : 2 ≤ length (octets_of h) = header-two h w.0.0.header.valid in
-    let size : length (spelling (Holder h inside rest)) ≡ extent h inside + length (spelling rest) =
+    let size : length (spelling (Holder h inside rest)) ≡ holder_extent h inside + length (spelling rest) =
     length-holder h inside rest in
     rise-append p.offset (p.offset + length (opening h)) _ (wrapper_offset h)
     (wrapper_offsets inside ++ wrapper_offsets rest)
     (wrapper-rises p.offset (p.offset + length (opening h)) h w.0.0.header.offset (omega (arith, length-opening h)))
-    (rise-append (p.offset + length (opening h)) (p.offset + extent h inside) _ (wrapper_offsets inside)
+    (rise-append (p.offset + length (opening h)) (p.offset + holder_extent h inside) _ (wrapper_offsets inside)
     (wrapper_offsets rest)
     (rise-within _ _ _ _ (wrapper_offsets inside) (omega arith) (omega arith)
     (wrapper_offsets-rise (place_of_children p h) inside w.1))
     (rise-within _ _ _ _ (wrapper_offsets rest) (omega arith) (omega arith)
-    (wrapper_offsets-rise (place_after p (extent h inside)) rest w.2)))
+    (wrapper_offsets-rise (place_after p (holder_extent h inside)) rest w.2)))
 wrapper_offsets-rise p (OpenPrimitive h c) w = omega arith
 wrapper_offsets-rise p (OpenHolder h inside) w =
     let two : 2 ≤ length (octets_of h) = header-two h w.0.0.header.valid in
@@ -217,7 +217,7 @@ wrapper_offsets-named p (Holder h inside rest) w =
     (wrapper-named p h w.0.0.header w.0.0.holding)
     (named-append p.inside (wrapper_offsets inside) (wrapper_offsets rest)
     (wrapper_offsets-named (place_of_children p h) inside w.1)
-    (wrapper_offsets-named (place_after p (extent h inside)) rest w.2))
+    (wrapper_offsets-named (place_after p (holder_extent h inside)) rest w.2))
 wrapper_offsets-named p (OpenPrimitive h c) w = tt
 wrapper_offsets-named p (OpenHolder h inside) w =
     named-append p.inside (wrapper_offset h) (wrapper_offsets inside) (wrapper-named p h w.0.0.header w.0.0.holding)

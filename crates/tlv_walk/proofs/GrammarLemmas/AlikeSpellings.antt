@@ -7,7 +7,7 @@ use Rattle.tlv_head.specs.ShortestHeaders.{HaveOneTagAndForm, IsShortest}
 use Rattle.tlv_head.proofs.ShortestLemmas.OneShortest.{shortest_are_one}
 use Rattle.tlv_walk.specs.AlikeElements.{AreAlike, holders, nothing, padding, primitives}
 use Rattle.tlv_walk.specs.Forest.{Forest, Holder, NoMore, OpenBitString, OpenEndOctets, OpenHeader, OpenHolder}
-use Rattle.tlv_walk.specs.Forest.{OpenPrimitive, PaddingOctet, Primitive, contents_length, end_octets, extent, lead}
+use Rattle.tlv_walk.specs.Forest.{OpenPrimitive, PaddingOctet, Primitive, contents_length, end_octets, holder_extent, lead}
 use Rattle.tlv_walk.specs.Forest.{opening, spelling}
 use Rattle.tlv_walk.specs.Place.{Place, is_indefinite, place_after, place_of_children}
 use Rattle.tlv_walk.proofs.GrammarLemmas.Lengths.{HasLength}
@@ -40,7 +40,7 @@ same-size Indefinite Indefinite m e u v = refl
 same-octets : (h k : HeaderValue) → IsHeader h → IsHeader k → HaveOneTagAndForm h k → h.size ≡ k.size → IsShortest h
     → IsShortest k → octets_of h ≡ octets_of k
 same-octets h k u v tag size s t =
-    let both : (h.identifier ≡ k.identifier) × (h.lengths ≡ k.lengths) = shortest_are_one h k u v tag size s t in
+    let both : (h.identifier_octets ≡ k.identifier_octets) × (h.length_octets ≡ k.length_octets) = shortest_are_one h k u v tag size s t in
     ap₂ (λ (a b : List ℕ). a ++ b) both.0 both.1
 
 same-lead : (h k : HeaderValue) → HaveOneTagAndForm h k → lead h ≡ lead k
@@ -68,7 +68,7 @@ module _ (form : Bool → Bool) where
       let contents : spelling inside ≡ spelling within =
       one_spelling (place_of_children p h) (place_of_children q k) inside within held u.1 v.1 r.1 s.1 in
       let others : spelling a ≡ spelling b =
-      one_spelling (place_after p (extent h inside)) (place_after q (extent k within)) a b rest u.2 v.2 r.2 s.2 in
+      one_spelling (place_after p (holder_extent h inside)) (place_after q (holder_extent k within)) a b rest u.2 v.2 r.2 s.2 in
       let count : contents_length h inside ≡ contents_length k within =
       ap₂ (λ (x y : List ℕ). length x + length y) (same-lead h k tag) contents in
       let size : h.size ≡ k.size =

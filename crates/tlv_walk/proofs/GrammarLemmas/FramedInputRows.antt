@@ -35,8 +35,8 @@ octets-wrapped : reading naming_first (4 ∷ 5 ∷ 48 ∷ 3 ∷ 2 ∷ 1 ∷ 7 �
           false;
       number = 4;
       size = Definite 5;
-      identifier = 4 ∷ [];
-      lengths = 5 ∷ [];
+      identifier_octets = 4 ∷ [];
+      length_octets = 5 ∷ [];
     })
     (Holder
     (record {
@@ -50,8 +50,8 @@ octets-wrapped : reading naming_first (4 ∷ 5 ∷ 48 ∷ 3 ∷ 2 ∷ 1 ∷ 7 �
           true;
       number = 16;
       size = Definite 3;
-      identifier = 48 ∷ [];
-      lengths = 3 ∷ [];
+      identifier_octets = 48 ∷ [];
+      length_octets = 3 ∷ [];
     })
     (Primitive
     (record {
@@ -65,8 +65,8 @@ octets-wrapped : reading naming_first (4 ∷ 5 ∷ 48 ∷ 3 ∷ 2 ∷ 1 ∷ 7 �
           false;
       number = 2;
       size = Definite 1;
-      identifier = 2 ∷ [];
-      lengths = 1 ∷ [];
+      identifier_octets = 2 ∷ [];
+      length_octets = 1 ∷ [];
     })
     (7 ∷ []) NoMore)
     NoMore)
@@ -87,8 +87,8 @@ octets-not-named : reading plain_framing (4 ∷ 5 ∷ 48 ∷ 3 ∷ 2 ∷ 1 ∷ 7
           false;
       number = 4;
       size = Definite 5;
-      identifier = 4 ∷ [];
-      lengths = 5 ∷ [];
+      identifier_octets = 4 ∷ [];
+      length_octets = 5 ∷ [];
     })
     (48 ∷ 3 ∷ 2 ∷ 1 ∷ 7 ∷ []) NoMore
 octets-not-named = refl
@@ -107,8 +107,8 @@ bits-wrapped : reading naming_first (3 ∷ 4 ∷ 0 ∷ 2 ∷ 1 ∷ 5 ∷ [])
           false;
       number = 3;
       size = Definite 4;
-      identifier = 3 ∷ [];
-      lengths = 4 ∷ [];
+      identifier_octets = 3 ∷ [];
+      length_octets = 4 ∷ [];
     })
     (Primitive
     (record {
@@ -122,8 +122,8 @@ bits-wrapped : reading naming_first (3 ∷ 4 ∷ 0 ∷ 2 ∷ 1 ∷ 5 ∷ [])
           false;
       number = 2;
       size = Definite 1;
-      identifier = 2 ∷ [];
-      lengths = 1 ∷ [];
+      identifier_octets = 2 ∷ [];
+      length_octets = 1 ∷ [];
     })
     (5 ∷ []) NoMore)
     NoMore
@@ -164,8 +164,8 @@ nulls-among-padding : reading padding_framing (0 ∷ 0 ∷ 5 ∷ 0 ∷ 0 ∷ 0 �
           false;
       number = 5;
       size = Definite 0;
-      identifier = 5 ∷ [];
-      lengths = 0 ∷ [];
+      identifier_octets = 5 ∷ [];
+      length_octets = 0 ∷ [];
     })
     []
     (PaddingOctet
@@ -183,8 +183,8 @@ nulls-among-padding : reading padding_framing (0 ∷ 0 ∷ 5 ∷ 0 ∷ 0 ∷ 0 �
       number =
           5;
       size = Definite 0;
-      identifier = 5 ∷ [];
-      lengths = 0 ∷ [];
+      identifier_octets = 5 ∷ [];
+      length_octets = 0 ∷ [];
     })
     [] (PaddingOctet NoMore))))))
 nulls-among-padding = refl

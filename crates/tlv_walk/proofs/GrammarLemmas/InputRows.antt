@@ -25,8 +25,8 @@ an-integer : reading plain_framing (2 ∷ 1 ∷ 5 ∷ [])
           false;
       number = 2;
       size = Definite 1;
-      identifier = 2 ∷ [];
-      lengths = 1 ∷ [];
+      identifier_octets = 2 ∷ [];
+      length_octets = 1 ∷ [];
     })
     (5 ∷ []) NoMore
 an-integer = refl
@@ -48,8 +48,8 @@ segments : reading plain_framing (58 ∷ 9 ∷ 4 ∷ 3 ∷ 74 ∷ 111 ∷ 110 �
           true;
       number = 26;
       size = Definite 9;
-      identifier = 58 ∷ [];
-      lengths = 9 ∷ [];
+      identifier_octets = 58 ∷ [];
+      length_octets = 9 ∷ [];
     })
     (Primitive
     (record {
@@ -63,8 +63,8 @@ segments : reading plain_framing (58 ∷ 9 ∷ 4 ∷ 3 ∷ 74 ∷ 111 ∷ 110 �
           false;
       number = 4;
       size = Definite 3;
-      identifier = 4 ∷ [];
-      lengths = 3 ∷ [];
+      identifier_octets = 4 ∷ [];
+      length_octets = 3 ∷ [];
     })
     (74 ∷ 111 ∷ 110 ∷ [])
     (Primitive
@@ -79,8 +79,8 @@ segments : reading plain_framing (58 ∷ 9 ∷ 4 ∷ 3 ∷ 74 ∷ 111 ∷ 110 �
           false;
       number = 4;
       size = Definite 2;
-      identifier = 4 ∷ [];
-      lengths = 2 ∷ [];
+      identifier_octets = 4 ∷ [];
+      length_octets = 2 ∷ [];
     })
     (101 ∷ 115 ∷ []) NoMore))
     NoMore
@@ -103,8 +103,8 @@ indefinite-segments : reading plain_framing (58 ∷ 128 ∷ 4 ∷ 3 ∷ 74 ∷ 1
           true;
       number = 26;
       size = Indefinite;
-      identifier = 58 ∷ [];
-      lengths = 128 ∷ [];
+      identifier_octets = 58 ∷ [];
+      length_octets = 128 ∷ [];
     })
     (Primitive
     (record {
@@ -118,8 +118,8 @@ indefinite-segments : reading plain_framing (58 ∷ 128 ∷ 4 ∷ 3 ∷ 74 ∷ 1
           false;
       number = 4;
       size = Definite 3;
-      identifier = 4 ∷ [];
-      lengths = 3 ∷ [];
+      identifier_octets = 4 ∷ [];
+      length_octets = 3 ∷ [];
     })
     (74 ∷ 111 ∷ 110 ∷ [])
     (Primitive
@@ -134,8 +134,8 @@ indefinite-segments : reading plain_framing (58 ∷ 128 ∷ 4 ∷ 3 ∷ 74 ∷ 1
           false;
       number = 4;
       size = Definite 2;
-      identifier = 4 ∷ [];
-      lengths = 2 ∷ [];
+      identifier_octets = 4 ∷ [];
+      length_octets = 2 ∷ [];
     })
     (101 ∷ 115 ∷ []) NoMore))
     NoMore
@@ -155,8 +155,8 @@ an-overrun-reading : reading plain_framing (48 ∷ 3 ∷ 2 ∷ 2 ∷ 1 ∷ [])
           true;
       number = 16;
       size = Definite 3;
-      identifier = 48 ∷ [];
-      lengths = 3 ∷ [];
+      identifier_octets = 48 ∷ [];
+      length_octets = 3 ∷ [];
     })
     (OpenHeader (2 ∷ []))
 an-overrun-reading = refl
@@ -197,8 +197,8 @@ application-31 : reading plain_framing (95 ∷ 31 ∷ 1 ∷ 0 ∷ [])
           false;
       number = 31;
       size = Definite 1;
-      identifier = 95 ∷ 31 ∷ [];
-      lengths = 1 ∷ [];
+      identifier_octets = 95 ∷ 31 ∷ [];
+      length_octets = 1 ∷ [];
     })
     (0 ∷ []) NoMore
 application-31 = refl
@@ -217,8 +217,8 @@ high-form-of-2 : reading plain_framing (31 ∷ 2 ∷ 1 ∷ 5 ∷ [])
           false;
       number = 2;
       size = Definite 1;
-      identifier = 31 ∷ 2 ∷ [];
-      lengths = 1 ∷ [];
+      identifier_octets = 31 ∷ 2 ∷ [];
+      length_octets = 1 ∷ [];
     })
     (5 ∷ []) NoMore
 high-form-of-2 = refl
@@ -239,9 +239,9 @@ nine-octets-of-number : reading plain_framing (159 ∷ 129 ∷ 128 ∷ 128 ∷ 1
           72057594037927936;
       size =
           Definite 0;
-      identifier =
+      identifier_octets =
           159 ∷ 129 ∷ 128 ∷ 128 ∷ 128 ∷ 128 ∷ 128 ∷ 128 ∷ 128 ∷ 0 ∷ [];
-      lengths = 0 ∷ [];
+      length_octets = 0 ∷ [];
     })
     [] NoMore
 nine-octets-of-number = refl

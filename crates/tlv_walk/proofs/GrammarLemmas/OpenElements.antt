@@ -8,7 +8,7 @@ use Rattle.tlv_head.specs.declared.header.Size.TheVariants.{Definite, Indefinite
 use Rattle.tlv_head.specs.Header.{HeaderValue, IsHeader, announced_length, holds, octets_of, wraps}
 use Rattle.tlv_head.specs.HeaderSoFar.{AllowsSize}
 use Rattle.tlv_walk.specs.Forest.{Forest, Holder, NoMore, OpenBitString, OpenEndOctets, OpenHeader, OpenHolder}
-use Rattle.tlv_walk.specs.Forest.{OpenPrimitive, PaddingOctet, Primitive, contents_length, end_octets, extent, is_whole}
+use Rattle.tlv_walk.specs.Forest.{OpenPrimitive, PaddingOctet, Primitive, contents_length, end_octets, holder_extent, is_whole}
 use Rattle.tlv_walk.specs.Forest.{lead, opening, spelling}
 use Rattle.tlv_walk.specs.Place.{Fits, IsHeaderAt, IsHolderAt, ObeysGrammar, Place, announced_extent, place_after}
 use Rattle.tlv_walk.specs.Place.{place_of_children}
@@ -48,7 +48,7 @@ spelling-fits p (Primitive h c rest) z w =
     w.1)
 spelling-fits p (Holder h inside rest) z w =
     within-le p.bound _ _ (omega (arith, length-holder h inside rest))
-    (spelling-fits (place_after p (extent h inside)) rest (within-le p.bound _ _ (omega arith) w.0.0.fits) w.2)
+    (spelling-fits (place_after p (holder_extent h inside)) rest (within-le p.bound _ _ (omega arith) w.0.0.fits) w.2)
 spelling-fits p (OpenPrimitive h c) z w = within-le p.bound _ _ (omega (arith, length-append (octets_of h) c, w.1))
     w.0.fits
 spelling-fits p (OpenHolder h inside) z w =

@@ -3,7 +3,7 @@ use Rattle.std.proofs.Common.{◌≡◌, ℕ, ◌+◌, true, false, length, Opti
 use Rattle.tlv_head.specs.declared.fault.FaultCode.{FaultCode}
 use Rattle.tlv_head.specs.Header.{HeaderValue, octets_of}
 use Rattle.tlv_walk.specs.Forest.{Forest, Holder, NoMore, OpenBitString, OpenEndOctets, OpenHeader, OpenHolder}
-use Rattle.tlv_walk.specs.Forest.{OpenPrimitive, PaddingOctet, Primitive, contents_length, extent, is_whole, spelling}
+use Rattle.tlv_walk.specs.Forest.{OpenPrimitive, PaddingOctet, Primitive, contents_length, holder_extent, is_whole, spelling}
 use Rattle.tlv_walk.specs.Place.{Fits, ObeysGrammar, Place, place_after, place_of_children}
 use Rattle.tlv_walk.specs.Ending.{open_end}
 use Rattle.tlv_walk.proofs.GrammarLemmas.Bounds.{fits-inside, lacks-within, within-le}
@@ -38,8 +38,8 @@ push-open_end p (Primitive h c rest) x =
     refusal-follow (Primitive h c) (push (place_after p (length (octets_of h) + length c)) rest x)
     ∙ push-open_end (place_after p (length (octets_of h) + length c)) rest x
 push-open_end p (Holder h inside rest) x =
-    refusal-follow (Holder h inside) (push (place_after p (extent h inside)) rest x)
-    ∙ push-open_end (place_after p (extent h inside)) rest x
+    refusal-follow (Holder h inside) (push (place_after p (holder_extent h inside)) rest x)
+    ∙ push-open_end (place_after p (holder_extent h inside)) rest x
 push-open_end p (OpenPrimitive h c) x = refl
 push-open_end p (OpenHolder h inside) x =
     refusal-settle h (push (place_of_children p h) inside x) ∙ push-open_end (place_of_children p h) inside x
@@ -84,7 +84,7 @@ open_end-fact p (Primitive h c rest) z r w =
     (within-le p.bound _ _ (omega arith) w.0.0.fits)
     (room-after p _ rest (Primitive h c rest) (length-primitive h c rest) (λ t. t) r) w.1
 open_end-fact p (Holder h inside rest) z r w =
-    open_end-fact (place_after p (extent h inside)) rest (within-le p.bound _ _ (omega arith) w.0.0.fits)
+    open_end-fact (place_after p (holder_extent h inside)) rest (within-le p.bound _ _ (omega arith) w.0.0.fits)
     (room-after p _ rest (Holder h inside rest) (length-holder h inside rest) (λ t. t) r) w.2
 open_end-fact p (OpenPrimitive h c) z r w = tt
 open_end-fact p (OpenHolder h inside) z r w =

@@ -3,7 +3,7 @@
 use Rattle.std.proofs.Common.{◌≡◌, not, ℕ, ◌+◌, ◌*◌, ◌<◌, ◌≤◌, Bool, false, List, ◌++◌, length, ◌∙◌, arith}
 use Rattle.tlv_walk.specs.AlikeElements.{AreAlike}
 use Rattle.tlv_walk.specs.Forest.{Forest, spelling}
-use Rattle.tlv_walk.specs.Inside.{is_among}
+use Rattle.tlv_head.specs.Lists.{is_among}
 use Rattle.tlv_walk.specs.Place.{Place}
 use Rattle.tlv_walk.specs.Reading.{IsSound}
 use Rattle.tlv_walk.specs.Wrappers.{wrapper_offsets}

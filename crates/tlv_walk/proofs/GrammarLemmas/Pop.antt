@@ -5,7 +5,7 @@ use Rattle.std.proofs.lemmas.Bool.{cases_Bool, and_from, true≢false}
 use Rattle.tlv_head.specs.declared.header.Size.TheVariants.{Definite}
 use Rattle.tlv_head.specs.Header.{HeaderValue, announced_length, holds, octets_of}
 use Rattle.tlv_walk.specs.Forest.{Forest, Holder, NoMore, OpenBitString, OpenEndOctets, OpenHeader, OpenHolder}
-use Rattle.tlv_walk.specs.Forest.{OpenPrimitive, PaddingOctet, Primitive, contents_length, end_octets, extent, is_whole}
+use Rattle.tlv_walk.specs.Forest.{OpenPrimitive, PaddingOctet, Primitive, contents_length, end_octets, holder_extent, is_whole}
 use Rattle.tlv_walk.specs.Forest.{lead, opening, spelling}
 use Rattle.tlv_walk.specs.Place.{Fits, IsHeaderAt, IsHolderAt, ObeysGrammar, Place, announced_extent, is_indefinite}
 use Rattle.tlv_walk.specs.Place.{place_after, place_of_children}
@@ -155,8 +155,8 @@ has-first_end_octet p (Primitive h c rest) w whole i f =
       pushed = ap (push_after (Primitive h c)) r.pushed;
     }
 has-first_end_octet p (Holder h inside rest) w whole i f =
-    let r : HasFirstEndOctet (place_after p (extent h inside)) rest (with_first_end_octet rest) =
-    has-first_end_octet (place_after p (extent h inside)) rest w.2 whole i
+    let r : HasFirstEndOctet (place_after p (holder_extent h inside)) rest (with_first_end_octet rest) =
+    has-first_end_octet (place_after p (holder_extent h inside)) rest w.2 whole i
     (within-le p.bound _ _ (omega (arith, length-holder h inside rest)) f) in
     record {
       obeys_grammar = (w.0, w.1, r.obeys_grammar);
@@ -267,7 +267,7 @@ forest-popped p (Primitive h c rest) w = inr
           popped-after p _ (Primitive h c) (octets_of h ++ c) rest r (w.0, r.obeys_grammar)
           (λ g. sym (append_assoc (octets_of h) c (spelling g))) (λ x. refl)
     ])
-forest-popped p (Holder h inside rest) w = inr (elim (forest-popped (place_after p (extent h inside)) rest w.2) [
+forest-popped p (Holder h inside rest) w = inr (elim (forest-popped (place_after p (holder_extent h inside)) rest w.2) [
   | inl e ↦ rw e (holder-popped p h inside w.0 w.1 (forest-popped (place_of_children p h) inside w.1))
   | inr r ↦
       popped-after p _ (Holder h inside) (opening h ++ (spelling inside ++ end_octets h.size)) rest r

@@ -10,7 +10,7 @@ use Rattle.tlv_head.proofs.GrammarLemmas.Scan.{Origin, Scan, Fresh, High, Named,
 use Rattle.tlv_head.proofs.GrammarLemmas.Scan.{step, scan, first-more}
 use Rattle.tlv_head.proofs.GrammarLemmas.Meaning.{IsStateAfter, reads-step, reads-scan, prefix-from_more, prefix-bytes}
 use Rattle.tlv_walk.specs.Forest.{Forest, Holder, NoMore, OpenBitString, OpenEndOctets, OpenHeader, OpenHolder}
-use Rattle.tlv_walk.specs.Forest.{OpenPrimitive, PaddingOctet, Primitive, contents_length, end_octets, extent, opening}
+use Rattle.tlv_walk.specs.Forest.{OpenPrimitive, PaddingOctet, Primitive, contents_length, end_octets, holder_extent, opening}
 use Rattle.tlv_walk.specs.Forest.{spelling}
 use Rattle.tlv_walk.specs.Place.{Fits, IsHeaderAt, IsHolderAt, ObeysGrammar, Place, announced_extent, place_after}
 use Rattle.tlv_walk.specs.Place.{place_of_children}
@@ -163,7 +163,7 @@ primitive-step p h c o (Refused code) w r = tt
 
 -- a step of what follows an element that holds others
 holder-step : (p : Place) (h : HeaderValue) (inside : Forest) (o : List ℕ) (s : PushStep) → IsWholeHolder p h inside
-    → ObeysGrammar (place_of_children p h) inside → IsStep (place_after p (extent h inside)) o s
+    → ObeysGrammar (place_of_children p h) inside → IsStep (place_after p (holder_extent h inside)) o s
     → IsStep p (opening h ++ (spelling inside ++ (end_octets h.size ++ o))) (push_after (Holder h inside) s)
 holder-step p h inside o (Grown g) w v r = record {
   obeys_grammar = (w, v, r.obeys_grammar);
@@ -221,7 +221,7 @@ push-steps p (Primitive header c rest) x h w =
     (primitive-step p header c _ _ w.0 (push-steps (place_after p (length (octets_of header) + length c)) rest x h w.1))
 push-steps p (Holder header inside rest) x h w =
     rw (append_assoc-4 (opening header) (spelling inside) (end_octets header.size) (spelling rest) (x ∷ []))
-    (holder-step p header inside _ _ w.0 w.1 (push-steps (place_after p (extent header inside)) rest x h w.2))
+    (holder-step p header inside _ _ w.0 w.1 (push-steps (place_after p (holder_extent header inside)) rest x h w.2))
 push-steps p (OpenPrimitive header c) x h w = open_primitive-step p header c x w
 push-steps p (OpenHolder header inside) x h w =
     rw (append_assoc (opening header) (spelling inside) (x ∷ []))

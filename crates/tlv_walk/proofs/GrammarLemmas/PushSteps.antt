@@ -7,9 +7,9 @@ use Rattle.tlv_head.specs.declared.header.Size.TheVariants.{Definite}
 use Rattle.tlv_head.specs.Header.{HeaderValue, announced_length, holds, octets_of}
 use Rattle.tlv_head.proofs.GrammarLemmas.Scan.{Origin, Scan, Fresh, High, Named, Long, Ready, Stuck, Over, step, scan}
 use Rattle.tlv_walk.specs.Forest.{Forest, Holder, NoMore, OpenBitString, OpenEndOctets, OpenHeader, OpenHolder}
-use Rattle.tlv_walk.specs.Forest.{OpenPrimitive, PaddingOctet, Primitive, contents_length, extent, is_whole, lead}
+use Rattle.tlv_walk.specs.Forest.{OpenPrimitive, PaddingOctet, Primitive, contents_length, holder_extent, is_whole, lead}
 use Rattle.tlv_walk.specs.Forest.{spelling}
-use Rattle.tlv_walk.specs.Inside.{is_among}
+use Rattle.tlv_head.specs.Lists.{is_among}
 use Rattle.tlv_walk.specs.Place.{Fits, IsHolderAt, IsPrimitiveAt, ObeysGrammar, Place, place_after, place_of_children}
 use Rattle.tlv_walk.proofs.GrammarLemmas.Lengths.{HasLength}
 use Rattle.tlv_walk.proofs.GrammarLemmas.Bounds.{fits, has_length}
@@ -21,7 +21,7 @@ IsWholePrimitive p h c = IsPrimitiveAt p h (length (octets_of h) + length c) × 
 -- an element that holds others and has ended
 abbrev pub IsWholeHolder : Place → HeaderValue → Forest → Type 0
 IsWholeHolder p h inside =
-    IsHolderAt p h (extent h inside) × (is_whole inside ≡ true) × HasLength h.size (contents_length h inside)
+    IsHolderAt p h (holder_extent h inside) × (is_whole inside ≡ true) × HasLength h.size (contents_length h inside)
 
 -- what an octet makes of a forest that obeys the grammar
 pub data PushStep : Type 0 where
@@ -99,7 +99,7 @@ push p NoMore x =
 push p (PaddingOctet rest) x = push_after PaddingOctet (push (place_after p 1) rest x)
 push p (Primitive h c rest) x =
     push_after (Primitive h c) (push (place_after p (length (octets_of h) + length c)) rest x)
-push p (Holder h inside rest) x = push_after (Holder h inside) (push (place_after p (extent h inside)) rest x)
+push p (Holder h inside rest) x = push_after (Holder h inside) (push (place_after p (holder_extent h inside)) rest x)
 push p (OpenPrimitive h c) x = Grown (primitive_so_far h (c ++ x ∷ []))
 push p (OpenHolder h inside) x = settle h (push (place_of_children p h) inside x)
 push p (OpenBitString h) x = cond (eqb x 0) (Grown (holder_so_far h NoMore)) (Refused BadInside)

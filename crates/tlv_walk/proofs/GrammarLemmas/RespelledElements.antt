@@ -8,9 +8,9 @@ use Rattle.tlv_head.specs.Header.{HeaderValue, IsHeader, identifier_octet, octet
 use Rattle.tlv_head.proofs.ShortestLemmas.OneShortest.{identifier-some, lengths-some}
 use Rattle.tlv_walk.specs.AlikeElements.{HaveNoUniversalZero, holders, nothing, padding, primitives}
 use Rattle.tlv_walk.specs.Forest.{Forest, NoMore, PaddingOctet, Primitive, Holder, OpenPrimitive, OpenHolder}
-use Rattle.tlv_walk.specs.Forest.{OpenBitString, OpenHeader, OpenEndOctets, end_octets, extent, lead, opening}
+use Rattle.tlv_walk.specs.Forest.{OpenBitString, OpenHeader, OpenEndOctets, end_octets, holder_extent, lead, opening}
 use Rattle.tlv_walk.specs.Forest.{spelling}
-use Rattle.tlv_walk.specs.Inside.{is_among}
+use Rattle.tlv_head.specs.Lists.{is_among}
 use Rattle.tlv_walk.specs.Place.{Place, place_after, place_of_children}
 use Rattle.tlv_walk.specs.Reading.{IsSound}
 use Rattle.tlv_walk.specs.Wrappers.{wrapper_offsets}
@@ -58,9 +58,9 @@ module _ (form : Bool → Bool) (definite : form false ≡ false) where
         octets = header ++ (c ++ r.octets);
         names = λ offset. r.names (offset + (length header + length c));
         short =
-            let id : 1 ≤ length h.identifier =
-            identifier-some h.class h.constructed h.number h.identifier valid.identifier in
-            let len : 1 ≤ length h.lengths = lengths-some h.size h.lengths valid.lengths in
+            let id : 1 ≤ length h.identifier_octets =
+            identifier-some h.class h.constructed h.number h.identifier_octets valid.identifier in
+            let len : 1 ≤ length h.length_octets = lengths-some h.size h.length_octets valid.lengths in
             omega (
               arith,
               id,
@@ -70,7 +70,7 @@ module _ (form : Bool → Bool) (definite : form false ≡ false) where
               r.short,
               total,
               length-primitive h c rest,
-              length-append h.identifier h.lengths,
+              length-append h.identifier_octets h.length_octets,
               length-append o.identifier.octets o.lengths.octets,
             );
         names_after = λ offset i less. r.names_after (offset + (length header + length c)) i (omega (arith, less));
@@ -121,7 +121,7 @@ module _ (form : Bool → Bool) (definite : form false ≡ false) where
       → Holds h constructed (form constructed) (length held.octets)
       → (o : Octets h constructed
       (size-for (form constructed) (length (lead_by constructed (eqb h.number 3)) + length held.octets)))
-      → Spelling form (place_after p (extent h inside)) rest → Spelling form p (Holder h inside rest)
+      → Spelling form (place_after p (holder_extent h inside)) rest → Spelling form p (Holder h inside rest)
   spelling-holder p h inside rest constructed is valid few held holding o r =
       let first : List ℕ = lead_by constructed (eqb h.number 3) in
       let m : ℕ = length first + length held.octets in
@@ -149,9 +149,9 @@ module _ (form : Bool → Bool) (definite : form false ≡ false) where
         octets = begins ++ (held.octets ++ (ends ++ r.octets));
         names = joint_names constructed held.names r.names (length begins) far;
         short =
-            let id : 1 ≤ length h.identifier =
-            identifier-some h.class h.constructed h.number h.identifier valid.identifier in
-            let len : 1 ≤ length h.lengths = lengths-some h.size h.lengths valid.lengths in
+            let id : 1 ≤ length h.identifier_octets =
+            identifier-some h.class h.constructed h.number h.identifier_octets valid.identifier in
+            let len : 1 ≤ length h.length_octets = lengths-some h.size h.length_octets valid.lengths in
             omega (
               arith,
               id,
@@ -164,7 +164,7 @@ module _ (form : Bool → Bool) (definite : form false ≡ false) where
               lead_is,
               length-holder h inside rest,
               length-opening h,
-              length-append h.identifier h.lengths,
+              length-append h.identifier_octets h.length_octets,
               length-append (octets-in h constructed size o) first,
               length-append o.identifier.octets o.lengths.octets,
             );
@@ -178,11 +178,11 @@ module _ (form : Bool → Bool) (definite : form false ≡ false) where
             held.there (place_of_children q k) (record { padding = refl; depth = ap (λ (d : ℕ). d + 1) like.depth })
             (λ j least most. agrees j (omega (arith, least)) (omega (arith, most, total))
             ∙ joint.of_inner q.offset j least most) in
-            let next_is : extent k i.forest ≡ far =
+            let next_is : holder_extent k i.forest ≡ far =
             ap (λ (l : List ℕ). length begins + (length l + length ends)) i.spelled in
-            let t : SpelledAt form (place_after q (extent k i.forest)) rest r.octets
-            (r.names (q.offset + extent k i.forest)) =
-            r.there (place_after q (extent k i.forest)) (record { padding = like.padding; depth = like.depth })
+            let t : SpelledAt form (place_after q (holder_extent k i.forest)) rest r.octets
+            (r.names (q.offset + holder_extent k i.forest)) =
+            r.there (place_after q (holder_extent k i.forest)) (record { padding = like.padding; depth = like.depth })
             (λ j least most.
             agrees j (omega (arith, least)) (omega (arith, most, next_is, total))
             ∙ joint.of_others q.offset j (omega (arith, least, next_is))
@@ -251,13 +251,13 @@ module _ (form : Bool → Bool) (definite : form false ≡ false) where
       not-holding h.constructed (wraps h) u.0.1 in
       let o : Octets h false (Definite (length c)) =
       octets-for h false (Definite (length c))
-      (identifier-same_form h.class h.constructed false h.number h.identifier primitive u.0.0.valid.identifier)
+      (identifier-same_form h.class h.constructed false h.number h.identifier_octets primitive u.0.0.valid.identifier)
       (subst (λ (k : Bool). identifier_octet h.class k h.number ≢ 0) primitive low.0) refl
       (omega (arith, count, few)) in
       spelling-primitive p h c rest primitive u.0.0.valid o
       (sound-spelling (place_after p (length (octets_of h) + length c)) rest (omega (arith, count, few)) u.1 low.1)
   sound-spelling p (Holder h inside rest) few u low =
-      let count : length (spelling (Holder h inside rest)) ≡ extent h inside + length (spelling rest) =
+      let count : length (spelling (Holder h inside rest)) ≡ holder_extent h inside + length (spelling rest) =
       length-holder h inside rest in
       let begins : length (opening h) ≡ length (octets_of h) + length (lead h) = length-opening h in
       let some : 2 ≤ length (octets_of h) = header-two h u.0.0.valid in
@@ -273,7 +273,7 @@ module _ (form : Bool → Bool) (definite : form false ≡ false) where
       (allows-size h.constructed (form h.constructed) m primitive)
       (size-below (form h.constructed) m below) in
       spelling-holder p h inside rest h.constructed refl u.0.0.valid u.0.2 held holding o
-      (sound-spelling (place_after p (extent h inside)) rest (omega (arith, count, few)) u.2 low.1)
+      (sound-spelling (place_after p (holder_extent h inside)) rest (omega (arith, count, few)) u.2 low.1)
   sound-spelling p (OpenPrimitive h c) few u low = absurd u
   sound-spelling p (OpenHolder h inside) few u low = absurd u
   sound-spelling p (OpenBitString h) few u low = absurd u

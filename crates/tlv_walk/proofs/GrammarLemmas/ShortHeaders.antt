@@ -18,7 +18,7 @@ use Rattle.tlv_head.proofs.ShortestLemmas.LengthOctets.{FewLengths, few-lengths}
 use Rattle.tlv_head.proofs.ShortestLemmas.OneShortest.{identifier-le, identifier-some}
 use Rattle.tlv_head.proofs.ShortestLemmas.ShortestSpelling.{ShortIdentifier, ShortLength, short-identifier}
 use Rattle.tlv_walk.specs.Forest.{end_octets}
-use Rattle.tlv_walk.specs.Inside.{is_among}
+use Rattle.tlv_head.specs.Lists.{is_among}
 use Rattle.tlv_walk.specs.Place.{is_indefinite}
 use Rattle.tlv_walk.proofs.GrammarLemmas.Leads.{lead_by, wrapper_offset_by}
 use Rattle.tlv_walk.proofs.GrammarLemmas.Lengths.{HasLength}
@@ -30,7 +30,7 @@ pub record Octets (h : HeaderValue) (constructed : Bool) (size : Size) : Type 0 
   pub identifier : ShortIdentifier h.class constructed h.number
   pub lengths : ShortLength size
   pub allowed : AllowsSize constructed size
-  pub short : length identifier.octets ≤ length h.identifier
+  pub short : length identifier.octets ≤ length h.identifier_octets
   pub short_lengths : length lengths.octets + length (end_octets size) ≤ 6
 
 -- the header, named if it is to be that of a wrapper
@@ -43,8 +43,8 @@ header_of h named constructed size o offset = record {
   constructed = constructed;
   number = h.number;
   size = size;
-  identifier = o.identifier.octets;
-  lengths = o.lengths.octets;
+  identifier_octets = o.identifier.octets;
+  length_octets = o.lengths.octets;
 }
 
 abbrev pub octets-in : (h : HeaderValue) (constructed : Bool) (size : Size) → Octets h constructed size → List ℕ
@@ -72,18 +72,18 @@ few-octets (Definite n) l few = omega (arith, few)
 few-octets Indefinite l few = omega (arith, ap length l.valid)
 
 pub octets-for : (h : HeaderValue) (constructed : Bool) (size : Size)
-    → IsIdentifier h.class constructed h.number h.identifier
+    → IsIdentifier h.class constructed h.number h.identifier_octets
     → identifier_octet h.class constructed h.number ≢ 0
     → AllowsSize constructed size → announced_length size < 2 ^ 40 → Octets h constructed size
 octets-for h constructed size valid nonzero allowed below =
     let i : ShortIdentifier h.class constructed h.number =
-    short-identifier h.class constructed h.number h.identifier valid nonzero in
+    short-identifier h.class constructed h.number h.identifier_octets valid nonzero in
     let l : FewLengths size = few-lengths size below in
     record {
       identifier = i;
       lengths = l.short;
       allowed = allowed;
-      short = identifier-le h.class constructed h.number i.octets h.identifier i.valid valid i.shortest;
+      short = identifier-le h.class constructed h.number i.octets h.identifier_octets i.valid valid i.shortest;
       short_lengths = few-octets size l.short l.few;
     }
 
@@ -141,10 +141,10 @@ own-there false offset = ap (λ k. k || false) (eq-eqb offset offset refl)
 pub own-apart : (constructed : Bool) (offset i : ℕ) → i ≢ offset
     → is_among i (wrapper_offset_by constructed offset) ≡ false
 own-apart true offset i apart = refl
-own-apart false offset i apart = ap (λ k. k || false) (ne_eqb offset i (λ e. apart (sym e)))
+own-apart false offset i apart = ap (λ k. k || false) (ne_eqb i offset apart)
 
 is_among-append : (i : ℕ) (xs ys : List ℕ) → is_among i (xs ++ ys) ≡ (is_among i xs || is_among i ys)
-is_among-append i xs ys = list_any-append (λ offset. eqb offset i) xs ys
+is_among-append i xs ys = list_any-append (λ offset. eqb i offset) xs ys
 
 -- an offset that is in none but one of three lists
 pub in-first : (i : ℕ) (a b c : List ℕ) → is_among i b ≡ false → is_among i c ≡ false

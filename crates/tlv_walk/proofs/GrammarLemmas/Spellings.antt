@@ -2,7 +2,7 @@
 use Rattle.std.proofs.Common.{◌≡◌, ℕ, ◌+◌, ◌≤◌, List, [], ◌∷◌, ◌++◌, length, ap, ◌∙◌, arith, append_assoc}
 use Rattle.std.proofs.Common.{length-append, refl, sym}
 use Rattle.tlv_head.specs.Header.{HeaderValue, octets_of}
-use Rattle.tlv_walk.specs.Forest.{Forest, Primitive, Holder, end_octets, extent, lead, opening, spelling}
+use Rattle.tlv_walk.specs.Forest.{Forest, Primitive, Holder, end_octets, holder_extent, lead, opening, spelling}
 
 -- what comes before the elements that an element holds is the header and the contents octets before them
 pub length-opening : (h : HeaderValue) → length (opening h) ≡ length (octets_of h) + length (lead h)
@@ -16,7 +16,7 @@ length-primitive h c rest =
 
 -- an element that holds others, and what follows it
 pub length-holder : (h : HeaderValue) (inside rest : Forest)
-    → length (spelling (Holder h inside rest)) ≡ extent h inside + length (spelling rest)
+    → length (spelling (Holder h inside rest)) ≡ holder_extent h inside + length (spelling rest)
 length-holder h inside rest =
     omega (
       arith,

@@ -10,7 +10,7 @@ use Rattle.tlv_walk.specs.Events.{AreEqualJoined, Begin, Bytes, Enter, EventValu
 use Rattle.tlv_walk.specs.Events.{opening_event, single_octets}
 use Rattle.tlv_walk.specs.Forest.{Forest, NoMore, OpenBitString, lead, opening, spelling}
 use Rattle.tlv_walk.proofs.GrammarLemmas.Leads.{lead-one, lead_by, wraps-bits}
-use Rattle.tlv_walk.specs.Inside.{is_among}
+use Rattle.tlv_head.specs.Lists.{is_among}
 use Rattle.tlv_walk.specs.Private.WalkerCalls.{after_header}
 use Rattle.tlv_walk.specs.Place.{Fits, IsHeaderAt, IsHolderAt, ObeysGrammar, Place, announced_extent}
 use Rattle.tlv_walk.specs.Stack.{IsWithin}

@@ -11,7 +11,7 @@ use Rattle.tlv_walk.specs.Walker.{Between, InEndOctets, WalkerState}
 use Rattle.tlv_walk.specs.Events.{AreEqualJoined, Close, EventValue, Leave, closing_event, events}
 use Rattle.tlv_walk.proofs.GrammarLemmas.Leads.{end_offset}
 use Rattle.tlv_walk.specs.Events.{opening_events, single_octets}
-use Rattle.tlv_walk.specs.Forest.{Forest, Holder, NoMore, OpenEndOctets, contents_length, end_octets, extent, is_whole}
+use Rattle.tlv_walk.specs.Forest.{Forest, Holder, NoMore, OpenEndOctets, contents_length, end_octets, holder_extent, is_whole}
 use Rattle.tlv_walk.specs.Forest.{opening, spelling}
 use Rattle.tlv_walk.specs.Wrappers.{entered_offsets}
 use Rattle.std.proofs.lemmas.Bool.{cases_Bool}
@@ -76,7 +76,7 @@ closed_whole : (w : WalkerState) (l : Layer) (ls : List Layer) (here : Forest)
     → IsHolderAt (place_after (place_in w.framing ls) (length (spelling l.before))) l.header
     (announced_extent l.header)
     → AreWhole (place_in w.framing (l ∷ ls)) here → HasLength l.header.size (contents_length l.header here)
-    → Fits (place_after (place_in w.framing ls) (length (spelling l.before))) (extent l.header here)
+    → Fits (place_after (place_in w.framing ls) (length (spelling l.before))) (holder_extent l.header here)
     → AreWhole (place_in w.framing ls) (closed_here l here)
 closed_whole w l ls here earlier entry inside filled fits = record {
   obeys_grammar = grammar-followed_by (place_in w.framing ls) l.before (Holder l.header here NoMore) earlier (
@@ -97,7 +97,7 @@ pub close_state : (w v : WalkerState) (b : List ℕ) (yielded : List EventValue)
     → HasZipper w b yielded (record { layers = l ∷ ls; here = here; tail = tail })
     → w.stack ≡ frames_of w.framing (l ∷ ls) → events_of_tail tail ≡ []
     → spelling_of_tail tail ++ t ≡ end_octets l.header.size → HasLength l.header.size (contents_length l.header here)
-    → Fits (place_after (place_in w.framing ls) (length (spelling l.before))) (extent l.header here)
+    → Fits (place_after (place_in w.framing ls) (length (spelling l.before))) (holder_extent l.header here)
     → v
     ≡ record w
     { stack = drop 1 w.stack; phase = Between; offset = w.offset + length t; events = w.events + 1 }
@@ -172,7 +172,7 @@ second_from w b yielded s (l ∷ ls) has zero room =
     subst (λ (t : Size). IsWithin (bound_in t (p.offset + length (octets_of l.header)) p.bound) (w.offset + 1))
     size bound in
     let two : length (end_octets l.header.size) ≡ 2 = ap length ends in
-    let fits : Fits p (extent l.header s.here) = subst (λ (n : ℕ). IsWithin p.bound n) (omega arith) outer in (
+    let fits : Fits p (holder_extent l.header s.here) = subst (λ (n : ℕ). IsWithin p.bound n) (omega arith) outer in (
       _,
       subst
           (λ (e : EventValue). HasZipper
@@ -229,7 +229,7 @@ filled_from w b yielded s (l ∷ ls) has e f fs is full =
     closes_definite l.header.constructed l.header.size size.0 _ size.1 ∙ ap filled_end_event (sym same) in
     let entry : Fits p (length (octets_of l.header) + size.0) =
     subst (λ (t : Size). Fits p (length (octets_of l.header) + announced_length t)) size.1 has.layers.2.fits in
-    let fits : Fits p (extent l.header s.here) =
+    let fits : Fits p (holder_extent l.header s.here) =
     subst (λ (n : ℕ). Fits p n) (omega (arith, long, zero, length-opening l.header)) entry in
     let still : w.offset ≡ w.offset + 0 = omega arith in (
       _,

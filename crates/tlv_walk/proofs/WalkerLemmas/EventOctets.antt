@@ -14,7 +14,7 @@ use Rattle.tlv_walk.specs.Events.{AreEqualJoined, Begin, Bytes, Close, End, Ente
 use Rattle.tlv_walk.specs.Events.{closing_event, event_octets, events, opening_events, single_octets}
 use Rattle.tlv_walk.proofs.GrammarLemmas.Leads.{end_offset}
 use Rattle.tlv_walk.specs.Forest.{Forest, NoMore, PaddingOctet, Primitive, Holder, OpenPrimitive, OpenHolder}
-use Rattle.tlv_walk.specs.Forest.{OpenBitString, OpenHeader, OpenEndOctets, end_octets, extent, is_whole, lead, opening}
+use Rattle.tlv_walk.specs.Forest.{OpenBitString, OpenHeader, OpenEndOctets, end_octets, holder_extent, is_whole, lead, opening}
 use Rattle.tlv_walk.specs.Forest.{spelling}
 use Rattle.tlv_walk.specs.Place.{IsHeaderAt, ObeysGrammar, Place, place_after, place_of_children}
 use Rattle.tlv_walk.specs.Private.Zipper.{AreLayers, BitStringTail, NoTail, HasZipper, PrimitiveTail, EndOctetsTail}
@@ -133,7 +133,7 @@ octets_whole p (Holder h inside rest) o e =
     ∙ ap (λ (l : List ℕ). spelling inside ++ (l ++ flat_map event_octets (events rest)))
     (octets_closes p h inside o.0.0.header)
     ∙ ap (λ (l : List ℕ). spelling inside ++ (end_octets h.size ++ l))
-    (octets_whole (place_after p (extent h inside)) rest o.2 e)
+    (octets_whole (place_after p (holder_extent h inside)) rest o.2 e)
     )
 octets_whole p (OpenPrimitive h c) o e = absurd (true≢false (sym e))
 octets_whole p (OpenHolder h inside) o e = absurd (true≢false (sym e))

@@ -17,7 +17,7 @@ use Rattle.tlv_walk.specs.Ending.{IsEnding, IsRefusedAt, fault_ending, no_room, 
 use Rattle.tlv_walk.specs.Ending.{too_deep}
 use Rattle.tlv_walk.specs.Forest.{OpenHeader}
 use Rattle.tlv_walk.specs.Events.{EventValue}
-use Rattle.tlv_walk.specs.Inside.{is_among}
+use Rattle.tlv_head.specs.Lists.{is_among}
 use Rattle.tlv_walk.specs.Place.{Fits, IsHeaderAt, Place}
 use Rattle.tlv_walk.specs.Stack.{IsWithin}
 use Rattle.tlv_walk.specs.Private.HandsOver.{HandsOver}

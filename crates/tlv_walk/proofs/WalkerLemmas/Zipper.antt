@@ -8,7 +8,7 @@ use Rattle.tlv_head.specs.Header.{HeaderValue, announced_length, octets_of}
 use Rattle.tlv_walk.specs.declared.framing.Framing.{Framing}
 use Rattle.tlv_walk.specs.Ending.{open_end}
 use Rattle.tlv_walk.specs.Forest.{Forest, Holder, NoMore, OpenBitString, OpenEndOctets, OpenHeader, OpenHolder}
-use Rattle.tlv_walk.specs.Forest.{OpenPrimitive, PaddingOctet, Primitive, contents_length, end_octets, extent, is_whole}
+use Rattle.tlv_walk.specs.Forest.{OpenPrimitive, PaddingOctet, Primitive, contents_length, end_octets, holder_extent, is_whole}
 use Rattle.tlv_walk.specs.Forest.{opening, spelling}
 use Rattle.tlv_walk.specs.Place.{ObeysGrammar, Place, is_indefinite, place_after, top_place}
 use Rattle.tlv_walk.specs.Private.Stack.{bound_in}
@@ -125,9 +125,9 @@ grammar-followed_by p (Primitive h c rest) g a w = (
 grammar-followed_by p (Holder h inside rest) g a w = (
   a.obeys_grammar.0,
   a.obeys_grammar.1,
-  grammar-followed_by (place_after p (extent h inside)) rest g
+  grammar-followed_by (place_after p (holder_extent h inside)) rest g
       (record { obeys_grammar = a.obeys_grammar.2; whole = a.whole })
-      (grammar-after p (extent h inside) (length (spelling rest)) _ g (sym (length-holder h inside rest)) w),
+      (grammar-after p (holder_extent h inside) (length (spelling rest)) _ g (sym (length-holder h inside rest)) w),
 )
 grammar-followed_by p (OpenPrimitive h c) g a w = absurd (true≢false (sym a.whole))
 grammar-followed_by p (OpenHolder h inside) g a w = absurd (true≢false (sym a.whole))
@@ -150,8 +150,8 @@ open_end-followed_by p (Primitive h c rest) g e =
     open_end-followed_by (place_after p (length (octets_of h) + length c)) rest g e
     ∙ open_end-after p (length (octets_of h) + length c) (length (spelling rest)) _ g (sym (length-primitive h c rest))
 open_end-followed_by p (Holder h inside rest) g e =
-    open_end-followed_by (place_after p (extent h inside)) rest g e
-    ∙ open_end-after p (extent h inside) (length (spelling rest)) _ g (sym (length-holder h inside rest))
+    open_end-followed_by (place_after p (holder_extent h inside)) rest g e
+    ∙ open_end-after p (holder_extent h inside) (length (spelling rest)) _ g (sym (length-holder h inside rest))
 open_end-followed_by p (OpenPrimitive h c) g e = absurd (true≢false (sym e))
 open_end-followed_by p (OpenHolder h inside) g e = absurd (true≢false (sym e))
 open_end-followed_by p (OpenBitString h) g e = absurd (true≢false (sym e))

@@ -5,7 +5,7 @@ use Rattle.tlv_head.specs.HeadReader.{HeadReaderState, Completes}
 use Rattle.tlv_walk.specs.declared.event.Step.{Step}
 use Rattle.tlv_walk.specs.Walker.{Between, InHeader, WalkerState}
 use Rattle.tlv_walk.specs.Events.{EventValue}
-use Rattle.tlv_walk.specs.Inside.{is_among}
+use Rattle.tlv_head.specs.Lists.{is_among}
 use Rattle.tlv_walk.specs.Private.Yields.{Continues, YieldsStep}
 
 -- a reader of the header that begins where the walker is

@@ -21,7 +21,7 @@ use Rattle.tlv_head.specs.declared.header.HeaderFields.{HeaderFields}
 use Rattle.tlv_walk.specs.declared.walker.short_way.HolderEnd.{HolderEnd}
 use Rattle.tlv_walk.specs.declared.walker.short_way.HolderEnd.TheVariants as end
 use Rattle.tlv_walk.specs.declared.walker.short_way.WholePrimitive.{WholePrimitive}
-use Rattle.tlv_walk.specs.Inside.{is_among}
+use Rattle.tlv_head.specs.Lists.{is_among}
 use Rattle.tlv_walk.specs.Walker.{Between, InBitString, InEndOctets, InHeader, InPrimitive, PhaseValue, Refused}
 use Rattle.tlv_walk.specs.Walker.{HasYieldedEvent, WalkerState, least_octets}
 use Rattle.tlv_walk.specs.Stack.{FrameValue, bound_of}

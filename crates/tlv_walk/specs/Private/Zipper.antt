@@ -8,7 +8,8 @@ use Rattle.tlv_walk.specs.Walker.{Between, InBitString, InEndOctets, InHeader, I
 use Rattle.tlv_walk.specs.Events.{AreEqualJoined, Begin, Bytes, Enter, EventValue, events, opening_events}
 use Rattle.tlv_walk.specs.Forest.{Forest, OpenBitString, OpenHeader, OpenEndOctets, has_element, is_whole}
 use Rattle.tlv_walk.specs.Forest.{opening, spelling}
-use Rattle.tlv_walk.specs.Inside.{are_rising, is_among}
+use Rattle.tlv_walk.specs.Inside.{are_rising}
+use Rattle.tlv_head.specs.Lists.{is_among}
 use Rattle.tlv_walk.specs.Private.WrapperCount.{wrapper_count_after}
 use Rattle.tlv_walk.specs.Private.Stack.{frame_with}
 use Rattle.tlv_walk.specs.Place.{Fits, IsHeaderAt, IsHolderAt, ObeysGrammar, Place, announced_extent, place_after}

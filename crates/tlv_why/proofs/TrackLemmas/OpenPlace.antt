@@ -7,7 +7,7 @@ use Rattle.tlv_head.specs.Header.{IsIdentifier, identifier_octet, octets_of, wit
 use Rattle.tlv_head.specs.Refusal.{IsHeaderPrefix}
 use Rattle.tlv_walk.specs.Ending.{open_end}
 use Rattle.tlv_walk.specs.Forest.{Forest, Holder, NoMore, OpenBitString, OpenEndOctets, OpenHeader, OpenHolder}
-use Rattle.tlv_walk.specs.Forest.{OpenPrimitive, PaddingOctet, Primitive, end_octets, extent, opening, primitive_extent}
+use Rattle.tlv_walk.specs.Forest.{OpenPrimitive, PaddingOctet, Primitive, end_octets, holder_extent, opening, primitive_extent}
 use Rattle.tlv_walk.specs.Forest.{spelling}
 use Rattle.tlv_walk.specs.Place.{ObeysGrammar, Place, place_after, place_of_children}
 use Rattle.tlv_walk.proofs.GrammarLemmas.Spellings.{append_assoc-3, append_assoc-4}
@@ -66,14 +66,14 @@ has_open_end p (Primitive h c rest) o =
       end = q.end;
     }
 has_open_end p (Holder h children rest) o =
-    let q : HasOpenEnd (place_after p (extent h children)) rest =
-    has_open_end (place_after p (extent h children)) rest o.2 in
+    let q : HasOpenEnd (place_after p (holder_extent h children)) rest =
+    has_open_end (place_after p (holder_extent h children)) rest o.2 in
     record {
       octets = opening h ++ (spelling children ++ (end_octets h.size ++ q.octets));
       spelled =
           ap (λ (l : List ℕ). opening h ++ (spelling children ++ (end_octets h.size ++ l))) q.spelled
           ∙ sym (append_assoc-4 (opening h) (spelling children) (end_octets h.size) q.octets
-          (spelling (open_end (place_after p (extent h children)) rest).forest));
+          (spelling (open_end (place_after p (holder_extent h children)) rest).forest));
       offset =
           omega (
             arith,
@@ -143,5 +143,5 @@ identifier-first class constructed number id x rest (inr high) more e zero_ =
 -- nor does a prefix of a header
 pub header_prefix-first : (x : ℕ) (octets : List ℕ) → IsHeaderPrefix (x ∷ octets) → x ≢ 0
 header_prefix-first x octets k =
-    identifier-first k.header.class k.header.constructed k.header.number k.header.identifier x (octets ++ k.more)
-    k.valid.identifier k.header.lengths (sym k.prefix)
+    identifier-first k.header.class k.header.constructed k.header.number k.header.identifier_octets x (octets ++ k.more)
+    k.valid.identifier k.header.length_octets (sym k.prefix)

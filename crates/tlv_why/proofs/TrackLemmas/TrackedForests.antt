@@ -7,7 +7,7 @@ use Rattle.std.proofs.lemmas.Bool.{cases_Bool, true≢false}
 use Rattle.tlv_walk.specs.Ending.{open_end}
 use Rattle.tlv_walk.specs.Events.{EventValue, closing_event, events, opening_events}
 use Rattle.tlv_walk.specs.Forest.{Forest, Holder, NoMore, OpenBitString, OpenEndOctets, OpenHeader, OpenHolder}
-use Rattle.tlv_walk.specs.Forest.{OpenPrimitive, PaddingOctet, Primitive, end_octets, extent, is_whole, opening}
+use Rattle.tlv_walk.specs.Forest.{OpenPrimitive, PaddingOctet, Primitive, end_octets, holder_extent, is_whole, opening}
 use Rattle.tlv_walk.specs.Forest.{primitive_extent, spelling}
 use Rattle.tlv_walk.specs.Place.{ObeysGrammar, Place, place_after, place_of_children}
 use Rattle.tlv_walk.proofs.GrammarLemmas.Leads.{lead-one}
@@ -82,9 +82,9 @@ whole-tracked p (Primitive h c rest) holders before top nearest es o whole depth
 whole-tracked p (Holder h children rest) holders before top nearest es o whole depth =
     let e : Element = element_of h in
     let end : ℕ = p.offset + length (opening h) + length (spelling children) + length (end_octets h.size) in
-    let there : end ≡ p.offset + extent h children = omega arith in
+    let there : end ≡ p.offset + holder_extent h children = omega arith in
     let ends : whole_end top (Holder h children rest) ≡ whole_end end rest =
-    ap (λ (n : ℕ). whole_end (n + extent h children) rest) o.0.0.header.offset
+    ap (λ (n : ℕ). whole_end (n + holder_extent h children) rest) o.0.0.header.offset
     ∙ ap (λ (n : ℕ). whole_end n rest) (sym there) in
     ap (track_all (tracker_with holders before top nearest p.offset))
     (append_assoc (opening_events h) (events children ++ closing_event h children ∷ events rest) es
@@ -102,13 +102,13 @@ whole-tracked p (Holder h children rest) holders before top nearest es o whole d
     ∙ holder-closes holders e (last_whole None children) top (offsets_before (h.offset ∷ nearest) children)
     (p.offset + length (opening h) + length (spelling children)) h children (events rest ++ es) o.0.0.header.valid
     ∙ tracked-at holders (Some e) (top_with holders top end) (top_with holders top end)
-    (offsets_before (h.offset ∷ nearest) children) end (p.offset + extent h children) (events rest ++ es) refl there
-    ∙ whole-tracked (place_after p (extent h children)) rest holders (Some e) (top_with holders top end)
+    (offsets_before (h.offset ∷ nearest) children) end (p.offset + holder_extent h children) (events rest ++ es) refl there
+    ∙ whole-tracked (place_after p (holder_extent h children)) rest holders (Some e) (top_with holders top end)
     (offsets_before (h.offset ∷ nearest) children) es o.2 whole depth
     ∙ tracked-at holders (last_whole (Some e) rest) (top_after holders (top_with holders top end) rest)
     (top_after holders top (Holder h children rest))
     (offsets_before (offsets_before (h.offset ∷ nearest) children) rest)
-    (p.offset + extent h children + length (spelling rest)) (p.offset + length (spelling (Holder h children rest))) es
+    (p.offset + holder_extent h children + length (spelling rest)) (p.offset + length (spelling (Holder h children rest))) es
     (top-more holders top end rest (Holder h children rest) ends)
     (omega (arith, length-holder h children rest))
 whole-tracked p (OpenPrimitive h c) holders before top nearest es o whole depth = absurd (true≢false (sym whole))
@@ -201,10 +201,10 @@ forest-tracked p (Primitive h c rest) holders before top nearest o depth =
     (forest-tracked (place_after p (primitive_extent h c)) rest holders (Some (element_of h))
     (top_with holders top end) (h.offset ∷ nearest) o.1 depth))
 forest-tracked p (Holder h children rest) holders before top nearest o depth =
-    let end : ℕ = h.offset + extent h children in
+    let end : ℕ = h.offset + holder_extent h children in
     let next : Tracker =
     tracker_with holders (Some (element_of h)) (top_with holders top end)
-    (offsets_before (h.offset ∷ nearest) children) (p.offset + extent h children) in
+    (offsets_before (h.offset ∷ nearest) children) (p.offset + holder_extent h children) in
     let same : track_all (tracker_with holders before top nearest p.offset) (events (Holder h children rest))
     ≡ track_all next (events rest) =
     ap (track_all (tracker_with holders before top nearest p.offset))
@@ -212,12 +212,12 @@ forest-tracked p (Holder h children rest) holders before top nearest o depth =
     ∙ whole-tracked p (Holder h children NoMore) holders before top nearest (events rest) (o.0, o.1, tt) refl depth
     ∙ tracked-at holders (Some (element_of h)) (top_with holders top end) (top_with holders top end)
     (offsets_before (h.offset ∷ nearest) children) (p.offset + length (spelling (Holder h children NoMore)))
-    (p.offset + extent h children) (events rest) refl (omega (arith, length-holder h children NoMore)) in
+    (p.offset + holder_extent h children) (events rest) refl (omega (arith, length-holder h children NoMore)) in
     subst (λ (t : Tracker). IsTracked p (Holder h children rest) holders before top nearest t) (sym same)
-    (tracked-later p (place_after p (extent h children)) (Holder h children rest) rest holders before
+    (tracked-later p (place_after p (holder_extent h children)) (Holder h children rest) rest holders before
     (Some (element_of h)) top (top_with holders top end) nearest (offsets_before (h.offset ∷ nearest) children)
     (track_all next (events rest)) refl refl refl (top-more holders top end rest (Holder h children rest) refl) refl
-    (forest-tracked (place_after p (extent h children)) rest holders (Some (element_of h))
+    (forest-tracked (place_after p (holder_extent h children)) rest holders (Some (element_of h))
     (top_with holders top end) (offsets_before (h.offset ∷ nearest) children) o.2 depth))
 forest-tracked p (OpenPrimitive h c) holders before top nearest o depth = record {
   holders_are = sym (append-nil holders);

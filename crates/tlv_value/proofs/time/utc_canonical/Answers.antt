@@ -1,11 +1,11 @@
 use Rattle.std.proofs.Common.{◌≡◌, ℕ, List, sym, ◌∙◌}
 use Rattle.tlv_value.specs.Private.TimeParts.{canonical_second}
-use Rattle.tlv_value.specs.Times.{canonical_clock, canonical_utc_time_form, mark, month_and_day, year_digits, ◌then◌}
+use Rattle.tlv_value.specs.Times.{canonical_clock, canonical_utc_time_form, mark, month_and_day, year_digits, ◌followed_by◌}
 use Rattle.tlv_value.proofs.CheckLemmas.Forms.{three-apart}
 use Rattle.tlv_value.proofs.time.utc_canonical.Goals as goal
 
 -- the second, and what follows it
-second-apart : (c : List ℕ) → (canonical_second then mark 90) c ≡ canonical_utc_time_form c
+second-apart : (c : List ℕ) → (canonical_second followed_by mark 90) c ≡ canonical_utc_time_form c
 second-apart c = three-apart year_digits month_and_day canonical_clock (mark 90) c
 
 pub returns-in-Some : goal.returns-in-Some

@@ -2,7 +2,8 @@ use Rattle.std.proofs.Common.{◌++◌, ◌∷◌, ◌∙◌, ℕ, Bool, List, a
 use Rattle.std.proofs.lemmas.Bool.Decides.{nat_tests}
 use Rattle.tlv_value.specs.declared.finding.Finding.{Finding}
 use Rattle.tlv_value.specs.declared.finding.Finding.TheVariants.{B21, B23}
-use Rattle.tlv_value.specs.Types.{is_number_of, tested_string_types}
+use Rattle.tlv_value.specs.Types.{tested_string_types}
+use Rattle.tlv_head.specs.Lists.{is_among}
 use Rattle.tlv_value.specs.ValueCheckState.{finding_if, ValueCheckState}
 use Rattle.tlv_value.proofs.CheckLemmas.KeptFindings.{date-found, iri-found, none-found}
 use Rattle.tlv_value.proofs.CheckLemmas.NotedContents.{IsOther}
@@ -45,5 +46,5 @@ returns-else-is_tested_string_type c =
     } in
     c.new-found.ensures
     ∙ sym (none-found n c.args.self.now other
-    (ap (λ (s : ValueCheckState). is_number_of (12 ∷ tested_string_types) s.number) (sym c.self.view_is)
+    (ap (λ (s : ValueCheckState). is_among s.number (12 ∷ tested_string_types)) (sym c.self.view_is)
     ∙ sym c.is_tested_string_type.ensures ∙ c.if-is_tested_string_type.false))
