@@ -3,12 +3,12 @@ use Rattle.std.proofs.Common.{◌≡◌, ℕ, ◌+◌, ◌-◌, ◌*◌, ◌/◌
 use Rattle.std.proofs.Common.{get_or, decimal, replicate, set, refl, sym, ap, ap₂, ◌∙◌, arith, append_assoc, append-nil}
 use Rattle.std.proofs.Common.{length-append, take-append-drop, suc, zero}
 use Rattle.std.proofs.Math.Seq.{drop-append-add, drop-append_seam, take-add, take-append-add, take-append_seam}
-use Rattle.std.proofs.lemmas.Fmt.{length-decimal-le}
+use Rattle.std.proofs.lemmas.Fmt.{decimal_digit, length-decimal-le}
 use Rattle.std.proofs.lemmas.List.{drop-drop, length-replicate, length-take-le, replicate-append-replicate}
 use Rattle.std.proofs.lemmas.List.{set-append_right, take-append-le, take-replicate, take-take, take_all, take_more}
 use Rattle.hex.specs.Hex.{encode_lower, lower_digits}
 use Rattle.hex.proofs.HexLemmas.{length-encode_with}
-use Rattle.itoa.proofs.Decimal.{length_one, length_step_wide}
+use Rattle.itoa.proofs.Decimal.{decimal_two, length_one, length_step_wide, pair}
 use Rattle.tlv_io.specs.LineTexts.{at_right, spaced_pairs, spaces}
 
 -- ---- texts that were added
@@ -143,6 +143,19 @@ two-octets (x ∷ y ∷ []) e = refl
 two-octets [] e = absurd (omega (arith, e))
 two-octets (x ∷ []) e = absurd (omega (arith, e))
 two-octets (x ∷ y ∷ z ∷ l) e = absurd (omega (arith, e))
+
+-- ---- the digits of a number below 100, from its two places
+
+pub one_digit : (n : ℕ) (places : List ℕ) → n < 10 → places ≡ at_right 2 (decimal n)
+    → get_or places 1 0 ∷ [] ≡ decimal n
+one_digit n places few is =
+    ap (λ (l : List ℕ). get_or l 1 0 ∷ []) (is ∙ ap (at_right 2) (decimal_digit n few)) ∙ sym (decimal_digit n few)
+
+pub two_digits : (n : ℕ) (places : List ℕ) → 10 ≤ n → n < 100 → places ≡ at_right 2 (decimal n)
+    → get_or places 0 0 ∷ get_or places 1 0 ∷ [] ≡ decimal n
+two_digits n places many few is =
+    let same : places ≡ pair n = is ∙ ap (at_right 2) (decimal_two n many few) in
+    two-octets places (ap length same) ∙ same ∙ sym (decimal_two n many few)
 
 -- ---- a number over six spaces
 

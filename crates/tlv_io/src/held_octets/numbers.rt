@@ -19,9 +19,24 @@ static TWO_PLACES: [[u8; 2]; 100] = [
 ];
 
 impl HeldOctets {
-    /// Adds a number in decimal.
+    /// Adds a number in decimal. Many numbers are below 100, and have one digit or two in no order. They are copied as
+    /// a block of two octets, so that no branch depends on the number of their digits.
     #[inline(always)]
     pub fn number(&mut self, number: u64)
+        requires { HasRoomFor self.old 20 }
+        ensures { self.new ≡ self.old ++ decimal number }
+    {
+        if number < 100 {
+            let (digits, count) = short_digits(number);
+            self.add_prefix(&digits, count);
+        } else {
+            self.long_number(number);
+        }
+    }
+
+    /// Adds a number in decimal, which may have many digits.
+    #[inline(always)]
+    fn long_number(&mut self, number: u64)
         requires { HasRoomFor self.old 20 }
         ensures { self.new ≡ self.old ++ decimal number }
     {
@@ -169,4 +184,19 @@ fn in_two_places(number: u64) -> [u8; 2]
     ensures { result ≡ at_right 2 (decimal number) }
 {
     TWO_PLACES[number as usize]
+}
+
+/// A block that begins with the digits of a number below 100, and the number of these digits.
+#[inline(always)]
+fn short_digits(number: u64) -> ([u8; 2], usize)
+    requires { number < 100 }
+    ensures digits { take result.1 result.0 ≡ decimal number }
+    ensures count { result.1 ≤ 2 }
+{
+    let [tens, ones] = in_two_places(number);
+    if number < 10 {
+        ([ones, ones], 1)
+    } else {
+        ([tens, ones], 2)
+    }
 }
