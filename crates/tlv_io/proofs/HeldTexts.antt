@@ -3,12 +3,12 @@ use Rattle.std.proofs.Common.{◌≡◌, ℕ, ◌+◌, ◌-◌, ◌*◌, ◌/◌
 use Rattle.std.proofs.Common.{get_or, decimal, replicate, set, refl, sym, ap, ap₂, ◌∙◌, arith, append_assoc, append-nil}
 use Rattle.std.proofs.Common.{length-append, take-append-drop, suc, zero}
 use Rattle.std.proofs.Math.Seq.{drop-append-add, drop-append_seam, take-add, take-append-add, take-append_seam}
-use Rattle.std.proofs.lemmas.Fmt.{length-decimal-le}
+use Rattle.std.proofs.lemmas.Fmt.{decimal_digit, length-decimal-le}
 use Rattle.std.proofs.lemmas.List.{drop-drop, length-replicate, length-take-le, replicate-append-replicate}
 use Rattle.std.proofs.lemmas.List.{set-append_right, take-append-le, take-replicate, take-take, take_all, take_more}
 use Rattle.hex.specs.Hex.{encode_lower, lower_digits}
 use Rattle.hex.proofs.HexLemmas.{length-encode_with}
-use Rattle.itoa.proofs.Decimal.{length_one, length_step_wide}
+use Rattle.itoa.proofs.Decimal.{decimal_two, length_one, length_step_wide, pair}
 use Rattle.tlv_io.specs.LineTexts.{at_right, spaced_pairs, spaces}
 
 -- ---- texts that were added
@@ -137,6 +137,78 @@ right-short places n few fits =
       length-decimal-le 20 n (omega arith) (omega arith) fits,
     )
 
+-- the octets of a list of two
+two-octets : (l : List ℕ) → length l ≡ 2 → get_or l 0 0 ∷ get_or l 1 0 ∷ [] ≡ l
+two-octets (x ∷ y ∷ []) e = refl
+two-octets [] e = absurd (omega (arith, e))
+two-octets (x ∷ []) e = absurd (omega (arith, e))
+two-octets (x ∷ y ∷ z ∷ l) e = absurd (omega (arith, e))
+
+-- ---- the digits of a number below 100, from its two places
+
+pub one_digit : (n : ℕ) (places : List ℕ) → n < 10 → places ≡ at_right 2 (decimal n)
+    → get_or places 1 0 ∷ [] ≡ decimal n
+one_digit n places few is =
+    ap (λ (l : List ℕ). get_or l 1 0 ∷ []) (is ∙ ap (at_right 2) (decimal_digit n few)) ∙ sym (decimal_digit n few)
+
+pub two_digits : (n : ℕ) (places : List ℕ) → 10 ≤ n → n < 100 → places ≡ at_right 2 (decimal n)
+    → get_or places 0 0 ∷ get_or places 1 0 ∷ [] ≡ decimal n
+two_digits n places many few is =
+    let same : places ≡ pair n = is ∙ ap (at_right 2) (decimal_two n many few) in
+    two-octets places (ap length same) ∙ same ∙ sym (decimal_two n many few)
+
+-- ---- a number over six spaces
+
+module _ (old : List ℕ) (start : ℕ) (within : start + 6 ≤ length old) (blank : take 6 (drop start old) ≡ spaces 6) where
+  abbrev before : List ℕ
+  before = take start old
+
+  abbrev after : List ℕ
+  after = drop (start + 6) old
+
+  before-size : length before ≡ start
+  before-size = length-take-le start old (omega (arith, within))
+
+  blank-parts : old ≡ before ++ (spaces 6 ++ after)
+  blank-parts =
+      sym (take-append-drop start old)
+      ∙ ap (λ (l : List ℕ). before ++ l)
+      (sym (take-append-drop 6 (drop start old))
+      ∙ ap₂ (λ (k l : List ℕ). k ++ l) blank (drop-drop 6 start old))
+
+  -- of any number of digits
+  pub digits_over : (new text : List ℕ) (from : ℕ) → length text ≤ 6 → from + length text ≡ start + 6
+      → take from new ≡ take from old → drop from new ≡ text ++ drop (start + 6) old
+      → new ≡ take start old ++ (at_right 6 text ++ drop (start + 6) old)
+  digits_over new text from short e kept written =
+      right_end old new before text after from 6 blank-parts short (omega (arith, e, before-size)) kept
+      (written ∙ ap (λ (n : ℕ). text ++ drop n old) (omega (arith, before-size)))
+
+  -- of two places
+  pub places_over : (places text : List ℕ) → places ≡ at_right 2 text → length text ≤ 2
+      → set (set old (start + 4) (get_or places 0 0)) (start + 5) (get_or places 1 0)
+      ≡ take start old ++ (at_right 6 text ++ drop (start + 6) old)
+  places_over places text is short =
+      let tens : ℕ = get_or places 0 0 in
+      let ones : ℕ = get_or places 1 0 in
+      let four : start + 4 - start ≡ 4 = omega arith in
+      let five : start + 5 - start ≡ 5 = omega arith in
+      let one : set old (start + 4) tens ≡ before ++ (spaces 4 ++ tens ∷ 32 ∷ after) =
+      ap (λ (l : List ℕ). set l (start + 4) tens) blank-parts
+      ∙ set-append_right before (spaces 6 ++ after) start (start + 4) tens before-size (omega arith)
+      ∙ ap (λ (n : ℕ). before ++ set (spaces 6 ++ after) n tens) four in
+      let two : length places ≡ 2 = ap length is ∙ right-size 2 text short in
+      let wider : spaces 4 ++ at_right 2 text ≡ at_right 6 text =
+      sym (append_assoc (spaces 4) (spaces (2 - length text)) text)
+      ∙ ap (λ (l : List ℕ). l ++ text) (replicate-append-replicate 4 (2 - length text) 32)
+      ∙ ap (λ (n : ℕ). spaces n ++ text) (omega (arith, short)) in
+      ap (λ (l : List ℕ). set l (start + 5) ones) one
+      ∙ set-append_right before (spaces 4 ++ tens ∷ 32 ∷ after) start (start + 5) ones before-size (omega arith)
+      ∙ ap (λ (n : ℕ). before ++ set (spaces 4 ++ tens ∷ 32 ∷ after) n ones) five
+      ∙ ap (λ (l : List ℕ). before ++ (spaces 4 ++ (l ++ after))) (two-octets places two ∙ is)
+      ∙ ap (λ (l : List ℕ). before ++ l) (sym (append_assoc (spaces 4) (at_right 2 text) after))
+      ∙ ap (λ (l : List ℕ). before ++ (l ++ after)) wider
+
 -- a colon was written to spaces
 blanks-written : (prefix tail : List ℕ) (at : ℕ) → length prefix ≡ at
     → set (prefix ++ (spaces 17 ++ tail)) (at + 15) 58 ≡ prefix ++ (spaces 15 ++ 58 ∷ 32 ∷ tail)
@@ -200,15 +272,25 @@ module _ (old first tail : List ℕ) (at : ℕ) (within : at ≤ length old) (sh
       omega (arith, length-append (take at old) (columns_of second), length-take-le at old within, size) in
       ap₂ take (sym all) same ∙ take-append_seam whole tail
 
-  -- a size was written after the offset
-  pub size_written : (middle new text : List ℕ) (start : ℕ) → middle ≡ first_column ++ (spaces 6 ++ 58 ∷ 32 ∷ tail)
-      → length text ≤ 6 → start + length text ≡ at + 15
-      → take start new ≡ take start middle → drop start new ≡ text ++ drop (at + 15) middle
+  -- six spaces were left for the second column
+  pub six_left : (middle : List ℕ) → middle ≡ first_column ++ (spaces 6 ++ 58 ∷ 32 ∷ tail)
+      → take 6 (drop (at + 9) middle) ≡ spaces 6
+  six_left middle is =
+      ap₂ (λ (n : ℕ) (l : List ℕ). take 6 (drop n l)) (sym first_column-size) is
+      ∙ ap (take 6) (drop-append_seam first_column (spaces 6 ++ 58 ∷ 32 ∷ tail))
+
+  -- a size was written to them
+  pub size_written : (middle new text : List ℕ) → middle ≡ first_column ++ (spaces 6 ++ 58 ∷ 32 ∷ tail)
+      → length text ≤ 6 → new ≡ take (at + 9) middle ++ (at_right 6 text ++ drop (at + 9 + 6) middle)
       → take (at + 17) new ≡ take at old ++ columns_of (at_right 6 text)
-  size_written middle new text start is few e kept written =
+  size_written middle new text is few written =
+      let rest : List ℕ = spaces 6 ++ 58 ∷ 32 ∷ tail in
+      let taken : take (at + 9) middle ≡ first_column =
+      ap₂ take (sym first_column-size) is ∙ take-append_seam first_column rest in
+      let dropped : drop (at + 9 + 6) middle ≡ 58 ∷ 32 ∷ tail =
+      ap₂ (λ (n : ℕ) (l : List ℕ). drop (n + 6) l) (sym first_column-size) is ∙ drop-append-add first_column rest 6 in
       columns_there new (at_right 6 text) (right-size 6 text few)
-      (right_end middle new first_column text (58 ∷ 32 ∷ tail) start 6 is few (omega (arith, e, first_column-size))
-      kept (written ∙ ap (λ (n : ℕ). text ++ drop n middle) (omega (arith, first_column-size))))
+      (written ∙ ap₂ (λ (k l : List ℕ). k ++ (at_right 6 text ++ l)) taken dropped)
 
   -- a word was written after the offset
   pub word_written : (middle there word : List ℕ) → middle ≡ first_column ++ (spaces 6 ++ 58 ∷ 32 ∷ tail)
@@ -272,13 +354,6 @@ pairs-size (x ∷ xs) =
       length-encode_with lower_digits (x ∷ []),
       pairs-size xs,
     )
-
--- the octets of a list of two
-two-octets : (l : List ℕ) → length l ≡ 2 → get_or l 0 0 ∷ get_or l 1 0 ∷ [] ≡ l
-two-octets (x ∷ y ∷ []) e = refl
-two-octets [] e = absurd (omega (arith, e))
-two-octets (x ∷ []) e = absurd (omega (arith, e))
-two-octets (x ∷ y ∷ z ∷ l) e = absurd (omega (arith, e))
 
 -- the pair of octet i, in place of the spaces after the one before it
 pub row_step : (octets to pair rest : List ℕ) (i : ℕ) → i < 16 → length octets ≡ 16

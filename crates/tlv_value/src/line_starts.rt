@@ -1,5 +1,5 @@
 //! How lines begin.
-ghost use Rattle.std.specs.Prelude.{◌≡◌, ◌+◌, ◌≤◌, ◌++◌, ◌∷◌, [], decimal, if◌then◌else◌, take};
+ghost use Rattle.std.specs.Prelude.{◌≡◌, ◌≢◌, ◌+◌, ◌≤◌, ◌++◌, ◌∷◌, ℕ, [], decimal, if◌then◌else◌, take};
 ghost use Rattle.tlv_io.specs.LineTexts.{AddsAtMost, HasRoomFor};
 ghost use Rattle.tlv_io.specs.OutLimits.{line_start_limit, line_start_room};
 ghost use Rattle.tlv_head.specs.Tag.{tag_text};
@@ -91,16 +91,11 @@ pub fn write_tag(held: &mut HeldOctets, class: Class, number: u64)
     requires { HasRoomFor held.old 40 }
     ensures { AddsAtMost 40 held.old held.new (tag_text class number) }
 {
-    match class {
-        Class::Universal => write_universal(held, number),
-        Class::Application => write_bracketed(
-            held,
-            b"[APPLICATION                    ",
-            13,
-            number,
-        ),
-        Class::Context => write_bracketed(held, b"[                               ", 1, number),
-        Class::Private => write_bracketed(held, b"[PRIVATE                        ", 9, number),
+    if matches!(class, Class::Universal) {
+        write_universal(held, number);
+    } else {
+        let (prefix, count) = bracket_block(class);
+        write_bracketed(held, prefix, count, number);
     }
 }
 
@@ -113,6 +108,22 @@ fn write_universal(held: &mut HeldOctets, number: u64)
     match type_name_block(number) {
         Some((name, size)) => held.add_prefix(name, size),
         None => write_bracketed(held, b"[UNIVERSAL                      ", 11, number),
+    }
+}
+
+/// A block that begins with the text before the number of a tag that has no name, and the number of octets of that
+/// text. The classes of elements that follow one another differ, so no branch depends on which of them it is.
+#[inline(always)]
+fn bracket_block(class: Class) -> (&'static [u8; 32], usize)
+    ensures text { class ≢ Class.Universal → (number : ℕ)
+        → take result.1 result.0.now ++ decimal number ++ 93 ∷ [] ≡ tag_text class number }
+    ensures within { result.1 ≤ 16 }
+{
+    match class {
+        Class::Universal => (b"[UNIVERSAL                      ", 11),
+        Class::Application => (b"[APPLICATION                    ", 13),
+        Class::Context => (b"[                               ", 1),
+        Class::Private => (b"[PRIVATE                        ", 9),
     }
 }
 

@@ -1,7 +1,7 @@
 //! The texts of characters.
 ghost use Rattle.std.specs.List.{list_all};
-ghost use Rattle.std.specs.Prelude.{◌≡◌, ◌<◌, ◌≤◌, ◌++◌, false, flat_map, length, slice_index, take, true};
-ghost use Rattle.tlv_io.specs.LineTexts.{AddsIfRoom, HasRoomFor};
+ghost use Rattle.std.specs.Prelude.{◌≡◌, ◌<◌, ◌≤◌, ◌-◌, ◌++◌, false, flat_map, length, slice_index, true};
+ghost use Rattle.tlv_io.specs.LineTexts.{AddsIfRoom, HasRoomFor, spaces};
 ghost use Rattle.tlv_value.specs.Private.UnescapedCharacters.{AreUnescaped, IsPart};
 ghost use Rattle.tlv_value.specs.Private.UnescapedCharacters.{IsSomeOf, has_ascii_octets, is_unescaped};
 ghost use Rattle.tlv_value.specs.Units.{escaped_number, escaped_octet, is_printable, octet_text};
@@ -34,9 +34,9 @@ pub(crate) fn write_characters(held: &mut HeldOctets, kind: Kind, row: &[u8])
 
 /// A block that begins with the row and is filled up with spaces.
 #[inline(always)]
-fn block_of(row: &[u8]) -> [u8; ROW]
+pub(crate) fn block_of(row: &[u8]) -> [u8; ROW]
     requires { length row.now ≤ 64 }
-    ensures { take (length row.now) result ≡ row.now }
+    ensures { result ≡ row.now ++ spaces (64 - length row.now) }
 {
     let mut block = [b' '; ROW];
     block[..row.len()].copy_from_slice(row);

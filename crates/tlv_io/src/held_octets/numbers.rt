@@ -1,14 +1,42 @@
 //! Numbers that are added to the octets held.
-ghost use Rattle.std.specs.Prelude.{◌≡◌, ◌≤◌, ◌++◌, decimal, length};
-ghost use Rattle.tlv_io.specs.LineTexts.{HasRoomFor, columns, at_right};
+ghost use Rattle.std.specs.Prelude.{◌≡◌, ◌+◌, ◌<◌, ◌≤◌, ◌++◌, decimal, drop, length, take};
+ghost use Rattle.tlv_io.specs.LineTexts.{HasRoomFor, columns, at_right, spaces};
 
 use super::HeldOctets;
 use itoa::{Buffer, write_digits};
 
+/// The numbers below 100, each right-aligned in two places.
+static TWO_PLACES: [[u8; 2]; 100] = [
+    *b" 0", *b" 1", *b" 2", *b" 3", *b" 4", *b" 5", *b" 6", *b" 7", *b" 8", *b" 9", *b"10", *b"11",
+    *b"12", *b"13", *b"14", *b"15", *b"16", *b"17", *b"18", *b"19", *b"20", *b"21", *b"22", *b"23",
+    *b"24", *b"25", *b"26", *b"27", *b"28", *b"29", *b"30", *b"31", *b"32", *b"33", *b"34", *b"35",
+    *b"36", *b"37", *b"38", *b"39", *b"40", *b"41", *b"42", *b"43", *b"44", *b"45", *b"46", *b"47",
+    *b"48", *b"49", *b"50", *b"51", *b"52", *b"53", *b"54", *b"55", *b"56", *b"57", *b"58", *b"59",
+    *b"60", *b"61", *b"62", *b"63", *b"64", *b"65", *b"66", *b"67", *b"68", *b"69", *b"70", *b"71",
+    *b"72", *b"73", *b"74", *b"75", *b"76", *b"77", *b"78", *b"79", *b"80", *b"81", *b"82", *b"83",
+    *b"84", *b"85", *b"86", *b"87", *b"88", *b"89", *b"90", *b"91", *b"92", *b"93", *b"94", *b"95",
+    *b"96", *b"97", *b"98", *b"99",
+];
+
 impl HeldOctets {
-    /// Adds a number in decimal.
+    /// Adds a number in decimal. Many numbers are below 100, and have one digit or two in no order. They are copied as
+    /// a block of two octets, so that no branch depends on the number of their digits.
     #[inline(always)]
     pub fn number(&mut self, number: u64)
+        requires { HasRoomFor self.old 20 }
+        ensures { self.new ≡ self.old ++ decimal number }
+    {
+        if number < 100 {
+            let (digits, count) = short_digits(number);
+            self.add_prefix(&digits, count);
+        } else {
+            self.long_number(number);
+        }
+    }
+
+    /// Adds a number in decimal, which may have many digits.
+    #[inline(always)]
+    fn long_number(&mut self, number: u64)
         requires { HasRoomFor self.old 20 }
         ensures { self.new ≡ self.old ++ decimal number }
     {
@@ -54,7 +82,7 @@ impl HeldOctets {
         self.octets[start..start + 17].copy_from_slice(&[b' '; 17]);
         self.octets[start + 15] = b':';
         let _ = write_digits(offset, &mut self.octets, start + 8);
-        let _ = write_digits(size, &mut self.octets, start + 15);
+        write_size(size, &mut self.octets, start + 9);
         self.len = start + 17;
     }
 
@@ -126,5 +154,49 @@ fn digit_count(number: u64) -> usize
         1
     } else {
         number.ilog10() as usize + 1
+    }
+}
+
+/// Writes a number of contents octets over six spaces at `start`, right-aligned.
+#[inline(always)]
+fn write_size(size: u64, octets: &mut [u8], start: usize)
+    requires places { size < 1000000 }
+    requires within { start + 6 ≤ length octets.old }
+    requires blank { take 6 (drop start octets.old) ≡ spaces 6 }
+    ensures { octets.new ≡ take start octets.old
+        ++ (at_right 6 (decimal size) ++ drop (start + 6) octets.old) }
+{
+    // Most sizes have one or two digits, and the size before often has the other number of them. So no branch depends
+    // on which it is.
+    if size < 100 {
+        let [tens, ones] = in_two_places(size);
+        octets[start + 4] = tens;
+        octets[start + 5] = ones;
+    } else {
+        let _ = write_digits(size, octets, start + 6);
+    }
+}
+
+/// A number below 100, right-aligned in two places.
+#[inline(always)]
+fn in_two_places(number: u64) -> [u8; 2]
+    requires { number < 100 }
+    ensures { result ≡ at_right 2 (decimal number) }
+{
+    TWO_PLACES[number as usize]
+}
+
+/// A block that begins with the digits of a number below 100, and the number of these digits.
+#[inline(always)]
+fn short_digits(number: u64) -> ([u8; 2], usize)
+    requires { number < 100 }
+    ensures digits { take result.1 result.0 ≡ decimal number }
+    ensures count { result.1 ≤ 2 }
+{
+    let [tens, ones] = in_two_places(number);
+    if number < 10 {
+        ([ones, ones], 1)
+    } else {
+        ([tens, ones], 2)
     }
 }

@@ -1,9 +1,11 @@
 -- What is noted of contents in pieces.
 use Rattle.std.proofs.Common.{◌≡◌, ℕ, ◌+◌, ◌-◌, ◌<◌, ◌≤◌, Bool, true, false, List, [], ◌∷◌, ◌++◌, length, take, drop}
-use Rattle.std.proofs.Common.{get_or, refl, sym, ap, ◌∙◌, arith}
+use Rattle.std.proofs.Common.{get_or, replicate, zero, suc, refl, sym, ap, ap₂, ◌∙◌, arith}
 use Rattle.std.specs.List.{list_all, list_any}
 use Rattle.std.specs.Prelude.{◌&&◌, ◌||◌, eqb, min, nat_lt}
 use Rattle.std.proofs.lemmas.Bool.Decides.{nat_tests}
+use Rattle.std.proofs.Math.Bool.{and-true}
+use Rattle.std.proofs.lemmas.List.Folds.{list_all-append}
 use Rattle.std.proofs.Math.Seq.{take-append-add}
 use Rattle.std.proofs.lemmas.List.{drop_more, take_min}
 use Rattle.std.specs.Str.{is_utf8}
@@ -83,3 +85,13 @@ pub no-80 : (previous : ℕ) (octets : List ℕ) → list_any (λ x. eqb x 128) 
 no-80 previous [] e = refl
 no-80 previous (x ∷ xs) e =
     not-padded (nat_lt previous 128) (eqb x 128) (list_any (λ y. eqb y 128) xs) (is_padded_after x xs) (no-80 x xs) e
+
+-- octets that are filled up with spaces are allowed if they are, and the space is
+pub all-filled : (p : ℕ → Bool) (xs : List ℕ) (n : ℕ) → p 32 ≡ true
+    → list_all p (xs ++ replicate n 32) ≡ list_all p xs
+all-filled p xs n e =
+    list_all-append p xs (replicate n 32) ∙ ap (λ (b : Bool). list_all p xs && b) (blanks n) ∙ and-true (list_all p xs)
+  where
+    blanks : (n : ℕ) → list_all p (replicate n 32) ≡ true
+    blanks zero = refl
+    blanks (suc n) = ap₂ (λ (a b : Bool). a && b) e (blanks n)

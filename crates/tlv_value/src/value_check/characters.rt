@@ -1,22 +1,12 @@
 //! Which octets NumericString, PrintableString, IA5String and VisibleString allow.
 ghost use Rattle.std.specs.List.{list_all};
-ghost use Rattle.std.specs.Prelude.{◌≡◌};
+ghost use Rattle.std.specs.Prelude.{◌≡◌, true};
 ghost use Rattle.tlv_value.specs.Checks.{is_printable_string_octet};
 ghost use Rattle.tlv_value.specs.Characters.{allows_octet};
 
 use super::both;
+use crate::units::block_of;
 use tlv_head::universal;
-
-/// The characters of PrintableString (X.680 41.4), each at its own place, and an asterisk at every other place.
-static PRINTABLE: [u8; 256] = *b"\
-    ******************************** \
-    ******'()*+,-./0123456789:**=*?\
-    *ABCDEFGHIJKLMNOPQRSTUVWXYZ*****\
-    *abcdefghijklmnopqrstuvwxyz*****\
-    ********************************\
-    ********************************\
-    ********************************\
-    ********************************";
 
 /// Whether the type with this universal number allows all of the octets.
 #[inline(never)]
@@ -33,9 +23,23 @@ pub fn are_allowed(number: u64, octets: &[u8]) -> bool
     }
 }
 
-/// Whether the type with this universal number allows each of the octets.
+/// Whether the type with this universal number allows each of the octets. Most texts are short. A short text is looked
+/// at as a block of one size, so that no branch depends on its length.
 #[inline(always)]
 fn is_each_allowed(number: u64, octets: &[u8]) -> bool
+    requires { allows_octet number 32 ≡ true }
+    ensures { result ≡ list_all (allows_octet number) octets.now }
+{
+    if octets.len() > 64 {
+        return is_all_allowed(number, octets);
+    }
+    // All of these types allow the spaces after the text.
+    is_all_allowed(number, &block_of(octets))
+}
+
+/// Whether the type with this universal number allows each of the octets, of which there may be many.
+#[inline(always)]
+fn is_all_allowed(number: u64, octets: &[u8]) -> bool
     ensures { result ≡ list_all (allows_octet number) octets.now }
 {
     // The loop has no early exit, so that many octets are checked at once.
@@ -60,11 +64,17 @@ fn allows_octet(number: u64, octet: u8) -> bool
     }
 }
 
-/// Whether PrintableString allows the octet (X.680 41.4).
+/// Whether PrintableString allows the octet (X.680 41.4). The comparisons have no branch, so that the compiler makes
+/// vectors of them.
 #[inline(always)]
 fn is_printable_string_octet(octet: u8) -> bool
     ensures { result ≡ is_printable_string_octet octet }
 {
-    // A look-up costs less than a comparison with each range of characters.
-    PRINTABLE[usize::from(octet)] != b'*'
+    let small = octet | 0x20;
+    (small >= b'a') & (small <= b'z')
+        | (octet >= b'+') & (octet <= b':')
+        | (octet >= b'\'') & (octet <= b')')
+        | (octet == b' ')
+        | (octet == b'=')
+        | (octet == b'?')
 }

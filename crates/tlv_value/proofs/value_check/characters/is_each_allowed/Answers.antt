@@ -1,10 +1,12 @@
-use Rattle.std.proofs.Common.{◌&&◌, ◌∙◌, Bool, ap, arith}
-use Rattle.tlv_value.proofs.CheckLemmas.Noting.{all-next}
-use Rattle.tlv_value.proofs.value_check.characters.is_each_allowed.Goals as goal
+use Rattle.std.proofs.Common.{◌∙◌, ◌-◌, List, ℕ, ap, length, sym}
+use Rattle.std.specs.List.{list_all}
 use Rattle.tlv_value.specs.Characters.{allows_octet}
+use Rattle.tlv_value.proofs.CheckLemmas.Noting.{all-filled}
+use Rattle.tlv_value.proofs.value_check.characters.is_each_allowed.Goals as goal
 
-pub loop-octet-preserved : goal.loop-octet-preserved
-loop-octet-preserved c =
-    all-next c.loop-octet.all c.both-all.result (allows_octet c.args.number) c.args.octets.now
-    c.loop-octet.octet-index (omega arith)
-    (c.both-all.ensures ∙ ap (λ (b : Bool). c.loop-octet.all && b) c.allows_octet.ensures) c.loop-octet.invariant
+pub returns : goal.returns
+returns c =
+    let octets : List ℕ = c.args.octets.now in
+    c.is_all_allowed-2.ensures
+    ∙ ap (list_all (allows_octet c.args.number)) c.block_of.ensures
+    ∙ all-filled (allows_octet c.args.number) octets (64 - length octets) c.requires

@@ -1,7 +1,7 @@
 use Rattle.std.proofs.Common.{◌≡◌, ◌∙◌, ◌++◌, take, decimal, ap, arith, rules}
 use Rattle.std.proofs.lemmas.Fmt.{length-decimal-le}
 use Rattle.tlv_io.proofs.HeldTexts.{text_written, held_up_to}
-use Rattle.tlv_io.proofs.held_octets.HeldOctets.number.Goals as goal
+use Rattle.tlv_io.proofs.held_octets.HeldOctets.long_number.Goals as goal
 
 pub overflow_add-end : goal.overflow_add-end
 overflow_add-end c =

@@ -1,7 +1,7 @@
 use Rattle.std.proofs.Common.{◌≡◌, drop}
 use Rattle.std.specs.List.{list_all}
 use Rattle.std.specs.Prelude.{◌&&◌}
-use Rattle.tlv_value.proofs.value_check.characters.is_each_allowed.Given as goal
+use Rattle.tlv_value.proofs.value_check.characters.is_all_allowed.Given as goal
 use Rattle.tlv_value.specs.Characters.{allows_octet}
 
 abbrev pub invariant-loop-octet : goal.invariant-loop-octet
