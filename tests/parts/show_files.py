@@ -134,6 +134,19 @@ def several(part, program):
     program.gives(["--check", odd, "null"], b"", 1, blocks, said, what="it, and another file")
 
 
+def long_lines(part, program):
+    """Names with which the lines of a block are about as long as their room, 512 octets, or much longer."""
+    part.write("hex", NULL.hex().encode())
+    part.write("\u00e9", NULL.hex().encode())
+    for name, shown in (("hex", "hex"), ("\u00e9", "??")):
+        for count in (*range(236, 260), 500, 1900):
+            before = "./" * count
+            titles = f"# block 1 of 2: {before}{shown}\n# block 2 of 2: {before}{shown}\n".encode()
+            said = f"{before}{shown}: taken for hexadecimal"
+            words = ["--check", before + name, before + name]
+            program.gives(words, b"", 0, titles, f"{said}\n{said}", what=f"a name of {2 * count} octets and {shown}")
+
+
 def names(part, program):
     """The names file of the installation, that of the tree, another one, and none."""
     alone = put(program.path, part.path("alone/tlvdump-show"))
@@ -212,6 +225,7 @@ def test(part):
     program = Program(part)
     words(part, program)
     several(part, program)
+    long_lines(part, program)
     names(part, program)
     inputs(part, program)
     outputs(part, program)

@@ -1,3 +1,4 @@
 pub mod BlockParts
+pub mod LineOut
 pub mod Tables
 pub mod ShowsSome

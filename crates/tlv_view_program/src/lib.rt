@@ -8,6 +8,7 @@ mod explain;
 mod files;
 mod input_blocks;
 pub mod laws;
+mod line_out;
 mod lines;
 mod names;
 mod notes;

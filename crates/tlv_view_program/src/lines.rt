@@ -2,7 +2,7 @@
 ghost use Rattle.std.specs.List.{list_all};
 ghost use Rattle.std.specs.Prelude.{◌≡◌, flat_map};
 ghost use Rattle.tlv_forms.specs.Taken.{taken_value};
-ghost use Rattle.tlv_io.specs.Out.{Puts, Sends};
+ghost use Rattle.tlv_io.specs.Out.{Sends};
 ghost use Rattle.tlv_open.specs.BrokenLine.{broken_line};
 ghost use Rattle.tlv_run.specs.BorrowedText.{text_in};
 ghost use Rattle.tlv_value.specs.Units.{is_printable};
@@ -10,14 +10,16 @@ ghost use Rattle.tlv_view_program.specs.Lines.{block_line, block_start, block_ti
 ghost use Rattle.tlv_view_program.specs.Lines.{place_words, placed_line, printable_name, printable_octet, shown_name};
 ghost use Rattle.tlv_view_program.specs.Notes.{note_line};
 ghost use Rattle.tlv_view_program.specs.Private.BlockParts.{name_value};
+ghost use Rattle.tlv_view_program.specs.Private.LineOut.{PutsLine};
 ghost use Rattle.tlv_view_program.specs.ShowsBlock.{block_messages};
 
+use crate::line_out::LineOut;
 use crate::notes::{has_note, put_note};
 use arrayvec::ArrayVec;
 use itoa::Buffer;
 use tlv_forms::Taken;
 use tlv_open::{BrokenString, broken_line};
-use tlv_walk::{Drain, Out, WriteFault};
+use tlv_walk::{Drain, WriteFault};
 
 /// What comes before messages that concern a block.
 #[derive(Clone, Copy)]
@@ -45,7 +47,7 @@ pub(crate) fn write_block_line<D: Drain>(
     ensures { Sends (D.state drain.old) (D.state drain.new)
         (block_line number count (block_title several_files (text_in file.entry) label.now)) result }
 {
-    let mut out = Out::new(drain);
+    let mut out = LineOut::new(drain);
     put_block_line(number, count, several_files, file, label, &mut out)?;
     out.flush()?;
     Ok(())
@@ -58,9 +60,9 @@ fn put_block_line<D: Drain>(
     several_files: bool,
     file: Option<&str>,
     label: &[u8],
-    out: &mut Out<'_, D>,
+    out: &mut LineOut<'_, D>,
 ) -> Result<(), WriteFault>
-    ensures { Puts D.state out.old out.new
+    ensures { PutsLine D.state out.old out.new
         (block_line number count (block_title several_files (text_in file.entry) label.now)) result }
 {
     out.put(block_start(number, count).as_slice())?;
@@ -73,9 +75,9 @@ fn put_title<D: Drain>(
     several_files: bool,
     file: Option<&str>,
     label: &[u8],
-    out: &mut Out<'_, D>,
+    out: &mut LineOut<'_, D>,
 ) -> Result<(), WriteFault>
-    ensures { Puts D.state out.old out.new (block_title several_files (text_in file.entry) label.now) result }
+    ensures { PutsLine D.state out.old out.new (block_title several_files (text_in file.entry) label.now) result }
 {
     if label.is_empty() {
         return put_shown_name(file, out);
@@ -103,8 +105,8 @@ fn block_start(number: usize, count: usize) -> ArrayVec<u8, 64>
 }
 
 /// Puts the name of a file, or words for standard input.
-fn put_shown_name<D: Drain>(file: Option<&str>, out: &mut Out<'_, D>) -> Result<(), WriteFault>
-    ensures { Puts D.state out.old out.new (shown_name (text_in file.entry)) result }
+fn put_shown_name<D: Drain>(file: Option<&str>, out: &mut LineOut<'_, D>) -> Result<(), WriteFault>
+    ensures { PutsLine D.state out.old out.new (shown_name (text_in file.entry)) result }
 {
     match file {
         Some(name) => put_printable(name, out),
@@ -113,8 +115,8 @@ fn put_shown_name<D: Drain>(file: Option<&str>, out: &mut Out<'_, D>) -> Result<
 }
 
 /// Puts a name with a question mark in place of each octet that is not printable.
-fn put_printable<D: Drain>(name: &str, out: &mut Out<'_, D>) -> Result<(), WriteFault>
-    ensures { Puts D.state out.old out.new (printable_name name.now) result }
+fn put_printable<D: Drain>(name: &str, out: &mut LineOut<'_, D>) -> Result<(), WriteFault>
+    ensures { PutsLine D.state out.old out.new (printable_name name.now) result }
 {
     // Nearly all names are, and a text may have thousands of blocks.
     if are_printable(name.as_bytes()) {
@@ -159,7 +161,7 @@ pub(crate) fn write_note<D: Drain>(
     ensures { Sends (D.state drain.old) (D.state drain.new)
         (note_line (name_value name.entry) (taken_value taken.now)) result }
 {
-    let mut out = Out::new(drain);
+    let mut out = LineOut::new(drain);
     put_note_line(name, taken, &mut out)?;
     out.flush()?;
     Ok(())
@@ -169,9 +171,9 @@ pub(crate) fn write_note<D: Drain>(
 fn put_note_line<D: Drain>(
     name: BlockName<'_>,
     taken: &Taken,
-    out: &mut Out<'_, D>,
+    out: &mut LineOut<'_, D>,
 ) -> Result<(), WriteFault>
-    ensures { Puts D.state out.old out.new (note_line (name_value name.entry) (taken_value taken.now)) result }
+    ensures { PutsLine D.state out.old out.new (note_line (name_value name.entry) (taken_value taken.now)) result }
 {
     if !has_note(taken) {
         return Ok(());
@@ -209,7 +211,7 @@ fn write_message_lines<D: Drain>(
     ensures { Sends (D.state drain.old) (D.state drain.new)
         (block_messages (name_value name.entry) message.now broken.now) result }
 {
-    let mut out = Out::new(drain);
+    let mut out = LineOut::new(drain);
     put_messages(name, message, broken, &mut out)?;
     out.flush()?;
     Ok(())
@@ -221,9 +223,9 @@ fn put_messages<D: Drain>(
     name: BlockName<'_>,
     message: &[u8],
     broken: &[BrokenString],
-    out: &mut Out<'_, D>,
+    out: &mut LineOut<'_, D>,
 ) -> Result<(), WriteFault>
-    ensures { Puts D.state out.old out.new (block_messages (name_value name.entry) message.now broken.now) result }
+    ensures { PutsLine D.state out.old out.new (block_messages (name_value name.entry) message.now broken.now) result }
 {
     put_placed_line(name, message, out)?;
     put_broken_lines(name, broken, out)
@@ -233,9 +235,9 @@ fn put_messages<D: Drain>(
 fn put_broken_lines<D: Drain>(
     name: BlockName<'_>,
     broken: &[BrokenString],
-    out: &mut Out<'_, D>,
+    out: &mut LineOut<'_, D>,
 ) -> Result<(), WriteFault>
-    ensures { Puts D.state out.old out.new
+    ensures { PutsLine D.state out.old out.new
         (flat_map (λ b. placed_line (name_value name.entry) (broken_line b)) broken.now) result }
 {
     for string in broken {
@@ -248,9 +250,9 @@ fn put_broken_lines<D: Drain>(
 fn put_placed_line<D: Drain>(
     name: BlockName<'_>,
     text: &[u8],
-    out: &mut Out<'_, D>,
+    out: &mut LineOut<'_, D>,
 ) -> Result<(), WriteFault>
-    ensures { Puts D.state out.old out.new (placed_line (name_value name.entry) text.now) result }
+    ensures { PutsLine D.state out.old out.new (placed_line (name_value name.entry) text.now) result }
 {
     if text.is_empty() {
         return Ok(());
@@ -262,8 +264,8 @@ fn put_placed_line<D: Drain>(
 
 /// Puts what comes before a message that concerns a block.
 #[tactic(auto, using(tlv_io::proofs::Puts::puts))]
-fn put_place<D: Drain>(name: BlockName<'_>, out: &mut Out<'_, D>) -> Result<(), WriteFault>
-    ensures { Puts D.state out.old out.new (place_words (name_value name.entry)) result }
+fn put_place<D: Drain>(name: BlockName<'_>, out: &mut LineOut<'_, D>) -> Result<(), WriteFault>
+    ensures { PutsLine D.state out.old out.new (place_words (name_value name.entry)) result }
 {
     put_file_words(name.file, out)?;
     put_number_words(name.number, out)
@@ -271,8 +273,8 @@ fn put_place<D: Drain>(name: BlockName<'_>, out: &mut Out<'_, D>) -> Result<(), 
 
 /// Puts the name of a file, if it has one.
 #[tactic(auto, using(tlv_io::proofs::Puts::puts))]
-fn put_file_words<D: Drain>(file: Option<&str>, out: &mut Out<'_, D>) -> Result<(), WriteFault>
-    ensures { Puts D.state out.old out.new (file_words (text_in file.entry)) result }
+fn put_file_words<D: Drain>(file: Option<&str>, out: &mut LineOut<'_, D>) -> Result<(), WriteFault>
+    ensures { PutsLine D.state out.old out.new (file_words (text_in file.entry)) result }
 {
     match file {
         Some(name) => {
@@ -284,8 +286,11 @@ fn put_file_words<D: Drain>(file: Option<&str>, out: &mut Out<'_, D>) -> Result<
 }
 
 /// Puts the number of a block, if it has one.
-fn put_number_words<D: Drain>(number: Option<usize>, out: &mut Out<'_, D>) -> Result<(), WriteFault>
-    ensures { Puts D.state out.old out.new (number_words number) result }
+fn put_number_words<D: Drain>(
+    number: Option<usize>,
+    out: &mut LineOut<'_, D>,
+) -> Result<(), WriteFault>
+    ensures { PutsLine D.state out.old out.new (number_words number) result }
 {
     match number {
         Some(number) => {

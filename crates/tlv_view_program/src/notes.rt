@@ -1,20 +1,21 @@
 //! What is said about a block before it is shown.
 ghost use Rattle.std.specs.Prelude.{◌≡◌, ◌≤◌, ◌++◌, decimal, flat_map, length};
 ghost use Rattle.tlv_forms.specs.Taken.{taken_value};
-ghost use Rattle.tlv_io.specs.Out.{Puts};
 ghost use Rattle.tlv_run.specs.Report.{report_value_of};
 ghost use Rattle.tlv_text.specs.Blocks.{block_value};
 ghost use Rattle.tlv_view_program.specs.Notes.{absent_words, expected_words, form_note, form_words, label_words};
 ghost use Rattle.tlv_view_program.specs.Notes.{layer_words, other_text_note, run_words, state_words, taken_note};
 ghost use Rattle.tlv_view_program.specs.Notes.{has_note, name_by, text_report};
+ghost use Rattle.tlv_view_program.specs.Private.LineOut.{PutsLine};
 
+use crate::line_out::LineOut;
 use arrayvec::ArrayVec;
 use itoa::Buffer;
 use tlv_forms::{Taken, TakenFor};
 use tlv_run::Report;
 use tlv_text::{Block, BlockState, Form, TextFault};
 use tlv_view::{InputFault, input_report};
-use tlv_walk::{Drain, Out, WriteFault};
+use tlv_walk::{Drain, WriteFault};
 
 /// The report if the blocks of an input cannot be obtained.
 pub(crate) fn text_report(fault: TextFault) -> Report
@@ -50,8 +51,8 @@ pub(crate) fn block_label(taken: &Taken) -> ArrayVec<u8, 64>
 }
 
 /// Puts the note of a block.
-pub(crate) fn put_note<D: Drain>(taken: &Taken, out: &mut Out<'_, D>) -> Result<(), WriteFault>
-    ensures { Puts D.state out.old out.new (taken_note (taken_value taken.now)) result }
+pub(crate) fn put_note<D: Drain>(taken: &Taken, out: &mut LineOut<'_, D>) -> Result<(), WriteFault>
+    ensures { PutsLine D.state out.old out.new (taken_note (taken_value taken.now)) result }
 {
     match taken.taken_for {
         TakenFor::Octets => Ok(()),
@@ -64,8 +65,8 @@ pub(crate) fn put_note<D: Drain>(taken: &Taken, out: &mut Out<'_, D>) -> Result<
 }
 
 /// Puts the note of a text whose form is not known, with its first words.
-fn put_other_text<D: Drain>(words: &[u8], out: &mut Out<'_, D>) -> Result<(), WriteFault>
-    ensures { Puts D.state out.old out.new (other_text_note words.now) result }
+fn put_other_text<D: Drain>(words: &[u8], out: &mut LineOut<'_, D>) -> Result<(), WriteFault>
+    ensures { PutsLine D.state out.old out.new (other_text_note words.now) result }
 {
     out.put(b"X1 text of no form that is known: \"")?;
     out.put(words)?;
@@ -77,9 +78,9 @@ fn put_form_note<D: Drain>(
     form: Form,
     layers: &[Option<usize>],
     block: &Block,
-    out: &mut Out<'_, D>,
+    out: &mut LineOut<'_, D>,
 ) -> Result<(), WriteFault>
-    ensures { Puts D.state out.old out.new (form_note form layers.now (block_value block.now)) result }
+    ensures { PutsLine D.state out.old out.new (form_note form layers.now (block_value block.now)) result }
 {
     out.put(b"taken for ")?;
     out.put(form_words(form, block.line).as_slice())?;
@@ -89,8 +90,8 @@ fn put_form_note<D: Drain>(
 }
 
 /// Puts a label, if there is one.
-fn put_label<D: Drain>(label: &[u8], out: &mut Out<'_, D>) -> Result<(), WriteFault>
-    ensures { Puts D.state out.old out.new (label_words label.now) result }
+fn put_label<D: Drain>(label: &[u8], out: &mut LineOut<'_, D>) -> Result<(), WriteFault>
+    ensures { PutsLine D.state out.old out.new (label_words label.now) result }
 {
     if label.is_empty() {
         return Ok(());
@@ -100,8 +101,11 @@ fn put_label<D: Drain>(label: &[u8], out: &mut Out<'_, D>) -> Result<(), WriteFa
 }
 
 /// Puts the base64 in which a block is written.
-fn put_layers<D: Drain>(layers: &[Option<usize>], out: &mut Out<'_, D>) -> Result<(), WriteFault>
-    ensures { Puts D.state out.old out.new (flat_map layer_words layers.now) result }
+fn put_layers<D: Drain>(
+    layers: &[Option<usize>],
+    out: &mut LineOut<'_, D>,
+) -> Result<(), WriteFault>
+    ensures { PutsLine D.state out.old out.new (flat_map layer_words layers.now) result }
 {
     for layer in layers {
         out.put(layer_words(*layer).as_slice())?;

@@ -27,4 +27,4 @@ pub returns : goal.returns
 returns g c =
     let some : c.has_note.result ≡ true = search rules in
     puts_text g.D.Drain.state _ _ _ _ _ (noted-line _ _ _ c.has_note.ensures some)
-    (all_three g.D.Drain.state _ _ _ _ _ _ _ _ c.in_ok-put_place.ensures c.in_ok-put_note.ensures c.put.ensures.puts)
+    (all_three g.D.Drain.state _ _ _ _ _ _ _ _ c.in_ok-put_place.ensures c.in_ok-put_note.ensures c.put.ensures)

@@ -19,10 +19,10 @@ returns-in_err-put_place g c =
 pub returns-in_err-put : goal.returns-in_err-put
 returns-in_err-put g c =
     puts_text g.D.Drain.state _ _ _ _ _ (some-line _ _ _ c.is_empty.ensures c.if-is_empty.false)
-    (second_fails g.D.Drain.state _ _ _ _ _ _ _ _ c.in_ok-put_place.ensures c.in_err-put.ensures.puts (search rules))
+    (second_fails g.D.Drain.state _ _ _ _ _ _ _ _ c.in_ok-put_place.ensures c.in_err-put.ensures (search rules))
 
 pub returns : goal.returns
 returns g c =
     puts_text g.D.Drain.state _ _ _ _ _ (some-line _ _ _ c.is_empty.ensures c.if-is_empty.false)
-    (all_three g.D.Drain.state _ _ _ _ _ _ _ _ c.in_ok-put_place.ensures c.in_ok-put.ensures.puts
-    c.put-2.ensures.puts)
+    (all_three g.D.Drain.state _ _ _ _ _ _ _ _ c.in_ok-put_place.ensures c.in_ok-put.ensures
+    c.put-2.ensures)

@@ -16,18 +16,18 @@ shown-as_is (x ∷ name) all =
 pub returns-then-are_printable : goal.returns-then-are_printable
 returns-then-are_printable g c =
     let all = ap (list_all is_printable) (sym c.as_bytes.ensures.value) ∙ sym c.if-are_printable.ensures in
-    rw (shown-as_is c.args.name.now all, ← c.as_bytes-then-are_printable.ensures.value) c.put.ensures.puts
+    rw (shown-as_is c.args.name.now all, ← c.as_bytes-then-are_printable.ensures.value) c.put.ensures
 
 pub returns-in_err-put : goal.returns-in_err-put
 returns-in_err-put g c =
     let octets = c.as_bytes-octet-items.ensures.value in
     fails_octet g.D.Drain.state printable_octet _ _ _ c.args.name.now c.loop-octet.octet-index _ _
     (rw (← octets) c.loop-octet-test.true) c.loop-octet.invariant
-    (rw (← octets) (rw c.printable_octet.ensures at c.in_err-put.ensures.puts)) (search rules)
+    (rw (← octets) (rw c.printable_octet.ensures at c.in_err-put.ensures)) (search rules)
 
 pub loop-octet-preserved : goal.loop-octet-preserved
 loop-octet-preserved g c =
     let octets = c.as_bytes-octet-items.ensures.value in
     puts_octet g.D.Drain.state printable_octet _ _ _ c.args.name.now c.loop-octet.octet-index
     (rw (← octets) c.loop-octet-test.true) c.loop-octet.invariant
-    (rw (← octets) (rw c.printable_octet.ensures at c.in_ok-put.ensures.puts))
+    (rw (← octets) (rw c.printable_octet.ensures at c.in_ok-put.ensures))

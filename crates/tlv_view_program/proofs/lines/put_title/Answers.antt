@@ -30,7 +30,7 @@ pub returns-in_err-put : goal.returns-in_err-put
 returns-in_err-put g c =
     puts_text g.D.Drain.state _ _ _ _ _
     (both-named _ _ _ _ c.if-several_files.true c.is_empty.ensures c.if-is_empty.false)
-    (second_fails g.D.Drain.state _ _ _ _ _ _ _ _ c.in_ok-put_shown_name.ensures c.in_err-put.ensures.puts
+    (second_fails g.D.Drain.state _ _ _ _ _ _ _ _ c.in_ok-put_shown_name.ensures c.in_err-put.ensures
     (search rules))
 
 pub returns : goal.returns
@@ -38,10 +38,10 @@ returns g c = elim c.if-several_files.branch [
   | then-several_files+in_ok-put_shown_name+in_ok-put w ↦
       puts_text g.D.Drain.state _ _ _ _ _
       (both-named _ _ _ _ w.if-several_files.true c.is_empty.ensures c.if-is_empty.false)
-      (all_three g.D.Drain.state _ _ _ _ _ _ _ _ w.in_ok-put_shown_name.ensures w.in_ok-put.ensures.puts
-      (rw w.out-is at c.put-2.ensures.puts))
+      (all_three g.D.Drain.state _ _ _ _ _ _ _ _ w.in_ok-put_shown_name.ensures w.in_ok-put.ensures
+      (rw w.out-is at c.put-2.ensures))
   | else-several_files w ↦
       puts_text g.D.Drain.state _ _ _ _ _
       (label-alone _ _ _ _ w.if-several_files.false c.is_empty.ensures c.if-is_empty.false)
-      (rw w.out-is at c.put-2.ensures.puts)
+      (rw w.out-is at c.put-2.ensures)
 ]

@@ -13,9 +13,9 @@ some-label (x ∷ label) b e f = refl
 pub returns-in_err-put : goal.returns-in_err-put
 returns-in_err-put g c =
     puts_text g.D.Drain.state _ _ _ _ _ (some-label _ _ c.is_empty.ensures c.if-is_empty.false)
-    (puts_failed g.D.Drain.state _ _ _ _ _ _ c.in_err-put.ensures.puts (search rules))
+    (puts_failed g.D.Drain.state _ _ _ _ _ _ c.in_err-put.ensures (search rules))
 
 pub returns : goal.returns
 returns g c =
     puts_text g.D.Drain.state _ _ _ _ _ (some-label _ _ c.is_empty.ensures c.if-is_empty.false)
-    (puts_then g.D.Drain.state _ _ _ _ _ tt _ c.in_ok-put.ensures.puts c.put-2.ensures.puts)
+    (puts_then g.D.Drain.state _ _ _ _ _ tt _ c.in_ok-put.ensures c.put-2.ensures)
