@@ -10,7 +10,7 @@ use Rattle.tlv_forms.specs.Taken.{AreTakenAsEncodings, BlocksCount, Counts, HasI
 use Rattle.tlv_forms.specs.Taken.{has_some, in_layer, is_complete, is_whole_block, taken_as, taken_value}
 use Rattle.tlv_forms.specs.declared.taken.Taken.{Taken}
 use Rattle.tlv_forms.specs.declared.taken.TakenFor.TheVariants.{Text}
-use Rattle.tlv_text.specs.Blocks.{AreBlocks, BlockValue, IsBlocksFault, block_value}
+use Rattle.tlv_text.specs.Blocks.{AreBlocks, BlockValue, IsBase64Block, IsBlocksFault, block_value}
 use Rattle.tlv_text.specs.declared.block.Block.{Block}
 use Rattle.tlv_text.specs.declared.block.Form.{Form}
 use Rattle.tlv_text.specs.declared.block.Form.TheVariants.{Pem, Base64}
@@ -45,6 +45,12 @@ pub blocks-text : (text : List ℕ) (form : Form) (fault : TextFault) → IsBloc
     → IsTextFault text fault
 blocks-text text form fault wrong = λ octets is.
     IsTakingFault.here form (subst (λ (t : List ℕ). IsBlocksFault t form fault) (sym is) wrong)
+
+-- what is wrong with the block of a base64 text is wrong with the text
+pub base64-fault : (text : List ℕ) (b : BlockValue) (fault : TextFault) → IsBase64Block text b
+    → IsTakingFault b.octets fault → IsTextFault text fault
+base64-fault text b fault is wrong =
+    among-text text Base64 (b ∷ []) fault (AreBlocks.base64 is) (IsFaultAmong.inside [] [] b refl wrong)
 
 -- what is wrong with the next block is wrong among all
 pub next-among : (before rest all : List Block) (b : Block) (fault : TextFault) → before ++ b ∷ rest ≡ all

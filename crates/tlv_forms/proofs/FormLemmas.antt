@@ -1,7 +1,7 @@
 -- What the blocks of a text count as, form by form.
 use Rattle.std.proofs.Common.{◌≡◌, ◌==◌, ◌+◌, ◌-◌, ◌<◌, ◌≤◌, ◌≢◌, List, [], ◌∷◌, ◌++◌, Some, ℕ, zero, suc, true, false}
 use Rattle.std.proofs.Common.{◌∙◌, ◌⊎◌, ⊎_elim, add-one, append-nil, append_assoc, ap, arith, drop, filter, get_or}
-use Rattle.std.proofs.Common.{if◌then◌else◌, length, map, refl, subst, sym}
+use Rattle.std.proofs.Common.{if◌then◌else◌, length, map, None, refl, subst, sym}
 use Rattle.std.specs.List.{All}
 use Rattle.std.proofs.Math.Seq.{drop-cons}
 use Rattle.std.proofs.lemmas.Bool.{cases_Bool, eqb-true}
@@ -11,10 +11,12 @@ use Rattle.tlv_forms.specs.Taken.{AreFirstBlocks, BlocksCount, Counts, HasBlocks
 use Rattle.tlv_forms.specs.Taken.{all_forms, has_controls, is_complete, taken_as, taken_value, text_of}
 use Rattle.tlv_forms.specs.declared.taken.Taken.{Taken}
 use Rattle.tlv_forms.specs.declared.taken.TakenFor.TheVariants.{Text}
-use Rattle.tlv_text.specs.Blocks.{AreBlocks, ArePemBlocks, BlockValue, IsHexAlone, block_value, dump_block}
+use Rattle.tlv_text.specs.Blocks.{AreBlocks, ArePemBlocks, BlockValue, IsBase64Alone, IsHexAlone, block_value}
+use Rattle.tlv_text.specs.Blocks.{dump_block, numbers_block}
+use Rattle.tlv_text.specs.Numbers.{numbers_of}
 use Rattle.tlv_text.specs.declared.block.Block.{Block}
 use Rattle.tlv_text.specs.declared.block.Form.{Form}
-use Rattle.tlv_text.specs.declared.block.Form.TheVariants.{Pem, Dump, Hex, Numbers, Runs}
+use Rattle.tlv_text.specs.declared.block.Form.TheVariants.{Base64, Pem, Dump, Hex, Numbers, Runs}
 
 -- what is bounded is bounded more loosely
 pub more-bounded : (n : ℕ) (ts : List Taken) → All (IsBounded 1) ts → All (IsBounded (n + 1)) ts
@@ -153,6 +155,88 @@ module _ (Inner : List ℕ → List TakenValue → Type 0) where
       (AreFirstBlocks.later (AreBlocks.pem (ArePemBlocks.no_more alone.no_pem)) BlocksCount.pem
       (AreFirstBlocks.later AreBlocks.dump (dump-count (dump_block text ∷ []) [] refl (rw broken refl))
       (AreFirstBlocks.here are (hex-count (b ∷ []) (taken_as (Text Hex) b ∷ []) refl (rw kept refl)))))
+
+  -- ---- a text that is base64 alone
+
+  -- what the blocks of a text in one form count as, if its blocks in the first of this form alone are these
+  data OnlyForm (text : List ℕ) (form : Form) (ts : List TakenValue) : Type 0 where
+    counted : (bs : List BlockValue) → AreBlocks text form bs → BlocksCount Inner form bs ts → OnlyForm text form ts
+
+  only-form : (text : List ℕ) (form : Form) (ts : List TakenValue) → AreFirstBlocks Inner text (form ∷ []) ts
+      → OnlyForm text form ts
+  only-form text form ts (AreFirstBlocks.here are counts) = OnlyForm.counted _ are counts
+  only-form text form ts (AreFirstBlocks.later are counts AreFirstBlocks.no_form) = OnlyForm.counted _ are counts
+
+  -- neither PEM nor a dump counts
+  after-dump : (text : List ℕ) (b : BlockValue) (ts : List TakenValue) → IsBase64Alone text b
+      → AreFirstBlocks Inner text (Hex ∷ Numbers ∷ Base64 ∷ Runs ∷ []) ts → AreFirstBlocks Inner text all_forms ts
+  after-dump text b ts alone first =
+      let broken : is_complete (dump_block text) ≡ false = rw alone.no_row refl in
+      AreFirstBlocks.later (AreBlocks.pem (ArePemBlocks.no_more alone.no_pem)) BlocksCount.pem
+      (AreFirstBlocks.later AreBlocks.dump (dump-count (dump_block text ∷ []) [] refl (rw broken refl)) first)
+
+  -- nor do numbers
+  after-numbers : (text : List ℕ) (b : BlockValue) (ts : List TakenValue) → IsBase64Alone text b
+      → AreFirstBlocks Inner text (Base64 ∷ Runs ∷ []) ts
+      → AreFirstBlocks Inner text (Numbers ∷ Base64 ∷ Runs ∷ []) ts
+  after-numbers text b ts alone first =
+      AreFirstBlocks.later AreBlocks.numbers
+      (numbers-count (numbers_block (numbers_of text) ∷ []) [] refl (rw alone.no_list refl)) first
+
+  first-of_form : (text : List ℕ) (form : Form) (forms : List Form) (ts : List Taken) (n : ℕ)
+      → OnlyForm text form (map taken_value ts) → n ≡ length ts → (n == 0) ≡ false
+      → AreFirstBlocks Inner text (form ∷ forms) (map taken_value ts)
+  first-of_form text form forms [] n only size some = absurd (cc (ap (λ (k : ℕ). k == 0) size, some))
+  first-of_form text form forms (t ∷ ts) n (OnlyForm.counted bs are counts) size some =
+      AreFirstBlocks.here are counts
+
+  not-of_form : (text : List ℕ) (form : Form) (forms : List Form) (ts : List Taken) (n : ℕ) (others : List TakenValue)
+      → OnlyForm text form (map taken_value ts) → n ≡ length ts → (n == 0) ≡ true
+      → AreFirstBlocks Inner text forms others → AreFirstBlocks Inner text (form ∷ forms) others
+  not-of_form text form forms [] n others (OnlyForm.counted bs are counts) size none rests =
+      AreFirstBlocks.later are counts rests
+  not-of_form text form forms (t ∷ ts) n others only size none rests =
+      let zero : n ≡ 0 = eqb-true n 0 none in absurd (omega (arith, size))
+
+  -- its hexadecimal counts
+  pub base64-hex_first : (text : List ℕ) (b : BlockValue) (ts : List Taken) (n : ℕ) → IsBase64Alone text b
+      → AreFirstBlocks Inner text (Hex ∷ []) (map taken_value ts) → n ≡ length ts → (n == 0) ≡ false
+      → AreFirstBlocks Inner text all_forms (map taken_value ts)
+  base64-hex_first text b ts n alone hex size some =
+      after-dump text b (map taken_value ts) alone
+      (first-of_form text Hex _ ts n (only-form text Hex _ hex) size some)
+
+  -- only its base64 and runs of it can count
+  base64-only : (text : List ℕ) (b : BlockValue) (hexes : List Taken) (n : ℕ) (ts : List TakenValue)
+      → IsBase64Alone text b → AreFirstBlocks Inner text (Hex ∷ []) (map taken_value hexes) → n ≡ length hexes
+      → (n == 0) ≡ true
+      → AreFirstBlocks Inner text (Base64 ∷ Runs ∷ []) ts → AreFirstBlocks Inner text all_forms ts
+  base64-only text b hexes n ts alone hex size none first =
+      after-dump text b ts alone
+      (not-of_form text Hex _ hexes n ts (only-form text Hex _ hex) size none (after-numbers text b ts alone first))
+
+  base64-form : (text : List ℕ) (b : BlockValue) (ts : List TakenValue) → IsBase64Alone text b
+      → is_complete b ≡ true → Counts Inner Base64 None b ts → OnlyForm text Base64 ts
+  base64-form text b ts alone complete counts =
+      OnlyForm.counted (b ∷ []) (AreBlocks.base64 alone.base64) (BlocksCount.base64 complete counts)
+
+  pub base64-first : (text : List ℕ) (b : BlockValue) (hexes ts : List Taken) (n m : ℕ) → IsBase64Alone text b
+      → is_complete b ≡ true → AreFirstBlocks Inner text (Hex ∷ []) (map taken_value hexes) → n ≡ length hexes
+      → (n == 0) ≡ true → Counts Inner Base64 None b (map taken_value ts) → m ≡ length ts → (m == 0) ≡ false
+      → AreFirstBlocks Inner text all_forms (map taken_value ts)
+  base64-first text b hexes ts n m alone complete hex size none counts some_size some =
+      base64-only text b hexes n (map taken_value ts) alone hex size none
+      (first-of_form text Base64 _ ts m (base64-form text b (map taken_value ts) alone complete counts) some_size some)
+
+  pub base64-runs_first : (text : List ℕ) (b : BlockValue) (hexes base64s : List Taken) (n m : ℕ)
+      (ts : List TakenValue) → IsBase64Alone text b
+      → is_complete b ≡ true → AreFirstBlocks Inner text (Hex ∷ []) (map taken_value hexes) → n ≡ length hexes
+      → (n == 0) ≡ true → Counts Inner Base64 None b (map taken_value base64s) → m ≡ length base64s
+      → (m == 0) ≡ true → AreFirstBlocks Inner text (Runs ∷ []) ts → AreFirstBlocks Inner text all_forms ts
+  base64-runs_first text b hexes base64s n m ts alone complete hex size none counts none_size no_base64 runs =
+      base64-only text b hexes n ts alone hex size none
+      (not-of_form text Base64 _ base64s m ts (base64-form text b (map taken_value base64s) alone complete counts)
+      none_size no_base64 runs)
 
 -- the blocks of what is base64 in a text
 pub inner-control : (layers : ℕ) (octets text : List ℕ) (ts : List Taken) → layers ≢ 0 → text ≡ text_of octets

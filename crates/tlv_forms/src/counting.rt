@@ -1,11 +1,11 @@
 //! Which blocks of a text count.
 ghost use Rattle.std.specs.List.{list_any};
-ghost use Rattle.std.specs.Prelude.{◌≡◌, ◌+◌, ◌≤◌, All, IfErr, IfOk, Some, false, filter, map};
+ghost use Rattle.std.specs.Prelude.{◌≡◌, ◌+◌, ◌≤◌, All, IfErr, IfOk, Some, false, filter, map, true};
 ghost use Rattle.tlv_forms.specs.Private.Counting.{IsBounded, IsFaultAmong, IsFittingForm, IsTextFault, is_kept};
 ghost use Rattle.tlv_forms.specs.Taken.{AreFirstBlocks, BlocksCount, Counts, HasInner, IsTakingFault, RunsCount};
 ghost use Rattle.tlv_forms.specs.Taken.{TextBlocks, all_forms, begins_with_zeros, is_complete, is_whole_block};
 ghost use Rattle.tlv_forms.specs.Taken.{taken_as, taken_value};
-ghost use Rattle.tlv_text.specs.Blocks.{block_value, is_too_long};
+ghost use Rattle.tlv_text.specs.Blocks.{IsBase64Alone, block_value, is_too_long};
 ghost use Rattle.tlv_text.specs.declared.block.Form.{Form};
 ghost use Rattle.tlv_text.specs.declared.block.Form.TheVariants.{Base64};
 
@@ -14,7 +14,10 @@ use crate::encodings::are_taken_as_encodings;
 use crate::values::{add_layer, one_taken, taken_as};
 use crate::{Taken, TakenFor};
 use std::alloc::{AllocError, Global};
-use tlv_text::{Block, BlockState, Form, TextFault, ascii_of_utf16, blocks_of, separated_block};
+use tlv_text::{
+    Block, BlockState, Form, TextFault, ascii_of_utf16, blocks_of, lone_base64_block,
+    lone_hex_block,
+};
 
 /// The forms in the order in which they are tried.
 const FORMS: [Form; 6] = [
@@ -37,12 +40,61 @@ pub(crate) fn first_blocks(alloc: Global, layers: u8, text: &[u8]) -> Result<Vec
     ensures fault { IfErr result (IsTextFault text.now) }
 {
     // A text of such pairs has no block of PEM and no row of a dump. Not to look for them takes less time.
-    if let Some(block) = separated_block(alloc, text)?
+    if let Some(block) = lone_hex_block(alloc, text)?
         && is_kept(Form::Hex, &block)
     {
         return Ok(one_taken(alloc, taken_as(TakenFor::Text(Form::Hex), block))?);
     }
-    for form in &FORMS {
+    // Nor has a text of base64 alone, and it has no list of numbers.
+    match lone_base64_block(alloc, text)? {
+        Some(base64) if is_complete(&base64) => lone_base64_blocks(alloc, layers, text, base64),
+        _ => blocks_in_first_of(alloc, layers, &FORMS, text),
+    }
+}
+
+/// The blocks of a text that is base64 alone, in the first form in which a block counts.
+#[cycle(layers)]
+fn lone_base64_blocks(
+    alloc: Global,
+    layers: u8,
+    text: &[u8],
+    block: Block,
+) -> Result<Vec<Taken>, TextFault>
+    requires few { layers ≤ 3 }
+    requires alone { IsBase64Alone text.now (block_value block) }
+    requires complete { is_complete (block_value block) ≡ true }
+    ensures taken { IfOk result
+        (λ ts. AreFirstBlocks (TextBlocks layers) text.now all_forms (map taken_value ts.items)) }
+    ensures bounded { IfOk result (λ ts. All (IsBounded (layers + 1)) ts.items) }
+    ensures fault { IfErr result (IsTextFault text.now) }
+{
+    // Lines of tokens such as `0x30` are base64 too.
+    let hexes = blocks_in_first_of(alloc, layers, &[Form::Hex], text)?;
+    if !hexes.is_empty() {
+        return Ok(hexes);
+    }
+    let taken = counted(alloc, layers, Form::Base64, None, block)?;
+    if !taken.is_empty() {
+        return Ok(taken);
+    }
+    blocks_in_first_of(alloc, layers, &[Form::Runs], text)
+}
+
+/// The blocks of a text in the first of these forms in which a block counts; none if there is no such form.
+#[cycle(layers)]
+fn blocks_in_first_of(
+    alloc: Global,
+    layers: u8,
+    forms: &[Form],
+    text: &[u8],
+) -> Result<Vec<Taken>, TextFault>
+    requires { layers ≤ 3 }
+    ensures taken { IfOk result
+        (λ ts. AreFirstBlocks (TextBlocks layers) text.now forms.now (map taken_value ts.items)) }
+    ensures bounded { IfOk result (λ ts. All (IsBounded (layers + 1)) ts.items) }
+    ensures fault { IfErr result (IsTextFault text.now) }
+{
+    for form in forms {
         let blocks = blocks_of(alloc, *form, text)?;
         let taken = counted_blocks(alloc, layers, *form, blocks)?;
         if !taken.is_empty() {

@@ -4,9 +4,9 @@ use std::test::Fail;
 use tlv_forms::{TakenFor, take_as};
 use tlv_text::{BlockState, Form};
 
-/// Hex dumps, hexadecimal, numbers, base64, and runs of base64 in JSON and in a mail. The first word of the mail is
+/// Hex dumps, hexadecimal, numbers, base64, a text of no form, and runs of base64 in JSON and in a mail. The first word of the mail is
 /// itself base64, of octets that begin as a SEQUENCE, but it must not count as a block.
-static TEXTS: [Row<'static>; 12] = [
+static TEXTS: [Row<'static>; 15] = [
     (
         b"00000000: 3003 0201 05                             0....\n",
         &[(
@@ -106,6 +106,42 @@ static TEXTS: [Row<'static>; 12] = [
             b"",
             b"0\x03\x02\x01\x05",
             BlockState::Whole,
+        )],
+    ),
+    // Seven digits of hexadecimal are no pairs.
+    (
+        b"BAEABAA\r\n",
+        &[(
+            TakenFor::Text(Form::Base64),
+            &[],
+            1,
+            b"",
+            b"\x04\x01\x00\x04\x00",
+            BlockState::Whole,
+        )],
+    ),
+    // Tokens in lines are symbols of base64 too. Hexadecimal takes precedence.
+    (
+        b"0x30\n0x03\n0x02\n0x01\n0x05\n",
+        &[(
+            TakenFor::Text(Form::Hex),
+            &[],
+            1,
+            b"",
+            b"0\x03\x02\x01\x05",
+            BlockState::Whole,
+        )],
+    ),
+    // Base64 of a word.
+    (
+        b"aGVsbG8=",
+        &[(
+            TakenFor::OtherText,
+            &[],
+            1,
+            b"aGVsbG8=",
+            b"",
+            BlockState::Absent,
         )],
     ),
     (

@@ -8,7 +8,7 @@ use Rattle.std.proofs.lemmas.List.Elements.{All-from_get_or}
 use Rattle.std.proofs.lemmas.List.Folds.{list_any_at, list_any_none}
 use Rattle.std.proofs.Math.Seq.{drop-length}
 use Rattle.memchr.specs.Find.{IsFirstByte, is_byte, is_byte3}
-use Rattle.tlv_text.specs.Dump.{DumpRead, dump_in, first_at, is_octal_first, lines_read, octal_first_at, refused_with}
+use Rattle.tlv_text.specs.Dump.{DumpRead, dump_in, dump_read, first_at, is_octal_first, lines_read, octal_first_at, refused_with}
 use Rattle.tlv_text.specs.DumpLines.{LineKind, OffsetRead, RowRead, TextLine, after_blanks, after_prefix, dump_lines}
 use Rattle.tlv_text.specs.DumpLines.{into_line, is_digit_of, is_dump_blank, kind_from, line_kind, new_text_line}
 use Rattle.tlv_text.specs.DumpLines.{base, offset_read, row_of, row_or_other, without_return}
@@ -20,7 +20,7 @@ use Rattle.tlv_text.proofs.Slices.{from-on, slice_from}
 
 -- ---- such a text
 
-abbrev NoSign : List ℕ → Type 0
+abbrev pub NoSign : List ℕ → Type 0
 NoSign text = list_any is_row_sign text ≡ false
 
 or-parts : (a b : Bool) → (a || b) ≡ false → (a ≡ false) × (b ≡ false)
@@ -220,6 +220,11 @@ none-starts (line ∷ lines) all = (line-none line.characters all.0, none-starts
 
 lines-none : (text : List ℕ) → NoSign text → NoneStarts (dump_lines text)
 lines-none text none = none-starts (dump_lines text) (lines-without text none)
+
+pub no-row_read : (text : List ℕ) → NoSign text → dump_read text ≡ refused_with 0
+no-row_read text none =
+    let starts-none = lines-none text none in
+    rw (none-octal (dump_lines text) starts-none) (none-read (dump_lines text) starts-none)
 
 at-end : (text : List ℕ) → slice_from (length text) text ≡ []
 at-end text = from-on (length text) text ∙ drop-length text

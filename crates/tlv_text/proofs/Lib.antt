@@ -13,6 +13,7 @@ pub mod DumpStepLemmas
 pub mod DumpWordLemmas
 pub mod GroupLemmas
 pub mod LineLemmas
+pub mod LoneLemmas
 pub mod MarkLemmas
 pub mod NumberLemmas
 pub mod NumberRows
@@ -20,6 +21,7 @@ pub mod PairLemmas
 pub mod PairReadLemmas
 pub mod PairRows
 pub mod PemLemmas
+pub mod PlainLemmas
 pub mod RunLemmas
 pub mod RunRows
 pub mod SeparatedLemmas

@@ -1,15 +1,16 @@
 -- What is read of pairs of digits, one after another.
-use Rattle.std.proofs.Common.{◌≡◌, ℕ, ◌≤◌, ◌&&◌, Bool, true, false, List, [], ◌∷◌, ◌++◌, length, refl, ap, sym, ◌∙◌}
+use Rattle.std.proofs.Common.{◌≡◌, ℕ, ◌≤◌, ◌&&◌, ◌||◌, ◌⊎◌, ⊎_elim, inl, inr, Bool, true, false, List, [], ◌∷◌, ◌++◌, length, refl, ap, sym, ◌∙◌}
 use Rattle.std.proofs.Common.{arith, drop, rules, zero, suc, ◌+◌, Option, Some, None, slice_index}
 use Rattle.std.proofs.lemmas.Bool.{and_parts}
-use Rattle.std.specs.Prelude.{if◌then◌else◌, unwrap_or}
+use Rattle.std.specs.Prelude.{MatchOption, if◌then◌else◌, unwrap_or}
 use Rattle.hex.specs.Hex.{is_hex_digit}
 use Rattle.tlv_text.proofs.Slices.{from-on, slice_from}
 use Rattle.tlv_text.proofs.TokenLemmas.{octets-and_more}
 use Rattle.tlv_text.specs.DumpPairs.{begins_digit}
 use Rattle.tlv_text.specs.Pairs.{is_between_pairs, pair_octet, pairs_read}
-use Rattle.tlv_text.specs.Private.PairSteps.{octet_of}
-use Rattle.tlv_text.specs.Separated.{are_separated}
+use Rattle.tlv_text.specs.Plain.{IsLonePairs, IsNotLonePairs, are_digits}
+use Rattle.tlv_text.specs.Private.PairSteps.{IsNotOfDigits, IsOfDigits, octet_of}
+use Rattle.tlv_text.specs.Separated.{IsNotSeparated, are_separated}
 use Rattle.tlv_text.specs.TextRead.{TextRead, octets_then}
 
 -- no digit may be between pairs
@@ -57,15 +58,29 @@ four-read all octets (a ∷ b ∷ c ∷ d ∷ e ∷ f ∷ g ∷ h ∷ more) firs
     ∙ ap (λ (t : List ℕ). octets_then (octets ++ first ∷ second ∷ third ∷ fourth ∷ []) (pairs_read t))
     (sym (from-on 8 (a ∷ b ∷ c ∷ d ∷ e ∷ f ∷ g ∷ h ∷ more)))
 
--- ---- separated pairs
-
-pub between-no_digit : (x : ℕ) → is_between_pairs x ≡ true → is_hex_digit x ≡ false
-between-no_digit x e = search rules
+-- ---- digits
 
 -- both characters are digits
 octet-digits : (x y octet : ℕ) → Some octet ≡ octet_of x y → (is_hex_digit x ≡ true) × (is_hex_digit y ≡ true)
 octet-digits x y octet e =
     and_parts _ _ (some-pair (is_hex_digit x && is_hex_digit y) octet (pair_octet x y) e).0
+
+-- behind so many characters, a pair comes before a text that has nothing but digits and line ends if all has
+pub digits-at : (whole text : List ℕ) (k octet : ℕ) → k + 2 ≤ length text
+    → Some octet ≡ octet_of (slice_index text k) (slice_index text (suc k))
+    → are_digits (drop k text) ≡ are_digits whole
+    → are_digits (drop (suc (suc k)) text) ≡ are_digits whole
+digits-at whole [] k octet two p i = absurd (omega arith)
+digits-at whole (x ∷ []) zero octet two p i = absurd (omega arith)
+digits-at whole (x ∷ y ∷ more) zero octet two p i =
+    let digits = octet-digits x y octet p in
+    rw (digits.0, digits.1) at i
+digits-at whole (x ∷ text) (suc k) octet two p i = digits-at whole text k octet (omega arith) p i
+
+-- ---- separated pairs
+
+pub between-no_digit : (x : ℕ) → is_between_pairs x ≡ true → is_hex_digit x ≡ false
+between-no_digit x e = search rules
 
 -- what is between pairs is passed over
 between-passed : (x : ℕ) (more : List ℕ) → is_between_pairs x ≡ true → pairs_read (x ∷ more) ≡ pairs_read more
@@ -115,3 +130,25 @@ separated-at whole all octets (x ∷ y ∷ z ∷ more) zero octet three p passed
 )
 separated-at whole all octets (x ∷ text) (suc k) octet three p passed i j =
     separated-at whole all octets text k octet (omega arith) p passed i j
+
+-- ---- lone pairs
+
+right-of : (a b : Bool) → b ≡ true → (a || b) ≡ true
+right-of true b e = refl
+right-of false b e = e
+
+pub either-of : (a b : Bool) → (a || b) ≡ true → (a ≡ true) ⊎ (b ≡ true)
+either-of true b e = inl refl
+either-of false b e = inr e
+
+-- a text that is not separated pairs is lone pairs if it has nothing but digits and line ends
+pub joined-lone : {T : Type 0} (items : T → List ℕ) (text : List ℕ) (r : Option T) → IsNotSeparated text
+    → MatchOption r (IsNotOfDigits text) (λ o. IsOfDigits text (items o))
+    → MatchOption r (IsNotLonePairs text) (λ o. IsLonePairs text (items o))
+joined-lone items text None none is = λ lone whole.
+    ⊎_elim (λ (separated : are_separated text ≡ true). none separated whole)
+    (λ (digits : are_digits text ≡ true). is digits whole) (either-of (are_separated text) (are_digits text) lone)
+joined-lone items text (Some o) none is = record {
+  lone = right-of (are_separated text) (are_digits text) is.digits;
+  read = is.read;
+}

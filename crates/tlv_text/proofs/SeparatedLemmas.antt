@@ -1,23 +1,20 @@
 -- A text of pairs, none of which a digit follows at once, has no block of PEM and no row of a dump.
-use Rattle.std.proofs.Common.{◌≡◌, ℕ, zero, suc, ◌-◌, ◌==◌, ◌<◌, ◌≤◌, Bool, true, false, ◌&&◌, ◌||◌, List, [], ◌∷◌, ◌++◌}
-use Rattle.std.proofs.Common.{drop, length, refl, rules, slice_index, take, None, inl, inr}
+use Rattle.std.proofs.Common.{◌≡◌, ℕ, zero, suc, ◌-◌, ◌==◌, Bool, true, false, ◌&&◌, ◌||◌, List, [], ◌∷◌, ◌++◌}
+use Rattle.std.proofs.Common.{drop, length, refl, rules, slice_index, take, inl, inr}
 use Rattle.std.specs.Prelude.{if◌then◌else◌, nat_le, not}
 use Rattle.std.specs.List.{AllPass, list_all}
-use Rattle.std.proofs.lemmas.Bool.{and_parts, cases_Bool, le-ltb, lt-ltb}
+use Rattle.std.proofs.lemmas.Bool.{and_parts, cases_Bool}
 use Rattle.std.proofs.lemmas.List.Elements.{All-cons, All-drop, All-nil}
 use Rattle.std.proofs.lemmas.List.Sums.{list_all-from_AllPass}
 use Rattle.hex.specs.Hex.{is_hex_digit}
-use Rattle.tlv_text.specs.Blocks.{IsHexAlone, HasNoSeparatedBlock, only_block}
-use Rattle.tlv_text.specs.Dump.{dump_limit, dump_read, refused_with}
+use Rattle.tlv_text.specs.Dump.{dump_read, refused_with}
 use Rattle.tlv_text.specs.DumpLines.{TextLine, after_blanks, dump_lines, into_line, is_dump_blank, kind_from, line_kind}
 use Rattle.tlv_text.specs.DumpLines.{OffsetRead, new_text_line, offset_read, row_of, row_or_other, without_return}
 use Rattle.tlv_text.specs.DumpPairs.{begins_digit}
 use Rattle.tlv_text.specs.Pairs.{is_between_pairs}
 use Rattle.tlv_text.specs.Pem.{HasNoBlock, begin_marker, dashes}
-use Rattle.tlv_text.specs.Separated.{IsSeparated, are_separated}
-use Rattle.tlv_text.specs.declared.block.BlockState.TheVariants.{Whole}
+use Rattle.tlv_text.specs.Separated.{are_separated}
 use Rattle.tlv_text.specs.declared.dump.lines.Radix.TheVariants.{Hexadecimal}
-use Rattle.tlv_text.proofs.BlockLemmas.{hex-of_pairs}
 use Rattle.tlv_text.proofs.DumpSignLemmas.{NoneStarts, none-octal, none-read, starts}
 use Rattle.tlv_text.proofs.PairReadLemmas.{between-no_digit, between-separated, digit-not_between}
 use Rattle.tlv_text.proofs.PairReadLemmas.{digits-separated}
@@ -229,7 +226,7 @@ none-starts : (lines : List TextLine) → LinesAre lines → NoneStarts lines
 none-starts [] all = tt
 none-starts (line ∷ lines) all = (line-separated line.characters all.0, none-starts lines all.1)
 
-no-row : (text : List ℕ) → are_separated text ≡ true → dump_read text ≡ refused_with 0
+pub no-row : (text : List ℕ) → are_separated text ≡ true → dump_read text ≡ refused_with 0
 no-row text e =
     let none = none-starts (dump_lines text) (lines-separated text e) in
     rw (none-octal (dump_lines text) none) (none-read (dump_lines text) none)
@@ -261,28 +258,8 @@ characters-are (x ∷ y ∷ rest) e =
 marker-not : (rest : List ℕ) → list_all is_pair_character (begin_marker ++ rest) ≡ false
 marker-not rest = refl
 
-no-block : (text : List ℕ) → are_separated text ≡ true → HasNoBlock text
+pub no-block : (text : List ℕ) → are_separated text ≡ true → HasNoBlock text
 no-block text e = λ k label after b.
     let all = list_all-from_AllPass is_pair_character (drop k text)
     (All-drop IsOne k text (characters-are text e)) in
     absurd (cc (rw b.spelled at all, marker-not (label ++ (dashes ++ after))))
-
--- ---- its block
-
-pub hex-alone : (text octets : List ℕ) → IsSeparated text octets → length octets ≤ dump_limit
-    → IsHexAlone text (only_block octets Whole)
-hex-alone text octets s short =
-    let same = hex-of_pairs text None (rw s.read refl) refl in
-    record {
-      no_pem = no-block text s.separated;
-      no_row = no-row text s.separated;
-      hex = rw (same, s.read) refl;
-      fits = le-ltb dump_limit (length octets) short;
-    }
-
--- ---- a block that is too long
-
-pub too-long : (text octets : List ℕ) → IsSeparated text octets → dump_limit < length octets → HasNoSeparatedBlock text
-too-long text octets s long = λ are whole.
-    let same = hex-of_pairs text None (rw s.read refl) refl in
-    rw (same, s.read) (lt-ltb dump_limit (length octets) long)

@@ -34,7 +34,7 @@ pub base64-nil : (alphabet : Alphabet) → base64_of alphabet [] ≡ []
 base64-nil Standard = encode_of-nil standard_no_pad
 base64-nil UrlSafe = encode_of-nil url_safe_no_pad
 
-base64-length : (alphabet : Alphabet) (a : List ℕ) → length (base64_of alphabet a) ≡ unpadded_len (length a)
+pub base64-length : (alphabet : Alphabet) (a : List ℕ) → length (base64_of alphabet a) ≡ unpadded_len (length a)
 base64-length alphabet a =
     ap (λ (s : List ℕ). length s) (plain alphabet a) ∙ length-encode_symbols (encodes alphabet) a
 

@@ -2,14 +2,14 @@
 use Rattle.std.specs.Prelude.{◌≡◌, ℕ, ◌+◌, ◌-◌, ◌==◌, Bool, true, false, ◌||◌, nat_le, nat_lt, if◌then◌else◌}
 use Rattle.std.specs.Prelude.{List, [], ◌∷◌, length, take, Option, Some, None}
 use Rattle.std.specs.List.{list_any}
-use Rattle.tlv_text.specs.Base64.{ReadsBase64}
+use Rattle.tlv_text.specs.Base64.{IsBase64, ReadsBase64}
 use Rattle.tlv_text.specs.Dump.{dump_limit, dump_read, refused_in, refused_with}
 use Rattle.tlv_text.specs.Numbers.{numbers_of}
 use Rattle.tlv_text.specs.Pairs.{pairs_read}
 use Rattle.tlv_text.specs.Pem.{HasNoBlock, IsFirstBlock}
 use Rattle.tlv_text.specs.PemBody.{base64_part, is_encrypted}
+use Rattle.tlv_text.specs.Plain.{are_lone_pairs, is_plain_text}
 use Rattle.tlv_text.specs.Runs.{HasNoRun, IsFirstRun}
-use Rattle.tlv_text.specs.Separated.{are_separated}
 use Rattle.tlv_text.specs.TextRead.{TextRead, refused_at}
 use Rattle.tlv_text.specs.Tokens.{token_count, tokens_read}
 use Rattle.tlv_text.specs.declared.base64_text.Alphabet.{Alphabet}
@@ -166,6 +166,21 @@ pub record IsHexAlone (text : List ℕ) (b : BlockValue) : Type 0 where
   pub hex : hex_block text ≡ b
   pub fits : is_too_long b ≡ false
 
--- the text is not pairs to its end, none of which a digit follows at once, or its block of hexadecimal is too long
-abbrev pub HasNoSeparatedBlock : List ℕ → Type 0
-HasNoSeparatedBlock text = are_separated text ≡ true → (pairs_read text).rest ≡ [] → is_too_long (hex_block text) ≡ true
+-- the text is not lone pairs, or not pairs to its end, or its block of hexadecimal is too long
+abbrev pub HasNoLoneHex : List ℕ → Type 0
+HasNoLoneHex text = are_lone_pairs text ≡ true → (pairs_read text).rest ≡ [] → is_too_long (hex_block text) ≡ true
+
+-- a text is base64 and has no form before it but perhaps hexadecimal: it has no block of PEM, no row of a dump and no
+-- list of numbers; and this is its block, which is whole and not too long
+pub record IsBase64Alone (text : List ℕ) (b : BlockValue) : Type 0 where
+  pub no_pem : HasNoBlock text
+  pub no_row : dump_read text ≡ refused_with 0
+  pub no_list : numbers_of text ≡ None
+  pub base64 : IsBase64Block text b
+  pub whole : b.state ≡ Whole
+  pub fits : is_too_long b ≡ false
+
+-- the text has a character that is not plain, or is not base64, or its block is too long
+abbrev pub HasNoLoneBase64 : List ℕ → Type 0
+HasNoLoneBase64 text = is_plain_text Standard text ≡ true → (octets : List ℕ) → IsBase64 Standard text octets
+    → is_too_long (only_block octets Whole) ≡ true

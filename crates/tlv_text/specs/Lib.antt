@@ -15,4 +15,5 @@ pub mod DumpLines
 pub mod DumpPairs
 pub mod DumpWords
 pub mod Separated
+pub mod Plain
 pub mod Blocks

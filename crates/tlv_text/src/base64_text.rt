@@ -112,7 +112,11 @@ fn is_escaped_slash(first: u8, second: u8) -> bool
 }
 
 /// Adds the octets of whole groups of symbols.
-fn add_groups(alphabet: Alphabet, symbols: &[u8], octets: &mut Vec<u8>) -> Result<(), AllocError>
+pub(crate) fn add_groups(
+    alphabet: Alphabet,
+    symbols: &[u8],
+    octets: &mut Vec<u8>,
+) -> Result<(), AllocError>
     requires whole { length symbols.now % 4 ≡ 0 }
     requires symbols { AreSymbols alphabet symbols.now }
     ensures { OnOk result (AreAdded alphabet symbols.now octets.old.items octets.new.items) }
@@ -138,7 +142,7 @@ fn decode(alphabet: Alphabet, symbols: &[u8], octets: &mut Vec<u8>) -> Result<()
 }
 
 /// Decodes the last symbols of a text. `rest` is what follows them.
-fn finish(
+pub(crate) fn finish(
     alphabet: Alphabet,
     text: &[u8],
     rest: &[u8],

@@ -1,15 +1,16 @@
 //! The blocks of a text in a form.
 ghost use Rattle.std.specs.List.{list_any};
 ghost use Rattle.std.specs.Prelude.{◌≡◌, [], ◌∷◌, IfErr, IfOk, MatchOption, false, map};
-ghost use Rattle.tlv_text.specs.Blocks.{AreBlocks, IsBlocksFault, IsHexAlone, HasNoSeparatedBlock, block_value};
-ghost use Rattle.tlv_text.specs.Blocks.{is_too_long, or_absent};
+ghost use Rattle.tlv_text.specs.Blocks.{AreBlocks, HasNoLoneBase64, HasNoLoneHex, IsBase64Alone};
+ghost use Rattle.tlv_text.specs.Blocks.{IsBlocksFault, IsHexAlone, block_value, is_too_long, or_absent};
 
 mod lines;
 mod pem;
 mod runs;
 mod single;
 
-use crate::pairs::separated_octets;
+use crate::pairs::lone_octets;
+use crate::plain::plain_octets;
 use crate::{Block, BlockState, Form, TextFault};
 use pem::pem_blocks;
 use runs::run_blocks;
@@ -38,17 +39,38 @@ pub fn blocks_of(alloc: Global, form: Form, text: &[u8]) -> Result<Vec<Block>, T
     Ok(blocks)
 }
 
-/// Returns the block of hexadecimal of a text of pairs, none of which a digit follows at once. Such a text has no block
-/// of PEM and no row of a dump. `None` for another text, or if the block has more than 2^30 octets.
+/// Returns the block of hexadecimal of a text of pairs, if the text has nothing but digits and line ends, or if no
+/// digit follows a pair at once. Such a text has no block of PEM and no row of a dump. `None` for another text, or if
+/// the block has more than 2^30 octets.
 ///
 /// # Errors
 ///
 /// `AllocError` if memory for the octets is refused.
-pub fn separated_block(alloc: Global, text: &[u8]) -> Result<Option<Block>, AllocError>
-    ensures { IfOk result (λ block. MatchOption block (HasNoSeparatedBlock text.now)
+pub fn lone_hex_block(alloc: Global, text: &[u8]) -> Result<Option<Block>, AllocError>
+    ensures { IfOk result (λ block. MatchOption block (HasNoLoneHex text.now)
         (λ b. IsHexAlone text.now (block_value b))) }
 {
-    let Some(octets) = separated_octets(alloc, text)? else {
+    let Some(octets) = lone_octets(alloc, text)? else {
+        return Ok(None);
+    };
+    if octets.len() > LIMIT {
+        return Ok(None);
+    }
+    Ok(Some(only_block(octets, BlockState::Whole)))
+}
+
+/// Returns the block of a text that is base64 and has nothing but symbols (with `+` and `/`), padding and line ends. Such
+/// a text has no block of PEM, no row of a dump and no list of numbers. `None` for another text, or if the block has
+/// more than 2^30 octets.
+///
+/// # Errors
+///
+/// `AllocError` if memory for the octets is refused.
+pub fn lone_base64_block(alloc: Global, text: &[u8]) -> Result<Option<Block>, AllocError>
+    ensures { IfOk result (λ block. MatchOption block (HasNoLoneBase64 text.now)
+        (λ b. IsBase64Alone text.now (block_value b))) }
+{
+    let Some(octets) = plain_octets(alloc, text)? else {
         return Ok(None);
     };
     if octets.len() > LIMIT {

@@ -13,6 +13,7 @@ mod marks;
 mod numbers;
 mod pairs;
 mod pem;
+mod plain;
 mod runs;
 mod symbols;
 mod text_fault;
@@ -20,7 +21,7 @@ mod tokens;
 
 pub use base64_text::{Alphabet, decode_base64};
 pub use block::{Block, BlockState, Form};
-pub use blocks::{blocks_of, separated_block};
+pub use blocks::{blocks_of, lone_base64_block, lone_hex_block};
 pub use body::{PemBody, pem_body};
 pub use decoded::Decoded;
 pub use dump::decode_dump;

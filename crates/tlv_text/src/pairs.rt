@@ -1,13 +1,15 @@
 //! Octets as pairs of hexadecimal digits.
 ghost use Rattle.std.specs.Prelude.{◌≡◌, ◌<◌, ◌≤◌, IfOk, MatchOption, OnOk, Some, length, true};
 ghost use Rattle.tlv_text.specs.Pairs.{is_between_pairs, pairs_read};
-ghost use Rattle.tlv_text.specs.Private.PairSteps.{octet_of};
+ghost use Rattle.tlv_text.specs.Plain.{IsLonePairs, IsNotLonePairs, are_digits};
+ghost use Rattle.tlv_text.specs.Private.PairSteps.{IsNotOfDigits, IsOfDigits, octet_of};
 ghost use Rattle.tlv_text.specs.Separated.{IsNotSeparated, IsSeparated, are_separated};
 ghost use Rattle.tlv_text.specs.TextRead.{octets_then, refused_at};
 
 use crate::Decoded;
 use crate::decoded::refused_at;
 use crate::digits::{begins_digit, octet_of, octet_or_more};
+use crate::plain::is_line_end;
 use std::alloc::{AllocError, Global};
 
 /// What may be between pairs, each at its own place, and `@` at every other place.
@@ -57,6 +59,7 @@ pub fn decode_pairs(alloc: Global, text: &[u8]) -> Result<Decoded, AllocError>
 fn take_four_pairs(text: &mut &[u8], octets: &mut Vec<u8>) -> Result<(), AllocError>
     ensures read { OnOk result (octets_then octets.old.items (pairs_read text.old.now)
         ≡ octets_then octets.new.items (pairs_read text.new.now)) }
+    ensures digits { are_digits text.new.now ≡ are_digits text.old.now }
     ensures less { length text.new.now ≤ length text.old.now }
 {
     let mut rest = *text;
@@ -114,7 +117,7 @@ fn separated_octet(x: u8, y: u8, after: u8) -> u32
 }
 
 /// Decodes a text of pairs of which none is followed by a digit at once. `None` for another text.
-pub(crate) fn separated_octets(alloc: Global, text: &[u8]) -> Result<Option<Vec<u8>>, AllocError>
+fn separated_octets(alloc: Global, text: &[u8]) -> Result<Option<Vec<u8>>, AllocError>
     ensures { IfOk result (λ octets. MatchOption octets (IsNotSeparated text.now) (λ o. IsSeparated text.now o.items)) }
 {
     let mut octets = Vec::new(alloc);
@@ -130,6 +133,38 @@ pub(crate) fn separated_octets(alloc: Global, text: &[u8]) -> Result<Option<Vec<
             }
             _ => return Ok(None),
         }
+    }
+}
+
+/// Decodes a text of pairs of digits and line ends alone. `None` for another text, at the first other character.
+fn joined_octets(alloc: Global, text: &[u8]) -> Result<Option<Vec<u8>>, AllocError>
+    ensures { IfOk result (λ octets. MatchOption octets (IsNotOfDigits text.now) (λ o. IsOfDigits text.now o.items)) }
+{
+    let mut octets = Vec::new(alloc);
+    let mut rest = text;
+    loop {
+        take_four_pairs(&mut rest, &mut octets)?;
+        match rest {
+            [] => break,
+            [x, more @ ..] if is_line_end(*x) => rest = more,
+            [x, y, more @ ..] if let Some(octet) = octet_of(*x, *y) => {
+                octets.push(octet)?;
+                rest = more;
+            }
+            _ => return Ok(None),
+        }
+    }
+    Ok(Some(octets))
+}
+
+/// Decodes a text of pairs that has nothing but digits and line ends, or in which no pair is followed by a digit at
+/// once. `None` for another text.
+pub(crate) fn lone_octets(alloc: Global, text: &[u8]) -> Result<Option<Vec<u8>>, AllocError>
+    ensures { IfOk result (λ octets. MatchOption octets (IsNotLonePairs text.now) (λ o. IsLonePairs text.now o.items)) }
+{
+    match separated_octets(alloc, text)? {
+        Some(octets) => Ok(Some(octets)),
+        None => joined_octets(alloc, text),
     }
 }
 

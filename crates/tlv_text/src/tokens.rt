@@ -9,7 +9,8 @@ ghost use Rattle.tlv_text.specs.Tokens.{number_token, pieces, token_at, token_co
 
 use crate::Decoded;
 use crate::digits::{digit_value, is_digit};
-use memchr::{memchr2, memmem};
+use memchr::memmem::Finder;
+use memchr::{memchr, memchr2};
 use std::alloc::{AllocError, Global};
 
 /// A token of a text.
@@ -107,8 +108,13 @@ fn first_marked(mark: &[u8; 2], before: u8, text: &[u8], end: usize) -> usize
 {
     // The second character of a token may be at the end.
     let part = &text[..text.len().min(end + 1)];
+    // A search for one character costs less than a search for two, and few texts have a backslash.
+    if memchr(mark[0], part).is_none() {
+        return end;
+    }
+    let finder = Finder::new(mark);
     let mut start = 0;
-    while let Some(more) = memmem::find(&part[start..], mark) {
+    while let Some(more) = finder.find(&part[start..]) {
         let place = start + more;
         if token_from(place, before, text).is_some() {
             return place;

@@ -3,10 +3,10 @@ use crate::rows::expect_of;
 use std::alloc::Global;
 use std::process::Abort;
 use std::test::Fail;
-use tlv_text::{Block, BlockState, Form, TextFault, blocks_of, separated_block};
+use tlv_text::{Block, BlockState, Form, TextFault, blocks_of};
 
 /// A block: its line, its label, its octets, and its state.
-type BlockRow<'a> = (usize, &'a [u8], &'a [u8], BlockState);
+pub(crate) type BlockRow<'a> = (usize, &'a [u8], &'a [u8], BlockState);
 
 /// A form, and a text with at most one block of it.
 type OneRow<'a> = (Form, &'a [u8], BlockRow<'a>);
@@ -134,7 +134,7 @@ static OTHERS: [OneRow<'static>; 16] = [
     ),
 ];
 
-fn expect_block(rt: &impl Abort, text: &[u8], block: &Block, want: BlockRow<'_>) {
+pub(crate) fn expect_block(rt: &impl Abort, text: &[u8], block: &Block, want: BlockRow<'_>) {
     let (line, label, octets, state) = want;
     expect_of(rt, text, block.line, line);
     expect_of(rt, text, block.label.as_slice(), label);
@@ -203,49 +203,6 @@ fn runs_come_in_order(rt: HostRuntime) -> Result<(), Fail> {
         (8, b"", threes, BlockState::Refused(9)),
     ];
     expect_blocks(&rt, rt.alloc(), Form::Runs, text, &wants)?;
-    Ok(())
-}
-
-/// Separated pairs of digits are one block.
-/// They may have any separators that the form allows, in groups of four pairs or one by one.
-#[test]
-fn separated_pairs_are_one_block(rt: HostRuntime) -> Result<(), Fail> {
-    let rows: [(&[u8], &[u8]); 4] = [
-        (b"", b""),
-        (b" '30',\"03\"\n\n", b"\x30\x03"),
-        (
-            b"01 02 03 04 05 06 07 08\r\n09:0A:0b:0C-0d\r\n0e",
-            b"\x01\x02\x03\x04\x05\x06\x07\x08\x09\x0a\x0b\x0c\x0d\x0e",
-        ),
-        (b"01 02 03 04", b"\x01\x02\x03\x04"),
-    ];
-    for (text, octets) in rows {
-        match separated_block(rt.alloc(), text)? {
-            Some(block) => expect_block(&rt, text, &block, (1, b"", octets, BlockState::Whole)),
-            None => expect_of(&rt, text, "none", "a block"),
-        }
-    }
-    Ok(())
-}
-
-/// Texts that only resemble separated pairs are left to the general decoder: joined pairs, a row of a dump, a single
-/// digit, a character that is no separator, tokens, and the `*` of a dump.
-#[test]
-fn other_texts_are_not_separated_pairs(rt: HostRuntime) -> Result<(), Fail> {
-    let texts: [&[u8]; 6] = [
-        b"01 02 03 0405 06 07 08 09",
-        b"01 02\n0000 03 04\n",
-        b"01 02 03 04 5",
-        b"01 02 03.04 05 06",
-        b"0x01 0x02",
-        b"01 02\n*\n",
-    ];
-    for text in texts {
-        match separated_block(rt.alloc(), text)? {
-            Some(_) => expect_of(&rt, text, "a block", "none"),
-            None => {}
-        }
-    }
     Ok(())
 }
 

@@ -6,6 +6,8 @@ mod blocks;
 #[cfg(test)]
 mod dumps;
 #[cfg(test)]
+mod lone;
+#[cfg(test)]
 mod others;
 #[cfg(test)]
 mod rows;

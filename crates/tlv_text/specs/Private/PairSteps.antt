@@ -1,9 +1,10 @@
 -- Pairs of digits.
-use Rattle.std.specs.Prelude.{◌≡◌, ℕ, ◌%◌, ◌&&◌, if◌then◌else◌, List, [], ◌∷◌, length}
+use Rattle.std.specs.Prelude.{◌≡◌, ℕ, ◌%◌, true, ◌&&◌, if◌then◌else◌, List, [], ◌∷◌, length}
 use Rattle.std.specs.Prelude.{Option, Some, None, unwrap_or}
 use Rattle.std.specs.List.{AllPass}
 use Rattle.hex.specs.Hex.{hex_digit_value, is_hex_digit}
-use Rattle.tlv_text.specs.Pairs.{pair_octet}
+use Rattle.tlv_text.specs.Pairs.{pair_octet, pairs_read}
+use Rattle.tlv_text.specs.Plain.{are_digits}
 
 -- digits in pairs
 pub record AreWholePairs (text : List ℕ) : Type 0 where
@@ -23,3 +24,12 @@ octet_of x y = if is_hex_digit x && is_hex_digit y then Some (pair_octet x y) el
 -- the value of a digit, or 256 for another character
 abbrev pub value_or_256 : ℕ → ℕ
 value_or_256 x = unwrap_or (hex_digit_value x) 256
+
+-- a text has nothing but digits and line ends and is pairs to its end, and its octets
+pub record IsOfDigits (text octets : List ℕ) : Type 0 where
+  pub digits : are_digits text ≡ true
+  pub read : pairs_read text ≡ record { octets = octets; rest = [] }
+
+-- any other text
+abbrev pub IsNotOfDigits : List ℕ → Type 0
+IsNotOfDigits text = are_digits text ≡ true → (pairs_read text).rest ≡ [] → ⊥

@@ -1,11 +1,13 @@
 -- Symbols of base64, without what is left out between them.
-use Rattle.std.specs.Prelude.{◌≡◌, ℕ, ◌+◌, ◌%◌, ◌≤◌, List, ◌++◌, length, true}
+use Rattle.std.specs.Prelude.{◌≡◌, ℕ, ◌+◌, ◌%◌, ◌<◌, ◌≤◌, List, ◌++◌, length, slice_index, true, false}
 use Rattle.std.specs.List.{AllPass}
 use Rattle.base64.specs.GeneralPurpose.{IsBytes}
 use Rattle.base64.specs.declared.decode.DecodeAllocError.{DecodeAllocError}
 use Rattle.base64.specs.declared.decode.DecodeAllocError.TheVariants.{DecodeError, OutOfMemory}
 use Rattle.tlv_text.specs.Base64.{SymbolsRead, base64_of, fits_after, is_symbol, no_symbols, padding_of, symbols_read}
+use Rattle.tlv_text.specs.Plain.{is_line_end, is_plain_text}
 use Rattle.tlv_text.specs.declared.base64_text.Alphabet.{Alphabet}
+use Rattle.tlv_text.specs.declared.base64_text.Alphabet.TheVariants.{Standard}
 
 -- each is a symbol of the alphabet
 abbrev pub AreSymbols : Alphabet → List ℕ → Type 0
@@ -21,6 +23,7 @@ pub record TakesSymbols (alphabet : Alphabet) (text taken rest symbols : List �
   pub read : symbols_then taken (symbols_read alphabet text) ≡ symbols_then symbols (symbols_read alphabet rest)
   pub moved : length rest + length symbols ≡ length text + length taken
   pub less : length rest ≤ length text
+  pub plain : is_plain_text alphabet rest ≡ is_plain_text alphabet text
 
 -- the octets that these symbols encode come after the others
 pub record AreAdded (alphabet : Alphabet) (symbols old new : List ℕ) : Type 0 where
@@ -49,3 +52,8 @@ pub record IsAtEnd (alphabet : Alphabet) (text octets symbols rest : List ℕ) :
   pub are_octets : IsBytes octets
   pub whole : length octets % 3 ≡ 0
   pub less : length rest ≤ length text
+
+-- a text is empty, or begins with a character that is neither a symbol nor a line end
+abbrev pub IsPastSymbols : List ℕ → Type 0
+IsPastSymbols rest = 0 < length rest
+    → (is_symbol Standard (slice_index rest 0) ≡ false) × (is_line_end (slice_index rest 0) ≡ false)

@@ -9,10 +9,11 @@ use Rattle.tlv_forms.specs.Private.Counting.{IsBounded, IsFaultAmong}
 use Rattle.tlv_forms.specs.Taken.{BlocksCount, TextBlocks, all_forms, in_layer, taken_value}
 use Rattle.tlv_forms.specs.declared.taken.Taken.{Taken}
 use Rattle.tlv_forms.proofs.CountLemmas.{next-fit}
-use Rattle.tlv_forms.proofs.CountingLemmas.{among-text, base64-broken, base64-counts, blocks-text, counts-encodings}
-use Rattle.tlv_forms.proofs.CountingLemmas.{counts-nothing, counts-other, counts-text, memory-is_fault, next-among}
-use Rattle.tlv_forms.proofs.CountingLemmas.{octets-none, returned-fault, octets-some, written-back}
-use Rattle.tlv_forms.proofs.FormLemmas.{first-here, first-later, first-none, hex-first, inner-control, inner-text}
+use Rattle.tlv_forms.proofs.CountingLemmas.{among-text, base64-broken, base64-counts, base64-fault, blocks-text}
+use Rattle.tlv_forms.proofs.CountingLemmas.{counts-encodings, counts-nothing, counts-other, counts-text, memory-is_fault}
+use Rattle.tlv_forms.proofs.CountingLemmas.{next-among, octets-none, octets-some, returned-fault, written-back}
+use Rattle.tlv_forms.proofs.FormLemmas.{base64-first, base64-hex_first, base64-runs_first, first-here, first-later}
+use Rattle.tlv_forms.proofs.FormLemmas.{first-none, hex-first, inner-control, inner-text}
 use Rattle.tlv_forms.proofs.FormLemmas.{kept-count, more-bounded, runs-done, runs-next}
 use Rattle.tlv_forms.proofs.InputLemmas.{none-taken, text-is}
 use Rattle.tlv_text.specs.Blocks.{IsHexAlone, block_value}
@@ -185,39 +186,82 @@ first_blocks-returns-clause-taken t c =
     hex-first (TextBlocks c.args.layers) c.args.text.now (block_value c.in-Some.block) _ c.taken_as.result alone
     (sym c.is_kept.ensures ∙ c.if-is_kept.true) c.in_ok-one_taken.ensures c.taken_as.ensures.value
 
-pub first_blocks-returns-in_err-blocks-clause-fault :
-    goal.first_blocks-returns-in_err-blocks-clause-fault
-first_blocks-returns-in_err-blocks-clause-fault t c =
-    returned-fault _ c.in_err-blocks.field-0.0 _ c.from_residual-in_err-blocks.ensures.1
+pub first_blocks-returns-in_err-base64-clause-fault :
+    goal.first_blocks-returns-in_err-base64-clause-fault
+first_blocks-returns-in_err-base64-clause-fault t c =
+    returned-fault _ Memory _ c.from_residual-in_err-base64.ensures.1 (λ octets is. memory-is_fault octets)
+
+pub lone_base64_blocks-returns-then-not-is_empty-clause-taken :
+    goal.lone_base64_blocks-returns-then-not-is_empty-clause-taken
+lone_base64_blocks-returns-then-not-is_empty-clause-taken t c =
+    let hexes = c.in_ok-hexes.hexes in
+    base64-hex_first (TextBlocks c.args.layers) c.args.text.now (block_value c.args.block) hexes.items _
+    c.requires.alone c.in_ok-hexes.ensures.taken hexes.ok.0 (sym c.is_empty.ensures ∙ c.if-not-is_empty.true)
+
+pub lone_base64_blocks-returns-in_err-taken-clause-fault :
+    goal.lone_base64_blocks-returns-in_err-taken-clause-fault
+lone_base64_blocks-returns-in_err-taken-clause-fault t c =
+    returned-fault _ c.in_err-taken.field-0.0 _ c.from_residual-in_err-taken.ensures.1
+    (base64-fault c.args.text.now (block_value c.args.block) _ c.requires.alone.base64 c.in_err-taken.ensures.fault)
+
+pub lone_base64_blocks-returns-then-not-is_empty-2-clause-taken :
+    goal.lone_base64_blocks-returns-then-not-is_empty-2-clause-taken
+lone_base64_blocks-returns-then-not-is_empty-2-clause-taken t c =
+    let hexes = c.in_ok-hexes.hexes in
+    let taken = c.in_ok-taken.taken in
+    base64-first (TextBlocks c.args.layers) c.args.text.now (block_value c.args.block) hexes.items taken.items _ _
+    c.requires.alone c.requires.complete c.in_ok-hexes.ensures.taken hexes.ok.0
+    (sym c.is_empty.ensures ∙ c.if-not-is_empty.false) c.in_ok-taken.ensures.taken taken.ok.0
+    (sym c.is_empty-2.ensures ∙ c.if-not-is_empty-2.true)
+
+pub lone_base64_blocks-returns-clause-taken : goal.lone_base64_blocks-returns-clause-taken
+lone_base64_blocks-returns-clause-taken t c =
+    let hexes = c.in_ok-hexes.hexes in
+    let taken = c.in_ok-taken.taken in
+    IfOk-weaker c.blocks_in_first_of-2.result _ _
+    (λ ts.
+    base64-runs_first (TextBlocks c.args.layers) c.args.text.now (block_value c.args.block) hexes.items taken.items _ _
+    _ c.requires.alone c.requires.complete c.in_ok-hexes.ensures.taken hexes.ok.0
+    (sym c.is_empty.ensures ∙ c.if-not-is_empty.false) c.in_ok-taken.ensures.taken taken.ok.0
+    (sym c.is_empty-2.ensures ∙ c.if-not-is_empty-2.false))
+    c.blocks_in_first_of-2.ensures.taken
+
+pub blocks_in_first_of-returns-in_err-blocks-clause-fault :
+    goal.blocks_in_first_of-returns-in_err-blocks-clause-fault
+blocks_in_first_of-returns-in_err-blocks-clause-fault t c =
+    returned-fault _ c.in_err-blocks.field-0.0 _ c.from_residual.ensures.1
     (blocks-text c.args.text.now _ _ c.in_err-blocks.ensures.fault)
 
-pub first_blocks-returns-in_err-taken-clause-fault :
-    goal.first_blocks-returns-in_err-taken-clause-fault
-first_blocks-returns-in_err-taken-clause-fault t c =
+pub blocks_in_first_of-returns-in_err-taken-clause-fault :
+    goal.blocks_in_first_of-returns-in_err-taken-clause-fault
+blocks_in_first_of-returns-in_err-taken-clause-fault t c =
     returned-fault _ c.in_err-taken.field-0.0 _ c.from_residual-in_err-taken.ensures.1
     (among-text c.args.text.now _ _ _ c.in_ok-blocks.ensures.blocks c.in_err-taken.ensures.fault)
 
-pub first_blocks-returns-then-not-is_empty-clause-taken :
-    goal.first_blocks-returns-then-not-is_empty-clause-taken
-first_blocks-returns-then-not-is_empty-clause-taken t c =
+pub blocks_in_first_of-returns-then-not-is_empty-clause-taken :
+    goal.blocks_in_first_of-returns-then-not-is_empty-clause-taken
+blocks_in_first_of-returns-then-not-is_empty-clause-taken t c =
     let taken = c.in_ok-taken.taken in
     c.loop-form.invariant _
-    (first-here (TextBlocks c.args.layers) c.args.text.now all_forms c.loop-form.form-index Pem _ taken.items _
+    (first-here (TextBlocks c.args.layers) c.args.text.now c.args.forms.now c.loop-form.form-index Pem
+    _ taken.items _
     c.loop-form-test.true c.in_ok-blocks.ensures.blocks c.in_ok-taken.ensures.taken taken.ok.0
     (sym c.is_empty.ensures ∙ c.if-not-is_empty.true))
 
-pub first_blocks-loop-form-preserved : goal.first_blocks-loop-form-preserved
-first_blocks-loop-form-preserved t c = λ others rests.
+pub blocks_in_first_of-loop-form-preserved : goal.blocks_in_first_of-loop-form-preserved
+blocks_in_first_of-loop-form-preserved t c = λ others rests.
     let taken = c.in_ok-taken.taken in
     c.loop-form.invariant others
-    (first-later (TextBlocks c.args.layers) c.args.text.now all_forms c.loop-form.form-index Pem _ taken.items _ others
+    (first-later (TextBlocks c.args.layers) c.args.text.now c.args.forms.now c.loop-form.form-index Pem
+    _ taken.items _ others
     c.loop-form-test.true c.in_ok-blocks.ensures.blocks c.in_ok-taken.ensures.taken taken.ok.0
     (sym c.is_empty.ensures ∙ c.if-not-is_empty.false) rests)
 
-pub first_blocks-returns-2-clause-taken : goal.first_blocks-returns-2-clause-taken
-first_blocks-returns-2-clause-taken t c =
+pub blocks_in_first_of-returns-clause-taken : goal.blocks_in_first_of-returns-clause-taken
+blocks_in_first_of-returns-clause-taken t c =
     c.loop-form.invariant _
-    (first-none (TextBlocks c.args.layers) c.args.text.now all_forms c.loop-form.form-index c.new.result.items
+    (first-none (TextBlocks c.args.layers) c.args.text.now c.args.forms.now c.loop-form.form-index
+    c.new.result.items
     c.loop-form-test.false c.new.ensures.items)
 
 pub text_blocks-returns-in_err-ascii-clause-fault :
