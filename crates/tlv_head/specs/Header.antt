@@ -28,7 +28,7 @@ value_of base (d ∷ ds) = d * base ^ length ds + value_of base ds
 abbrev pub with_bit_8 : List ℕ → List ℕ
 with_bit_8 digits = map (λ d. 128 + d) digits
 
--- 8.1.2.2: one octet, for a number up to 30. 00 (universal, primitive, number 0) is none: with it 8.1.5 ends contents
+-- 8.1.2.2: one octet, for a number up to 30. The octet 00 is no identifier: 8.1.5 ends contents with it
 pub record IsLowForm (class : Class) (constructed : Bool) (number : ℕ) (octets : List ℕ) : Type 0 where
   pub small : number < 31
   pub octets_are : octets ≡ identifier_octet class constructed number ∷ []

@@ -11,8 +11,8 @@ use Rattle.tlv_head.specs.declared.type_table.Encodings.TheVariants.{Primitive, 
 pub record TypeRow : Type 0 where
   pub number : ℕ
   pub name : List ℕ
-  -- whether its encodings are primitive, constructed, or either: a string, which has segments if it is constructed.
-  -- `Unjudged`: primitive (8.21, 8.22, 8.26). tlvdump has no finding for a constructed one; tlvdump-show has B22
+  -- which encodings the type has: `Primitive`, `Constructed`, or `Segmented` (a string: primitive, or constructed of
+  -- segments). `Unjudged`: X.690 says primitive (8.21, 8.22, 8.26), but B04 does not judge it; B22 of tlvdump-show does
   pub encodings : Encodings
   -- how the contents of a primitive are shown
   pub kind : Kind

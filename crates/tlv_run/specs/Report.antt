@@ -1,6 +1,6 @@
 -- What the program reports at its end: the exit status, the number of findings and the message.
 use Rattle.std.specs.Prelude.{◌∷◌, ⊤, ℕ, Bool, true, false, ◌==◌, List, [], ◌++◌, Option, Some, None, Result, Ok, Err}
-use Rattle.std.specs.Prelude.{codes, decimal}
+use Rattle.std.specs.Prelude.{codes, decimal, if◌then◌else◌}
 use Rattle.tlv_cut.specs.declared.extract_call.Cut.{Cut}
 use Rattle.tlv_head.specs.declared.fault.Fault.{Fault}
 use Rattle.tlv_head.specs.Fault.{fault_code, fault_text}
@@ -39,15 +39,14 @@ fault_line fault =
 -- a dump or a check: a fault, else the first named offset at which there is no string to read, else the findings. The
 -- count of findings is reported with each
 abbrev pub outcome_report : Outcome → ReportValue
-outcome_report outcome =
-    record (by_case outcome.ending outcome.unused (outcome.findings == 0)) { findings = outcome.findings }
+outcome_report outcome = record (by_case outcome.ending outcome.unused) { findings = outcome.findings }
   where
-    by_case : Ending → Option ℕ → Bool → ReportValue
-    by_case (ending.Fault f) unfound no_findings = report_with 2 (fault_line f)
-    by_case ending.Done (Some offset) no_findings =
-        report_with 1 (codes "E7 no string to read at offset " ++ decimal offset)
-    by_case ending.Done None false = report_with 1 (codes "findings: " ++ decimal outcome.findings)
-    by_case ending.Done None true = report_with 0 []
+    by_case : Ending → Option ℕ → ReportValue
+    by_case (ending.Fault f) unused = report_with 2 (fault_line f)
+    by_case ending.Done (Some offset) = report_with 1 (codes "E7 no string to read at offset " ++ decimal offset)
+    by_case ending.Done None =
+        if outcome.findings == 0 then report_with 0 []
+        else report_with 1 (codes "findings: " ++ decimal outcome.findings)
 
 -- an extract of the element at this offset: a fault, else whether the element was found
 abbrev pub cut_report : ℕ → Cut → ReportValue

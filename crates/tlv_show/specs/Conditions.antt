@@ -1,5 +1,5 @@
--- The findings of a header, and of an end, by the rules of X.690: each finding beside its condition, in the order of
--- the codes. These are the ones that are listed (`is_listed` in `ShownFindings`); `AllConditions` has the others.
+-- The findings of a header, and of an end, by the rules of X.690: each finding beside its condition, B first, then S, D
+-- and C. These are the ones that are listed (`is_listed` in `ShownFindings`); `AllConditions` has the others.
 use Rattle.std.specs.Prelude.{ℕ, ◌+◌, ◌-◌, ◌%◌, Bool, false, ◌&&◌, ◌||◌, not, ◌==◌, nat_le, nat_lt}
 use Rattle.std.specs.Prelude.{if◌then◌else◌, List, [], ◌∷◌, length, slice_index, sum_by}
 use Rattle.std.specs.List.{list_all}
@@ -20,8 +20,8 @@ use Rattle.tlv_show.specs.Site.{Site, in_bit_string, in_string}
 abbrev pub has_high_form : HeaderValue → Bool
 has_high_form h = nat_lt 1 (length h.identifier_octets)
 
--- 8.6.2.2: what is right before is a primitive BIT STRING whose first contents octet is not 0. It need not be a number
--- of unused bits that B14 and B15 allow
+-- 8.6.2.2: what is right before is a primitive BIT STRING whose first contents octet is not 0, whatever it is (also
+-- above 7: then it has B14 too)
 abbrev pub leaves_unused_bits : Forest → Bool
 leaves_unused_bits (Primitive h (x ∷ c) rest) = is_a universal.bit_string h && not (x == 0)
 leaves_unused_bits _ = false
@@ -54,7 +54,8 @@ listed_header_conditions s h =
     ∷ (B17, in_string s && not (is_a (if in_bit_string s then universal.bit_string else universal.octet_string) h))
     -- ---- of DER and of CER: S
     -- S01, 9.1, 10.1: a definite length has the fewest octets. 9.1 says so of primitives; a constructed element has C01
-    -- too. There are subsequent ones (8.1.3.5) only for 128 and more, and the first of these is not 00
+    -- too. The shortest form has octets after the first only for a length of 128 or more (8.1.3.5), and then the second
+    -- length octet is not 00
     ∷ (
       S01,
       nat_lt 1 (length h.length_octets)
@@ -85,12 +86,12 @@ headers (Primitive h c rest) = h ∷ headers rest
 headers (Holder h children rest) = h ∷ headers rest
 headers _ = []
 
--- 9.2: the number of contents octets of a string with these segments as a primitive: the octets of each segment, and in
--- a BIT STRING one octet for unused bits (8.6.2), which each segment has too
+-- 9.2: the number of contents octets that a string with these segments has as a primitive: the octets of each segment,
+-- and in a BIT STRING one octet for unused bits (8.6.2), which each segment has too
 abbrev pub length_as_primitive : HeaderValue → List HeaderValue → ℕ
 length_as_primitive h segments =
-    let bits = if is_a universal.bit_string h then 1 else 0 in
-    bits + sum_by (λ (g : HeaderValue). announced_length g.size - bits) segments
+    let unused_octet = if is_a universal.bit_string h then 1 else 0 in
+    unused_octet + sum_by (λ (g : HeaderValue). announced_length g.size - unused_octet) segments
 
 -- whether the last of the elements is a primitive without contents octets
 abbrev pub ends_empty : List HeaderValue → Bool

@@ -31,7 +31,7 @@ use Rattle.tlv_show.specs.FindingLines.{styled_lines}
 use Rattle.tlv_show.specs.DumpStep.{DumpState, dump_step, finding_lines}
 use Rattle.tlv_show.specs.FinderState.{CheckState, finder_begin_step, finder_bytes_step, finder_end_step, is_misplaced}
 use Rattle.tlv_show.specs.NestingState.{depth_in}
-use Rattle.tlv_show.specs.ListedFindings.{is_by, listed_findings}
+use Rattle.tlv_show.specs.ListedFindings.{rules_have, listed_findings}
 use Rattle.tlv_show.specs.ShownFindings.{all_by, contents_findings, is_listed, listed_by, wanted_findings}
 use Rattle.tlv_show.specs.ShownFindings.{with_order_if}
 use Rattle.tlv_head.specs.Limits.{input_limit}
@@ -100,7 +100,7 @@ ChecksMakeTexts =
 
 -- a finding of BER
 abbrev pub is_basic : Item → Bool
-is_basic (FindingAt depth offset finding) = is_by Ber finding
+is_basic (FindingAt depth offset finding) = rules_have Ber finding
 is_basic (OpeningLine depth h) = false
 is_basic (ClosingLine depth offset) = false
 is_basic (PrimitiveLines depth h c) = false

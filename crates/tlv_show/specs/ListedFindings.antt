@@ -27,12 +27,12 @@ letters Der = codes "BSD"
 letters Cer = codes "BSC"
 
 -- the rules have the finding
-abbrev pub is_by : Rules → Finding → Bool
-is_by rules finding = list_any (λ letter. slice_index (finding_code finding) 0 == letter) (letters rules)
+abbrev pub rules_have : Rules → Finding → Bool
+rules_have rules finding = list_any (λ letter. slice_index (finding_code finding) 0 == letter) (letters rules)
 
 -- of the findings by these conditions, the findings that the rules have
 abbrev pub findings_under : Rules → List (Finding × Bool) → List Finding
-findings_under rules conditions = filter (is_by rules) (findings_by conditions)
+findings_under rules conditions = filter (rules_have rules) (findings_by conditions)
 
 -- the listed findings
 abbrev pub listed_findings : Rules → ElementFindings

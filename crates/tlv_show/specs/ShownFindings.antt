@@ -14,7 +14,7 @@ use Rattle.tlv_show.specs.declared.scope.Scope.TheVariants.{Listed, All}
 use Rattle.tlv_show.specs.declared.wanted.Wanted.{Wanted}
 use Rattle.tlv_show.specs.AllConditions.{end_conditions, header_conditions}
 use Rattle.tlv_show.specs.Conditions.{headers}
-use Rattle.tlv_show.specs.ListedFindings.{ElementFindings, is_by}
+use Rattle.tlv_show.specs.ListedFindings.{ElementFindings, rules_have}
 use Rattle.tlv_show.specs.SegmentCharacters.{has_wrong_characters}
 use Rattle.tlv_show.specs.SetOrder.{Element, holder_element, is_out_of_order_at, primitive_element}
 use Rattle.tlv_show.specs.Site.{Site}
@@ -42,7 +42,7 @@ is_within Listed finding = is_listed finding
 is_within All finding = true
 
 abbrev pub is_shown : Wanted → Finding → Bool
-is_shown wanted finding = is_by wanted.rules finding && is_within wanted.scope finding
+is_shown wanted finding = rules_have wanted.rules finding && is_within wanted.scope finding
 
 -- the listed findings by these rules, and all
 abbrev pub listed_by : Rules → Wanted

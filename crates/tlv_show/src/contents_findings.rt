@@ -1,7 +1,7 @@
 //! The findings on contents, and all those at the end of a primitive.
 ghost use Rattle.std.specs.Prelude.{◌≡◌, ◌≤◌, [], length};
 ghost use Rattle.tlv_show.specs.FinderState.{contents_findings_in};
-ghost use Rattle.tlv_show.specs.ListedFindings.{is_by};
+ghost use Rattle.tlv_show.specs.ListedFindings.{rules_have};
 ghost use Rattle.tlv_show.specs.ShownFindings.{is_listed, is_shown, with_order_if};
 
 use crate::order_finding::insert_order_finding;
@@ -53,7 +53,7 @@ pub(crate) fn add_contents_findings(
 fn is_shown(wanted: Wanted, finding: Finding) -> bool
     ensures { result ≡ is_shown wanted finding }
 {
-    is_by(wanted.rules, finding)
+    rules_have(wanted.rules, finding)
         && match wanted.scope {
             Scope::Listed => is_listed(finding),
             Scope::All => true,
@@ -81,8 +81,8 @@ fn is_listed(finding: Finding) -> bool
 }
 
 /// Whether the rules have the finding, by the letter of its code.
-fn is_by(rules: Rules, finding: Finding) -> bool
-    ensures { result ≡ is_by rules finding }
+fn rules_have(rules: Rules, finding: Finding) -> bool
+    ensures { result ≡ rules_have rules finding }
 {
     match finding.code() {
         [letter, ..] => match rules {

@@ -35,8 +35,8 @@ is_printable_string_octet x =
 
 -- X.680 41: the contents that a type of characters allows, a row for each type that is looked at. A BMPString has two
 -- octets for each character, a UniversalString four
-abbrev pub allowed_characters : List (ℕ × (List ℕ → Bool))
-allowed_characters =
+abbrev pub allowed_contents : List (ℕ × (List ℕ → Bool))
+allowed_contents =
     (universal.utf8_string, is_utf8)
     ∷ (universal.numeric_string, list_all is_digit_or_space)
     ∷ (universal.printable_string, list_all is_printable_string_octet)
@@ -48,7 +48,7 @@ allowed_characters =
 
 -- the type with this number allows the contents, or has no row
 abbrev pub allows : ℕ → List ℕ → Bool
-allows number contents = list_all (λ row. not (number == row.0) || row.1 contents) allowed_characters
+allows number contents = list_all (λ row. not (number == row.0) || row.1 contents) allowed_contents
 
 -- 8.25: a UTCTime or GeneralizedTime of at most 64 octets; the form of a longer one is not checked
 abbrev pub is_short_time : ℕ → List ℕ → Bool

@@ -3,8 +3,8 @@ use Rattle.std.specs.Prelude.{◌==◌, if◌then◌else◌, List, ℕ, [], ◌�
 use Rattle.tlv_head.specs.declared.kind.Kind.{Kind}
 use Rattle.tlv_value.specs.RowSizes.{has_room, row_size}
 
--- the rows of a row that has begun and of the octets after it: an octet that the row has room for is its next octet,
--- and any other octet begins the next row
+-- cuts octets into rows, when a row has begun: an octet for which the row has room (`has_room`) joins it, and any other
+-- begins the next row
 abbrev pub rows_from : Kind → List ℕ → List ℕ → List (List ℕ)
 rows_from kind row [] = row ∷ []
 rows_from kind row (x ∷ octets) =

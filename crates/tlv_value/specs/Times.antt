@@ -15,7 +15,7 @@ two_digits low high (x ∷ y ∷ []) =
 two_digits low high text = false
 
 -- ---- The grammars. Each number of two digits is looked at by itself, so ranges are lenient: each month has 31 days,
--- hour 24 is allowed with any minute, also in a difference, and second 60 in any minute
+-- hour 24 is allowed with any minute (also in the offset of a zone), and second 60 in any minute
 
 -- YY: two digits of a year. A year of four digits is two of these
 abbrev pub year_digits : Form

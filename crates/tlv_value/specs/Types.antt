@@ -19,7 +19,7 @@ integer_types = universal.integer ∷ universal.enumerated ∷ []
 abbrev pub object_types : List ℕ
 object_types = universal.object_identifier ∷ universal.relative_oid ∷ []
 
--- X.680 41: strings whose octets are checked one by one: `allowed_characters` of `Checks` says how
+-- X.680 41: strings whose octets are checked one by one: `allowed_contents` of `Checks` says how
 abbrev pub tested_string_types : List ℕ
 tested_string_types =
     universal.numeric_string

@@ -7,7 +7,7 @@ use Rattle.tlv_io.specs.Cuts.{utf8_length}
 use Rattle.tlv_head.specs.declared.kind.Kind.{Kind}
 use Rattle.tlv_head.specs.declared.kind.Kind.TheVariants.{Utf8, Ucs2, Ucs4}
 
--- 22 is the quotation mark, 5c the reverse solidus
+-- a printable character, after a reverse solidus (5c) if it is a quotation mark (22) or a reverse solidus
 abbrev pub printable_text : ℕ → List ℕ
 printable_text x = if x == 0x22 || x == 0x5c then 0x5c ∷ x ∷ [] else x ∷ []
 
@@ -21,26 +21,26 @@ escaped_octet x = codes "\\x" ++ encode_lower (x ∷ [])
 abbrev pub octet_text : ℕ → List ℕ
 octet_text x = if is_printable x then printable_text x else escaped_octet x
 
--- 30 is the digit 0
-abbrev pub without_zeros : List ℕ → List ℕ
-without_zeros [] = []
-without_zeros (d ∷ []) = d ∷ []
-without_zeros (d ∷ e ∷ ds) = if d == 0x30 then without_zeros (e ∷ ds) else d ∷ e ∷ ds
+-- digits without the zeros (30) in front; one digit is always kept
+abbrev pub without_leading_zeros : List ℕ → List ℕ
+without_leading_zeros [] = []
+without_leading_zeros (d ∷ []) = d ∷ []
+without_leading_zeros (d ∷ e ∷ ds) = if d == 0x30 then without_leading_zeros (e ∷ ds) else d ∷ e ∷ ds
 
 -- the number that octets make, in hexadecimal
 abbrev pub escaped_number : List ℕ → List ℕ
-escaped_number octets = codes "\\u{" ++ without_zeros (encode_lower octets) ++ codes "}"
+escaped_number octets = codes "\\u{" ++ without_leading_zeros (encode_lower octets) ++ codes "}"
 
 -- RFC 3629, 3: the number of a character of two to four octets
 abbrev pub utf8_number : List ℕ → ℕ
-utf8_number (a ∷ b ∷ []) = a % 32 * 64 + b % 64
-utf8_number (a ∷ b ∷ c ∷ []) = a % 16 * 4096 + b % 64 * 64 + c % 64
-utf8_number (a ∷ b ∷ c ∷ d ∷ []) = a % 8 * 262144 + b % 64 * 4096 + c % 64 * 64 + d % 64
+utf8_number (a ∷ b ∷ []) = (a % 32) * 64 + b % 64
+utf8_number (a ∷ b ∷ c ∷ []) = (a % 16) * 4096 + (b % 64) * 64 + c % 64
+utf8_number (a ∷ b ∷ c ∷ d ∷ []) = (a % 8) * 262144 + (b % 64) * 4096 + (c % 64) * 64 + d % 64
 utf8_number _ = 0
 
 -- the octets of a number below 2^24
 abbrev pub three_octets : ℕ → List ℕ
-three_octets n = n / 65536 % 256 ∷ n / 256 % 256 ∷ n % 256 ∷ []
+three_octets n = (n / 65536) % 256 ∷ (n / 256) % 256 ∷ n % 256 ∷ []
 
 -- how many of the first octets make a unit: a character, or an octet that belongs to no character. RFC 3629, 4: the
 -- first octet of a character of UTF-8 says how many it has

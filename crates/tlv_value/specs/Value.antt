@@ -13,6 +13,7 @@ use Rattle.tlv_value.specs.Arcs.{dotted_of}
 use Rattle.tlv_value.specs.Bits.{bits_of}
 use Rattle.tlv_head.specs.Kind.{is_text}
 use Rattle.tlv_value.specs.Number.{twos_complement}
+use Rattle.tlv_value.specs.RowSizes.{row_size}
 use Rattle.tlv_value.specs.Rows.{full_rows_in, rows_of}
 use Rattle.tlv_value.specs.Units.{quoted_text}
 
@@ -91,12 +92,12 @@ object_value name_of relative octets =
 -- ---- Of any kind
 
 -- contents of up to this many octets are read as a whole, to be on the element's line if they can be read; longer
--- contents are shown in rows. The last line has the numbers of `row_size`
+-- contents are shown in rows
 abbrev pub most_on_line : Kind → ℕ
 most_on_line Bits = 9
 most_on_line Object = 64
 most_on_line Relative = 64
-most_on_line kind = if is_text kind then 64 else 16
+most_on_line kind = row_size kind
 
 -- contents of n octets are longer
 abbrev pub is_long : Kind → ℕ → Bool
@@ -112,8 +113,8 @@ short_value name_of Relative octets = object_value no_names true octets
 short_value name_of kind octets =
     if is_text kind then value_on_line (quoted_text kind octets) else octets_value octets
 
--- 8.6.2: the line of a long value of this size shows the number of bits of a BIT STRING whose first octet can be read,
--- and nothing for any other value. A long BIT STRING has octets after the first one, so 7 or less can be read
+-- 8.6.2: after the tag of a long value: of a BIT STRING with at most 7 unused bits the number of bits, and otherwise
+-- nothing. `size` is the announced length. It is above 9, so of `is_readable` only "at most 7" is left to ask
 abbrev pub long_text : Kind → ℕ → List ℕ → List ℕ
 long_text Bits size (unused_bits ∷ octets) =
     if nat_le unused_bits 7 then 0x20 ∷ bit_count_text unused_bits (size - 1) else []
@@ -136,8 +137,8 @@ abbrev pub whole_value : NameOf → Kind → List ℕ → Value
 whole_value name_of kind octets =
     if is_long kind (length octets) then long_value kind octets else short_value name_of kind octets
 
--- the value of long contents that break off after these octets, of which the header announces `size`: all rows are
--- shown but a last one that is not full
+-- the value of long contents that break off: `octets` are there, and the header announces `size`. The last row is left
+-- out unless it is full
 abbrev pub incomplete_value : Kind → ℕ → List ℕ → Value
 incomplete_value kind size octets = record {
   on_line = Written (long_text kind size octets);

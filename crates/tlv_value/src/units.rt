@@ -6,7 +6,7 @@ ghost use Rattle.tlv_value.specs.Private.UnescapedCharacters.{AreUnescaped, IsPa
 ghost use Rattle.tlv_value.specs.Private.UnescapedCharacters.{IsSomeOf, has_ascii_octets, is_unescaped};
 ghost use Rattle.tlv_value.specs.Units.{escaped_number, escaped_octet, is_printable, octet_text};
 ghost use Rattle.tlv_value.specs.Units.{printable_text, unit_size, unit_text, units, utf8_number};
-ghost use Rattle.tlv_value.specs.Units.{without_zeros};
+ghost use Rattle.tlv_value.specs.Units.{without_leading_zeros};
 
 use crate::row_sizes::utf8_length;
 use tlv_head::Kind;
@@ -173,13 +173,13 @@ fn write_escaped_number(held: &mut HeldOctets, octets: &[u8])
     let digits = &mut digits[..2 * octets.len()];
     let _ = hex::encode_to_slice(octets, digits);
     held.add_if_room(b"\\u{");
-    held.add_if_room(without_zeros(digits));
+    held.add_if_room(without_leading_zeros(digits));
     held.add_if_room(b"}");
 }
 
 /// The digits without leading zeros. The last digit stays.
-fn without_zeros(digits: &[u8]) -> &[u8]
-    ensures { result.now ≡ without_zeros digits.now }
+fn without_leading_zeros(digits: &[u8]) -> &[u8]
+    ensures { result.now ≡ without_leading_zeros digits.now }
 {
     let mut rest = digits;
     while let [b'0', more @ ..] = rest

@@ -17,9 +17,9 @@ use Rattle.tlv_walk.specs.Forest.{primitive_extent, spelling}
 use Rattle.tlv_walk.specs.Place.{Fits, IsHeaderAt, Place, announced_extent, place_after, place_of_children, top_place}
 use Rattle.tlv_walk.specs.Reading.{CannotBecomeSound, IsReading, IsSoundList}
 
--- an open end of a forest: what is open there, and its place. It is `NoMore` between elements, where nothing is open.
--- Otherwise it is an open primitive, BIT STRING, header or end-of-contents octets, and the place is that of its first
--- octet
+-- the place where the next octet goes, and what is open right there. `NoMore`: no element is begun there (holders
+-- around may be open). Otherwise an open primitive, wrapping BIT STRING without its first octet, header or
+-- end-of-contents octets, and the place is that of its first octet
 pub record OpenEnd : Type 0 where
   pub place : Place
   pub forest : Forest
@@ -34,19 +34,22 @@ open_end p (PaddingOctet rest) = open_end (place_after p 1) rest
 open_end p (Primitive h c rest) = open_end (place_after p (primitive_extent h c)) rest
 open_end p (Holder h children rest) = open_end (place_after p (holder_extent h children)) rest
 open_end p (OpenHolder h children) = open_end (place_of_children p h) children
-open_end p end = end_at p end
+open_end p f = end_at p f
 
 -- why the octet x is refused at an open end, one line for each cause, in the order of "Faults" in docs/FORMAT.md. No
 -- two lines hold at once. `Fits p n → ⊥` says that n octets from here end beyond the bound
 pub data IsRefusedAt : OpenEnd → ℕ → FaultCode → Type 0 where
+  -- ---- in a wrapping BIT STRING without its first octet
   -- F12, a rule of our own: encodings are whole octets, so a wrapping BIT STRING has no unused bits. 8.6.2.2 allows 00
   -- to 07
   bad_inside : {x : ℕ} {p : Place} {h : HeaderValue} → x ≢ 0 → IsRefusedAt (end_at p (OpenBitString h)) x BadInside
-  -- after the first 00 of two. F05, 8.1.5: the bound is reached
+  -- ---- after the first of two octets 00
+  -- F05, 8.1.5: the bound leaves no room for the second
   missing_end : {x : ℕ} {p : Place} → (Fits p 2 → ⊥) → IsRefusedAt (end_at p OpenEndOctets) x MissingEnd
   -- F04, 8.1.5: x is not 00
   bad_end : {x : ℕ} {p : Place} → Fits p 2 → x ≢ 0 → IsRefusedAt (end_at p OpenEndOctets) x BadEnd
-  -- in a header. F11, 8.1.3.3: the bound is reached
+  -- ---- in a header, of which the octets `o` are there
+  -- F11, 8.1.3.3: the bound leaves no room for x
   no_room : {x : ℕ} {p : Place} {o : List ℕ} → (Fits p (length o + 1) → ⊥)
       → IsRefusedAt (end_at p (OpenHeader o)) x Overrun
   -- F06 to F09: no header goes on with that octet, and `IsRefusedOctet` says why
@@ -60,7 +63,8 @@ pub data IsRefusedAt : OpenEnd → ℕ → FaultCode → Type 0 where
   overrun : {x : ℕ} {p : Place} {o : List ℕ} → Fits p (length o + 1) → (h : HeaderValue) → IsHeaderAt p h
       → octets_of h ≡ o ++ x ∷ [] → (holds h ≡ true → p.depth < depth_limit)
       → (Fits p (announced_extent h) → ⊥) → IsRefusedAt (end_at p (OpenHeader o)) x Overrun
-  -- between elements. F05, 8.1.5: the bound is reached inside an indefinite element
+  -- ---- where no element is begun
+  -- F05, 8.1.5: the bound is reached inside an indefinite holder
   no_end : {x : ℕ} {p : Place} → p.indefinite ≡ true → (Fits p 1 → ⊥) → IsRefusedAt (end_at p NoMore) x MissingEnd
   -- F03, 8.1.5: 00 where neither end-of-contents octets nor padding are allowed
   stray_end : {x : ℕ} {p : Place} → p.indefinite ≡ false → p.padding ≡ false → x ≡ 0

@@ -77,14 +77,14 @@ end_octets_offset h children =
     if is_some (definite_length h.size) then None
     else Some (h.offset + length (opening h) + length (spelling children))
 
--- nothing is open behind the outermost elements. What a `Holder` holds is not looked at: `ObeysGrammar` asks of each
--- `Holder` that this is whole
+-- the outermost elements have all ended: the list ends with `NoMore`. It does not look into a `Holder`; `ObeysGrammar`
+-- asks the same of what each `Holder` holds
 abbrev pub is_whole : Forest → Bool
 is_whole NoMore = true
 is_whole (PaddingOctet rest) = is_whole rest
 is_whole (Primitive h c rest) = is_whole rest
 is_whole (Holder h children rest) = is_whole rest
-is_whole end = false
+is_whole _ = false
 
 -- at least one octet of an element is there
 abbrev pub has_element : Forest → Bool

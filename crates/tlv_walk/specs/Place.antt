@@ -69,15 +69,15 @@ pub record IsHeaderAt (p : Place) (h : HeaderValue) : Type 0 where
   pub offset : h.offset ≡ p.offset
   pub named : h.named ≡ is_among p.offset p.inside
 
--- 8.1.4: a primitive is there that is no wrapper, and n octets of it end within the bound: all octets of a whole
--- element, and of an open one those that its header announces
+-- 8.1.4: a primitive that is no wrapper is there, and n octets from its first one end within the bound. n is all its
+-- octets if it has ended, and `announced_extent` if it is open
 pub record IsPrimitiveAt (p : Place) (h : HeaderValue) (n : ℕ) : Type 0 where
   pub header : IsHeaderAt p h
   pub holding : holds h ≡ false
   pub fits : Fits p n
 
--- 8.1.4: a holder is there, and n octets of it end within the bound. It is inside fewer than `depth_limit` holders, a
--- limit of our own
+-- 8.1.4: a holder is there, and n octets from its first one end within the bound, n as in `IsPrimitiveAt`. It is inside
+-- fewer than `depth_limit` holders, a limit of our own
 pub record IsHolderAt (p : Place) (h : HeaderValue) (n : ℕ) : Type 0 where
   pub header : IsHeaderAt p h
   pub holding : holds h ≡ true
@@ -96,7 +96,8 @@ HasItsLength h children = IfSome (definite_length h.size) (λ n. contents_length
 -- no announced end lies beyond the bound
 abbrev pub ObeysGrammar : Place → Forest → Type 0
 ObeysGrammar p NoMore = Unit {0}
--- padding: at the top level only. There the last two conditions hold of themselves; the laws are for any `Place`
+-- 8.1.1: padding, at the top level only. There are no bound and no indefinite holder there, so only `p.padding` counts;
+-- the other two conditions are for the laws, which are about any `Place`
 ObeysGrammar p (PaddingOctet rest) =
     ((p.padding ≡ true) × (p.indefinite ≡ false) × Fits p 1) × ObeysGrammar (place_after p 1) rest
 -- 8.1.4: a primitive with all its contents octets
@@ -109,8 +110,8 @@ ObeysGrammar p (Holder h children rest) =
     × ObeysGrammar (place_of_children p h) children × ObeysGrammar (place_after p (holder_extent h children)) rest
 -- 8.1.4: a primitive that lacks contents octets
 ObeysGrammar p (OpenPrimitive h c) = IsPrimitiveAt p h (announced_extent h) × (length c < announced_length h.size)
--- 8.1.4: a holder that is open: if all the elements that it holds are whole, and its length is definite, contents
--- octets are missing
+-- 8.1.4: a holder that is open. If all in it is whole and its length is definite, it has fewer contents octets than
+-- that: with all of them it would be a `Holder`
 ObeysGrammar p (OpenHolder h children) =
     (IsHolderAt p h (announced_extent h)
     × (is_whole children ≡ true → IfSome (definite_length h.size) (λ n. contents_length h children < n)))

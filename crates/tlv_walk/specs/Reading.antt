@@ -38,7 +38,7 @@ IsSound p (Primitive h c rest) =
 IsSound p (Holder h children rest) =
     (IsHeaderAt p h × (holds h ≡ true) × (p.depth < depth_limit) × HasItsLength h children)
     × IsSound (place_of_children p h) children × IsSound (place_after p (holder_extent h children)) rest
-IsSound p end = ⊥
+IsSound p _ = ⊥
 
 -- the octets of one or more sound elements, with padding if the framing allows it
 pub record IsSoundList (framing : Framing) (b : List ℕ) : Type 0 where

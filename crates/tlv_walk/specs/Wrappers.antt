@@ -17,7 +17,7 @@ wrapper_offsets (Primitive h c rest) = wrapper_offsets rest
 wrapper_offsets (Holder h children rest) = wrapper_offset h ++ (wrapper_offsets children ++ wrapper_offsets rest)
 wrapper_offsets (OpenHolder h children) = wrapper_offset h ++ wrapper_offsets children
 wrapper_offsets (OpenBitString h) = wrapper_offset h
-wrapper_offsets end = []
+wrapper_offsets _ = []
 
 -- the first named offset that is not a wrapper's
 abbrev pub first_without_wrapper : List ℕ → Forest → Option ℕ

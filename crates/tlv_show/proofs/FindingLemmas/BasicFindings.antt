@@ -20,7 +20,7 @@ use Rattle.tlv_show.specs.declared.scope.Scope.{Scope}
 use Rattle.tlv_show.specs.declared.wanted.Wanted.{Wanted}
 use Rattle.tlv_show.specs.declared.rules.Rules.TheVariants.{Ber, Der, Cer}
 use Rattle.tlv_show.specs.AllConditions.{end_conditions, header_conditions}
-use Rattle.tlv_show.specs.ListedFindings.{ElementFindings, is_by, listed_findings}
+use Rattle.tlv_show.specs.ListedFindings.{ElementFindings, rules_have, listed_findings}
 use Rattle.tlv_show.specs.Items.{ClosingLine, FindingAt, Item, OpenPrimitiveLines, OpeningLine, PaddingLine}
 use Rattle.tlv_show.specs.Items.{PrimitiveLines, finding_items, items}
 use Rattle.tlv_show.proofs.FindingLemmas.SiteWords.{contents_items, end_items, site_after_holder, site_after_padding}
@@ -39,7 +39,7 @@ among-more true others e = refl
 among-more false others e = absurd (cc (e))
 
 -- what BER has, the others have too
-pub still-by : (rules : Rules) (f : Finding) → is_by Ber f ≡ true → is_by rules f ≡ true
+pub still-by : (rules : Rules) (f : Finding) → rules_have Ber f ≡ true → rules_have rules f ≡ true
 still-by Ber f e = e
 still-by Der f e = among-more _ _ e
 still-by Cer f e = among-more _ _ e
@@ -113,8 +113,8 @@ module _ (scope : Scope) (rules : Rules) where
   same-found level offset fs xs ys e =
       only-finding_items level offset (filter (is_shown few) fs) xs
       ∙ ap (λ (l : List Item). finding_items level offset (filter (is_shown few) fs) ++ l) e
-      ∙ sym (some-found few many (is_by Ber) is_basic (λ level offset x. refl)
-      (λ x. both-tests (is_by Ber x) (is_by rules x) (is_within scope x) (still-by rules x)) level offset fs ys)
+      ∙ sym (some-found few many (rules_have Ber) is_basic (λ level offset x. refl)
+      (λ x. both-tests (rules_have Ber x) (rules_have rules x) (is_within scope x) (still-by rules x)) level offset fs ys)
 
   -- the same with the order of a SET, which BER does not have
   same-last : (level offset : ℕ) (s : Site) (e : Element) (fs : List Finding) (xs ys : List Item) → only xs ≡ basic ys
@@ -204,7 +204,7 @@ module _ (rules : Rules) where
   listed-then level offset fs xs ys e =
       ap (λ (l : List Item). finding_items level offset (filter (is_shown (listed_by rules)) fs) ++ l) e
       ∙ sym (some-found (listed_by rules) (all_by rules) is_listed is_listed_item (λ level offset x. refl)
-      (λ x. and-one (is_by rules x) (is_listed x)) level offset fs ys)
+      (λ x. and-one (rules_have rules x) (is_listed x)) level offset fs ys)
 
   -- the same with the order of a SET, which is not listed
   listed-last : (level offset : ℕ) (s : Site) (e : Element) (fs : List Finding) (xs ys : List Item) → xs ≡ listed ys

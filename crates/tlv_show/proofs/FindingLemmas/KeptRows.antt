@@ -4,7 +4,7 @@ use Rattle.std.specs.List.{filter}
 use Rattle.tlv_value.specs.declared.finding.Finding.{Finding}
 use Rattle.tlv_value.specs.Checks.{findings_by}
 use Rattle.tlv_show.specs.declared.rules.Rules.{Rules}
-use Rattle.tlv_show.specs.ListedFindings.{findings_under, is_by}
+use Rattle.tlv_show.specs.ListedFindings.{findings_under, rules_have}
 use Rattle.tlv_show.specs.ShownFindings.{is_listed, listed_by, shown_findings}
 
 -- the rows whose findings are kept
@@ -41,4 +41,4 @@ both-kept p q (f ∷ fs) = by (p f) (q f) refl refl (both-kept p q fs)
 pub listed-found : (rules : Rules) (rows : List (Finding × Bool))
     → shown_findings (listed_by rules) rows ≡ findings_under rules (kept_rows is_listed rows)
 listed-found rules rows =
-    both-kept (is_by rules) is_listed (findings_by rows) ∙ ap (filter (is_by rules)) (kept-found is_listed rows)
+    both-kept (rules_have rules) is_listed (findings_by rows) ∙ ap (filter (rules_have rules)) (kept-found is_listed rows)

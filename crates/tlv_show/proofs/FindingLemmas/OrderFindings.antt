@@ -7,7 +7,7 @@ use Rattle.tlv_show.specs.declared.rules.Rules.{Rules}
 use Rattle.tlv_show.specs.Items.{FindingAt, Item, finding_items}
 use Rattle.tlv_show.specs.SetOrder.{Element, is_out_of_order_at}
 use Rattle.tlv_show.specs.ShownFindings.{comes_after_order, last_findings, listed_by, with_order, with_order_if}
-use Rattle.tlv_show.specs.ListedFindings.{is_by}
+use Rattle.tlv_show.specs.ListedFindings.{rules_have}
 use Rattle.tlv_show.specs.ShownFindings.{wants_characters, with_characters_if}
 use Rattle.tlv_show.specs.Site.{Site}
 
@@ -40,7 +40,7 @@ module _ (test : Item → Bool) (hidden : (level offset : ℕ) → test (Finding
 -- of the listed findings B28 is none
 pub no-characters : (rules : Rules) (wrong : Bool) (gs : List Finding)
     → with_characters_if (wants_characters (listed_by rules) && wrong) gs ≡ gs
-no-characters rules wrong gs = ap (λ (k : Bool). with_characters_if (k && wrong) gs) (and-none (is_by rules B28))
+no-characters rules wrong gs = ap (λ (k : Bool). with_characters_if (k && wrong) gs) (and-none (rules_have rules B28))
   where
     and-none : (k : Bool) → (k && false) ≡ false
     and-none true = refl
@@ -50,7 +50,7 @@ no-characters rules wrong gs = ap (λ (k : Bool). with_characters_if (k && wrong
 pub none-listed : (rules : Rules) (s : Site) (e : Element) (gs : List Finding)
     → last_findings (listed_by rules) s e gs ≡ gs
 none-listed rules s e gs =
-    ap (λ (k : Bool). with_order_if (k && is_out_of_order_at rules s e) gs) (and-none (is_by rules S05))
+    ap (λ (k : Bool). with_order_if (k && is_out_of_order_at rules s e) gs) (and-none (rules_have rules S05))
   where
     and-none : (k : Bool) → (k && false) ≡ false
     and-none true = refl

@@ -21,7 +21,7 @@ use Rattle.tlv_head.specs.declared.kind.Kind.{Kind}
 use Rattle.tlv_head.specs.declared.kind.Kind.TheVariants.{Octets, Boolean, Integer, Bits, Object, Relative, Text, Utf8}
 use Rattle.tlv_head.specs.declared.kind.Kind.TheVariants.{Ucs2, Ucs4}
 use Rattle.tlv_value.specs.Units.{escaped_number, escaped_octet, is_printable, octet_text, printable_text, quoted_text}
-use Rattle.tlv_value.specs.Units.{first_units, three_octets, unit_size, unit_text, units, utf8_number, without_zeros}
+use Rattle.tlv_value.specs.Units.{first_units, three_octets, unit_size, unit_text, units, utf8_number, without_leading_zeros}
 use Rattle.tlv_value.proofs.TextLemmas.UnitSteps.{size-within}
 use Rattle.tlv_value.specs.Value.{InPairs, OnLine, Value, Written, bit_count_text, bits_value, boolean_value}
 use Rattle.tlv_value.specs.Value.{is_readable}
@@ -57,19 +57,19 @@ octet-short x =
     elim (is_printable x) as (λ b. length (if b then printable_text x else escaped_octet x) ≤ 4)
     [ true ↦ printable-short x | false ↦ escaped-short x ]
 
-zeros-short : (ds : List ℕ) → length (without_zeros ds) ≤ length ds
+zeros-short : (ds : List ℕ) → length (without_leading_zeros ds) ≤ length ds
 zeros-short [] = omega arith
 zeros-short (d ∷ []) = omega arith
 zeros-short (d ∷ e ∷ ds) =
     let more = zeros-short (e ∷ ds) in
-    elim (eqb d 0x30) as (λ b. length (if b then without_zeros (e ∷ ds) else d ∷ e ∷ ds) ≤ length (d ∷ e ∷ ds))
+    elim (eqb d 0x30) as (λ b. length (if b then without_leading_zeros (e ∷ ds) else d ∷ e ∷ ds) ≤ length (d ∷ e ∷ ds))
     [ true ↦ omega (arith, more) | false ↦ omega arith ]
 
 number-short : (octets : List ℕ) → length (escaped_number octets) ≤ 4 + 2 * length octets
 number-short octets =
     omega (
       arith,
-      length-append (without_zeros (encode_lower octets)) (125 ∷ []),
+      length-append (without_leading_zeros (encode_lower octets)) (125 ∷ []),
       zeros-short (encode_lower octets),
       length-encode_with lower_digits octets,
     )

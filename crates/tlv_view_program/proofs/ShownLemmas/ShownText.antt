@@ -16,7 +16,7 @@ use Rattle.tlv_walk.specs.Reading.{AreOctets}
 use Rattle.tlv_head.specs.declared.kind.Kind.{Kind}
 use Rattle.tlv_head.specs.declared.kind.Kind.TheVariants as kind
 use Rattle.tlv_value.specs.Units.{escaped_number, escaped_octet, is_printable, octet_text, printable_text, quoted_text}
-use Rattle.tlv_value.specs.Units.{first_units, three_octets, unit_size, unit_text, units, utf8_number, without_zeros}
+use Rattle.tlv_value.specs.Units.{first_units, three_octets, unit_size, unit_text, units, utf8_number, without_leading_zeros}
 use Rattle.tlv_why.specs.Laws.{AreShown, is_shown_octet}
 use Rattle.tlv_why.specs.Words.{named_element}
 use Rattle.tlv_why.proofs.ShownLemmas.ShownWords.{decimal-shown, named_element-shown}
@@ -125,7 +125,7 @@ octet_text-shown x small = elim (cases_Bool (is_printable x)) [
   | inr other ↦ rw other (escaped_octet-shown x small)
 ]
 
-without_zeros-shown : (digits : List ℕ) → AreShown digits → AreShown (without_zeros digits)
+without_zeros-shown : (digits : List ℕ) → AreShown digits → AreShown (without_leading_zeros digits)
 without_zeros-shown [] shown = refl
 without_zeros-shown (d ∷ []) shown = shown
 without_zeros-shown (d ∷ e ∷ digits) shown = elim (cases_Bool (eqb d 0x30)) [
@@ -135,8 +135,8 @@ without_zeros-shown (d ∷ e ∷ digits) shown = elim (cases_Bool (eqb d 0x30)) 
 
 escaped_number-shown : (octets : List ℕ) → AreOctets octets → AreShown (escaped_number octets)
 escaped_number-shown octets o =
-    joined-shown (codes "\\u{" ++ without_zeros (encode_lower octets)) (codes "}")
-    (joined-shown (codes "\\u{") (without_zeros (encode_lower octets)) refl
+    joined-shown (codes "\\u{" ++ without_leading_zeros (encode_lower octets)) (codes "}")
+    (joined-shown (codes "\\u{") (without_leading_zeros (encode_lower octets)) refl
     (without_zeros-shown (encode_lower octets) (pairs-shown octets o))) refl
 
 three-octets : (n : ℕ) → AreOctets (three_octets n)
