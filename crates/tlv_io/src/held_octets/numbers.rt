@@ -19,13 +19,14 @@ static TWO_PLACES: [[u8; 2]; 100] = [
 ];
 
 impl HeldOctets {
-    /// Adds a number in decimal. Many numbers are below 100, and have one digit or two in no order. They are copied as
-    /// a block of two octets, so that no branch depends on the number of their digits.
+    /// Adds a number in decimal.
     #[inline(always)]
     pub fn number(&mut self, number: u64)
         requires { HasRoomFor self.old 20 }
         ensures { self.new ≡ self.old ++ decimal number }
     {
+        // Many numbers are below 100, and one that has one digit often follows one that has two. Both are copied as a
+        // block of two octets, so that no branch depends on the number of their digits.
         if number < 100 {
             let (digits, count) = short_digits(number);
             self.add_prefix(&digits, count);

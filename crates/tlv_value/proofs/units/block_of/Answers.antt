@@ -1,4 +1,4 @@
-use Rattle.std.proofs.Common.{◌∙◌, ◌++◌, List, ℕ, ap₂, length}
+use Rattle.std.proofs.Common.{◌++◌, List, ℕ, ap₂, length}
 use Rattle.std.proofs.lemmas.List.{drop-replicate}
 use Rattle.tlv_value.proofs.units.block_of.Goals as goal
 

@@ -1,4 +1,4 @@
-use Rattle.std.proofs.Common.{◌∙◌, ◌-◌, List, ℕ, ap, length, sym}
+use Rattle.std.proofs.Common.{◌∙◌, ◌-◌, List, ℕ, ap, length}
 use Rattle.std.specs.List.{list_all}
 use Rattle.tlv_value.specs.Characters.{allows_octet}
 use Rattle.tlv_value.proofs.CheckLemmas.Noting.{all-filled}
