@@ -1,5 +1,5 @@
 -- Without text beside pairs of digits, the lines of an item are those of `Texts`.
-use Rattle.std.proofs.Common.{◌≡◌, ℕ, false, List, refl}
+use Rattle.std.proofs.Common.{◌≡◌, false, refl}
 use Rattle.tlv_value.specs.declared.layout.Layout.{Layout}
 use Rattle.tlv_value.specs.Value.{NameOf}
 use Rattle.tlv_value.proofs.TextLemmas.WithoutText.{incomplete-without, whole-without}
