@@ -1,6 +1,6 @@
 -- The words of the proof files that `tests/make-rows` writes from tests/rows: commands, and what is made of an
 -- input. Each result is the only one of its input, by `is_result` and `makes_unique` of Results.
-use Rattle.std.proofs.Common.{◌≡◌, ℕ, ◌+◌, ◌-◌, ◌*◌, Bool, false, List, [], ◌∷◌, ◌++◌, None, Option, codes, ap}
+use Rattle.std.proofs.Common.{◌≡◌, ℕ, ◌+◌, ◌-◌, ◌*◌, Bool, List, [], ◌∷◌, ◌++◌, None, Option, codes, ap}
 use Rattle.std.specs.Prelude.{flat_map, if◌then◌else◌, nat_le}
 use Rattle.std.specs.Cmp.Lexicographic.{nat_list_cmp_total, slice_cmp}
 use Rattle.std.specs.FinMap as finite
@@ -8,8 +8,8 @@ use Rattle.std.specs.Ordering.{nat_cmp}
 use Prim.Native.String.{String}
 use Rattle.tlv_head.specs.declared.fault.FaultCode.{FaultCode}
 use Rattle.tlv_show.specs.ListedFindings.{listed_findings}
-use Rattle.tlv_show.specs.ShowJob.{top_layout, show_job}
 use Rattle.tlv_show.specs.Texts.{item_text}
+use Rattle.tlv_show.specs.ShowJob.{top_layout, show_job}
 use Rattle.tlv_show.specs.declared.options.Options.{Options}
 use Rattle.tlv_show.specs.declared.rules.Rules.{Rules}
 use Rattle.tlv_value.specs.Names.{NamesValue}
@@ -98,7 +98,7 @@ fault_result findings code offset message output =
 -- a dump, by the names themselves in place of the table of names
 abbrev dump_result : Rules → Option ℕ → Bool → Framing → NameOf → List ℕ → CommandResult
 dump_result rules limit pure framing name_of octets =
-    let text_of = item_text false name_of (top_layout (options_of rules limit pure framing)) in
+    let text_of = item_text name_of (top_layout (options_of rules limit pure framing)) in
     let show = show_job (listed_findings rules) framing text_of in
     record (result (dump rules limit pure framing) octets) { output = show.text (reading framing octets) }
 

@@ -8,4 +8,5 @@ pub mod LongerInputs
 pub mod OctetPieces
 pub mod ClearPrimitives
 pub mod ShowJob
+pub mod WithoutText
 pub mod ClearPrimitivesShown

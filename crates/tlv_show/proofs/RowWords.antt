@@ -30,7 +30,7 @@ pub record TextAndCount : Type 0 where
 
 abbrev pub dump : Framing → Layout → Rules → List ℕ → TextAndCount
 dump framing layout rules b = let f = reading framing b in record {
-  text = (show_job (listed_findings rules) framing (item_text false no_names layout)).text f;
+  text = (show_job (listed_findings rules) framing (item_text no_names layout)).text f;
   count = finding_count (listed_findings rules) f;
 }
 

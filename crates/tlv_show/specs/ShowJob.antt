@@ -36,7 +36,7 @@ top_layout options = record { level = 0; limit = options.limit; pure = options.p
 abbrev pub dump_job : Options → NamesValue → Job Outcome
 dump_job options names =
     show_job (listed_findings options.rules) options.framing
-    (item_text false (finite.get names) (top_layout options))
+    (item_text (finite.get names) (top_layout options))
 
 -- the listed findings of all elements
 abbrev pub check_job : Rules → Framing → Job Outcome

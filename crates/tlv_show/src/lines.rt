@@ -5,7 +5,7 @@ ghost use Rattle.tlv_walk.specs.Events.{Unused};
 ghost use Rattle.tlv_walk.specs.Follow.{each_octet, HasEffect};
 ghost use Rattle.tlv_io.specs.Out.{Puts};
 ghost use Rattle.tlv_head.specs.Header.{HasAllContents};
-ghost use Rattle.tlv_value.specs.ValueLines.{whole_lines_with};
+ghost use Rattle.tlv_value.specs.TextBeside.{whole_lines_with};
 ghost use Rattle.tlv_show.specs.Private.LinesStep.{lines_after_primitive};
 ghost use Rattle.tlv_show.specs.LinesStep.{lines_begin_step, lines_close_step, lines_end_step};
 ghost use Rattle.tlv_show.specs.LinesStep.{lines_octet_step, lines_open_step, lines_padding_step, lines_step};

@@ -8,43 +8,45 @@ use Rattle.tlv_head.specs.declared.header.Size.TheVariants.{Definite}
 use Rattle.tlv_head.specs.Header.{HeaderValue}
 use Rattle.tlv_head.specs.declared.kind.Kind.TheVariants.{Integer, Text}
 use Rattle.tlv_value.specs.declared.layout.Layout.{Layout}
-use Rattle.tlv_value.specs.ValueLines.{incomplete_lines_with, shown_row_lines, whole_lines, whole_lines_with}
-use Rattle.tlv_value.specs.Value.{no_names, octets_value, on_line_text, row_text}
+use Rattle.tlv_value.specs.ValueLines.{whole_lines}
+use Rattle.tlv_value.specs.TextBeside.{incomplete_lines_with, shown_row_lines_with, whole_lines_with}
+use Rattle.tlv_value.specs.Value.{no_names, octets_value, on_line_text}
+use Rattle.tlv_value.specs.TextBeside.{on_line_text_with, row_text_with}
 
-three-letters : on_line_text true (octets_value (codes "abc")).on_line ≡ codes " 61 62 63  |abc|"
+three-letters : on_line_text_with true (octets_value (codes "abc")).on_line ≡ codes " 61 62 63  |abc|"
 unfolding encode_with
 three-letters = refl
 
-two-letters : on_line_text true (octets_value (codes "ab")).on_line ≡ codes " 61 62"
+two-letters : on_line_text_with true (octets_value (codes "ab")).on_line ≡ codes " 61 62"
 unfolding encode_with
 two-letters = refl
 
-letters-without-text : on_line_text false (octets_value (codes "abc")).on_line ≡ codes " 61 62 63"
+letters-without-text : on_line_text (octets_value (codes "abc")).on_line ≡ codes " 61 62 63"
 unfolding encode_with
 letters-without-text = refl
 
 -- the first and the last printable character, and the octets before and after these
-first-and-last : on_line_text true (octets_value (0x20 ∷ 0x7e ∷ 0x7c ∷ [])).on_line ≡ codes " 20 7e 7c  | ~||"
+first-and-last : on_line_text_with true (octets_value (0x20 ∷ 0x7e ∷ 0x7c ∷ [])).on_line ≡ codes " 20 7e 7c  | ~||"
 unfolding encode_with
 first-and-last = refl
 
-octet-1f : on_line_text true (octets_value (0x61 ∷ 0x1f ∷ 0x62 ∷ [])).on_line ≡ codes " 61 1f 62"
+octet-1f : on_line_text_with true (octets_value (0x61 ∷ 0x1f ∷ 0x62 ∷ [])).on_line ≡ codes " 61 1f 62"
 unfolding encode_with
 octet-1f = refl
 
-octet-7f : on_line_text true (octets_value (0x61 ∷ 0x62 ∷ 0x7f ∷ [])).on_line ≡ codes " 61 62 7f"
+octet-7f : on_line_text_with true (octets_value (0x61 ∷ 0x62 ∷ 0x7f ∷ [])).on_line ≡ codes " 61 62 7f"
 unfolding encode_with
 octet-7f = refl
 
-octet-80 : on_line_text true (octets_value (0x80 ∷ 0x61 ∷ 0x62 ∷ [])).on_line ≡ codes " 80 61 62"
+octet-80 : on_line_text_with true (octets_value (0x80 ∷ 0x61 ∷ 0x62 ∷ [])).on_line ≡ codes " 80 61 62"
 unfolding encode_with
 octet-80 = refl
 
-row-of-pairs : row_text true Integer (codes "abc") ≡ codes "61 62 63  |abc|"
+row-of-pairs : row_text_with true Integer (codes "abc") ≡ codes "61 62 63  |abc|"
 unfolding encode_with
 row-of-pairs = refl
 
-row-of-characters : row_text true Text (codes "abc") ≡ codes "\"abc\""
+row-of-characters : row_text_with true Text (codes "abc") ≡ codes "\"abc\""
 unfolding encode_with
 row-of-characters = refl
 
@@ -84,13 +86,13 @@ in-rows : whole_lines_with true no_names (zero_header 17) all_rows (codes "01234
 unfolding encode_with digits
 in-rows = refl
 
-rows-left-out : shown_row_lines true Integer one_row (codes "abc" ∷ codes "def" ∷ codes "ghi" ∷ [])
+rows-left-out : shown_row_lines_with true Integer one_row (codes "abc" ∷ codes "def" ∷ codes "ghi" ∷ [])
     ≡ codes "                   61 62 63  |abc|\n" ++ codes "                   ...\n"
 unfolding encode_with
 rows-left-out = refl
 
 -- no dots if there are no more rows than the limit
-rows-up-to-limit : shown_row_lines true Integer one_row (codes "abc" ∷ []) ≡ codes "                   61 62 63  |abc|\n"
+rows-up-to-limit : shown_row_lines_with true Integer one_row (codes "abc" ∷ []) ≡ codes "                   61 62 63  |abc|\n"
 unfolding encode_with
 rows-up-to-limit = refl
 

@@ -11,3 +11,4 @@ pub mod Rests
 pub mod RowTextLengths
 pub mod Texts
 pub mod UnitSteps
+pub mod WithoutText

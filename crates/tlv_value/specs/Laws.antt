@@ -6,7 +6,7 @@ use Rattle.tlv_head.specs.declared.kind.Kind.{Kind}
 use Rattle.tlv_value.specs.declared.layout.Layout.{Layout}
 use Rattle.tlv_value.specs.RowSizes.{character_length, row_size}
 use Rattle.tlv_value.specs.Rows.{rows_of}
-use Rattle.tlv_value.specs.ValueLines.{incomplete_lines_with, whole_lines_with}
+use Rattle.tlv_value.specs.TextBeside.{incomplete_lines_with, whole_lines_with}
 use Rattle.tlv_value.specs.ValueTextState.{ValueTextState, begin_lines, contents_lines, end_lines}
 use Rattle.tlv_value.specs.ValueTextState.{new_value_text_with, value_text_for, value_text_after}
 use Rattle.tlv_value.specs.Value.{NameOf}

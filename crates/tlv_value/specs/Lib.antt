@@ -14,6 +14,7 @@ pub mod Units
 pub mod Layout
 pub mod Value
 pub mod ValueLines
+pub mod TextBeside
 pub mod ValueTextState
 pub mod PutsRest
 pub mod ValueTextFields

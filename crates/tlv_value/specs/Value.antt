@@ -3,7 +3,7 @@ use Rattle.std.specs.Prelude.{◌==◌, ℕ, ◌+◌, ◌-◌, ◌*◌, Bool, tr
 use Rattle.std.specs.Prelude.{if◌then◌else◌, List, [], ◌∷◌, ◌++◌, length, map, take, Option, None, codes}
 use Rattle.std.specs.Prelude.{decimal}
 use Rattle.std.specs.Fmt.{signed_decimal}
-use Rattle.std.specs.List.{join_by, list_all}
+use Rattle.std.specs.List.{join_by}
 use Rattle.std.specs.Option.{option_map_or}
 use Rattle.hex.specs.Hex.{encode_lower}
 pub use Rattle.tlv_io.specs.LineTexts.{spaced_pairs}
@@ -11,11 +11,10 @@ use Rattle.tlv_head.specs.declared.kind.Kind.{Kind}
 use Rattle.tlv_head.specs.declared.kind.Kind.TheVariants.{Boolean, Integer, Bits, Object, Octets, Relative}
 use Rattle.tlv_value.specs.Arcs.{dotted_of}
 use Rattle.tlv_value.specs.Bits.{bits_of}
-use Rattle.tlv_value.specs.RowSizes.{row_size}
 use Rattle.tlv_head.specs.Kind.{is_text}
 use Rattle.tlv_value.specs.Number.{twos_complement}
 use Rattle.tlv_value.specs.Rows.{full_rows_in, rows_of}
-use Rattle.tlv_value.specs.Units.{is_printable, quoted_text}
+use Rattle.tlv_value.specs.Units.{quoted_text}
 
 -- what a line has after the tag text: a text, or octets that are shown as pairs of digits
 pub data OnLine : Type 0 where
@@ -49,12 +48,9 @@ boolean_value (x ∷ []) = value_on_line (if x == 0 then codes "FALSE" else code
 boolean_value octets = octets_value octets
 
 -- 8.3.3, 8.4; without octets nothing is on the line
-abbrev pub integer_text : List ℕ → List ℕ
-integer_text [] = []
-integer_text (x ∷ xs) = 0x20 ∷ signed_decimal (twos_complement (x ∷ xs))
-
 abbrev pub integer_value : List ℕ → Value
-integer_value octets = record { on_line = Written (integer_text octets); rows = [] }
+integer_value [] = record { on_line = Written []; rows = [] }
+integer_value (x ∷ xs) = value_on_line (signed_decimal (twos_complement (x ∷ xs)))
 
 -- the number of bits in this number of octets, without the unused bits
 abbrev pub bit_count_text : ℕ → ℕ → List ℕ
@@ -100,7 +96,7 @@ abbrev pub most_on_line : Kind → ℕ
 most_on_line Bits = 9
 most_on_line Object = 64
 most_on_line Relative = 64
-most_on_line kind = row_size kind
+most_on_line kind = if is_text kind then 64 else 16
 
 -- contents of n octets are longer
 abbrev pub is_long : Kind → ℕ → Bool
@@ -148,27 +144,14 @@ incomplete_value kind size octets = record {
   rows = full_rows_in kind (rows_of kind (row_octets kind octets));
 }
 
--- ---- As text. A first argument `with_text` says whether text is beside pairs of digits.
-
--- three or more octets that are all printable ASCII, between bars and after two spaces; nothing for any other octets
-abbrev pub text_behind : List ℕ → List ℕ
-text_behind octets =
-    if nat_le 3 (length octets) && list_all is_printable octets
-    then codes "  |" ++ octets ++ codes "|"
-    else []
-
--- the pairs of these octets, and the text beside them if it is wanted
-abbrev pub pairs_with_text : Bool → List ℕ → List ℕ → List ℕ
-pairs_with_text false octets pairs = pairs
-pairs_with_text true octets pairs = pairs ++ text_behind octets
+-- ---- As text
 
 -- the text on the element's line: before each pair is a space
-abbrev pub on_line_text : Bool → OnLine → List ℕ
-on_line_text with_text (Written text) = text
-on_line_text with_text (InPairs octets) = pairs_with_text with_text octets (spaced_pairs octets)
+abbrev pub on_line_text : OnLine → List ℕ
+on_line_text (Written text) = text
+on_line_text (InPairs octets) = spaced_pairs octets
 
 -- the text of a row: characters, or pairs of digits with spaces between them
-abbrev pub row_text : Bool → Kind → List ℕ → List ℕ
-row_text with_text kind row =
-    if is_text kind then quoted_text kind row
-    else pairs_with_text with_text row (join_by (λ x. encode_lower (x ∷ [])) (codes " ") row)
+abbrev pub row_text : Kind → List ℕ → List ℕ
+row_text kind row =
+    if is_text kind then quoted_text kind row else join_by (λ x. encode_lower (x ∷ [])) (codes " ") row

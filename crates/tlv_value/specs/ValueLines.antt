@@ -8,8 +8,7 @@ use Rattle.tlv_head.specs.declared.kind.Kind.TheVariants.{Bits}
 use Rattle.tlv_value.specs.declared.layout.Layout.{Layout}
 use Rattle.tlv_head.specs.Kind.{kind_of}
 use Rattle.tlv_value.specs.Layout.{columns, inner_line, line, shown_rows}
-use Rattle.tlv_value.specs.Value.{NameOf, Value, incomplete_value, is_long, on_line_text, row_text}
-use Rattle.tlv_value.specs.Value.{whole_value}
+use Rattle.tlv_value.specs.Value.{NameOf, Value, incomplete_value, is_long, on_line_text, row_text, whole_value}
 
 -- the kind of the element's type
 abbrev pub header_kind : HeaderValue → Kind
@@ -21,33 +20,28 @@ abbrev pub has_line : Kind → List ℕ → Bool
 has_line Bits [] = false
 has_line kind octets = true
 
--- the argument says whether text is shown beside pairs of digits
-module _ (with_text : Bool) where
-  -- the lines of the rows that are shown
-  abbrev pub shown_row_lines : Kind → Layout → List (List ℕ) → List ℕ
-  shown_row_lines kind layout rows =
-      flat_map (inner_line layout) (shown_rows layout.limit (map (row_text with_text kind) rows))
+-- the lines of the rows that are shown
+abbrev pub shown_row_lines : Kind → Layout → List (List ℕ) → List ℕ
+shown_row_lines kind layout rows = flat_map (inner_line layout) (shown_rows layout.limit (map (row_text kind) rows))
 
-  -- the element's line, with its offset, its length, its tag and its value, and the lines of its rows
-  abbrev pub value_lines : HeaderValue → Layout → Value → List ℕ
-  value_lines h layout value =
-      line layout (columns h.offset (decimal (announced_length h.size)))
-      (tag_text h.class h.number ++ on_line_text with_text value.on_line)
-      ++ shown_row_lines (header_kind h) layout value.rows
+-- the element's line, with its offset, its length, its tag and its value, and the lines of its rows:
+--        4     20: OCTET STRING
+--                    00 01 02 03 04 05 06 07 08 09 0a 0b 0c 0d 0e 0f
+--                    10 11 12 13
+abbrev pub value_lines : HeaderValue → Layout → Value → List ℕ
+value_lines h layout value =
+    line layout (columns h.offset (decimal (announced_length h.size)))
+    (tag_text h.class h.number ++ on_line_text value.on_line)
+    ++ shown_row_lines (header_kind h) layout value.rows
 
-  -- the lines of a primitive that is whole
-  abbrev pub whole_lines_with : NameOf → HeaderValue → Layout → List ℕ → List ℕ
-  whole_lines_with name_of h layout octets =
-      value_lines h layout (whole_value name_of (header_kind h) octets)
-
-  -- the lines of a primitive whose contents break off after these octets: none, unless the announced length is that of
-  -- a long value and its line is known
-  abbrev pub incomplete_lines_with : HeaderValue → Layout → List ℕ → List ℕ
-  incomplete_lines_with h layout octets =
-      if is_long (header_kind h) (announced_length h.size) && has_line (header_kind h) octets
-      then value_lines h layout (incomplete_value (header_kind h) (announced_length h.size) octets)
-      else []
-
--- the lines of a primitive that is whole, without text beside pairs
+-- the lines of a primitive that is whole
 abbrev pub whole_lines : NameOf → HeaderValue → Layout → List ℕ → List ℕ
-whole_lines name_of h layout octets = whole_lines_with false name_of h layout octets
+whole_lines name_of h layout octets = value_lines h layout (whole_value name_of (header_kind h) octets)
+
+-- the lines of a primitive whose contents break off after these octets: none, unless the announced length is that of a
+-- long value and its line is known
+abbrev pub incomplete_lines : HeaderValue → Layout → List ℕ → List ℕ
+incomplete_lines h layout octets =
+    if is_long (header_kind h) (announced_length h.size) && has_line (header_kind h) octets
+    then value_lines h layout (incomplete_value (header_kind h) (announced_length h.size) octets)
+    else []

@@ -12,8 +12,9 @@ use Rattle.tlv_value.specs.declared.layout.Layout.{Layout}
 use Rattle.tlv_value.specs.Layout.{columns, inner_line, line}
 use Rattle.tlv_value.specs.declared.primitive.Primitive.{Primitive}
 use Rattle.tlv_value.specs.RowsSoFar.{full_rows, open_row}
-use Rattle.tlv_value.specs.ValueLines.{has_line, header_kind, shown_row_lines}
-use Rattle.tlv_value.specs.Value.{NameOf, is_long, long_text, on_line_text, row_octets, row_text, short_value}
+use Rattle.tlv_value.specs.ValueLines.{has_line, header_kind}
+use Rattle.tlv_value.specs.TextBeside.{on_line_text_with, row_text_with, shown_row_lines_with}
+use Rattle.tlv_value.specs.Value.{NameOf, is_long, long_text, row_octets, short_value}
 
 -- what is kept: for a long value, whether its line was put, the number of rows that were full, and the octets of the
 -- row that has begun; for any other value, all octets
@@ -105,7 +106,7 @@ row_line layout i text = option_map_or (inner_line layout) (row_by_limit layout.
 abbrev pub row_lines : Bool → Kind → Layout → ℕ → List (List ℕ) → List ℕ
 row_lines with_text kind layout i [] = []
 row_lines with_text kind layout i (row ∷ rows) =
-    row_line layout i (row_text with_text kind row) ++ row_lines with_text kind layout (i + 1) rows
+    row_line layout i (row_text_with with_text kind row) ++ row_lines with_text kind layout (i + 1) rows
 
 -- the lines of the rows that are full with more octets
 abbrev pub full_row_lines : Bool → Kind → Layout → KeptContents → List ℕ → List ℕ
@@ -170,8 +171,8 @@ contents_lines s octets =
 -- the lines of a primitive with these contents, if they are not long
 abbrev pub primitive_lines : NameOf → Primitive → List ℕ → List ℕ
 primitive_lines name_of p octets =
-    primitive_line p (on_line_text p.with_text (short_value name_of p.kind octets).on_line)
-    ++ shown_row_lines p.with_text p.kind p.layout (short_value name_of p.kind octets).rows
+    primitive_line p (on_line_text_with p.with_text (short_value name_of p.kind octets).on_line)
+    ++ shown_row_lines_with p.with_text p.kind p.layout (short_value name_of p.kind octets).rows
 
 -- the lines that are known with the end
 abbrev pub end_lines : NameOf → ValueTextState → List ℕ

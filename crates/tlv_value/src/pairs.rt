@@ -4,7 +4,7 @@ ghost use Rattle.std.specs.Prelude.{◌≡◌, ◌+◌, ◌*◌, ◌≤◌, ◌+
 ghost use Rattle.tlv_io.specs.LineTexts.{HasRoomFor};
 ghost use Rattle.tlv_value.specs.Private.UndottedText.{line_pairs};
 ghost use Rattle.tlv_value.specs.Units.{is_printable};
-ghost use Rattle.tlv_value.specs.Value.{pairs_with_text, text_behind};
+ghost use Rattle.tlv_value.specs.TextBeside.{pairs_with_text, text_behind};
 ghost use Rattle.tlv_value.specs.Private.Rows.{joined_pairs};
 
 use tlv_io::HeldOctets;

@@ -3,11 +3,12 @@ ghost use Rattle.std.specs.Prelude.{◌≡◌, ◌*◌, ◌<◌, ◌≤◌, ◌+
 ghost use Rattle.std.specs.Fmt.{signed_decimal};
 ghost use Rattle.tlv_io.specs.LineTexts.{AddsAtMost, HasRoomFor};
 ghost use Rattle.tlv_value.specs.Bits.{last_bits};
-ghost use Rattle.tlv_value.specs.Private.UndottedText.{undotted_text};
+ghost use Rattle.tlv_value.specs.Private.UndottedText.{integer_text, undotted_text};
 ghost use Rattle.tlv_value.specs.Units.{quoted_text};
-ghost use Rattle.tlv_value.specs.Value.{bit_count_text, bits_value, boolean_value, integer_text};
-ghost use Rattle.tlv_value.specs.Value.{is_long, is_readable, long_text, most_on_line, on_line_text};
-ghost use Rattle.tlv_value.specs.Value.{row_text, used_digits};
+ghost use Rattle.tlv_value.specs.Value.{bit_count_text, bits_value, boolean_value};
+ghost use Rattle.tlv_value.specs.Value.{is_long, is_readable, long_text, most_on_line};
+ghost use Rattle.tlv_value.specs.TextBeside.{on_line_text_with, row_text_with};
+ghost use Rattle.tlv_value.specs.Value.{used_digits};
 ghost use Rattle.tlv_value.specs.Private.Rows.{digits_of_bits};
 
 use crate::decimal::{decimal_of, short_decimal_of};
@@ -23,7 +24,7 @@ const SIGN: &[u8; 32] = b" -                              ";
 pub(crate) fn write_row(held: &mut HeldOctets, kind: Kind, with_text: bool, row: &[u8])
     requires short { length row.now ≤ 64 }
     requires room { HasRoomFor held.old 400 }
-    ensures { AddsAtMost 323 held.old held.new (32 ∷ row_text with_text kind row.now) }
+    ensures { AddsAtMost 323 held.old held.new (32 ∷ row_text_with with_text kind row.now) }
 {
     match kind {
         Kind::Text | Kind::Utf8 | Kind::Ucs2 | Kind::Ucs4 => write_quoted(held, kind, row),
@@ -64,7 +65,7 @@ fn write_quoted(held: &mut HeldOctets, kind: Kind, row: &[u8])
 fn write_boolean(held: &mut HeldOctets, with_text: bool, contents: &[u8])
     requires short { length contents.now ≤ 16 }
     requires room { HasRoomFor held.old 68 }
-    ensures { held.new ≡ held.old ++ on_line_text with_text (boolean_value contents.now).on_line }
+    ensures { held.new ≡ held.old ++ on_line_text_with with_text (boolean_value contents.now).on_line }
 {
     match contents {
         [0] => held.add(b" FALSE"),
@@ -118,7 +119,7 @@ fn write_signed(held: &mut HeldOctets, number: i128)
 fn write_bits(held: &mut HeldOctets, with_text: bool, contents: &[u8])
     requires short { length contents.now ≤ 9 }
     requires room { HasRoomFor held.old 128 }
-    ensures { held.new ≡ held.old ++ on_line_text with_text (bits_value contents.now).on_line }
+    ensures { held.new ≡ held.old ++ on_line_text_with with_text (bits_value contents.now).on_line }
 {
     match contents {
         [unused_bits, octets @ ..] if is_readable(*unused_bits, octets.len()) => {

@@ -7,7 +7,8 @@ ghost use Rattle.tlv_value.specs.RowSizes.{row_size};
 ghost use Rattle.tlv_value.specs.Private.PrimitiveLines.{lines_in_steps};
 ghost use Rattle.tlv_value.specs.Rows.{rows_of};
 ghost use Rattle.tlv_value.specs.Value.{row_octets};
-ghost use Rattle.tlv_value.specs.ValueLines.{shown_row_lines, whole_lines, whole_lines_with};
+ghost use Rattle.tlv_value.specs.ValueLines.{whole_lines};
+ghost use Rattle.tlv_value.specs.TextBeside.{shown_row_lines_with, whole_lines_with};
 ghost use Rattle.tlv_value.specs.ValueTextState.{is_long_primitive, long_value_line, new_value_text_of};
 
 use crate::primitive::Primitive;
@@ -101,7 +102,7 @@ fn put_pairs<D: Drain>(
     requires long { is_long_primitive primitive.now ≡ true }
     ensures { Puts D.state out.old out.new
         (long_value_line primitive.now contents.now
-        ++ shown_row_lines primitive.now.with_text primitive.now.kind primitive.now.layout
+        ++ shown_row_lines_with primitive.now.with_text primitive.now.kind primitive.now.layout
         (rows_of primitive.now.kind (row_octets primitive.now.kind contents.now))) result }
 {
     primitive.put_long_line(contents, out)?;

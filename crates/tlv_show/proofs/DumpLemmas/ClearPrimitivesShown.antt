@@ -5,7 +5,7 @@ use Rattle.std.specs.Prelude.{Ok, Err, Result, IsErr, ⊤}
 use Rattle.std.proofs.lemmas.Bool.{true≢false}
 use Rattle.tlv_head.specs.Header.{HasAllContents, HeaderValue}
 use Rattle.tlv_value.specs.declared.finding.Finding.{Finding}
-use Rattle.tlv_value.specs.ValueLines.{whole_lines_with}
+use Rattle.tlv_value.specs.TextBeside.{whole_lines_with}
 use Rattle.tlv_io.specs.declared.drain.WriteFault.{WriteFault}
 use Rattle.tlv_io.specs.declared.out.Out.{Out}
 use Rattle.tlv_io.specs.Device.{DrainState}

@@ -19,7 +19,8 @@ use Rattle.tlv_show.specs.DumpStep.{DumpState, dump_step, new_dump_with}
 use Rattle.tlv_show.specs.FinderState.{CheckState}
 use Rattle.tlv_show.specs.NestingState.{top_frame}
 use Rattle.tlv_show.proofs.FindingLemmas.FinderStep.{finder_step}
-use Rattle.tlv_show.specs.Texts.{finding_count, item_text}
+use Rattle.tlv_show.specs.Texts.{finding_count}
+use Rattle.tlv_show.specs.WantedJobs.{item_text_with}
 use Rattle.tlv_show.specs.ShownFindings.{wanted_findings}
 use Rattle.tlv_show.proofs.FindingLemmas.CheckFolds.{count-run}
 use Rattle.tlv_show.proofs.DumpLemmas.DumpShown.{shows_forest}
@@ -66,7 +67,7 @@ module _ (scope : Scope) (with_text : Bool) (options : Options) (names : NamesVa
 
 pub dump-shows : (scope : Scope) (with_text : Bool) (options : Options) (names : NamesValue)
     → Shower dump_step (new_dump_with with_text (wanted_in scope options) (top_layout options) names) (wanted_in scope options) options.framing
-    (item_text with_text (finite.get names) (top_layout options)) (λ (s : DumpState). s.finder.finding_count)
+    (item_text_with with_text (finite.get names) (top_layout options)) (λ (s : DumpState). s.finder.finding_count)
 dump-shows scope with_text options names = record {
   goes_on = all_on;
   put = λ octets f few r. text-made scope with_text options names octets f few r;

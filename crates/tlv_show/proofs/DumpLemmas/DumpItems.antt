@@ -12,7 +12,7 @@ use Rattle.tlv_head.specs.HeaderSoFar.{AllowsSize}
 use Rattle.tlv_value.specs.declared.finding.Finding.{Finding}
 use Rattle.tlv_value.specs.declared.layout.Layout.{Layout}
 use Rattle.tlv_value.specs.Names.{NamesValue}
-use Rattle.tlv_value.specs.ValueLines.{whole_lines_with}
+use Rattle.tlv_value.specs.TextBeside.{whole_lines_with}
 use Rattle.tlv_walk.specs.Events.{Begin, Bytes, End, EventValue, events, opening_events, closing_event}
 use Rattle.tlv_walk.proofs.GrammarLemmas.Leads.{end_offset}
 use Rattle.tlv_walk.specs.Forest.{end_octets_offset}
@@ -31,7 +31,8 @@ use Rattle.tlv_show.specs.KeptConditions.{header_findings_in}
 use Rattle.tlv_show.specs.Items.{Item, FindingAt, items, finding_items}
 use Rattle.tlv_show.specs.HolderLines.{closing_line, opening_line, opening_word}
 use Rattle.tlv_show.specs.Site.{Site, is_padding}
-use Rattle.tlv_show.specs.Texts.{item_text, layout_at}
+use Rattle.tlv_show.specs.Texts.{layout_at}
+use Rattle.tlv_show.specs.WantedJobs.{item_text_with}
 use Rattle.tlv_show.specs.ShownFindings.{wanted_findings}
 use Rattle.tlv_show.proofs.DumpLemmas.DumpTexts.{holder_shown, ends_in_padding, primitive_shown}
 use Rattle.tlv_show.proofs.DumpLemmas.DumpTexts.{lines_between, closer_shown}
@@ -45,7 +46,7 @@ use Rattle.tlv_value.specs.Types.{has_primitive_form}
 -- ---- elements, in this style, with these names and rules
 module _ (with_text : Bool) (style : Layout) (names : NamesValue) (wanted : Wanted) where
   abbrev pub item : Item → List ℕ
-  item i = item_text with_text (finite.get names) style i
+  item i = item_text_with with_text (finite.get names) style i
 
   abbrev pub item_texts : List Item → List ℕ
   item_texts l = flat_map item l

@@ -8,7 +8,7 @@ use Rattle.tlv_head.specs.Header.{HasAllContents, HeaderValue, announced_length,
 use Rattle.tlv_value.specs.declared.layout.Layout.{Layout}
 use Rattle.tlv_value.specs.ValueCheckState.{has_unused_bits, value_check_for}
 use Rattle.tlv_value.specs.Names.{NamesValue}
-use Rattle.tlv_value.specs.ValueLines.{incomplete_lines_with, whole_lines_with}
+use Rattle.tlv_value.specs.TextBeside.{incomplete_lines_with, whole_lines_with}
 use Rattle.tlv_value.specs.Types.{has_primitive_form}
 use Rattle.tlv_walk.specs.declared.follow.Go.{Go}
 use Rattle.tlv_walk.specs.Events.{Begin, Bytes, End, EventValue, Pad, closing_event, events}

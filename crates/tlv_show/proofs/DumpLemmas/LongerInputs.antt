@@ -14,7 +14,8 @@ use Rattle.tlv_show.specs.WantedJobs.{wanted_in}
 use Rattle.tlv_show.specs.DumpStep.{DumpState, dump_octet_step, dump_padding_step, dump_step, new_dump_with}
 use Rattle.tlv_show.specs.FinderState.{CheckState, new_check}
 use Rattle.tlv_show.specs.Items.{Item}
-use Rattle.tlv_show.specs.Texts.{check_line, item_text}
+use Rattle.tlv_show.specs.Texts.{check_line}
+use Rattle.tlv_show.specs.WantedJobs.{item_text_with}
 use Rattle.tlv_show.specs.declared.options.Options.{Options}
 use Rattle.tlv_show.specs.declared.outcome.Outcome.{Outcome}
 use Rattle.tlv_show.specs.declared.rules.Rules.{Rules}
@@ -54,7 +55,7 @@ module _ {S : Type 0} (next : S → EventValue → Effect S) (first : S) (wanted
 pub dumps_on : DumpsGoOn
 dumps_on scope with_text options names b c f g few r s =
     goes_on dump_step (new_dump_with with_text (wanted_in scope options) (top_layout options) names) (wanted_in scope options) options.framing
-    (item_text with_text (finite.get names) (top_layout options)) (λ (t : DumpState). t.finder.finding_count)
+    (item_text_with with_text (finite.get names) (top_layout options)) (λ (t : DumpState). t.finder.finding_count)
     (dump-shows scope with_text options names)
     (followed-alike dump_step (each_octet-joins dump_octet_step) (λ s. refl) (each_octet-goes_on dump_octet_step)
     (each_octet-joins dump_padding_step) (λ s. refl) (each_octet-goes_on dump_padding_step))

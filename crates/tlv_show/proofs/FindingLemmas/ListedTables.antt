@@ -18,6 +18,7 @@ use Rattle.tlv_show.specs.declared.scope.Scope.TheVariants.{Listed}
 use Rattle.tlv_show.specs.declared.wanted.Wanted.{Wanted}
 use Rattle.tlv_show.specs.AllConditions.{end_conditions, header_conditions}
 use Rattle.tlv_show.specs.Conditions.{headers}
+use Rattle.tlv_show.specs.Items.{Item}
 use Rattle.tlv_show.specs.ListedFindings.{ElementFindings, findings_under, listed_findings}
 use Rattle.tlv_show.specs.SegmentCharacters.{has_wrong_characters}
 use Rattle.tlv_show.specs.SetOrder.{holder_element, primitive_element}
@@ -27,6 +28,7 @@ use Rattle.tlv_show.specs.ShownFindings.{contents_findings, end_findings, header
 use Rattle.tlv_show.specs.ShownFindings.{shown_findings, wanted_findings}
 use Rattle.tlv_show.specs.Site.{Site}
 use Rattle.tlv_show.specs.Texts.{check_line, item_text}
+use Rattle.tlv_show.proofs.DumpLemmas.WithoutText.{items-without}
 use Rattle.tlv_show.proofs.FindingLemmas.KeptRows.{listed-found}
 use Rattle.tlv_show.proofs.FindingLemmas.OrderFindings.{no-characters, none-listed}
 
@@ -69,8 +71,10 @@ module _ (rules : Rules) where
 pub dumps-same : (options : Options) (names : NamesValue)
     → dump_job_with Listed false options names ≡ dump_job options names
 dumps-same options names =
-    ap (λ (found : ElementFindings). show_job found options.framing
-    (item_text false (finite.get names) (top_layout options)))
+    ap (λ (text_of : Item → List ℕ). show_job (wanted_findings (listed_by options.rules)) options.framing text_of)
+    (items-without (finite.get names) (top_layout options))
+    ∙ ap (λ (found : ElementFindings). show_job found options.framing
+    (item_text (finite.get names) (top_layout options)))
     (listed-same options.rules)
 
 pub checks-same : (rules : Rules) (framing : Framing)

@@ -20,10 +20,9 @@ use Rattle.tlv_value.specs.Private.Rows.{pair_row_line, pair_row_lines, row_marg
 use Rattle.tlv_value.specs.Rows.{rows_of}
 use Rattle.tlv_value.proofs.RowLemmas.FilledRows.{row_begun, rows_filled}
 use Rattle.tlv_value.proofs.RowLemmas.RowsFilled.{rows-filled}
-use Rattle.tlv_value.specs.ValueLines.{shown_row_lines}
+use Rattle.tlv_value.specs.TextBeside.{row_text_with, shown_row_lines_with}
 use Rattle.tlv_value.specs.ValueTextState.{row_line, row_lines}
 use Rattle.tlv_value.specs.Private.UndottedText.{line_pairs}
-use Rattle.tlv_value.specs.Value.{row_text}
 use Rattle.tlv_value.proofs.TextLemmas.RowLines.{row_lines-all, row_lines-append}
 use Rattle.tlv_value.proofs.RowLemmas.RowSteps.{rest-stays_in_row, next_row}
 
@@ -100,7 +99,7 @@ module _ (kind : Kind) (short : row_size kind ≡ 16) where
     lines_of : (i : ℕ) (rows : List (List ℕ)) → row_lines with_text kind layout i rows ≡ pair_row_lines with_text layout rows
     lines_of i [] = refl
     lines_of i (row ∷ rows) =
-        let one : row_line layout i (row_text with_text kind row) ≡ pair_row_line with_text layout row =
+        let one : row_line layout i (row_text_with with_text kind row) ≡ pair_row_line with_text layout row =
         rw (endless, not_text kind short) refl in
         ap₂ (λ (k l : List ℕ). k ++ l) one (lines_of (i + 1) rows)
 
@@ -128,7 +127,7 @@ module _ (kind : Kind) (short : row_size kind ≡ 16) where
 -- the lines of all rows, if there is no limit to them
 pub pair_lines : (kind : Kind) → row_size kind ≡ 16 → (with_text : Bool) (layout : Layout) → layout.limit ≡ None → (octets : List ℕ)
     → pair_row_lines with_text layout (rows_of Octets octets)
-    ≡ shown_row_lines with_text kind layout (rows_of kind octets)
+    ≡ shown_row_lines_with with_text kind layout (rows_of kind octets)
 pair_lines kind short with_text layout endless octets =
     ap (pair_row_lines with_text layout) (rows_cut Octets refl octets ∙ sym (rows_cut kind short octets))
     ∙ sym (lines_of kind short with_text layout endless 0 (rows_of kind octets))
@@ -138,7 +137,7 @@ pair_lines kind short with_text layout endless octets =
 
 -- pairs, each after a space, and pairs with spaces between them
 pairs_joined : (with_text : Bool) (x : ℕ) (xs : List ℕ)
-    → line_pairs with_text (x ∷ xs) ≡ 32 ∷ row_text with_text Octets (x ∷ xs)
+    → line_pairs with_text (x ∷ xs) ≡ 32 ∷ row_text_with with_text Octets (x ∷ xs)
 pairs_joined false x xs = refl
 pairs_joined true x xs = refl
 
@@ -147,7 +146,7 @@ pub full_line_added : (with_text : Bool) (layout : Layout) (old row : List ℕ) 
     → old ++ spaces (n - 1) ++ line_pairs with_text row ++ 10 ∷ [] ≡ old ++ pair_row_line with_text layout row
 full_line_added with_text layout old [] n e some whole = absurd (omega (arith, whole))
 full_line_added with_text layout old (x ∷ xs) n e some whole =
-    let text : List ℕ = row_text with_text Octets (x ∷ xs) in
+    let text : List ℕ = row_text_with with_text Octets (x ∷ xs) in
     let indent : spaces (n - 1) ++ 32 ∷ [] ≡ row_margin layout =
     replicate_more (n - 1) 32 ∙ ap spaces (omega (arith, some)) ∙ e in
     ap (λ (l : List ℕ). old ++ spaces (n - 1) ++ l ++ 10 ∷ []) (pairs_joined with_text x xs)

@@ -11,7 +11,7 @@ use Rattle.tlv_value.specs.declared.layout.Layout.{Layout}
 use Rattle.tlv_value.specs.Arcs.{dotted_of}
 use Rattle.tlv_value.specs.Private.ObjectLines.{object_lines, octets_lines}
 use Rattle.tlv_value.specs.Rows.{rows_of}
-use Rattle.tlv_value.specs.ValueLines.{shown_row_lines}
+use Rattle.tlv_value.specs.TextBeside.{shown_row_lines_with}
 use Rattle.tlv_value.specs.Private.UndottedText.{line_pairs}
 use Rattle.tlv_value.specs.Value.{NameOf}
 use Rattle.tlv_value.proofs.TextLemmas.RowLines.{no-row_lines}
@@ -34,7 +34,7 @@ after_space old new text n e at =
 
 -- a text with no rows below it
 no_rows_below : (with_text : Bool) (layout : Layout) (text : List ℕ)
-    → text ++ shown_row_lines with_text Octets layout [] ≡ text
+    → text ++ shown_row_lines_with with_text Octets layout [] ≡ text
 no_rows_below with_text layout text =
     ap (λ (l : List ℕ). text ++ l) (no-row_lines with_text Octets layout) ∙ append-nil text
 
@@ -71,6 +71,6 @@ octets_short with_text layout contents few =
 
 -- and in rows
 pub octets_long : (with_text : Bool) (layout : Layout) (contents : List ℕ) → 17 ≤ length contents
-    → (10 ∷ []) ++ shown_row_lines with_text Octets layout (rows_of Octets contents)
+    → (10 ∷ []) ++ shown_row_lines_with with_text Octets layout (rows_of Octets contents)
     ≡ octets_lines with_text layout contents
 octets_long with_text layout contents many = let b : nat_le (length contents) 16 ≡ false = grind (arith, nat_tests) in rw b refl

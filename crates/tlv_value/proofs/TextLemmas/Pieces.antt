@@ -14,14 +14,15 @@ use Rattle.tlv_value.specs.Laws.{LinesBegin, LinesEnd, LinesGoOn, PiecesJoin}
 use Rattle.tlv_value.specs.Rows.{full_rows_in, rows_of}
 use Rattle.tlv_value.specs.RowsSoFar.{full_rows, open_row, open_row_in}
 use Rattle.tlv_value.specs.Private.PrimitiveLines.{lines_in_steps}
-use Rattle.tlv_value.specs.ValueLines.{incomplete_lines_with, has_line, shown_row_lines, whole_lines_with}
+use Rattle.tlv_value.specs.ValueLines.{has_line}
+use Rattle.tlv_value.specs.TextBeside.{incomplete_lines_with, on_line_text_with, shown_row_lines_with, whole_lines_with}
 use Rattle.tlv_value.specs.ValueTextState.{KeptContents, ValueTextState, begin_lines, contents_lines, end_lines}
 use Rattle.tlv_value.specs.ValueTextState.{kept_contents_with_line, kept_contents_before_line, full_row_lines}
 use Rattle.tlv_value.specs.ValueTextState.{new_value_text_of}
 use Rattle.tlv_value.specs.ValueTextState.{new_value_text_with, primitive_line, primitive_lines, new_primitive}
 use Rattle.tlv_value.specs.ValueTextState.{kept_contents_after_line, row_lines}
 use Rattle.tlv_value.specs.ValueTextState.{kept_contents_after, value_text_for, value_text_after}
-use Rattle.tlv_value.specs.Value.{NameOf, Value, Written, is_long, long_text, on_line_text, row_octets}
+use Rattle.tlv_value.specs.Value.{NameOf, Value, Written, is_long, long_text, row_octets}
 use Rattle.tlv_value.specs.Value.{short_value}
 use Rattle.std.proofs.lemmas.Bool.Decides.{nat_tests}
 use Rattle.tlv_value.proofs.TextLemmas.RowLines.{row_lines-all, row_lines-append}
@@ -164,7 +165,7 @@ module _ (with_text : Bool) (layout : Layout) (line : List ℕ → List ℕ) (si
   known_at kind long octets =
       if long && has_line kind octets
       then line (long_text kind size octets)
-      ++ shown_row_lines with_text kind layout (full_rows kind [] (row_octets kind octets))
+      ++ shown_row_lines_with with_text kind layout (full_rows kind [] (row_octets kind octets))
       else []
 
   known-open : (kind : Kind) (long : Bool) (octets : List ℕ) → known_at kind long octets ≡ open_at kind long octets
@@ -195,15 +196,15 @@ module _ (with_text : Bool) (layout : Layout) (line : List ℕ → List ℕ) (si
 
   abbrev whole_at : NameOf → Kind → Bool → List ℕ → List ℕ
   whole_at name_of kind long octets =
-      line (on_line_text with_text (if long then long_by kind size octets else short_value name_of kind octets).on_line)
-      ++ shown_row_lines with_text kind layout
+      line (on_line_text_with with_text (if long then long_by kind size octets else short_value name_of kind octets).on_line)
+      ++ shown_row_lines_with with_text kind layout
       (if long then long_by kind size octets else short_value name_of kind octets).rows
 
   abbrev ended_at : NameOf → Kind → Bool → KeptContents → List ℕ
   ended_at name_of kind long k =
       if long then row_lines with_text kind layout k.row_count (last_rows k.row)
-      else line (on_line_text with_text (short_value name_of kind k.row).on_line)
-      ++ shown_row_lines with_text kind layout (short_value name_of kind k.row).rows
+      else line (on_line_text_with with_text (short_value name_of kind k.row).on_line)
+      ++ shown_row_lines_with with_text kind layout (short_value name_of kind k.row).rows
 
   abbrev WholeIsEnded : NameOf → Kind → Bool → List ℕ → Type 0
   WholeIsEnded name_of kind long octets =
@@ -213,7 +214,7 @@ module _ (with_text : Bool) (layout : Layout) (line : List ℕ → List ℕ) (si
       (kept_by with_text kind layout line size long (has_line kind []) (begin_kept kind) octets)
 
   last-after : (kind : Kind) (first octets : List ℕ)
-      → first ++ shown_row_lines with_text kind layout (rows_of kind octets)
+      → first ++ shown_row_lines_with with_text kind layout (rows_of kind octets)
       ≡ (first ++ row_lines with_text kind layout 0 (full_rows kind [] octets))
       ++ row_lines with_text kind layout (0 + length (full_rows kind [] octets)) (last_rows (open_row kind [] octets))
   last-after kind first octets =
@@ -323,9 +324,9 @@ long-some kind n size e h = grind (arith, nat_tests)
 abbrev whole_by : Bool → Layout → (List ℕ → List ℕ) → NameOf → Kind → ℕ → List ℕ → List ℕ
 whole_by with_text layout line name_of kind n octets =
     line
-    (on_line_text with_text
+    (on_line_text_with with_text
     (if is_long kind n then long_by kind n octets else short_value name_of kind octets).on_line)
-    ++ shown_row_lines with_text kind layout
+    ++ shown_row_lines_with with_text kind layout
     (if is_long kind n then long_by kind n octets else short_value name_of kind octets).rows
 
 pub lines-end : LinesEnd
@@ -356,7 +357,7 @@ whole-new with_text name_of h layout c e =
 -- so has a long one: its line, and its rows
 pub new-long : (name_of : NameOf) (p : Primitive) (c : List ℕ) → is_long p.kind p.size ≡ true → length c ≡ p.size
     → primitive_line p (long_text p.kind p.size c)
-    ++ shown_row_lines p.with_text p.kind p.layout (rows_of p.kind (row_octets p.kind c))
+    ++ shown_row_lines_with p.with_text p.kind p.layout (rows_of p.kind (row_octets p.kind c))
     ≡ lines_in_steps name_of (new_value_text_of p) c
 new-long name_of p c long e =
     let s : ValueTextState = new_value_text_of p in

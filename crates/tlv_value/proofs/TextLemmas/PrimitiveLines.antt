@@ -11,14 +11,15 @@ use Rattle.tlv_value.specs.Private.ObjectLines.{object_lines}
 use Rattle.tlv_value.specs.Private.PrimitiveLines.{line_prefix}
 use Rattle.tlv_value.specs.declared.primitive.Primitive.{Primitive}
 use Rattle.tlv_value.specs.RowsSoFar.{full_rows}
-use Rattle.tlv_value.specs.ValueLines.{shown_row_lines}
+use Rattle.tlv_value.specs.TextBeside.{on_line_text_with, shown_row_lines_with}
 use Rattle.tlv_value.specs.ValueTextState.{KeptContents, ValueTextState, contents_lines, end_lines, primitive_line}
 use Rattle.tlv_value.specs.ValueTextState.{primitive_lines, row_lines}
 use Rattle.tlv_value.specs.Value.{NameOf, Value, bit_count_text, bits_value, boolean_value, integer_value, is_long}
-use Rattle.tlv_value.specs.Value.{is_readable, long_text, most_on_line, no_names, octets_value, on_line_text, row_octets}
+use Rattle.tlv_value.specs.Value.{is_readable, long_text, most_on_line, no_names, octets_value, row_octets}
 use Rattle.tlv_value.specs.Value.{short_value, used_digits, value_on_line}
 use Rattle.tlv_value.specs.Private.UndottedText.{undotted_text}
 use Rattle.tlv_value.proofs.TextLemmas.RowLines.{no-row_lines}
+use Rattle.tlv_value.proofs.TextLemmas.WithoutText.{integer-on_line}
 
 -- what the line of a primitive begins with, and the rest of its lines
 prefix-line : (p : Primitive) (text rows : List ℕ)
@@ -27,29 +28,29 @@ prefix-line p text rows = simp append_assoc refl
 
 pub shown-prefix : (name_of : NameOf) (p : Primitive) (octets : List ℕ)
     → line_prefix p
-    ++ ((on_line_text p.with_text (short_value name_of p.kind octets).on_line ++ 10 ∷ [])
-    ++ shown_row_lines p.with_text p.kind p.layout (short_value name_of p.kind octets).rows)
+    ++ ((on_line_text_with p.with_text (short_value name_of p.kind octets).on_line ++ 10 ∷ [])
+    ++ shown_row_lines_with p.with_text p.kind p.layout (short_value name_of p.kind octets).rows)
     ≡ primitive_lines name_of p octets
 shown-prefix name_of p octets =
     let v : Value = short_value name_of p.kind octets in
-    prefix-line p (on_line_text p.with_text v.on_line) (shown_row_lines p.with_text p.kind p.layout v.rows)
+    prefix-line p (on_line_text_with p.with_text v.on_line) (shown_row_lines_with p.with_text p.kind p.layout v.rows)
 
 module _ (with_text : Bool) (name_of : NameOf) (layout : Layout) (line : List ℕ → List ℕ) (octets : List ℕ) where
   abbrev shown_by : Kind → List ℕ
   shown_by kind =
-      line (on_line_text with_text (short_value name_of kind octets).on_line)
-      ++ shown_row_lines with_text kind layout (short_value name_of kind octets).rows
+      line (on_line_text_with with_text (short_value name_of kind octets).on_line)
+      ++ shown_row_lines_with with_text kind layout (short_value name_of kind octets).rows
 
   -- rows of octets are the same for an object identifier
   object_at : (kind : Kind) → kind ≡ Object
-      → line (on_line_text with_text (short_value name_of Object octets).on_line)
-      ++ shown_row_lines with_text Octets layout (short_value name_of Object octets).rows
+      → line (on_line_text_with with_text (short_value name_of Object octets).on_line)
+      ++ shown_row_lines_with with_text Octets layout (short_value name_of Object octets).rows
       ≡ shown_by kind
   object_at kind e = rw e refl
 
   relative_at : (kind : Kind) → kind ≡ Relative
-      → line (on_line_text with_text (short_value name_of Relative octets).on_line)
-      ++ shown_row_lines with_text Octets layout (short_value name_of Relative octets).rows
+      → line (on_line_text_with with_text (short_value name_of Relative octets).on_line)
+      ++ shown_row_lines_with with_text Octets layout (short_value name_of Relative octets).rows
       ≡ shown_by kind
   relative_at kind e = rw e refl
 
@@ -57,21 +58,21 @@ pub shown-object : (name_of : NameOf) (p : Primitive) (octets : List ℕ) → p.
     → line_prefix p ++ object_lines p.with_text name_of p.layout false octets ≡ primitive_lines name_of p octets
 shown-object name_of p octets e =
     let v : Value = short_value name_of Object octets in
-    prefix-line p (on_line_text p.with_text v.on_line) (shown_row_lines p.with_text Octets p.layout v.rows)
+    prefix-line p (on_line_text_with p.with_text v.on_line) (shown_row_lines_with p.with_text Octets p.layout v.rows)
     ∙ object_at p.with_text name_of p.layout (primitive_line p) octets p.kind e
 
 pub shown-relative : (name_of : NameOf) (p : Primitive) (octets : List ℕ) → p.kind ≡ Relative
     → line_prefix p ++ object_lines p.with_text no_names p.layout true octets ≡ primitive_lines name_of p octets
 shown-relative name_of p octets e =
     let v : Value = short_value name_of Relative octets in
-    prefix-line p (on_line_text p.with_text v.on_line) (shown_row_lines p.with_text Octets p.layout v.rows)
+    prefix-line p (on_line_text_with p.with_text v.on_line) (shown_row_lines_with p.with_text Octets p.layout v.rows)
     ∙ relative_at p.with_text name_of p.layout (primitive_line p) octets p.kind e
 
 -- values on their lines, without rows
 
 abbrev IsUndotted : Bool → NameOf → Kind → List ℕ → Type 0
 IsUndotted with_text name_of kind row =
-    (on_line_text with_text (short_value name_of kind row).on_line ≡ undotted_text with_text kind row) × ((short_value name_of kind row).rows ≡ [])
+    (on_line_text_with with_text (short_value name_of kind row).on_line ≡ undotted_text with_text kind row) × ((short_value name_of kind row).rows ≡ [])
 
 octets-rows : (row : List ℕ) → length row ≤ 16 → (octets_value row).rows ≡ []
 octets-rows row h = let b : nat_le (length row) 16 ≡ true = grind (arith, nat_tests) in rw b refl
@@ -102,7 +103,7 @@ pub held-undotted : (with_text : Bool) (name_of : NameOf) (kind : Kind) (row : L
     → length row ≤ most_on_line kind → IsUndotted with_text name_of kind row
 held-undotted with_text name_of Octets row o r h = octets-text with_text name_of row h
 held-undotted with_text name_of Boolean row o r h = (refl, boolean-rows row h)
-held-undotted with_text name_of Integer row o r h = (refl, integer-rows row h)
+held-undotted with_text name_of Integer row o r h = (integer-on_line with_text row, integer-rows row h)
 held-undotted with_text name_of Bits row o r h = (refl, bits-rows row h)
 held-undotted with_text name_of Object row o r h = absurd (o refl)
 held-undotted with_text name_of Relative row o r h = absurd (r refl)
@@ -114,8 +115,8 @@ held-undotted with_text name_of Ucs4 row o r h = (refl, refl)
 undotted_at : (with_text : Bool) (name_of : NameOf) (kind : Kind) (layout : Layout) (line row : List ℕ) → IsUndotted with_text name_of kind row
     → line ++ (undotted_text with_text kind row ++ 10 ∷ [])
     ≡ line
-    ++ ((on_line_text with_text (short_value name_of kind row).on_line ++ 10 ∷ [])
-    ++ shown_row_lines with_text kind layout (short_value name_of kind row).rows)
+    ++ ((on_line_text_with with_text (short_value name_of kind row).on_line ++ 10 ∷ [])
+    ++ shown_row_lines_with with_text kind layout (short_value name_of kind row).rows)
 undotted_at with_text name_of kind layout line row p =
     let text : List ℕ = undotted_text with_text kind row ++ 10 ∷ [] in
     rw (p.0, p.1)

@@ -9,7 +9,7 @@ use Rattle.tlv_io.proofs.Puts.{puts_text}
 use Rattle.tlv_value.specs.declared.layout.Layout.{Layout}
 use Rattle.tlv_value.specs.PutsRest.{PutsRest}
 use Rattle.tlv_value.specs.Value.{NameOf}
-use Rattle.tlv_value.specs.ValueLines.{incomplete_lines_with, whole_lines_with}
+use Rattle.tlv_value.specs.TextBeside.{incomplete_lines_with, whole_lines_with}
 use Rattle.tlv_value.specs.ValueTextState.{ValueTextState, begin_lines, contents_lines, end_lines}
 use Rattle.tlv_value.specs.ValueTextState.{new_value_text_with, value_text_for}
 use Rattle.tlv_value.proofs.TextLemmas.Pieces.{lines-begin, lines-end, lines-go_on}

@@ -11,9 +11,8 @@ use Rattle.tlv_value.specs.declared.layout.Layout.{Layout}
 use Rattle.tlv_value.specs.Layout.{inner_line, shown_rows}
 use Rattle.tlv_value.specs.Rows.{rows_of}
 use Rattle.tlv_value.specs.RowsSoFar.{full_rows, open_row}
-use Rattle.tlv_value.specs.ValueLines.{shown_row_lines}
+use Rattle.tlv_value.specs.TextBeside.{row_text_with, shown_row_lines_with}
 use Rattle.tlv_value.specs.ValueTextState.{row_by_limit, row_line, row_lines}
-use Rattle.tlv_value.specs.Value.{row_text}
 use Rattle.tlv_value.proofs.RowLemmas.OneCut.{rows-parts}
 
 -- ---- rows with a number of others before them, and all rows
@@ -88,21 +87,21 @@ module _ (line_of text_of : List ℕ → List ℕ) where
 
 row_lines-counted : (with_text : Bool) (kind : Kind) (layout : Layout) (i : ℕ) (rows : List (List ℕ))
     → row_lines with_text kind layout i rows
-    ≡ counted (inner_line layout) (row_text with_text kind) layout.limit i rows
+    ≡ counted (inner_line layout) (row_text_with with_text kind) layout.limit i rows
 row_lines-counted with_text kind layout i [] = refl
 row_lines-counted with_text kind layout i (row ∷ rows) =
-    ap (λ (t : List ℕ). row_line layout i (row_text with_text kind row) ++ t)
+    ap (λ (t : List ℕ). row_line layout i (row_text_with with_text kind row) ++ t)
     (row_lines-counted with_text kind layout (i + 1) rows)
 
 -- with no rows before them
 pub row_lines-all : (with_text : Bool) (kind : Kind) (layout : Layout) (rows : List (List ℕ))
-    → row_lines with_text kind layout 0 rows ≡ shown_row_lines with_text kind layout rows
+    → row_lines with_text kind layout 0 rows ≡ shown_row_lines_with with_text kind layout rows
 row_lines-all with_text kind layout rows =
     row_lines-counted with_text kind layout 0 rows
-    ∙ counted-all (inner_line layout) (row_text with_text kind) layout.limit rows
+    ∙ counted-all (inner_line layout) (row_text_with with_text kind) layout.limit rows
 
 -- no rows
-pub no-row_lines : (with_text : Bool) (kind : Kind) (layout : Layout) → shown_row_lines with_text kind layout [] ≡ []
+pub no-row_lines : (with_text : Bool) (kind : Kind) (layout : Layout) → shown_row_lines_with with_text kind layout [] ≡ []
 no-row_lines with_text kind layout = ap (flat_map (inner_line layout)) (no-rows layout.limit)
 
 -- ---- rows, and others after them
@@ -112,17 +111,17 @@ pub row_lines-append : (with_text : Bool) (kind : Kind) (layout : Layout) (i : �
 row_lines-append with_text kind layout i [] ys = let e : i + 0 ≡ i = omega arith in rw e refl
 row_lines-append with_text kind layout i (x ∷ xs) ys =
     let e : i + 1 + length xs ≡ i + length (x ∷ xs) = omega arith in
-    ap (λ (t : List ℕ). row_line layout i (row_text with_text kind x) ++ t)
+    ap (λ (t : List ℕ). row_line layout i (row_text_with with_text kind x) ++ t)
     (row_lines-append with_text kind layout (i + 1) xs ys
     ∙ ap (λ (n : ℕ). row_lines with_text kind layout (i + 1) xs ++ row_lines with_text kind layout n ys) e)
-    ∙ sym (append_assoc (row_line layout i (row_text with_text kind x)) (row_lines with_text kind layout (i + 1) xs)
+    ∙ sym (append_assoc (row_line layout i (row_text_with with_text kind x)) (row_lines with_text kind layout (i + 1) xs)
     (row_lines with_text kind layout (i + length (x ∷ xs)) ys))
 
 -- all rows, and the last
 pub rows-split : (with_text : Bool) (kind : Kind) (layout : Layout) (octets : List ℕ)
     → row_lines with_text kind layout 0 (full_rows kind [] octets)
     ++ row_lines with_text kind layout (length (full_rows kind [] octets)) (last_rows (open_row kind [] octets))
-    ≡ shown_row_lines with_text kind layout (rows_of kind octets)
+    ≡ shown_row_lines_with with_text kind layout (rows_of kind octets)
 rows-split with_text kind layout octets =
     let e : 0 + length (full_rows kind [] octets) ≡ length (full_rows kind [] octets) = omega arith in
     ap (λ (n : ℕ). row_lines with_text kind layout 0 (full_rows kind [] octets)

@@ -24,9 +24,9 @@ use Rattle.tlv_value.specs.Units.{escaped_number, escaped_octet, is_printable, o
 use Rattle.tlv_value.specs.Units.{first_units, three_octets, unit_size, unit_text, units, utf8_number, without_zeros}
 use Rattle.tlv_value.proofs.TextLemmas.UnitSteps.{size-within}
 use Rattle.tlv_value.specs.Value.{InPairs, OnLine, Value, Written, bit_count_text, bits_value, boolean_value}
-use Rattle.tlv_value.specs.Value.{integer_text, is_readable, on_line_text}
-use Rattle.tlv_value.specs.Private.UndottedText.{line_pairs}
-use Rattle.tlv_value.specs.Value.{pairs_with_text, text_behind}
+use Rattle.tlv_value.specs.Value.{is_readable}
+use Rattle.tlv_value.specs.TextBeside.{on_line_text_with, pairs_with_text, text_behind}
+use Rattle.tlv_value.specs.Private.UndottedText.{integer_text, line_pairs}
 use Rattle.tlv_io.specs.LineTexts.{AddsAtMost}
 use Rattle.tlv_io.proofs.HeldTexts.{pairs-size}
 use Rattle.tlv_value.specs.Value.{octets_value, spaced_pairs, used_digits, value_on_line}
@@ -177,10 +177,10 @@ pub pairs-short : (with_text : Bool) (octets : List ℕ) → length octets ≤ 6
 pairs-short with_text octets h =
     omega (arith, row-short with_text octets, h)
 
-octets-text-short : (with_text : Bool) (octets : List ℕ) → length (on_line_text with_text (octets_value octets).on_line) ≤ 330
+octets-text-short : (with_text : Bool) (octets : List ℕ) → length (on_line_text_with with_text (octets_value octets).on_line) ≤ 330
 octets-text-short with_text octets =
     elim (nat_le (length octets) 16) as (λ b. nat_le (length octets) 16 ≡ b
-    → length (on_line_text with_text
+    → length (on_line_text_with with_text
     (if b then value_with (InPairs octets) [] else value_with (Written []) (rows_of Octets octets)).on_line)
     ≤ 330) [
       | true ↦ λ e.
@@ -195,7 +195,7 @@ signed-short : (z : ℤ) → mag z < 2 ^ 127 → length (signed_decimal z) ≤ 4
 signed-short (pos n) h = omega (arith, digits-short n (omega arith))
 signed-short (negsuc n) h = omega (arith, digits-short (suc n) (omega arith))
 
-pub boolean-short : (with_text : Bool) (octets : List ℕ) → length octets ≤ 16 → length (on_line_text with_text (boolean_value octets).on_line) ≤ 330
+pub boolean-short : (with_text : Bool) (octets : List ℕ) → length octets ≤ 16 → length (on_line_text_with with_text (boolean_value octets).on_line) ≤ 330
 boolean-short with_text [] h = octets-text-short with_text []
 boolean-short with_text (x ∷ []) h =
     elim (eqb x 0) as (λ b. length (32 ∷ (if b then codes "FALSE" else codes "TRUE")) ≤ 330)
@@ -227,10 +227,10 @@ count-short unused_bits octets h =
       digits-short (8 * octets - unused_bits) (omega arith),
     )
 
-pub bits-short : (with_text : Bool) (octets : List ℕ) → length octets ≤ 9 → length (on_line_text with_text (bits_value octets).on_line) ≤ 330
+pub bits-short : (with_text : Bool) (octets : List ℕ) → length octets ≤ 9 → length (on_line_text_with with_text (bits_value octets).on_line) ≤ 330
 bits-short with_text [] h = octets-text-short with_text []
 bits-short with_text (unused_bits ∷ octets) h =
-    elim (is_readable unused_bits (length octets)) as (λ b. length (on_line_text with_text
+    elim (is_readable unused_bits (length octets)) as (λ b. length (on_line_text_with with_text
     (if b then value_on_line (bit_count_text unused_bits (length octets) ++ used_digits unused_bits octets)
     else octets_value (unused_bits ∷ octets)).on_line)
     ≤ 330) [

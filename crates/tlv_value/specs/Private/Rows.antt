@@ -5,7 +5,7 @@ use Rattle.hex.specs.Hex.{encode_lower}
 use Rattle.tlv_head.specs.declared.kind.Kind.TheVariants.{Octets}
 use Rattle.tlv_value.specs.declared.layout.Layout.{Layout}
 use Rattle.tlv_value.specs.Layout.{blank_columns, inner_line, margin}
-use Rattle.tlv_value.specs.Value.{row_text}
+use Rattle.tlv_value.specs.TextBeside.{row_text_with}
 
 -- the number of spaces before a row
 abbrev pub row_indent : Layout → ℕ
@@ -18,7 +18,7 @@ row_margin layout = margin (record layout { level = layout.level + 1 }) blank_co
 -- the line of a row of pairs of digits, if there is no limit to rows. The first argument says whether text is beside
 -- them
 abbrev pub pair_row_line : Bool → Layout → List ℕ → List ℕ
-pair_row_line with_text layout row = inner_line layout (row_text with_text Octets row)
+pair_row_line with_text layout row = inner_line layout (row_text_with with_text Octets row)
 
 abbrev pub pair_row_lines : Bool → Layout → List (List ℕ) → List ℕ
 pair_row_lines with_text layout rows = flat_map (pair_row_line with_text layout) rows

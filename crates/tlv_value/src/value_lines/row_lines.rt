@@ -10,8 +10,7 @@ ghost use Rattle.tlv_value.specs.RowSizes.{IsOpenRow};
 ghost use Rattle.tlv_value.specs.Private.Rows.{pair_row_line, pair_row_lines, row_indent};
 ghost use Rattle.tlv_value.specs.Rows.{rows_of};
 ghost use Rattle.tlv_value.specs.RowsSoFar.{full_rows, open_row};
-ghost use Rattle.tlv_value.specs.Value.{row_text};
-ghost use Rattle.tlv_value.specs.ValueLines.{shown_row_lines};
+ghost use Rattle.tlv_value.specs.TextBeside.{row_text_with, shown_row_lines_with};
 ghost use Rattle.tlv_value.specs.ValueTextState.{row_line, row_lines};
 
 use crate::Layout;
@@ -33,7 +32,7 @@ pub(super) fn put_all_rows<D: Drain>(
 ) -> Result<(), WriteFault>
     requires { length contents.now ≤ 64 }
     ensures { Puts D.state out.old out.new
-        (shown_row_lines with_text Kind.Octets layout (rows_of Kind.Octets contents.now)) result }
+        (shown_row_lines_with with_text Kind.Octets layout (rows_of Kind.Octets contents.now)) result }
 {
     let form = RowForm {
         kind: Kind::Octets,
@@ -172,7 +171,7 @@ fn put_full<D: Drain>(
     requires { length row.old.items + length part.now ≤ 64 }
     ensures row { row.new.items ≡ [] }
     ensures puts { Puts D.state out.old out.new
-        (row_line form.now.layout index (row_text form.now.with_text form.now.kind (row.old.items ++ part.now)))
+        (row_line form.now.layout index (row_text_with form.now.with_text form.now.kind (row.old.items ++ part.now)))
         result }
 {
     if row.is_empty() {
@@ -211,7 +210,7 @@ fn put_row<D: Drain>(
 ) -> Result<(), WriteFault>
     requires { length row.now ≤ 64 }
     ensures { Puts D.state out.old out.new
-        (row_line form.now.layout index (row_text form.now.with_text form.now.kind row.now)) result }
+        (row_line form.now.layout index (row_text_with form.now.with_text form.now.kind row.now)) result }
 {
     if let Some(limit) = form.layout.limit
         && index >= u64::from(limit)
@@ -248,7 +247,7 @@ fn write_line(held: &mut HeldOctets, form: &RowForm, row: &[u8])
     requires room { HasRoomFor held.old line_room }
     requires short { length row.now ≤ 64 }
     ensures { held.new ≡ held.old
-        ++ inner_line form.now.layout (row_text form.now.with_text form.now.kind row.now) }
+        ++ inner_line form.now.layout (row_text_with form.now.with_text form.now.kind row.now) }
 {
     held.spaces(row_indent(form.layout) - 1);
     write_row(held, form.kind, form.with_text, row);

@@ -23,9 +23,11 @@ use Rattle.tlv_head.specs.declared.kind.Kind.{Kind}
 use Rattle.tlv_value.specs.declared.layout.Layout.{Layout}
 use Rattle.tlv_value.specs.Finding.{finding_code, finding_text}
 use Rattle.tlv_value.specs.Layout.{blank_columns, columns, inner_line, line, margin, shown_rows, spaces}
-use Rattle.tlv_value.specs.Value.{NameOf, Value, is_long, on_line_text, row_text, whole_value}
-use Rattle.tlv_value.specs.ValueLines.{incomplete_lines_with, has_line, header_kind, shown_row_lines}
-use Rattle.tlv_value.specs.ValueLines.{value_lines, whole_lines_with}
+use Rattle.tlv_value.specs.Value.{NameOf, Value, is_long, whole_value}
+use Rattle.tlv_value.specs.TextBeside.{on_line_text_with, row_text_with}
+use Rattle.tlv_value.specs.ValueLines.{has_line, header_kind}
+use Rattle.tlv_value.specs.TextBeside.{incomplete_lines_with, shown_row_lines_with}
+use Rattle.tlv_value.specs.TextBeside.{value_lines_with, whole_lines_with}
 use Rattle.tlv_show.specs.ShowJob.{top_layout}
 use Rattle.tlv_show.specs.HolderLines.{closing_line, opening_line, opening_word, padding_line, size_text}
 use Rattle.tlv_show.specs.Items.{ClosingLine, FindingAt, Item, OpenPrimitiveLines, OpeningLine, PaddingLine}
@@ -37,7 +39,8 @@ use Rattle.tlv_show.specs.SetOrder.{holder_element, primitive_element}
 use Rattle.tlv_show.specs.ShownFindings.{all_by, contents_findings, header_findings, last_findings}
 use Rattle.tlv_show.specs.Site.{Site, is_padding, site_of_children, top_site}
 use Rattle.tlv_show.specs.FindingLines.{dump_finding_line}
-use Rattle.tlv_show.specs.Texts.{item_text, layout_at}
+use Rattle.tlv_show.specs.Texts.{layout_at}
+use Rattle.tlv_show.specs.WantedJobs.{item_text_with}
 use Rattle.tlv_show.specs.declared.wanted.Wanted.{Wanted}
 use Rattle.tlv_open.specs.Laws.{opened_framing}
 use Rattle.tlv_view.specs.Views.{dump_options}
@@ -83,21 +86,21 @@ limited-shown (Some limit) texts all = elim (cases_Bool (nat_lt limit (length te
 ]
 
 rows-shown : (with_text : Bool) (k : Kind) (layout : Layout) (rows : List (List ℕ))
-    → All (λ (row : List ℕ). AreOctets row) rows → AreShown (shown_row_lines with_text k layout rows)
+    → All (λ (row : List ℕ). AreOctets row) rows → AreShown (shown_row_lines_with with_text k layout rows)
 rows-shown with_text k layout rows all =
-    let texts : List (List ℕ) = map (row_text with_text k) rows in
+    let texts : List (List ℕ) = map (row_text_with with_text k) rows in
     let shown : All AreShown texts =
-    All-map AreShown (row_text with_text k) rows (λ i other less. row-shown with_text k _ (all i other less)) in
+    All-map AreShown (row_text_with with_text k) rows (λ i other less. row-shown with_text k _ (all i other less)) in
     flat-shown (inner_line layout) AreShown (shown_rows layout.limit texts) (inner-shown layout)
     (limited-shown layout.limit texts shown)
 
 value-shown : (with_text : Bool) (h : HeaderValue) (layout : Layout) (v : Value) → IsShownValue v
-    → AreShown (value_lines with_text h layout v)
+    → AreShown (value_lines_with with_text h layout v)
 value-shown with_text h layout v shown =
     let size : List ℕ = decimal (announced_length h.size) in
-    let value_text : List ℕ = on_line_text with_text v.on_line in
+    let value_text : List ℕ = on_line_text_with with_text v.on_line in
     let text : List ℕ = tag_text h.class h.number ++ value_text in
-    joined-shown (line layout (columns h.offset size) text) (shown_row_lines with_text (header_kind h) layout v.rows)
+    joined-shown (line layout (columns h.offset size) text) (shown_row_lines_with with_text (header_kind h) layout v.rows)
     (line-shown layout (columns h.offset size) text
     (columns-shown h.offset size (decimal-shown (announced_length h.size)))
     (joined-shown (tag_text h.class h.number) value_text (tag-shown h.class h.number) (shown.text with_text)))
@@ -162,7 +165,7 @@ IsOfOctets (OpenPrimitiveLines level h c) = AreOctets c
 IsOfOctets item = Unit {0}
 
 item-shown : (with_text : Bool) (name_of : NameOf) (layout : Layout) (item : Item) → AreShownNames name_of
-    → IsOfOctets item → AreShown (item_text with_text name_of layout item)
+    → IsOfOctets item → AreShown (item_text_with with_text name_of layout item)
 item-shown with_text name_of layout (FindingAt level offset f) names o =
     finding_in-shown layout.pure layout.limit level offset f
 item-shown with_text name_of layout (OpeningLine level h) names o = opening-shown (layout_at layout level) h
@@ -250,7 +253,7 @@ dumps-shown rules limit pure with_text closed padding table octets old new repor
     let spelled : AreOctets (spelling run.reading) =
     left-octets (spelling run.reading) run.is_reading.is_prefix.0
     (subst (λ (l : List ℕ). AreOctets l) (sym run.is_reading.is_prefix.1) read) in
-    sends-shown old new (flat_map (item_text with_text (finite.get table) layout) (items (wanted_findings (all_by rules)) top_site run.reading)) _
-    (flat-shown (item_text with_text (finite.get table) layout) IsOfOctets (items (wanted_findings (all_by rules)) top_site run.reading)
+    sends-shown old new (flat_map (item_text_with with_text (finite.get table) layout) (items (wanted_findings (all_by rules)) top_site run.reading)) _
+    (flat-shown (item_text_with with_text (finite.get table) layout) IsOfOctets (items (wanted_findings (all_by rules)) top_site run.reading)
     (λ item is. item-shown with_text (finite.get table) layout item names is)
     (items-of (all_by rules) top_site run.reading spelled)) run.sends

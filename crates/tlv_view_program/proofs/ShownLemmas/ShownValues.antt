@@ -20,9 +20,9 @@ use Rattle.tlv_value.proofs.RowLemmas.RowsFilled.{rows-are_cut}
 use Rattle.tlv_value.specs.Units.{is_printable, quoted_text}
 use Rattle.tlv_value.specs.Value.{NameOf, Value, bit_count_text, bits_value, boolean_value, incomplete_value}
 use Rattle.tlv_value.specs.Value.{integer_value, is_long, is_readable, long_text, long_value, name_text}
-use Rattle.tlv_value.specs.Value.{no_names, object_value, octets_value, on_line_text, pairs_with_text, row_octets}
-use Rattle.tlv_value.specs.Value.{row_text}
-use Rattle.tlv_value.specs.Value.{short_value, spaced_pairs, text_behind, used_digits, value_on_line, whole_value}
+use Rattle.tlv_value.specs.Value.{no_names, object_value, octets_value, row_octets}
+use Rattle.tlv_value.specs.TextBeside.{on_line_text_with, pairs_with_text, row_text_with, text_behind}
+use Rattle.tlv_value.specs.Value.{short_value, spaced_pairs, used_digits, value_on_line, whole_value}
 use Rattle.tlv_why.specs.Laws.{AreShown, is_shown_octet}
 use Rattle.tlv_why.proofs.ShownLemmas.ShownWords.{decimal-shown}
 use Rattle.tlv_view_program.proofs.ShownLemmas.ShownLabels.{all_printable-shown, joined-shown}
@@ -33,7 +33,7 @@ use Rattle.tlv_value.specs.Private.Arcs.{dotted_arcs}
 
 -- a value whose text is shown, and whose rows are of octets
 pub record IsShownValue (v : Value) : Type 0 where
-  pub text : (with_text : Bool) → AreShown (on_line_text with_text v.on_line)
+  pub text : (with_text : Bool) → AreShown (on_line_text_with with_text v.on_line)
   pub rows : All (λ (row : List ℕ). AreOctets row) v.rows
 
 no_rows : All (λ (row : List ℕ). AreOctets row) []
@@ -265,7 +265,7 @@ whole-shown name_of k octets names o = elim (cases_Bool (is_long k (length octet
   | inr short ↦ rw short (short-shown name_of k octets names o)
 ]
 
-pub row-shown : (with_text : Bool) (k : Kind) (row : List ℕ) → AreOctets row → AreShown (row_text with_text k row)
+pub row-shown : (with_text : Bool) (k : Kind) (row : List ℕ) → AreOctets row → AreShown (row_text_with with_text k row)
 row-shown with_text k row o = elim (cases_Bool (is_text k)) [
   | inl characters ↦ rw characters (quoted-shown k row o)
   | inr pairs ↦ rw pairs (with_text-shown with_text row (joined_pairs row) (joined_pairs-shown row o))

@@ -1,5 +1,5 @@
 use Rattle.std.proofs.Common.{◌∷◌, arith, rules}
-use Rattle.tlv_value.specs.Value.{pairs_with_text}
+use Rattle.tlv_value.specs.TextBeside.{pairs_with_text}
 use Rattle.tlv_value.specs.Units.{quoted_text}
 use Rattle.tlv_value.proofs.TextLemmas.RowTextLengths.{length-grown, quoted-short, row-pairs-short}
 use Rattle.tlv_value.proofs.value.write_row.Goals as goal

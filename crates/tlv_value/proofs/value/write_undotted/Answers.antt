@@ -1,6 +1,7 @@
 use Rattle.std.proofs.Common.{rules, ◌≤◌, ◌∷◌, length, List, ℕ}
-use Rattle.tlv_value.specs.Private.UndottedText.{line_pairs}
-use Rattle.tlv_value.specs.Value.{bits_value, boolean_value, integer_text, on_line_text}
+use Rattle.tlv_value.specs.Private.UndottedText.{integer_text, line_pairs}
+use Rattle.tlv_value.specs.Value.{bits_value, boolean_value}
+use Rattle.tlv_value.specs.TextBeside.{on_line_text_with}
 use Rattle.tlv_value.specs.Units.{quoted_text}
 use Rattle.tlv_value.proofs.TextLemmas.RowTextLengths.{bits-short, boolean-short, length-grown, integer-short}
 use Rattle.tlv_value.proofs.TextLemmas.RowTextLengths.{pairs-short}
@@ -13,7 +14,7 @@ returns-in-Boolean c =
     record {
       text = search rules;
       within =
-          length-grown c.args.held.now c.write_boolean.new.held (on_line_text c.args.with_text (boolean_value octets).on_line) 330 c.write_boolean.ensures
+          length-grown c.args.held.now c.write_boolean.new.held (on_line_text_with c.args.with_text (boolean_value octets).on_line) 330 c.write_boolean.ensures
           (boolean-short c.args.with_text octets (rw c.in-Boolean.is at c.requires.short));
     }
 
@@ -32,7 +33,7 @@ returns-in-Bits c =
     let octets : List ℕ = c.args.contents.now in
     record {
       text = search rules;
-      within = length-grown c.args.held.now c.write_bits.new.held (on_line_text c.args.with_text (bits_value octets).on_line) 330 c.write_bits.ensures
+      within = length-grown c.args.held.now c.write_bits.new.held (on_line_text_with c.args.with_text (bits_value octets).on_line) 330 c.write_bits.ensures
           (bits-short c.args.with_text octets (rw c.in-Bits.is at c.requires.short));
     }
 

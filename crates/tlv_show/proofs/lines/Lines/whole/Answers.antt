@@ -1,7 +1,7 @@
 use Rattle.std.proofs.Common.{◌∙◌, ap}
 use Rattle.std.specs.FinMap as finite
 use Rattle.tlv_value.specs.Value.{NameOf}
-use Rattle.tlv_value.specs.ValueLines.{whole_lines_with}
+use Rattle.tlv_value.specs.TextBeside.{whole_lines_with}
 use Rattle.tlv_io.proofs.Puts.{puts_text}
 use Rattle.tlv_show.specs.LinesStep.{LinesState}
 use Rattle.tlv_show.proofs.lines.Lines.whole.Goals as goal

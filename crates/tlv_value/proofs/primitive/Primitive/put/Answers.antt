@@ -1,9 +1,9 @@
 use Rattle.std.proofs.Common.{rules, ◌++◌, ◌∷◌, [], List, ℕ, refl, ap, ◌∙◌, append_assoc}
 use Rattle.tlv_io.proofs.Puts.{puts_failed_in, puts_held, puts_then_as}
-use Rattle.tlv_value.specs.Value.{Value, on_line_text, short_value}
+use Rattle.tlv_value.specs.Value.{Value, short_value}
+use Rattle.tlv_value.specs.TextBeside.{on_line_text_with, shown_row_lines_with}
 use Rattle.tlv_value.specs.Private.UndottedText.{undotted_text}
 use Rattle.tlv_value.specs.Private.PrimitiveLines.{line_prefix}
-use Rattle.tlv_value.specs.ValueLines.{shown_row_lines}
 use Rattle.tlv_value.proofs.TextLemmas.PrimitiveLines.{shown-prefix, shown-object, shown-undotted, shown-relative}
 use Rattle.tlv_value.proofs.primitive.Primitive.put.Goals as goal
 
@@ -14,7 +14,7 @@ returns-in_err-put_prefix g c =
     let v : Value = short_value names p.kind c.args.contents.now in
     puts_failed_in g.D.Drain.state _ _ (line_prefix p) _ _ _ c.in_err-put_prefix.ensures.puts (search rules)
     (record {
-      rest = (on_line_text p.with_text v.on_line ++ 10 ∷ []) ++ shown_row_lines p.with_text p.kind p.layout v.rows;
+      rest = (on_line_text_with p.with_text v.on_line ++ 10 ∷ []) ++ shown_row_lines_with p.with_text p.kind p.layout v.rows;
       is = shown-prefix names p c.args.contents.now;
     })
 

@@ -5,7 +5,7 @@ use Rattle.std.proofs.lemmas.Bool.Decides.{nat_tests}
 use Rattle.tlv_io.proofs.Puts.{puts_line, puts_no_room, puts_text}
 use Rattle.tlv_value.specs.declared.layout.Layout.{Layout}
 use Rattle.tlv_value.specs.Layout.{inner_line}
-use Rattle.tlv_value.specs.Value.{row_text}
+use Rattle.tlv_value.specs.TextBeside.{row_text_with}
 use Rattle.tlv_value.specs.ValueTextState.{row_line}
 use Rattle.tlv_value.proofs.value_lines.row_lines.put_row.Goals.{in_default-via-in-None-1}
 use Rattle.tlv_value.proofs.value_lines.row_lines.put_row.Goals.{in_default-via-in-Some+else-index-from}
@@ -38,7 +38,7 @@ no_limit layout i text e = rw e refl
 pub returns : goal.returns
 returns g c =
     let e =
-    past_limit c.args.form.now.layout c.args.index c.in-Some.limit c.from-2.result (row_text c.args.form.now.with_text c.args.form.now.kind c.args.row.now)
+    past_limit c.args.form.now.layout c.args.index c.in-Some.limit c.from-2.result (row_text_with c.args.form.now.with_text c.args.form.now.kind c.args.row.now)
     c.in-Some.is (omega (arith, c.from.ensures, c.if-index-from.true)) c.from-2.ensures in
     puts_text g.D.Drain.state _ _ _ _ _ e c.put_dots.ensures
 
@@ -47,7 +47,7 @@ returns-in_err-make_room g c = puts_no_room g.D.Drain.state _ _ _ _ _ c.in_err-m
 
 pub returns-2 : goal.returns-2
 returns-2 g c =
-    let text : List ℕ = row_text c.args.form.now.with_text c.args.form.now.kind c.args.row.now in
+    let text : List ℕ = row_text_with c.args.form.now.with_text c.args.form.now.kind c.args.row.now in
     let e : inner_line c.args.form.now.layout text ≡ row_line c.args.form.now.layout c.args.index text = elim c.in_default.branch [
       | in_default-via-in-None-1 w ↦ no_limit c.args.form.now.layout c.args.index text (search rules)
       | in_default-via-in-Some+else-index-from w ↦

@@ -9,7 +9,7 @@ use Rattle.tlv_value.specs.RowSizes.{row_size}
 use Rattle.tlv_value.proofs.RowLemmas.FilledRows.{rows_filled}
 use Rattle.tlv_value.specs.Private.Rows.{pair_row_lines}
 use Rattle.tlv_value.specs.ValueTextState.{row_line, row_lines}
-use Rattle.tlv_value.specs.Value.{row_text}
+use Rattle.tlv_value.specs.TextBeside.{row_text_with}
 use Rattle.tlv_value.proofs.RowLemmas.FullRows.{splits-full_rows}
 use Rattle.tlv_value.proofs.RowLemmas.OneCut.{open-parts}
 use Rattle.tlv_value.proofs.RowLemmas.RowSteps.{row-kept_in_loop, kept-open, none-open, filled_row-some}
@@ -86,7 +86,7 @@ loop-rest-preserved g c =
     filled_row-some kind c.len-begun.result m c.loop-rest.rest.now (omega arith) c.fitting_length.ensures.next claim
     in
     let none : c.put_full.new.row.items ≡ [] = c.put_full.ensures.row in
-    let line : List ℕ = row_line c.args.form.now.layout c.loop-rest.row_count (row_text c.args.form.now.with_text kind (row ++ part)) in
+    let line : List ℕ = row_line c.args.form.now.layout c.loop-rest.row_count (row_text_with c.args.form.now.with_text kind (row ++ part)) in
     record {
       is_open = rw none (none-open kind);
       counted = omega (arith, ap length none);
@@ -122,7 +122,7 @@ returns-in_err-put_full-clause-puts g c =
     c.split_at.ensures.front c.split_at.ensures.back c.fitting_length.ensures.fits
     c.fitting_length.ensures.short
     c.fitting_length.ensures.within (omega arith) c.fitting_length.ensures.next claim in
-    let line : List ℕ = row_line c.args.form.now.layout c.loop-rest.row_count (row_text c.args.form.now.with_text kind (row ++ part)) in
+    let line : List ℕ = row_line c.args.form.now.layout c.loop-rest.row_count (row_text_with c.args.form.now.with_text kind (row ++ part)) in
     let rest : List ℕ = row_lines c.args.form.now.with_text kind c.args.form.now.layout (c.loop-rest.row_count + 1) (rows_filled kind [] more) in
     puts_failed_in g.D.Drain.state _ _ (i.put.0 ++ line)
     _ _ _ (puts_then_as g.D.Drain.state _ _ _ i.put.0 line (i.put.0 ++ line) tt _ i.put.1
