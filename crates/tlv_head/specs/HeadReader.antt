@@ -43,8 +43,8 @@ pub record Completes (r : HeadReaderState) (added : List ℕ) (h : HeaderValue) 
   pub named : h.named ≡ r.named
   pub octets_are : octets_of h ≡ r.octets ++ added
 
--- an element with this header is allowed there: an element that holds others is not inside `depth_limit` such
--- elements, and the announced contents end within the bound
+-- an element with this header is allowed there: a holder is not inside `depth_limit` holders, and the announced
+-- contents end within the bound
 pub record FitsThere (h : HeaderValue) (room : Option ℕ) (depth : ℕ) : Type 0 where
   pub shallow : holds h ≡ true → depth < depth_limit
   pub contents_fit : ContentsFit h.size room
@@ -56,8 +56,7 @@ pub data IsRefusedPush (r : HeadReaderState) (x : ℕ) (room : Option ℕ) (dept
   -- F06 to F09: no header goes on with that octet
   refused_octet : {code : FaultCode} → room ≢ Some 0 → IsRefusedOctet r.octets x code
       → IsRefusedPush r x room depth code
-  -- F10, a limit of our own: x completes the header of an element that holds others, inside `depth_limit` such
-  -- elements
+  -- F10, a limit of our own: x completes the header of a holder, inside `depth_limit` holders
   too_deep : room ≢ Some 0 → (h : HeaderValue) → Completes r (x ∷ []) h → holds h ≡ true → depth_limit ≤ depth
       → IsRefusedPush r x room depth TooDeep
   -- F11, 8.1.3.3: x completes a header whose contents end beyond the bound

@@ -50,7 +50,7 @@ AreLikely end = Unit {0}
 -- `depth + 1`, they are one or more sound elements, and the outermost are likely to be encodings
 pub record HoldsEncodings (depth : ℕ) (h : HeaderValue) (contents : List ℕ) (inner : Forest) : Type 0 where
   pub octets : inner_octets h contents ≡ Some (spelling inner)
-  -- the string counts among the elements that hold others
+  -- the string counts among the holders
   pub shallow : depth < depth_limit
   pub sound : IsSound (place_by_itself (depth + 1)) inner
   pub some : has_element inner ≡ true

@@ -26,7 +26,8 @@ abbrev pub leaves_unused_bits : Forest → Bool
 leaves_unused_bits (Primitive h (x ∷ c) rest) = is_a universal.bit_string h && not (x == 0)
 leaves_unused_bits _ = false
 
--- 9.2: what is right before is an element, but not a primitive with 1000 contents octets. A wrapper is a primitive too
+-- 9.2: what is right before is an element, but not a primitive with 1000 contents octets. A wrapper has the form of a
+-- primitive, and counts as one
 abbrev pub is_not_full : Forest → Bool
 is_not_full (Primitive h c rest) = not (announced_length h.size == 1000)
 is_not_full (Holder h children rest) = not (has_primitive_form h && announced_length h.size == 1000)
@@ -54,7 +55,11 @@ listed_header_conditions s h =
     -- ---- of DER and of CER: S
     -- S01, 9.1, 10.1: a definite length has the fewest octets. 9.1 says so of primitives; a constructed element has C01
     -- too. There are subsequent ones (8.1.3.5) only for 128 and more, and the first of these is not 00
-    ∷ (S01, nat_lt 1 (length h.length_octets) && (nat_lt (announced_length h.size) 128 || slice_index h.length_octets 1 == 0))
+    ∷ (
+      S01,
+      nat_lt 1 (length h.length_octets)
+          && (nat_lt (announced_length h.size) 128 || slice_index h.length_octets 1 == 0),
+    )
     -- ---- of DER alone: D
     -- D01, 10.1: lengths are definite
     ∷ (D01, is_indefinite h.size)

@@ -8,7 +8,7 @@ use Rattle.tlv_walk.specs.Forest.{Primitive, end_octets_offset, holder_extent, p
 use Rattle.tlv_show.specs.ListedFindings.{ElementFindings}
 use Rattle.tlv_show.specs.Site.{Site, is_padding, site_after, site_of_children}
 
--- an item, with its depth: the number of elements that hold what it is about
+-- an item, with its depth: the number of holders around what it is about
 pub data Item : Type 0 where
   -- a finding in the element that begins at this offset
   FindingAt : (depth offset : ℕ) (finding : Finding) → Item

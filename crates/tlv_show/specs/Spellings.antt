@@ -77,7 +77,8 @@ abbrev pub LongerIdentifiersAreFound : Type 0
 LongerIdentifiersAreFound =
     (rules : Rules) (s : Site) (h : HeaderValue)
     → IsHeader h → identifier_octet h.class h.constructed h.number ≢ 0
-    → (list_any is_on_identifier ((listed_findings rules).of_header s h) ≡ true) ↔ HasShorter (λ k. k.identifier_octets) h
+    → (list_any is_on_identifier ((listed_findings rules).of_header s h) ≡ true)
+    ↔ HasShorter (λ k. k.identifier_octets) h
 
 -- by DER and by CER, S01 is found if and only if fewer length octets say the same
 abbrev pub LongerLengthsAreFound : Type 0

@@ -1,4 +1,5 @@
--- What a call of `dump` or of `check` is to do, with the findings that are wanted, and with text beside pairs of digits.
+-- What a call of `dump` or of `check` is to do, with the findings that are wanted, and with text beside pairs of
+-- digits.
 use Rattle.std.specs.Prelude.{Bool, List, ℕ}
 use Rattle.std.specs.FinMap as finite
 use Rattle.tlv_walk.specs.declared.framing.Framing.{Framing}

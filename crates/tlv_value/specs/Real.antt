@@ -118,12 +118,14 @@ canonical_mantissa = nonzero_digit followed_by maybe (digits followed_by nonzero
 
 -- 11.3.2.6: an exponent of 0 is +0. Any other has no plus, and its first digit is not 0
 abbrev pub canonical_exponent : Form
-canonical_exponent = (mark 0x2b followed_by mark 0x30) or (maybe (mark 0x2d) followed_by nonzero_digit followed_by digits)
+canonical_exponent =
+    (mark 0x2b followed_by mark 0x30) or (maybe (mark 0x2d) followed_by nonzero_digit followed_by digits)
 
 -- 11.3.2: NR3 with no spaces and no plus before the mantissa; the point and E come right after it
 abbrev pub canonical_nr3_form : Form
 canonical_nr3_form =
-    maybe (mark 0x2d) followed_by canonical_mantissa followed_by mark 0x2e followed_by mark 0x45 followed_by canonical_exponent
+    maybe (mark 0x2d) followed_by canonical_mantissa followed_by mark 0x2e followed_by mark 0x45
+    followed_by canonical_exponent
 
 -- ---- The conditions
 

@@ -14,9 +14,9 @@ abbrev pub character_length : Kind → ℕ → ℕ
 character_length Utf8 x = utf8_length x
 character_length _ x = 1
 
--- a row of this many octets has room for x, and for the octets after x that belong to its character
+-- a row that has this number of octets has room for x, and for the octets after x that belong to its character
 abbrev pub has_room : Kind → ℕ → ℕ → Bool
-has_room kind octets x = nat_le (octets + character_length kind x) (row_size kind)
+has_room kind count x = nat_le (count + character_length kind x) (row_size kind)
 
 -- the row has fewer octets than a row has room for, and splits no octets that must be kept in one row
 pub record IsOpenRow (kind : Kind) (row : List ℕ) : Type 0 where

@@ -40,7 +40,9 @@ utc_zone = mark 0x5a or (sign followed_by hour followed_by minute)
 
 -- X.680 47.3
 abbrev pub utc_time_form : Form
-utc_time_form = year_digits followed_by month_and_day followed_by hour followed_by minute followed_by maybe second followed_by utc_zone
+utc_time_form =
+    year_digits followed_by month_and_day followed_by hour followed_by minute followed_by maybe second
+    followed_by utc_zone
 
 -- one digit or more after a point or a comma: 2e is the point, 2c the comma, 30 to 39 are the digits
 abbrev pub fraction : Form
@@ -52,8 +54,8 @@ generalized_zone = mark 0x5a or (sign followed_by hour followed_by maybe minute)
 -- X.680 46.3: the fraction is that of the hour, minute or second before it
 abbrev pub generalized_time_form : Form
 generalized_time_form =
-    year_digits followed_by year_digits followed_by month_and_day followed_by hour followed_by maybe (minute followed_by maybe second)
-    followed_by maybe fraction followed_by maybe generalized_zone
+    year_digits followed_by year_digits followed_by month_and_day followed_by hour
+    followed_by maybe (minute followed_by maybe second) followed_by maybe fraction followed_by maybe generalized_zone
 
 -- ---- The canonical forms: X.690 11.7, 11.8
 
@@ -74,4 +76,5 @@ canonical_fraction = mark 0x2e followed_by digits followed_by octet_between 0x31
 -- 11.7.1: the time ends with Z
 abbrev pub canonical_generalized_time_form : Form
 canonical_generalized_time_form =
-    year_digits followed_by year_digits followed_by month_and_day followed_by canonical_clock followed_by maybe canonical_fraction followed_by mark 0x5a
+    year_digits followed_by year_digits followed_by month_and_day followed_by canonical_clock
+    followed_by maybe canonical_fraction followed_by mark 0x5a

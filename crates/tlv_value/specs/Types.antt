@@ -59,7 +59,7 @@ has_encodings encodings h =
 abbrev pub is_string : HeaderValue → Bool
 is_string h = has_encodings Segmented h
 
--- 8.1.2.5: the element is primitive, as a string that holds encodings is
+-- 8.1.2.5: bit 6 of the identifier is 0, so the element is a primitive, or a wrapper
 abbrev pub has_primitive_form : HeaderValue → Bool
 has_primitive_form h = not h.constructed
 

@@ -16,7 +16,7 @@ use Rattle.tlv_value.specs.Number.{twos_complement}
 use Rattle.tlv_value.specs.Rows.{full_rows_in, rows_of}
 use Rattle.tlv_value.specs.Units.{quoted_text}
 
--- what a line has after the tag text: a text, or octets that are shown as pairs of digits
+-- what a line has after the tag text: a text, with the space before it, or octets that are shown as pairs of digits
 pub data OnLine : Type 0 where
   Written : (text : List ℕ) → OnLine
   InPairs : (octets : List ℕ) → OnLine
@@ -91,7 +91,7 @@ object_value name_of relative octets =
 -- ---- Of any kind
 
 -- contents of up to this many octets are read as a whole, to be on the element's line if they can be read; longer
--- contents are shown in rows
+-- contents are shown in rows. The last line has the numbers of `row_size`
 abbrev pub most_on_line : Kind → ℕ
 most_on_line Bits = 9
 most_on_line Object = 64

@@ -34,12 +34,12 @@ pub data Forest : Type 0 where
 abbrev pub is_wrapping_bit_string : HeaderValue → Bool
 is_wrapping_bit_string h = not h.constructed && h.number == universal.bit_string
 
--- 8.6.2.2: the contents octets before the elements that an element holds: in a BIT STRING 00, for no unused bits, and
+-- 8.6.2.2: the contents octets of a holder before the elements in it: in a BIT STRING 00, for no unused bits, and
 -- otherwise none
 abbrev pub lead : HeaderValue → List ℕ
 lead h = if is_wrapping_bit_string h then 0 ∷ [] else []
 
--- 8.1.1.1: the octets of an element before the elements that it holds
+-- 8.1.1.1: the octets of a holder before the elements in it
 abbrev pub opening : HeaderValue → List ℕ
 opening h = octets_of h ++ lead h
 

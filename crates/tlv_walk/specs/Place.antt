@@ -19,9 +19,9 @@ pub record Place : Type 0 where
   pub offset : ℕ
   -- the number of open holders around it
   pub depth : ℕ
-  -- the end of the innermost definite element that holds it
+  -- the end of the innermost holder around it that has a definite length
   pub bound : Option ℕ
-  -- the innermost element that holds it has an indefinite length
+  -- the innermost holder around it has an indefinite length
   pub indefinite : Bool
   -- there may be padding
   pub padding : Bool
@@ -96,7 +96,7 @@ HasItsLength h children = IfSome (definite_length h.size) (λ n. contents_length
 -- no announced end lies beyond the bound
 abbrev pub ObeysGrammar : Place → Forest → Type 0
 ObeysGrammar p NoMore = Unit {0}
--- padding: at the top level only, where the last two conditions hold of themselves
+-- padding: at the top level only. There the last two conditions hold of themselves; the laws are for any `Place`
 ObeysGrammar p (PaddingOctet rest) =
     ((p.padding ≡ true) × (p.indefinite ≡ false) × Fits p 1) × ObeysGrammar (place_after p 1) rest
 -- 8.1.4: a primitive with all its contents octets

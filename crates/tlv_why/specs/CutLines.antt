@@ -39,7 +39,7 @@ cut_end_line None = []
 cut_end_line (Some e) =
     codes "The input ends between the two octets 00 that end the " ++ named_element e ++ codes ".\n"
 
--- an element that holds others lacks elements, or its end-of-contents octets
+-- a holder lacks elements, or its end-of-contents octets
 unfoldable pub cut_holder_line : List ℕ → Option Element → List ℕ
 cut_holder_line octets None = []
 cut_holder_line octets (Some e) =

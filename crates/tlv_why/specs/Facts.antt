@@ -17,8 +17,8 @@ use Rattle.tlv_why.specs.declared.facts.Unfinished.{Unfinished}
 use Rattle.tlv_why.specs.declared.facts.Unfinished.TheVariants as unfinished
 use Rattle.tlv_why.specs.Elements.{element_of}
 
--- 8.1.4: the elements that hold others and have not ended, outermost first: those that are constructed, and the strings
--- that are named and hold encodings. A BIT STRING of these counts once its first contents octet is there
+-- 8.1.4: the holders that have not ended, outermost first: the constructed elements, and the strings that are named and
+-- hold encodings. A BIT STRING of these counts once its first contents octet is there
 abbrev pub open_holders : Forest → List Element
 open_holders (PaddingOctet rest) = open_holders rest
 open_holders (Primitive h contents rest) = open_holders rest

@@ -33,7 +33,7 @@ new_tracker = record {
 abbrev pub with_nearest : ℕ → Tracker → Tracker
 with_nearest offset t = record t { nearest = record { items = take 25 (offset ∷ t.nearest.items) } }
 
--- an element that holds others begins; at most 128 are recorded
+-- a holder begins; at most 128 are recorded
 abbrev pub holder_noted : Element → Tracker → Tracker
 holder_noted e t =
     if nat_lt (length t.holders.items) 128
@@ -59,14 +59,14 @@ abbrev pub primitive_ended : Option Element → Tracker → Tracker
 primitive_ended None t = t
 primitive_ended (Some e) t = element_ended e (record (with_nearest e.offset t) { current = None })
 
--- the innermost element that holds others has ended, if there is one
+-- the innermost holder has ended, if there is one
 abbrev pub holder_ended : Option Element → Tracker → Tracker
 holder_ended None t = t
 holder_ended (Some e) t =
     element_ended e
     (record t { holders = record { items = take (length t.holders.items - 1) t.holders.items } })
 
--- the innermost element that holds others
+-- the innermost holder
 abbrev pub innermost : Tracker → Option Element
 innermost t = slice_get t.holders.items (length t.holders.items - 1)
 
