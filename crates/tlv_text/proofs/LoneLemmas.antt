@@ -1,5 +1,5 @@
 -- Texts that are hexadecimal or base64 and have nothing else: no form before it counts.
-use Rattle.std.proofs.Common.{◌≡◌, ◌⊎◌, ⊎_elim, ℕ, ◌<◌, ◌≤◌, List, length, None, refl, sym, ap, ◌∙◌, arith, true}
+use Rattle.std.proofs.Common.{◌≡◌, ⊎_elim, ℕ, ◌<◌, ◌≤◌, List, length, None, refl, sym, ap, ◌∙◌, arith, true}
 use Rattle.std.proofs.lemmas.Bool.{le-ltb, lt-ltb}
 use Rattle.base64.specs.Rfc4648.{unpadded_len}
 use Rattle.tlv_text.specs.Base64.{ReadsBase64}

@@ -1,12 +1,11 @@
 -- A text of symbols, padding and line ends has no block of PEM, no row of a dump and no list of numbers.
-use Rattle.std.proofs.Common.{◌≡◌, ◌≢◌, ℕ, ◌==◌, ◌<◌, ◌≤◌, Bool, true, false, ◌&&◌, ◌||◌, List, [], ◌∷◌, ◌++◌}
-use Rattle.std.proofs.Common.{drop, length, refl, sym, ap, ◌∙◌, subst, arith, rules, slice_index, Option, Some, None, inl, inr}
-use Rattle.std.specs.Prelude.{if◌then◌else◌, is_some, option_map}
-use Rattle.std.specs.List.{AllPass, list_all, list_any}
+use Rattle.std.proofs.Common.{◌≡◌, ◌≢◌, ℕ, ◌==◌, Bool, true, false, ◌||◌, List, [], ◌∷◌, ◌++◌}
+use Rattle.std.proofs.Common.{drop, refl, sym, ap, ◌∙◌, arith, rules, Option, None, inl, inr}
+use Rattle.std.specs.Prelude.{if◌then◌else◌, is_some}
+use Rattle.std.specs.List.{list_all, list_any}
 use Rattle.std.proofs.lemmas.Bool.{and_parts, cases_Bool, eqb-true}
 use Rattle.std.proofs.lemmas.List.Elements.{All-drop}
 use Rattle.std.proofs.lemmas.List.Sums.{AllPass-from_list_all, list_all-from_AllPass}
-use Rattle.hex.specs.Hex.{is_hex_digit}
 use Rattle.tlv_text.specs.Base64.{ReadsBase64, SymbolsRead, is_left_out, is_symbol, no_symbols}
 use Rattle.tlv_text.specs.Base64.{padding_of, symbols_read}
 use Rattle.tlv_text.specs.Blocks.{alphabet_of, is_url_symbol}
@@ -129,7 +128,7 @@ stops-at x [] e = rw e refl
 stops-at x (y ∷ rest) e = rw e refl
 
 -- no symbol comes after such a character
-pub stops : (rest : List ℕ) → is_plain_text Standard rest ≡ true → IsPastSymbols rest
+stops : (rest : List ℕ) → is_plain_text Standard rest ≡ true → IsPastSymbols rest
     → symbols_read Standard rest ≡ no_symbols rest
 stops [] plain past = refl
 stops (x ∷ rest) plain past =
@@ -174,7 +173,7 @@ none-before x (y ∷ rest) e none some =
       | inr other ↦ rw (other, end-left_out x (or-right (x == 61) (is_line_end x) e other)) none
     ]
 
-pub no-padding : (rest : List ℕ) → is_plain_text Standard rest ≡ true → list_all is_padding_or_end rest ≡ false
+no-padding : (rest : List ℕ) → is_plain_text Standard rest ≡ true → list_all is_padding_or_end rest ≡ false
     → padding_of rest ≡ None
 no-padding [] plain other = absurd (cc other)
 no-padding (x ∷ rest) plain other =
@@ -203,11 +202,6 @@ other-rest text rest read same past other plain octets is =
     let none : padding_of (symbols_read Standard text).rest ≡ None =
     ap padding_of left ∙ no-padding rest all other in
     absurd (cc (rw none at is.padding))
-
-pub not-base64 : (text octets : List ℕ) (refused : Option ℕ) → ReadsBase64 Standard text octets refused
-    → is_some refused ≡ true → IsNotPlainBase64 text
-not-base64 text octets refused (ReadsBase64.whole is) e plain others b = absurd (cc e)
-not-base64 text octets refused (ReadsBase64.refused none are of) e plain others b = none others b
 
 pub is-base64 : (text octets rest : List ℕ) (refused : Option ℕ) → ReadsBase64 Standard text octets refused
     → is_some refused ≡ false → is_plain_text Standard rest ≡ is_plain_text Standard text

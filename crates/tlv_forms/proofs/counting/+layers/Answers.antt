@@ -6,7 +6,7 @@ use Rattle.std.proofs.lemmas.List.{length-map, nil_from_length}
 use Rattle.std.proofs.lemmas.List.Elements.{All-append}
 use Rattle.std.proofs.lemmas.Result.{IfErr-weaker, IfOk-from_err, IfOk-weaker}
 use Rattle.tlv_forms.specs.Private.Counting.{IsBounded, IsFaultAmong}
-use Rattle.tlv_forms.specs.Taken.{BlocksCount, TextBlocks, all_forms, in_layer, taken_value}
+use Rattle.tlv_forms.specs.Taken.{BlocksCount, TextBlocks, in_layer, taken_value}
 use Rattle.tlv_forms.specs.declared.taken.Taken.{Taken}
 use Rattle.tlv_forms.proofs.CountLemmas.{next-fit}
 use Rattle.tlv_forms.proofs.CountingLemmas.{among-text, base64-broken, base64-counts, base64-fault, blocks-text}

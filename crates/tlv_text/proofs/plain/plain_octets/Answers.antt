@@ -1,7 +1,7 @@
 use Rattle.std.proofs.Common.{◌≡◌, ◌∙◌, ◌<◌, ◌%◌, ℕ, List, ap, arith, length, rules, subst, sym}
 use Rattle.tlv_text.specs.Base64.{SymbolsRead}
 use Rattle.tlv_text.specs.declared.base64_text.Alphabet.TheVariants.{Standard}
-use Rattle.tlv_text.proofs.PlainLemmas.{is-base64, not-base64, other-rest}
+use Rattle.tlv_text.proofs.PlainLemmas.{is-base64, other-rest}
 use Rattle.tlv_text.proofs.TextLemmas.{IsReadSoFar, more-so_far, none-so_far}
 use Rattle.tlv_text.proofs.plain.plain_octets.Goals as goal
 
