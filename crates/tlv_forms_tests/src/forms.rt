@@ -4,8 +4,8 @@ use std::test::Fail;
 use tlv_forms::{TakenFor, take_as};
 use tlv_text::{BlockState, Form};
 
-/// Hex dumps, hexadecimal, numbers, base64, a text of no form, and runs of base64 in JSON and in a mail. The first word of the mail is
-/// itself base64, of octets that begin as a SEQUENCE, but it must not count as a block.
+/// Hex dumps, hexadecimal, numbers, base64, a text of no form, and runs of base64 in JSON and in a mail. The first word
+/// of the mail is itself base64, of octets that begin as a SEQUENCE, but it must not count as a block.
 static TEXTS: [Row<'static>; 15] = [
     (
         b"00000000: 3003 0201 05                             0....\n",

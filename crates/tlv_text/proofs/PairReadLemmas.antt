@@ -1,5 +1,6 @@
 -- What is read of pairs of digits, one after another.
-use Rattle.std.proofs.Common.{◌≡◌, ℕ, ◌≤◌, ◌&&◌, ◌||◌, ◌⊎◌, ⊎_elim, inl, inr, Bool, true, false, List, [], ◌∷◌, ◌++◌, length, refl, ap, sym, ◌∙◌}
+use Rattle.std.proofs.Common.{◌≡◌, ℕ, ◌≤◌, ◌&&◌, ◌||◌, Bool, true, false, List, [], ◌∷◌, ◌++◌, length, refl, ap, sym, ◌∙◌}
+use Rattle.std.proofs.Common.{◌⊎◌, ⊎_elim, inl, inr}
 use Rattle.std.proofs.Common.{arith, drop, rules, zero, suc, ◌+◌, Option, Some, None, slice_index}
 use Rattle.std.proofs.lemmas.Bool.{and_parts}
 use Rattle.std.specs.Prelude.{MatchOption, if◌then◌else◌, unwrap_or}

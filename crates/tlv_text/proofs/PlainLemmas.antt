@@ -121,7 +121,8 @@ or-right false b e f = e
 -- a plain character that is neither a symbol nor a line end is `=`
 is-padding : (x : ℕ) → IsPlain x → is_symbol Standard x ≡ false → is_line_end x ≡ false → x ≡ 61
 is-padding x plain other apart =
-    eqb-true x 61 (or-left (x == 61) (is_line_end x) (or-right (is_symbol Standard x) (is_padding_or_end x) plain other) apart)
+    let either = or-right (is_symbol Standard x) (is_padding_or_end x) plain other in
+    eqb-true x 61 (or-left (x == 61) (is_line_end x) either apart)
 
 stops-at : (x : ℕ) (rest : List ℕ) → x ≡ 61 → symbols_read Standard (x ∷ rest) ≡ no_symbols (x ∷ rest)
 stops-at x [] e = rw e refl

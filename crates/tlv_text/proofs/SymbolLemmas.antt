@@ -1,5 +1,6 @@
 -- The symbols with which a text begins.
-use Rattle.std.proofs.Common.{◌≡◌, ℕ, ◌≤◌, true, List, [], ◌∷◌, ◌++◌, length, slice_index, take, drop, refl, ap, sym, ◌∙◌, arith}
+use Rattle.std.proofs.Common.{◌≡◌, ℕ, List, [], ◌∷◌, ◌++◌, length, slice_index, take, drop, refl, ap, sym}
+use Rattle.std.proofs.Common.{◌≤◌, ◌∙◌, arith, true}
 use Rattle.std.proofs.Common.{length-append, take-append-drop}
 use Rattle.std.specs.List.{list_all}
 use Rattle.std.proofs.lemmas.List.Elements.{All-append, All-cons, All-head, All-nil, All-tail}

@@ -59,9 +59,9 @@ pub fn lone_hex_block(alloc: Global, text: &[u8]) -> Result<Option<Block>, Alloc
     Ok(Some(only_block(octets, BlockState::Whole)))
 }
 
-/// Returns the block of a text that is base64 and has nothing but symbols (with `+` and `/`), padding and line ends. Such
-/// a text has no block of PEM, no row of a dump and no list of numbers. `None` for another text, or if the block has
-/// more than 2^30 octets.
+/// Returns the block of a text that is base64 and has nothing but symbols (with `+` and `/`), padding and line ends.
+/// Such a text has no block of PEM, no row of a dump and no list of numbers. `None` for another text, or if the block
+/// has more than 2^30 octets.
 ///
 /// # Errors
 ///

@@ -63,7 +63,7 @@ static SPOILED_HEX: [&[u8]; 10] = [
     b"300302010g",
 ];
 
-/// With padding and without, in lines, with all symbols that are no letters or digits, and more than a block of symbols.
+/// With padding and without, in lines, with the symbols that are no letters or digits, and more than a block of symbols.
 static BASE64: [Row<'static>; 12] = [
     (b"", b""),
     (b"\n\r\n", b""),

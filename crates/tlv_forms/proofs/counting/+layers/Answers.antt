@@ -10,8 +10,8 @@ use Rattle.tlv_forms.specs.Taken.{BlocksCount, TextBlocks, in_layer, taken_value
 use Rattle.tlv_forms.specs.declared.taken.Taken.{Taken}
 use Rattle.tlv_forms.proofs.CountLemmas.{next-fit}
 use Rattle.tlv_forms.proofs.CountingLemmas.{among-text, base64-broken, base64-counts, base64-fault, blocks-text}
-use Rattle.tlv_forms.proofs.CountingLemmas.{counts-encodings, counts-nothing, counts-other, counts-text, memory-is_fault}
-use Rattle.tlv_forms.proofs.CountingLemmas.{next-among, octets-none, octets-some, returned-fault, written-back}
+use Rattle.tlv_forms.proofs.CountingLemmas.{counts-encodings, counts-nothing, counts-other, counts-text}
+use Rattle.tlv_forms.proofs.CountingLemmas.{memory-is_fault, next-among, octets-none, octets-some, returned-fault, written-back}
 use Rattle.tlv_forms.proofs.FormLemmas.{base64-first, base64-hex_first, base64-runs_first, first-here, first-later}
 use Rattle.tlv_forms.proofs.FormLemmas.{first-none, hex-first, inner-control, inner-text}
 use Rattle.tlv_forms.proofs.FormLemmas.{kept-count, more-bounded, runs-done, runs-next}
