@@ -151,9 +151,9 @@ pub one_digit : (n : ℕ) (places : List ℕ) → n < 10 → places ≡ at_right
 one_digit n places few is =
     ap (λ (l : List ℕ). get_or l 1 0 ∷ []) (is ∙ ap (at_right 2) (decimal_digit n few)) ∙ sym (decimal_digit n few)
 
-pub two_digits : (n : ℕ) (places : List ℕ) → 10 ≤ n → n < 100 → places ≡ at_right 2 (decimal n)
+pub two_places_of : (n : ℕ) (places : List ℕ) → 10 ≤ n → n < 100 → places ≡ at_right 2 (decimal n)
     → get_or places 0 0 ∷ get_or places 1 0 ∷ [] ≡ decimal n
-two_digits n places many few is =
+two_places_of n places many few is =
     let same : places ≡ pair n = is ∙ ap (at_right 2) (decimal_two n many few) in
     two-octets places (ap length same) ∙ same ∙ sym (decimal_two n many few)
 

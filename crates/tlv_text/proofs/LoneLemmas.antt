@@ -6,7 +6,7 @@ use Rattle.tlv_text.specs.Base64.{ReadsBase64}
 use Rattle.tlv_text.specs.Blocks.{HasNoLoneBase64, HasNoLoneHex, IsBase64Alone, IsHexAlone, only_block}
 use Rattle.tlv_text.specs.Dump.{dump_limit, dump_read, refused_with}
 use Rattle.tlv_text.specs.Pem.{HasNoBlock}
-use Rattle.tlv_text.specs.Plain.{IsLonePairs, IsPlainBase64, are_digits, are_lone_pairs}
+use Rattle.tlv_text.specs.Plain.{IsLonePairs, IsPlainBase64, are_lines_of_digits, are_lone_pairs}
 use Rattle.tlv_text.specs.Separated.{are_separated}
 use Rattle.tlv_text.specs.declared.base64_text.Alphabet.TheVariants.{Standard}
 use Rattle.tlv_text.specs.declared.block.BlockState.TheVariants.{Whole}
@@ -21,14 +21,14 @@ use Rattle.tlv_text.proofs.TextLemmas.{base64-length}
 lone-no_block : (text : List ℕ) → are_lone_pairs text ≡ true → HasNoBlock text
 lone-no_block text e =
     ⊎_elim (λ (separated : are_separated text ≡ true). no-block text separated)
-    (λ (digits : are_digits text ≡ true). plain-no_block text (digits-plain text digits))
-    (either-of (are_separated text) (are_digits text) e)
+    (λ (digits : are_lines_of_digits text ≡ true). plain-no_block text (digits-plain text digits))
+    (either-of (are_separated text) (are_lines_of_digits text) e)
 
 lone-no_row : (text : List ℕ) → are_lone_pairs text ≡ true → dump_read text ≡ refused_with 0
 lone-no_row text e =
     ⊎_elim (λ (separated : are_separated text ≡ true). no-row text separated)
-    (λ (digits : are_digits text ≡ true). plain-no_row text (digits-plain text digits))
-    (either-of (are_separated text) (are_digits text) e)
+    (λ (digits : are_lines_of_digits text ≡ true). plain-no_row text (digits-plain text digits))
+    (either-of (are_separated text) (are_lines_of_digits text) e)
 
 pub hex-alone : (text octets : List ℕ) → IsLonePairs text octets → length octets ≤ dump_limit
     → IsHexAlone text (only_block octets Whole)

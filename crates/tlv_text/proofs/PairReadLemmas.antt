@@ -9,7 +9,7 @@ use Rattle.tlv_text.proofs.Slices.{from-on, slice_from}
 use Rattle.tlv_text.proofs.TokenLemmas.{octets-and_more}
 use Rattle.tlv_text.specs.DumpPairs.{begins_digit}
 use Rattle.tlv_text.specs.Pairs.{is_between_pairs, pair_octet, pairs_read}
-use Rattle.tlv_text.specs.Plain.{IsLonePairs, IsNotLonePairs, are_digits}
+use Rattle.tlv_text.specs.Plain.{IsLonePairs, IsNotLonePairs, are_lines_of_digits}
 use Rattle.tlv_text.specs.Private.PairSteps.{IsNotOfDigits, IsOfDigits, octet_of}
 use Rattle.tlv_text.specs.Separated.{IsNotSeparated, are_separated}
 use Rattle.tlv_text.specs.TextRead.{TextRead, octets_then}
@@ -69,8 +69,8 @@ octet-digits x y octet e =
 -- behind so many characters, a pair comes before a text that has nothing but digits and line ends if all has
 pub digits-at : (whole text : List ℕ) (k octet : ℕ) → k + 2 ≤ length text
     → Some octet ≡ octet_of (slice_index text k) (slice_index text (suc k))
-    → are_digits (drop k text) ≡ are_digits whole
-    → are_digits (drop (suc (suc k)) text) ≡ are_digits whole
+    → are_lines_of_digits (drop k text) ≡ are_lines_of_digits whole
+    → are_lines_of_digits (drop (suc (suc k)) text) ≡ are_lines_of_digits whole
 digits-at whole [] k octet two p i = absurd (omega arith)
 digits-at whole (x ∷ []) zero octet two p i = absurd (omega arith)
 digits-at whole (x ∷ y ∷ more) zero octet two p i =
@@ -148,8 +148,8 @@ pub joined-lone : {T : Type 0} (items : T → List ℕ) (text : List ℕ) (r : O
     → MatchOption r (IsNotLonePairs text) (λ o. IsLonePairs text (items o))
 joined-lone items text None none is = λ lone whole.
     ⊎_elim (λ (separated : are_separated text ≡ true). none separated whole)
-    (λ (digits : are_digits text ≡ true). is digits whole) (either-of (are_separated text) (are_digits text) lone)
+    (λ (digits : are_lines_of_digits text ≡ true). is digits whole) (either-of (are_separated text) (are_lines_of_digits text) lone)
 joined-lone items text (Some o) none is = record {
-  lone = right-of (are_separated text) (are_digits text) is.digits;
+  lone = right-of (are_separated text) (are_lines_of_digits text) is.digits;
   read = is.read;
 }

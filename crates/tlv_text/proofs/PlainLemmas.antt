@@ -12,24 +12,24 @@ use Rattle.tlv_text.specs.Blocks.{alphabet_of, is_url_symbol}
 use Rattle.tlv_text.specs.Dump.{dump_read, refused_with}
 use Rattle.tlv_text.specs.Numbers.{after_opening, first_list, list_at, numbers_of}
 use Rattle.tlv_text.specs.Pem.{HasNoBlock, begin_marker, dashes}
-use Rattle.tlv_text.specs.Plain.{IsNotPlainBase64, IsPlainBase64, are_digits, is_digit_or_end, is_line_end}
+use Rattle.tlv_text.specs.Plain.{IsNotPlainBase64, IsPlainBase64, are_lines_of_digits, is_digit_or_end, is_line_end}
 use Rattle.tlv_text.specs.Plain.{is_padding_or_end, is_plain, is_plain_text}
 use Rattle.tlv_text.specs.Private.SymbolSteps.{IsPastSymbols}
 use Rattle.tlv_text.specs.declared.base64_text.Alphabet.TheVariants.{Standard}
 use Rattle.tlv_text.proofs.DumpSignLemmas.{NoSign, no-row_read}
 
-abbrev IsPlain : ℕ → Type 0
-IsPlain x = is_plain Standard x ≡ true
+abbrev IsPlainSymbol : ℕ → Type 0
+IsPlainSymbol x = is_plain Standard x ≡ true
 
 -- a plain character is no character that is not plain
-not-plain : (n x : ℕ) → is_plain Standard n ≡ false → IsPlain x → (x == n) ≡ false
+not-plain : (n x : ℕ) → is_plain Standard n ≡ false → IsPlainSymbol x → (x == n) ≡ false
 not-plain n x other e =
     elim (cases_Bool (x == n)) [
       | inl same ↦ absurd (cc (ap (is_plain Standard) (eqb-true x n same), other, e))
       | inr apart ↦ apart
     ]
 
-first-plain : (x : ℕ) (text : List ℕ) → is_plain_text Standard (x ∷ text) ≡ true → IsPlain x
+first-plain : (x : ℕ) (text : List ℕ) → is_plain_text Standard (x ∷ text) ≡ true → IsPlainSymbol x
 first-plain x text e = (and_parts (is_plain Standard x) (is_plain_text Standard text) e).0
 
 rest-plain : (x : ℕ) (text : List ℕ) → is_plain_text Standard (x ∷ text) ≡ true → is_plain_text Standard text ≡ true
@@ -44,7 +44,7 @@ marker-not rest = refl
 pub plain-no_block : (text : List ℕ) → is_plain_text Standard text ≡ true → HasNoBlock text
 plain-no_block text e = λ k label after b.
     let all = list_all-from_AllPass (is_plain Standard) (drop k text)
-    (All-drop IsPlain k text (AllPass-from_list_all (is_plain Standard) text e)) in
+    (All-drop IsPlainSymbol k text (AllPass-from_list_all (is_plain Standard) text e)) in
     absurd (cc (rw b.spelled at all, marker-not (label ++ (dashes ++ after))))
 
 -- ---- no row of a dump
@@ -61,7 +61,7 @@ plain-no_row text e = no-row_read text (no-sign text e)
 
 -- ---- no list of numbers
 
-list-none : (x : ℕ) (text : List ℕ) → IsPlain x → list_at (x ∷ text) ≡ None
+list-none : (x : ℕ) (text : List ℕ) → IsPlainSymbol x → list_at (x ∷ text) ≡ None
 list-none x text plain = rw (not-plain 91 x refl plain, not-plain 123 x refl plain) refl
 
 first-none : (text : List ℕ) → is_plain_text Standard text ≡ true → first_list text ≡ None
@@ -89,13 +89,13 @@ is-standard text e = rw (no-url text e) refl
 -- ---- digits, and padding
 
 -- digits are plain
-digit-plain : (x : ℕ) → is_digit_or_end x ≡ true → IsPlain x
+digit-plain : (x : ℕ) → is_digit_or_end x ≡ true → IsPlainSymbol x
 digit-plain x e = search rules
 
-pub digits-plain : (text : List ℕ) → are_digits text ≡ true → is_plain_text Standard text ≡ true
+pub digits-plain : (text : List ℕ) → are_lines_of_digits text ≡ true → is_plain_text Standard text ≡ true
 digits-plain [] e = refl
 digits-plain (x ∷ text) e =
-    let both = and_parts (is_digit_or_end x) (are_digits text) e in
+    let both = and_parts (is_digit_or_end x) (are_lines_of_digits text) e in
     rw (digit-plain x both.0) (digits-plain text both.1)
 
 pub padding-plain : (text : List ℕ) → list_all is_padding_or_end text ≡ true → is_plain_text Standard text ≡ true
@@ -119,7 +119,7 @@ or-right true b e f = absurd (cc f)
 or-right false b e f = e
 
 -- a plain character that is neither a symbol nor a line end is `=`
-is-padding : (x : ℕ) → IsPlain x → is_symbol Standard x ≡ false → is_line_end x ≡ false → x ≡ 61
+is-padding : (x : ℕ) → IsPlainSymbol x → is_symbol Standard x ≡ false → is_line_end x ≡ false → x ≡ 61
 is-padding x plain other apart =
     let either = or-right (is_symbol Standard x) (is_padding_or_end x) plain other in
     eqb-true x 61 (or-left (x == 61) (is_line_end x) either apart)

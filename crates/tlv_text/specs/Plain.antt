@@ -40,12 +40,12 @@ abbrev pub is_digit_or_end : ℕ → Bool
 is_digit_or_end x = is_hex_digit x || is_line_end x
 
 -- a text has nothing but digits and line ends
-abbrev pub are_digits : List ℕ → Bool
-are_digits text = list_all is_digit_or_end text
+abbrev pub are_lines_of_digits : List ℕ → Bool
+are_lines_of_digits text = list_all is_digit_or_end text
 
 -- a text has nothing but digits and line ends, or it is separated pairs
 abbrev pub are_lone_pairs : List ℕ → Bool
-are_lone_pairs text = are_separated text || are_digits text
+are_lone_pairs text = are_separated text || are_lines_of_digits text
 
 -- such a text that is pairs to its end, and its octets
 pub record IsLonePairs (text octets : List ℕ) : Type 0 where

@@ -1,7 +1,7 @@
 //! Octets as pairs of hexadecimal digits.
 ghost use Rattle.std.specs.Prelude.{◌≡◌, ◌<◌, ◌≤◌, IfOk, MatchOption, OnOk, Some, length, true};
 ghost use Rattle.tlv_text.specs.Pairs.{is_between_pairs, pairs_read};
-ghost use Rattle.tlv_text.specs.Plain.{IsLonePairs, IsNotLonePairs, are_digits};
+ghost use Rattle.tlv_text.specs.Plain.{IsLonePairs, IsNotLonePairs, are_lines_of_digits};
 ghost use Rattle.tlv_text.specs.Private.PairSteps.{IsNotOfDigits, IsOfDigits, octet_of};
 ghost use Rattle.tlv_text.specs.Separated.{IsNotSeparated, IsSeparated, are_separated};
 ghost use Rattle.tlv_text.specs.TextRead.{octets_then, refused_at};
@@ -59,7 +59,7 @@ pub fn decode_pairs(alloc: Global, text: &[u8]) -> Result<Decoded, AllocError>
 fn take_four_pairs(text: &mut &[u8], octets: &mut Vec<u8>) -> Result<(), AllocError>
     ensures read { OnOk result (octets_then octets.old.items (pairs_read text.old.now)
         ≡ octets_then octets.new.items (pairs_read text.new.now)) }
-    ensures digits { are_digits text.new.now ≡ are_digits text.old.now }
+    ensures digits { are_lines_of_digits text.new.now ≡ are_lines_of_digits text.old.now }
     ensures less { length text.new.now ≤ length text.old.now }
 {
     let mut rest = *text;

@@ -4,7 +4,7 @@ use Rattle.std.specs.Prelude.{Option, Some, None, unwrap_or}
 use Rattle.std.specs.List.{AllPass}
 use Rattle.hex.specs.Hex.{hex_digit_value, is_hex_digit}
 use Rattle.tlv_text.specs.Pairs.{pair_octet, pairs_read}
-use Rattle.tlv_text.specs.Plain.{are_digits}
+use Rattle.tlv_text.specs.Plain.{are_lines_of_digits}
 
 -- digits in pairs
 pub record AreWholePairs (text : List ℕ) : Type 0 where
@@ -27,9 +27,9 @@ value_or_256 x = unwrap_or (hex_digit_value x) 256
 
 -- a text has nothing but digits and line ends and is pairs to its end, and its octets
 pub record IsOfDigits (text octets : List ℕ) : Type 0 where
-  pub digits : are_digits text ≡ true
+  pub digits : are_lines_of_digits text ≡ true
   pub read : pairs_read text ≡ record { octets = octets; rest = [] }
 
 -- any other text
 abbrev pub IsNotOfDigits : List ℕ → Type 0
-IsNotOfDigits text = are_digits text ≡ true → (pairs_read text).rest ≡ [] → ⊥
+IsNotOfDigits text = are_lines_of_digits text ≡ true → (pairs_read text).rest ≡ [] → ⊥
