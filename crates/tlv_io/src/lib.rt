@@ -12,6 +12,6 @@ mod stream;
 pub use drain::{Drain, WriteFault};
 pub use held_octets::HeldOctets;
 pub use memory::{MemDrain, MemSource};
-pub use out::Out;
+pub use out::{Out, send};
 pub use source::{ReadFault, Source};
 pub use stream::{ReadSource, WriteDrain};

@@ -121,7 +121,11 @@ impl<'d, D: Drain> Out<'d, D> {
 }
 
 /// Hands all the octets to the drain, in as many writes as needed.
-fn send<D: Drain>(drain: &mut D, octets: &[u8]) -> Result<(), WriteFault>
+///
+/// # Errors
+///
+/// `WriteFault` if and only if a write failed. The drain then has a prefix of the octets.
+pub fn send<D: Drain>(drain: &mut D, octets: &[u8]) -> Result<(), WriteFault>
     ensures { Sends (D.state drain.old) (D.state drain.new) octets.now result }
 {
     let mut sent = 0;

@@ -1,9 +1,10 @@
 //! Lines on their way to a drain.
 ghost use Rattle.std.specs.Prelude.{◌≡◌, [], OnOk};
-ghost use Rattle.tlv_io.specs.Out.{Sends, drain_of, held_octets};
+ghost use Rattle.tlv_io.specs.Out.{drain_of, held_octets};
 ghost use Rattle.tlv_view_program.specs.Private.LineOut.{PutsLine, as_out};
 
 use arrayvec::ArrayVec;
+use tlv_io::send;
 use tlv_walk::{Drain, WriteFault};
 
 /// The most octets that are held. Nearly all lines are shorter.
@@ -50,15 +51,4 @@ impl<'d, D: Drain> LineOut<'d, D> {
         self.held.clear();
         Ok(())
     }
-}
-
-/// Hands all the octets to the drain, in as many writes as needed.
-fn send<D: Drain>(drain: &mut D, octets: &[u8]) -> Result<(), WriteFault>
-    ensures { Sends (D.state drain.old) (D.state drain.new) octets.now result }
-{
-    let mut sent = 0;
-    while sent < octets.len() {
-        sent += drain.write(&octets[sent..])?;
-    }
-    Ok(())
 }
