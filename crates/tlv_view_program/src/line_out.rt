@@ -4,8 +4,7 @@ ghost use Rattle.tlv_io.specs.Out.{drain_of, held_octets};
 ghost use Rattle.tlv_view_program.specs.Private.LineOut.{PutsLine, as_out};
 
 use arrayvec::ArrayVec;
-use tlv_io::send;
-use tlv_walk::{Drain, WriteFault};
+use tlv_walk::{Drain, WriteFault, send};
 
 /// The most octets that are held. Nearly all lines are shorter.
 const ROOM: usize = 512;

@@ -25,6 +25,6 @@ pub use one_turn::turn;
 pub use run::{DeviceFault, INPUT_LIMIT, Run, Turn};
 pub use tlv_io::{
     Drain, HeldOctets, MemDrain, MemSource, Out, ReadFault, ReadSource, Source, WriteDrain,
-    WriteFault,
+    WriteFault, send,
 };
 pub use walker::Walker;
