@@ -22,8 +22,8 @@ element_at n (OpenHolder h children) =
 element_at n (OpenBitString h) = if h.offset == n then Some (OpenBitString h) else None
 element_at n _ = None
 
--- the elements, without what belongs to none of them: a prefix of a header, or the first of the end-of-contents octets
--- without the second; and padding
+-- the elements, without what belongs to none of them: padding, a prefix of a header, or the first of the
+-- end-of-contents octets without the second
 abbrev pub elements_only : Forest → Forest
 elements_only (PaddingOctet rest) = elements_only rest
 elements_only (Primitive h c rest) = Primitive h c (elements_only rest)
@@ -53,8 +53,8 @@ abbrev pub extract_text : ℕ → Bool → Forest → List ℕ
 extract_text n contents_only f =
     option_map_or (λ e. if contents_only then contents_so_far e else octets_so_far e) (element_at n f) []
 
--- write the element at the offset, or only its contents. When it has ended, nothing more is wanted. It is found if it is
--- there
+-- write the element at the offset, or only its contents. When it has ended, nothing more is wanted. It is found once its
+-- header is complete
 abbrev pub extract_job : ℕ → Bool → Framing → Job Cut
 extract_job offset contents_only framing = record {
   framing = framing;

@@ -36,7 +36,7 @@ pub record CommandResult : Type 0 where
   pub ending : Ending
   pub report : ReportValue
 
--- the result of a job for an input of these octets, and no others
+-- the result of a job for an input that is exactly these octets
 pub record IsResult (job : Job ReportValue) (b : List ℕ) (made : CommandResult) : Type 0 where
   -- the elements of the input
   pub reading : Forest

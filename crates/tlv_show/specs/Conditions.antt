@@ -1,5 +1,6 @@
 -- The findings of a header, and of an end, by the rules of X.690: each finding beside its condition, B first, then S, D
--- and C. These are the ones that are listed (`is_listed` in `ShownFindings`); `AllConditions` has the others.
+-- and C. These are the *listed* ones, which `tlvdump` reports; `AllConditions` has those that only `tlvdump-show`
+-- reports. Each comment gives the rule; the condition holds if the element breaks it.
 use Rattle.std.specs.Prelude.{ℕ, ◌+◌, ◌-◌, ◌%◌, Bool, false, ◌&&◌, ◌||◌, not, ◌==◌, nat_le, nat_lt}
 use Rattle.std.specs.Prelude.{if◌then◌else◌, List, [], ◌∷◌, length, slice_index, sum_by}
 use Rattle.std.specs.List.{list_all}
@@ -16,7 +17,7 @@ use Rattle.tlv_show.specs.Site.{Site, in_bit_string, in_string}
 
 -- ---- With the header
 
--- 8.1.2.4: there are subsequent identifier octets: those after the first one
+-- there are identifier octets after the first one (8.1.2.4 calls them subsequent)
 abbrev pub has_high_form : HeaderValue → Bool
 has_high_form h = nat_lt 1 (length h.identifier_octets)
 
@@ -53,8 +54,8 @@ listed_header_conditions s h =
     -- B17, 8.6.4, 8.7.3: a segment has the tag of BIT STRING in a BIT STRING, and of OCTET STRING in any other string
     ∷ (B17, in_string s && not (is_a (if in_bit_string s then universal.bit_string else universal.octet_string) h))
     -- ---- of DER and of CER: S
-    -- S01, 9.1, 10.1: a definite length has the fewest octets. 9.1 says so of primitives; a constructed element has C01
-    -- too. The shortest form has octets after the first only for a length of 128 or more (8.1.3.5), and then the second
+    -- S01, 9.1, 10.1: a definite length has the fewest octets. 9.1 asks this of primitives alone; under CER a
+    -- constructed element with a definite length is wrong anyway (C01). The shortest form has octets after the first only for a length of 128 or more (8.1.3.5), and then the second
     -- length octet is not 00
     ∷ (
       S01,
@@ -86,8 +87,9 @@ headers (Primitive h c rest) = h ∷ headers rest
 headers (Holder h children rest) = h ∷ headers rest
 headers _ = []
 
--- 9.2: the number of contents octets that a string with these segments has as a primitive: the octets of each segment,
--- and in a BIT STRING one octet for unused bits (8.6.2), which each segment has too
+-- 9.2: the number of contents octets that a string with these segments has as a primitive: the contents octets of all
+-- segments. In a BIT STRING the first octet of each segment, for unused bits (8.6.2), is left out, and one for the whole
+-- string is added
 abbrev pub length_as_primitive : HeaderValue → List HeaderValue → ℕ
 length_as_primitive h segments =
     let unused_octet = if is_a universal.bit_string h then 1 else 0 in

@@ -12,11 +12,13 @@ use Rattle.tlv_show.specs.Site.{Site, is_padding, site_after, site_of_children}
 pub data Item : Type 0 where
   -- a finding in the element that begins at this offset
   FindingAt : (depth offset : ℕ) (finding : Finding) → Item
-  -- a holder begins, and ends: with the offset of its end-of-contents octets, if it has them
+  -- a holder begins
   OpeningLine : (depth : ℕ) (header : HeaderValue) → Item
+  -- a holder ends: with the offset of its end-of-contents octets, if it has them
   ClosingLine : (depth : ℕ) (offset : Option ℕ) → Item
-  -- a primitive, and one that lacks contents octets
+  -- a whole primitive
   PrimitiveLines : (depth : ℕ) (header : HeaderValue) (contents : List ℕ) → Item
+  -- a primitive that lacks contents octets
   OpenPrimitiveLines : (depth : ℕ) (header : HeaderValue) (contents : List ℕ) → Item
   -- padding begins at this offset
   PaddingLine : (depth offset : ℕ) → Item
@@ -34,10 +36,13 @@ module _ (found : ElementFindings) where
   items s (PaddingOctet rest) =
       (if is_padding s.previous then [] else PaddingLine s.depth s.offset ∷ [])
       ++ items (site_after s 1 (PaddingOctet NoMore)) rest
+  -- the findings of its header, its line and rows, the findings on its contents, and then the elements after it
   items s (Primitive h c rest) =
       finding_items s.depth h.offset (found.of_header s h)
       ++ (PrimitiveLines s.depth h c ∷ finding_items s.depth h.offset (found.of_primitive s h c)
       ++ items (site_after s (primitive_extent h c) (Primitive h c NoMore)) rest)
+  -- the findings of its header, its first line, what it holds, its last line, the findings with its end, and then the
+  -- elements after it
   items s (Holder h children rest) =
       finding_items s.depth h.offset (found.of_header s h)
       ++ (OpeningLine s.depth h ∷ items (site_of_children s h) children

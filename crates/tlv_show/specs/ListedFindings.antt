@@ -1,4 +1,4 @@
--- What is found in an element, and what is found there of the listed findings, by rules.
+-- What is found in an element; and the listed findings there, under each set of rules.
 use Rattle.std.specs.Prelude.{ℕ, Bool, List, ◌==◌, slice_index, codes}
 use Rattle.std.specs.List.{filter, list_any}
 use Rattle.tlv_head.specs.Header.{HeaderValue}
@@ -30,7 +30,7 @@ letters Cer = codes "BSC"
 abbrev pub rules_have : Rules → Finding → Bool
 rules_have rules finding = list_any (λ letter. slice_index (finding_code finding) 0 == letter) (letters rules)
 
--- of the findings by these conditions, the findings that the rules have
+-- the findings whose conditions hold and which the rules have
 abbrev pub findings_under : Rules → List (Finding × Bool) → List Finding
 findings_under rules conditions = filter (rules_have rules) (findings_by conditions)
 

@@ -1,5 +1,5 @@
--- The findings on the contents of a primitive: X.690 8 and 11. These are the ones that are listed (`is_listed` in
--- `ShownFindings` of tlv_show); `AllChecks` has the others. The conditions are at the end, and the terms that they use
+-- The findings on the contents of a primitive: X.690 8 and 11. These are the *listed* ones, which `tlvdump` reports;
+-- `AllChecks` has those that only `tlvdump-show` reports. The conditions are at the end, and the terms that they use
 -- before them.
 use Rattle.std.specs.Prelude.{ℕ, ◌%◌, ◌^◌, Bool, false, ◌&&◌, ◌||◌, not, ◌==◌, nat_le, nat_lt}
 use Rattle.std.specs.Prelude.{if◌then◌else◌, List, [], ◌∷◌, ◌++◌, flat_map, length}
@@ -68,7 +68,7 @@ abbrev pub findings_by : List (Finding × Bool) → List Finding
 findings_by rows = flat_map (λ row. if row.1 then row.0 ∷ [] else []) rows
 
 -- the listed findings on these contents of a primitive of the type with this number, beside their conditions: by the
--- rules of all encodings
+-- rules of all encodings. Each comment gives the rule; the condition holds if the contents break it
 abbrev pub listed_basic_type_conditions : ℕ → List ℕ → List (Finding × Bool)
 listed_basic_type_conditions number contents =
     -- B06, 8.2.1: a BOOLEAN has one octet

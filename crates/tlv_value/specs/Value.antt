@@ -113,14 +113,16 @@ short_value name_of Relative octets = object_value no_names true octets
 short_value name_of kind octets =
     if is_text kind then value_on_line (quoted_text kind octets) else octets_value octets
 
--- 8.6.2: after the tag of a long value: of a BIT STRING with at most 7 unused bits the number of bits, and otherwise
--- nothing. `size` is the announced length. It is above 9, so of `is_readable` only "at most 7" is left to ask
+-- 8.6.2: the text after the tag of a long value: the number of bits for a BIT STRING with at most 7 unused bits, and
+-- nothing for any other value. `size` is the announced length. It is above 9, so all that `is_readable` still asks is
+-- "at most 7"
 abbrev pub long_text : Kind → ℕ → List ℕ → List ℕ
 long_text Bits size (unused_bits ∷ octets) =
     if nat_le unused_bits 7 then 0x20 ∷ bit_count_text unused_bits (size - 1) else []
 long_text kind size octets = []
 
--- the octets that are shown in rows: all but the first octet of such a BIT STRING
+-- the octets that are shown in rows: of a BIT STRING with at most 7 unused bits those after the first octet, and of
+-- anything else all
 abbrev pub row_octets : Kind → List ℕ → List ℕ
 row_octets Bits (unused_bits ∷ octets) = if nat_le unused_bits 7 then octets else unused_bits ∷ octets
 row_octets kind octets = octets

@@ -17,9 +17,9 @@ use Rattle.tlv_walk.specs.Forest.{primitive_extent, spelling}
 use Rattle.tlv_walk.specs.Place.{Fits, IsHeaderAt, Place, announced_extent, place_after, place_of_children, top_place}
 use Rattle.tlv_walk.specs.Reading.{CannotBecomeSound, IsReading, IsSoundList}
 
--- the place where the next octet goes, and what is open right there. `NoMore`: no element is begun there (holders
--- around may be open). Otherwise an open primitive, wrapping BIT STRING without its first octet, header or
--- end-of-contents octets, and the place is that of its first octet
+-- the innermost thing that is open, and its place. `NoMore`: nothing is begun there (holders around may be open), and
+-- the next octet goes to this place. Otherwise it is an open primitive, a wrapping BIT STRING without its first octet, a
+-- header or end-of-contents octets: the place is that of its first octet, and the next octet goes after what is there
 pub record OpenEnd : Type 0 where
   pub place : Place
   pub forest : Forest
@@ -59,7 +59,8 @@ pub data IsRefusedAt : OpenEnd → ℕ → FaultCode → Type 0 where
   too_deep : {x : ℕ} {p : Place} {o : List ℕ} → Fits p (length o + 1) → (h : HeaderValue) → IsHeaderAt p h
       → holds h ≡ true → octets_of h ≡ o ++ x ∷ [] → depth_limit ≤ p.depth
       → IsRefusedAt (end_at p (OpenHeader o)) x TooDeep
-  -- F11, 8.1.3.3: x completes a header, and the contents that it announces would end beyond the bound
+  -- F11, 8.1.3.3: x completes a header that F10 does not refuse, and the contents that it announces would end beyond
+  -- the bound
   overrun : {x : ℕ} {p : Place} {o : List ℕ} → Fits p (length o + 1) → (h : HeaderValue) → IsHeaderAt p h
       → octets_of h ≡ o ++ x ∷ [] → (holds h ≡ true → p.depth < depth_limit)
       → (Fits p (announced_extent h) → ⊥) → IsRefusedAt (end_at p (OpenHeader o)) x Overrun

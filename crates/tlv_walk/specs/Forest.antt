@@ -34,8 +34,8 @@ pub data Forest : Type 0 where
 abbrev pub is_wrapping_bit_string : HeaderValue → Bool
 is_wrapping_bit_string h = not h.constructed && h.number == universal.bit_string
 
--- 8.6.2.2: the contents octets of a holder before the elements in it: in a BIT STRING 00, for no unused bits, and
--- otherwise none
+-- 8.6.2.2: the contents octets of a holder before the elements in it: in a wrapping BIT STRING 00, for no unused bits,
+-- and otherwise none
 abbrev pub lead : HeaderValue → List ℕ
 lead h = if is_wrapping_bit_string h then 0 ∷ [] else []
 

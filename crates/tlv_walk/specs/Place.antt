@@ -48,8 +48,8 @@ abbrev pub is_indefinite : Size → Bool
 is_indefinite size = is_none (definite_length size)
 
 -- 8.1.4: the place of the elements inside an element with this header. 8.1.3.3: the bound is the end of its contents,
--- if its length is definite, and otherwise the bound outside. The first contents octet of a BIT STRING (`lead`) is
--- before the elements, and counts for the bound
+-- if its length is definite, and otherwise the bound outside. The first contents octet of a wrapping BIT STRING (`lead`)
+-- is before the elements, and counts for the bound
 abbrev pub place_of_children : Place → HeaderValue → Place
 place_of_children p h = record p {
   offset = p.offset + length (opening h);
@@ -69,15 +69,15 @@ pub record IsHeaderAt (p : Place) (h : HeaderValue) : Type 0 where
   pub offset : h.offset ≡ p.offset
   pub named : h.named ≡ is_among p.offset p.inside
 
--- 8.1.4: a primitive that is no wrapper is there, and n octets from its first one end within the bound. n is all its
--- octets if it has ended, and `announced_extent` if it is open
+-- 8.1.4: a primitive that is no wrapper is there, and n octets, counted from its first octet, do not go beyond the
+-- bound. n counts all its octets if it has ended, and is `announced_extent` if it is open
 pub record IsPrimitiveAt (p : Place) (h : HeaderValue) (n : ℕ) : Type 0 where
   pub header : IsHeaderAt p h
   pub holding : holds h ≡ false
   pub fits : Fits p n
 
--- 8.1.4: a holder is there, and n octets from its first one end within the bound, n as in `IsPrimitiveAt`. It is inside
--- fewer than `depth_limit` holders, a limit of our own
+-- 8.1.4: a holder is there, and n octets, counted from its first octet, do not go beyond the bound, n as in
+-- `IsPrimitiveAt`. It is inside fewer than `depth_limit` holders, a limit of our own
 pub record IsHolderAt (p : Place) (h : HeaderValue) (n : ℕ) : Type 0 where
   pub header : IsHeaderAt p h
   pub holding : holds h ≡ true

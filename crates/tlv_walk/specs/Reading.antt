@@ -18,7 +18,7 @@ abbrev pub IsPrefixOf : List ℕ → List ℕ → Type 0
 IsPrefixOf p b = (rest : List ℕ) × (p ++ rest ≡ b)
 
 -- the reading of an input: a forest that obeys the grammar and spells a prefix of it, the longest prefix that any
--- such forest spells. There is one (the law `octets_have_one_reading`)
+-- such forest spells. There is exactly one (the law `octets_have_one_reading`)
 pub record IsReading (framing : Framing) (b : List ℕ) (f : Forest) : Type 0 where
   pub obeys_grammar : ObeysGrammar (top_place framing) f
   pub is_prefix : IsPrefixOf (spelling f) b
