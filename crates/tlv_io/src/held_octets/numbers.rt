@@ -82,7 +82,8 @@ impl HeldOctets {
         let start = self.len();
         self.octets[start..start + 17].copy_from_slice(&[b' '; 17]);
         self.octets[start + 15] = b':';
-        let _ = write_digits(offset, &mut self.octets, start + 8);
+        let places = self.offsets.in_eight_places(offset);
+        self.octets[start..start + 8].copy_from_slice(&places);
         write_size(size, &mut self.octets, start + 9);
         self.len = start + 17;
     }
@@ -112,7 +113,8 @@ impl HeldOctets {
         let start = self.len();
         self.octets[start..start + 17].copy_from_slice(&[b' '; 17]);
         self.octets[start + 15] = b':';
-        let _ = write_digits(offset, &mut self.octets, start + 8);
+        let places = self.offsets.in_eight_places(offset);
+        self.octets[start..start + 8].copy_from_slice(&places);
         // A local copy, as in `add_prefix`.
         let word = *word;
         self.octets[start + 9..start + 15].copy_from_slice(&word);
@@ -180,7 +182,7 @@ fn write_size(size: u64, octets: &mut [u8], start: usize)
 
 /// A number below 100, right-aligned in two places.
 #[inline(always)]
-fn in_two_places(number: u64) -> [u8; 2]
+pub(super) fn in_two_places(number: u64) -> [u8; 2]
     requires { number < 100 }
     ensures { result ≡ at_right 2 (decimal number) }
 {
