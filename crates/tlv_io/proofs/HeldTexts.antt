@@ -122,7 +122,7 @@ right_end old new prefix text tail start places is short e kept written =
     ∙ ap (λ (l : List ℕ). prefix ++ l) (sym (append_assoc (spaces left) text tail))
 
 -- a text that is not too long takes so many places
-pub right-size : (places : ℕ) (text : List ℕ) → length text ≤ places → length (at_right places text) ≡ places
+right-size : (places : ℕ) (text : List ℕ) → length text ≤ places → length (at_right places text) ≡ places
 right-size places text short =
     omega
     (arith, length-append (spaces (places - length text)) text, length-replicate {A = ℕ} (places - length text) 32)
@@ -138,7 +138,7 @@ right-short places n few fits =
     )
 
 -- the octets of a list of two
-pub two-octets : (l : List ℕ) → length l ≡ 2 → get_or l 0 0 ∷ get_or l 1 0 ∷ [] ≡ l
+two-octets : (l : List ℕ) → length l ≡ 2 → get_or l 0 0 ∷ get_or l 1 0 ∷ [] ≡ l
 two-octets (x ∷ y ∷ []) e = refl
 two-octets [] e = absurd (omega (arith, e))
 two-octets (x ∷ []) e = absurd (omega (arith, e))
@@ -235,24 +235,20 @@ module _ (old first tail : List ℕ) (at : ℕ) (within : at ≤ length old) (sh
         right-size 8 first short,
       )
 
-  -- spaces and a colon are there, and an offset in eight places was copied over the first of them
-  pub offset_copied : (pad copied : List ℕ) → pad ≡ spaces 17 → copied ≡ at_right 8 first
-      → take at (set (take at old ++ (pad ++ tail)) (at + 15) 58)
-      ++ (copied ++ drop (at + 8 - at) (drop at (set (take at old ++ (pad ++ tail)) (at + 15) 58)))
-      ≡ first_column ++ (spaces 6 ++ 58 ∷ 32 ∷ tail)
-  offset_copied pad copied blank same =
+  -- spaces and a colon are there, and an offset was written to them
+  pub offset_written : (pad middle : List ℕ) (start : ℕ) → pad ≡ spaces 17 → start + length first ≡ at + 8
+      → take start middle ≡ take start (set (take at old ++ (pad ++ tail)) (at + 15) 58)
+      → drop start middle ≡ first ++ drop (at + 8) (set (take at old ++ (pad ++ tail)) (at + 15) 58)
+      → middle ≡ first_column ++ (spaces 6 ++ 58 ∷ 32 ∷ tail)
+  offset_written pad middle start blank e kept written =
       let size : length (take at old) ≡ at = length-take-le at old within in
       let there : List ℕ = set (take at old ++ (pad ++ tail)) (at + 15) 58 in
-      let rest : List ℕ = spaces 15 ++ 58 ∷ 32 ∷ tail in
-      let is : there ≡ take at old ++ rest =
+      let more : List ℕ = 32 ∷ (spaces 6 ++ 58 ∷ 32 ∷ tail) in
+      let is =
       ap (λ (l : List ℕ). set (take at old ++ (l ++ tail)) (at + 15) 58) blank
       ∙ blanks-written (take at old) tail at size in
-      let taken : take at there ≡ take at old = ap₂ take (sym size) is ∙ take-append_seam (take at old) rest in
-      let dropped : drop (at + 8 - at) (drop at there) ≡ 32 ∷ (spaces 6 ++ 58 ∷ 32 ∷ tail) =
-      drop-drop (at + 8 - at) at there
-      ∙ ap₂ (λ (n : ℕ) (l : List ℕ). drop n l) (omega (arith, size)) is
-      ∙ drop-append-add (take at old) rest 8 in
-      ap₂ (λ (k l : List ℕ). k ++ l) taken (ap₂ (λ (k l : List ℕ). k ++ l) same dropped)
+      right_end there middle (take at old) first more start 8 is short (omega (arith, e, size)) kept
+      (written ∙ ap (λ (n : ℕ). first ++ drop (n + 8) there) (sym size))
       ∙ ap (λ (l : List ℕ). take at old ++ l)
       (sym (append_assoc (at_right 8 first) (32 ∷ []) (spaces 6 ++ 58 ∷ 32 ∷ tail)))
       ∙ sym (append_assoc (take at old) (at_right 8 first ++ 32 ∷ []) (spaces 6 ++ 58 ∷ 32 ∷ tail))

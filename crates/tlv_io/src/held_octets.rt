@@ -4,11 +4,9 @@ ghost use Rattle.tlv_io.specs.OutLimits.{held_limit};
 ghost use Rattle.tlv_io.specs.LineTexts.{AddsIfRoom, HasRoomFor, spaced_pairs, spaces};
 
 mod numbers;
-mod offset_text;
 mod pair_table;
 mod texts;
 
-use offset_text::OffsetText;
 use pair_table::PairTable;
 use std::marker::Model;
 use texts::{fill_spaces, write_spaced_pairs, write_spaced_row};
@@ -26,8 +24,6 @@ pub struct HeldOctets {
     octets: [u8; CAPACITY],
     /// Filled once, so that no pair of digits costs a call of `hex`.
     pairs: PairTable,
-    /// Most digits of the offset in the last line.
-    offsets: OffsetText,
 }
 
 impl Model for HeldOctets {
@@ -52,7 +48,6 @@ impl HeldOctets {
             len: 0,
             octets: [0; CAPACITY],
             pairs,
-            offsets: OffsetText::new(),
         }
     }
 

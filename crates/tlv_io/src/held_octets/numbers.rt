@@ -82,8 +82,7 @@ impl HeldOctets {
         let start = self.len();
         self.octets[start..start + 17].copy_from_slice(&[b' '; 17]);
         self.octets[start + 15] = b':';
-        let places = self.offsets.in_eight_places(offset);
-        self.octets[start..start + 8].copy_from_slice(&places);
+        let _ = write_digits(offset, &mut self.octets, start + 8);
         write_size(size, &mut self.octets, start + 9);
         self.len = start + 17;
     }
@@ -113,8 +112,7 @@ impl HeldOctets {
         let start = self.len();
         self.octets[start..start + 17].copy_from_slice(&[b' '; 17]);
         self.octets[start + 15] = b':';
-        let places = self.offsets.in_eight_places(offset);
-        self.octets[start..start + 8].copy_from_slice(&places);
+        let _ = write_digits(offset, &mut self.octets, start + 8);
         // A local copy, as in `add_prefix`.
         let word = *word;
         self.octets[start + 9..start + 15].copy_from_slice(&word);
@@ -182,7 +180,7 @@ fn write_size(size: u64, octets: &mut [u8], start: usize)
 
 /// A number below 100, right-aligned in two places.
 #[inline(always)]
-pub(super) fn in_two_places(number: u64) -> [u8; 2]
+fn in_two_places(number: u64) -> [u8; 2]
     requires { number < 100 }
     ensures { result ≡ at_right 2 (decimal number) }
 {

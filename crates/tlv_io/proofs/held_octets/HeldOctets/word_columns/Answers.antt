@@ -1,20 +1,26 @@
-use Rattle.std.proofs.Common.{◌≤◌, ◌∙◌, ◌++◌, List, ℕ, decimal, ap, arith, length}
+use Rattle.std.proofs.Common.{◌≤◌, ◌∙◌, ◌++◌, List, ℕ, decimal, ap, arith, rules, length}
 use Rattle.std.proofs.lemmas.Fmt.{length-decimal-le}
 use Rattle.tlv_io.specs.LineTexts.{columns}
-use Rattle.tlv_io.proofs.HeldTexts.{held_up_to, offset_copied, word_written}
+use Rattle.tlv_io.proofs.HeldTexts.{held_up_to, offset_written, word_written}
 use Rattle.tlv_io.proofs.held_octets.HeldOctets.word_columns.Goals as goal
+
+pub write_digits-requires : goal.write_digits-requires
+write_digits-requires c =
+    let few = length-decimal-le 8 c.args.offset (omega arith) (omega arith) c.ranges.offset.fits in
+    (omega (arith, few), search rules)
 
 pub returns : goal.returns
 returns c =
     let octets : List ℕ = c.self.inside.octets in
     let at : ℕ = c.len-start.result in
     let first : List ℕ = decimal c.args.offset in
+    let o = c.write_digits in
     let within : at ≤ length octets = omega (arith, c.len-start.ensures.within, c.self.told) in
     let short : length first ≤ 8 = length-decimal-le 8 c.args.offset (omega arith) (omega arith) c.ranges.offset.fits in
     let there =
-    offset_copied octets first _ at within short c.copy_from_slice.new.self c.copy_from_slice-2.new.self
-    c.copy_from_slice.ensures.after (c.copy_from_slice-2.ensures.after ∙ c.in_eight_places-places.ensures) in
-    word_written octets first _ at within short _ c.copy_from_slice-3.new.self c.args.word.now there
-    c.told-word c.copy_from_slice-3.ensures.after
+    offset_written octets first _ at within short c.copy_from_slice.new.self o.new.buf o.result
+    c.copy_from_slice.ensures.after o.ensures.start o.ensures.before o.ensures.written in
+    word_written octets first _ at within short o.new.buf c.copy_from_slice-2.new.self c.args.word.now there
+    c.told-word c.copy_from_slice-2.ensures.after
     ∙ ap (λ (l : List ℕ). l ++ columns c.args.offset c.args.word.now)
     (held_up_to _ _ _ _ c.self.view_is c.len-start.ensures.count (omega (arith, c.self.invariant, c.self.told)))
