@@ -1,7 +1,7 @@
 //! Examples of headers, events and output.
 use crate::expect::expect_eq;
 use tlv_head::{Size, read_header};
-use tlv_io::{MemDrain, Out};
+use tlv_io::{MemDrain, Out, send};
 use tlv_walk::{Event, Framing, Step, Walker};
 
 /// tlv_head: reads the header at the start of octets, here that of a SEQUENCE with three contents octets.
@@ -37,5 +37,14 @@ fn put_octets_to_a_drain(rt: HostRuntime) {
     let mut out = Out::new(&mut drain);
     expect_eq(&rt, out.put(b"abcdef").is_ok(), true);
     expect_eq(&rt, out.flush().is_ok(), true);
+    expect_eq(&rt, drain.written(), b"abcdef");
+}
+
+/// tlv_io: hands octets to a drain that takes four at a time, without holding any.
+#[test]
+fn send_octets_to_a_drain(rt: HostRuntime) {
+    let mut room = [0; 8];
+    let mut drain = MemDrain::new(&mut room, 4);
+    expect_eq(&rt, send(&mut drain, b"abcdef").is_ok(), true);
     expect_eq(&rt, drain.written(), b"abcdef");
 }
