@@ -33,8 +33,7 @@ elements_only (OpenHolder h children) = OpenHolder h (elements_only children)
 elements_only (OpenBitString h) = OpenBitString h
 elements_only _ = NoMore
 
--- 8.1.1.1: the octets of elements, as far as they are there, but without a header that is not complete and a single 00
--- of two (`elements_only`)
+-- 8.1.1.1: the octets of elements, as far as they are there, without those that belong to none of them (`elements_only`)
 abbrev pub octets_so_far : Forest → List ℕ
 octets_so_far f = spelling (elements_only f)
 

@@ -17,8 +17,9 @@ use Rattle.tlv_walk.specs.Ending.{IsEnding}
 abbrev pub indefinite_header : HeaderValue → HeaderValue
 indefinite_header h = record h { size = Indefinite; length_octets = 128 ∷ [] }
 
--- the same elements, each holder with an indefinite length: it is constructed, since `indef_framing` names no string. The
--- octets of an open header are left out, and so is the first of the end-of-contents octets without the second
+-- the same elements, with an indefinite length for each holder. Each holder is constructed here, since `indef_framing`
+-- names no string. The octets of an open header are left out, and so is the first of the end-of-contents octets without
+-- the second
 abbrev pub with_indefinite_lengths : Forest → Forest
 with_indefinite_lengths (PaddingOctet rest) = PaddingOctet (with_indefinite_lengths rest)
 with_indefinite_lengths (Primitive h c rest) = Primitive h c (with_indefinite_lengths rest)

@@ -34,9 +34,9 @@ pub record IsLowForm (class : Class) (constructed : Bool) (number : ℕ) (octets
   pub octets_are : octets ≡ identifier_octet class constructed number ∷ []
   pub nonzero : identifier_octet class constructed number ≢ 0
 
--- 8.1.2.4: a first octet with bits 5 to 1 set, then digits in base 128, with bit 8 set in all but the last: `digits`
--- and `last`. Together they are at most nine, a limit of our own (F06). A number below 31 and first digits that are 0,
--- which 8.1.2.2 and 8.1.2.4.2 c) forbid, are taken here, and left to findings (B01, B02)
+-- 8.1.2.4: a first octet with bits 5 to 1 set, then an octet for each digit in base 128: bit 8 is set in those of
+-- `digits`, and clear in `last`. These are at most nine octets, a limit of our own (F06). A number below 31 and first
+-- digits that are 0, which 8.1.2.2 and 8.1.2.4.2 c) forbid, are taken here, and left to findings (B01, B02)
 pub record IsHighForm (class : Class) (constructed : Bool) (number : ℕ) (octets : List ℕ) : Type 0 where
   pub digits : List ℕ
   pub last : ℕ
@@ -62,7 +62,8 @@ pub record IsLongForm (n : ℕ) (octets : List ℕ) : Type 0 where
   pub limit : n < 2 ^ 40
   pub octets_are : octets ≡ (128 + length digits) ∷ digits
 
--- 8.1.3.3, 8.1.3.6.1: length octets: by 8.1.3.4 one octet below 80, or the long form
+-- these are length octets. A definite length (8.1.3.3) is one octet below 80 (8.1.3.4) or the long form; the indefinite
+-- form is the octet 80 (8.1.3.6.1)
 abbrev pub IsLength : Size → List ℕ → Type 0
 IsLength (Definite n) octets = ((n < 128) × (octets ≡ n ∷ [])) ⊎ IsLongForm n octets
 IsLength Indefinite octets = octets ≡ 128 ∷ []

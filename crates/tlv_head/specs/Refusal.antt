@@ -61,9 +61,8 @@ pub data IsRefusedOctet (octets : List ℕ) (x : ℕ) : FaultCode → Type 0 whe
   indefinite_primitive : (class : Class) (number : ℕ)
       → IsIdentifier class false number octets → x ≡ 128
       → IsRefusedOctet octets x IndefinitePrimitive
-  -- F09, a limit of our own on 8.1.3.5: x is a length octet after the first one, and is not 00. Five or more are to
-  -- follow it, so the length is at least 2^40 (`left` counts x too). All digits before x are 00, since any other digit
-  -- there would have been refused
+  -- F09, a limit of our own on 8.1.3.5: x is a length octet after the first one, and is not 00, and five or more are to
+  -- follow it (`left` counts x too). So the length is at least 2^40
   length_too_large : (class : Class) (constructed : Bool) (number left : ℕ)
       → IsLengthPrefix class constructed number left octets → 6 ≤ left → x ≢ 0
       → IsRefusedOctet octets x LengthTooLarge

@@ -5,9 +5,9 @@ use Rattle.tlv_head.specs.TypeTable.{type_at}
 use Rattle.tlv_head.specs.declared.header.Class.{Class}
 use Rattle.tlv_head.specs.declared.header.Class.TheVariants.{Universal, Application, Context, Private}
 
--- the text of a tag without a name, by its class and number
+-- the text of a tag without a name: in brackets a prefix that shows the class, and the number
 abbrev pub bracketed_tag : List ℕ → ℕ → List ℕ
-bracketed_tag class number = codes "[" ++ class ++ decimal number ++ codes "]"
+bracketed_tag prefix number = codes "[" ++ prefix ++ decimal number ++ codes "]"
 
 -- the name of a universal type, or such a text
 abbrev pub tag_text : Class → ℕ → List ℕ

@@ -54,9 +54,9 @@ listed_header_conditions s h =
     -- B17, 8.6.4, 8.7.3: a segment has the tag of BIT STRING in a BIT STRING, and of OCTET STRING in any other string
     ∷ (B17, in_string s && not (is_a (if in_bit_string s then universal.bit_string else universal.octet_string) h))
     -- ---- of DER and of CER: S
-    -- S01, 9.1, 10.1: a definite length has the fewest octets. 9.1 asks this of primitives alone; under CER a
-    -- constructed element with a definite length is wrong anyway (C01). The shortest form has octets after the first only for a length of 128 or more (8.1.3.5), and then the second
-    -- length octet is not 00
+    -- S01, 9.1, 10.1: a definite length has the fewest octets. There are too many if octets follow the first, and the
+    -- length is below 128 (8.1.3.4) or the second octet is 00 (8.1.3.5). 9.1 asks this of primitives alone; under CER a
+    -- constructed element with a definite length is wrong anyway (C01)
     ∷ (
       S01,
       nat_lt 1 (length h.length_octets)
@@ -101,7 +101,7 @@ ends_empty [] = false
 ends_empty (h ∷ []) = has_primitive_form h && announced_length h.size == 0
 ends_empty (h ∷ g ∷ hs) = ends_empty (g ∷ hs)
 
--- from the element's header and the headers of what it held
+-- with the end of a holder: the rules that it may violate, by its header and the headers of what it held
 abbrev pub listed_end_conditions : HeaderValue → List HeaderValue → List (Finding × Bool)
 listed_end_conditions h children =
     -- C05, 9.2: a string of at most 1000 contents octets is primitive. If a segment is constructed, C03 says so, and

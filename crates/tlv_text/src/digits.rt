@@ -69,6 +69,7 @@ pub(crate) fn octet_of(x: u8, y: u8) -> Option<u8>
 pub(crate) fn octet_or_more(x: u8, y: u8) -> u32
     ensures octet { result < 256 → octet_of x y ≡ Some result }
     ensures none { 256 ≤ result → octet_of x y ≡ None }
+    ensures few { result ≤ 4352 }
 {
     value_or_256(x) * 16 + value_or_256(y)
 }

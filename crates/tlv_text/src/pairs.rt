@@ -2,7 +2,7 @@
 ghost use Rattle.std.specs.Prelude.{◌≡◌, ◌<◌, ◌≤◌, IfOk, MatchOption, OnOk, Some, length, true};
 ghost use Rattle.tlv_text.specs.Pairs.{is_between_pairs, pairs_read};
 ghost use Rattle.tlv_text.specs.Plain.{IsLonePairs, IsNotLonePairs, are_lines_of_digits};
-ghost use Rattle.tlv_text.specs.Private.PairSteps.{IsNotOfDigits, IsOfDigits, octet_of};
+ghost use Rattle.tlv_text.specs.Private.PairSteps.{IsNotOfDigits, IsOfDigits, octet_of, zero_between_pairs};
 ghost use Rattle.tlv_text.specs.Separated.{IsNotSeparated, IsSeparated, are_separated};
 ghost use Rattle.tlv_text.specs.TextRead.{octets_then, refused_at};
 
@@ -12,16 +12,26 @@ use crate::digits::{begins_digit, octet_of, octet_or_more};
 use crate::plain::is_line_end;
 use std::alloc::{AllocError, Global};
 
-/// What may be between pairs, each at its own place, and `@` at every other place.
-static BETWEEN: [u8; 256] = *b"\
-    @@@@@@@@@\t\n@@\r@@@@@@@@@@@@@@@@@@\
-    \x20@\"@@@@'@@@@,-@@@@@@@@@@@@:@@@@@\
-    @@@@@@@@@@@@@@@@@@@@@@@@@@@@@@@@\
-    @@@@@@@@@@@@@@@@@@@@@@@@@@@@@@@@\
-    @@@@@@@@@@@@@@@@@@@@@@@@@@@@@@@@\
-    @@@@@@@@@@@@@@@@@@@@@@@@@@@@@@@@\
-    @@@@@@@@@@@@@@@@@@@@@@@@@@@@@@@@\
-    @@@@@@@@@@@@@@@@@@@@@@@@@@@@@@@@";
+/// 0 at the place of each character that may be between pairs, and 256 at every other place. A row is 16 characters.
+#[rattlefmt::skip]
+static NOT_BETWEEN: [u32; 256] = [
+    256, 256, 256, 256, 256, 256, 256, 256, 256,   0,   0, 256, 256,   0, 256, 256,
+    256, 256, 256, 256, 256, 256, 256, 256, 256, 256, 256, 256, 256, 256, 256, 256,
+      0, 256,   0, 256, 256, 256, 256,   0, 256, 256, 256, 256,   0,   0, 256, 256,
+    256, 256, 256, 256, 256, 256, 256, 256, 256, 256,   0, 256, 256, 256, 256, 256,
+    256, 256, 256, 256, 256, 256, 256, 256, 256, 256, 256, 256, 256, 256, 256, 256,
+    256, 256, 256, 256, 256, 256, 256, 256, 256, 256, 256, 256, 256, 256, 256, 256,
+    256, 256, 256, 256, 256, 256, 256, 256, 256, 256, 256, 256, 256, 256, 256, 256,
+    256, 256, 256, 256, 256, 256, 256, 256, 256, 256, 256, 256, 256, 256, 256, 256,
+    256, 256, 256, 256, 256, 256, 256, 256, 256, 256, 256, 256, 256, 256, 256, 256,
+    256, 256, 256, 256, 256, 256, 256, 256, 256, 256, 256, 256, 256, 256, 256, 256,
+    256, 256, 256, 256, 256, 256, 256, 256, 256, 256, 256, 256, 256, 256, 256, 256,
+    256, 256, 256, 256, 256, 256, 256, 256, 256, 256, 256, 256, 256, 256, 256, 256,
+    256, 256, 256, 256, 256, 256, 256, 256, 256, 256, 256, 256, 256, 256, 256, 256,
+    256, 256, 256, 256, 256, 256, 256, 256, 256, 256, 256, 256, 256, 256, 256, 256,
+    256, 256, 256, 256, 256, 256, 256, 256, 256, 256, 256, 256, 256, 256, 256, 256,
+    256, 256, 256, 256, 256, 256, 256, 256, 256, 256, 256, 256, 256, 256, 256, 256,
+];
 
 /// Decodes a text of pairs of hexadecimal digits in either case, with white space, colons, commas, hyphens and quotes
 /// between them. A text is refused at the first character that may not stand between pairs and does not begin a pair.
@@ -109,11 +119,7 @@ fn take_four_separated(text: &mut &[u8], octets: &mut Vec<u8>) -> Result<(), All
 fn separated_octet(x: u8, y: u8, after: u8) -> u32
     ensures { result < 256 → (octet_of x y ≡ Some result) × (is_between_pairs after ≡ true) }
 {
-    if is_between_pairs(after) {
-        octet_or_more(x, y)
-    } else {
-        256
-    }
+    octet_or_more(x, y) + zero_between_pairs(after)
 }
 
 /// Decodes a text of pairs of which none is followed by a digit at once. `None` for another text.
@@ -173,6 +179,13 @@ pub(crate) fn lone_octets(alloc: Global, text: &[u8]) -> Result<Option<Vec<u8>>,
 fn is_between_pairs(character: u8) -> bool
     ensures { result ≡ is_between_pairs character }
 {
-    // A look-up costs less than a comparison with each of them.
-    BETWEEN[usize::from(character)] != b'@'
+    zero_between_pairs(character) == 0
+}
+
+/// 0 if this may be between pairs, and 256 otherwise. A look-up costs less than a comparison with each of them.
+#[inline(always)]
+fn zero_between_pairs(character: u8) -> u32
+    ensures { result ≡ zero_between_pairs character }
+{
+    NOT_BETWEEN[usize::from(character)]
 }

@@ -67,8 +67,8 @@ canonical_form number =
 abbrev pub findings_by : List (Finding × Bool) → List Finding
 findings_by rows = flat_map (λ row. if row.1 then row.0 ∷ [] else []) rows
 
--- the listed findings on these contents of a primitive of the type with this number, beside their conditions: by the
--- rules of all encodings. Each comment gives the rule; the condition holds if the contents break it
+-- the listed findings of the letter B (rules of all encodings), each beside its condition, for a primitive: `number` is
+-- that of its universal type. Each comment gives the rule; the condition holds if the contents break it
 abbrev pub listed_basic_type_conditions : ℕ → List ℕ → List (Finding × Bool)
 listed_basic_type_conditions number contents =
     -- B06, 8.2.1: a BOOLEAN has one octet
@@ -96,14 +96,14 @@ listed_basic_type_conditions number contents =
           && nat_le 1 (first_octet contents) && nat_le (first_octet contents) 7,
     )
     -- B18, X.680 41: a string of characters has only characters that its type allows. Of a BMPString and a
-    -- UniversalString only the length is looked at here: it is that of whole characters. Strings of registered
-    -- characters are not looked at
+    -- UniversalString only the length is looked at here: it is that of whole characters. A
+    -- TeletexString, VideotexString, GraphicString, GeneralString or ObjectDescriptor is not looked at
     ∷ (B18, not (allows number contents))
     -- B19, X.680 46, 47: a time of at most 64 octets follows the grammar of its type, as `Times` has it
     ∷ (B19, is_short_time number contents && not (time_form number contents))
     ∷ []
 
--- and by the rules of DER, and of CER
+-- the same for the letter S: the rules of DER and of CER
 abbrev pub listed_strict_type_conditions : ℕ → List ℕ → List (Finding × Bool)
 listed_strict_type_conditions number contents =
     -- S02, 11.1: TRUE is ff

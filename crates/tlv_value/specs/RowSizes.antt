@@ -9,8 +9,9 @@ use Rattle.tlv_head.specs.Kind.{is_text}
 abbrev pub row_size : Kind → ℕ
 row_size kind = if is_text kind then 64 else 16
 
--- the number of octets, from this one on, that must be kept in one row: the octets of a character of UTF-8. Characters
--- of two or four octets are not cut either, since a row of them has 64 octets
+-- the number of octets, from this one on, that must be kept in one row. In UTF-8 this octet says how many octets its
+-- character has, whether or not that character follows. The characters of two or four octets of other strings are not
+-- cut either, since a row of them has 64 octets
 abbrev pub character_length : Kind → ℕ → ℕ
 character_length Utf8 x = utf8_length x
 character_length _ x = 1

@@ -68,8 +68,8 @@ canonical_clock = two_digits 0 23 followed_by minute followed_by second
 abbrev pub canonical_utc_time_form : Form
 canonical_utc_time_form = year_digits followed_by month_and_day followed_by canonical_clock followed_by mark 0x5a
 
--- 11.7.4: the mark of a fraction is the point. 11.7.3: the last digit is not 0 (31 to 39 are the digits 1 to 9), so
--- there is a digit; without digits there is no point either
+-- 11.7.4: a fraction begins with a point. 11.7.3: its last digit is not 0 (31 to 39 are the digits 1 to 9), so at least
+-- one digit follows the point
 abbrev pub canonical_fraction : Form
 canonical_fraction = mark 0x2e followed_by digits followed_by octet_between 0x31 0x39
 

@@ -52,7 +52,8 @@ unit_size Utf8 octets =
     if is_utf8 character then length character else 1
 unit_size _ octets = 1
 
--- the first units, at most this many: the first one, and the first ones of the octets after it
+-- the units at the front of the octets, at most this many: the first unit, and then the units at the front of what
+-- follows it
 abbrev pub first_units : ℕ → Kind → List ℕ → List (List ℕ)
 first_units zero kind octets = []
 first_units (suc more) kind [] = []

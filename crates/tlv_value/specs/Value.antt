@@ -58,8 +58,8 @@ abbrev pub bit_count_text : ℕ → ℕ → List ℕ
 bit_count_text unused_bits octet_count = decimal (8 * octet_count - unused_bits) ++ codes " bits"
 
 -- 8.6.2: the number of unused bits is at most 7, and 0 if there is no octet for them
-abbrev pub is_readable : ℕ → ℕ → Bool
-is_readable unused_bits octet_count = nat_le unused_bits 7 && (unused_bits == 0 || not (octet_count == 0))
+abbrev pub can_have_unused_bits : ℕ → ℕ → Bool
+can_have_unused_bits unused_bits octet_count = nat_le unused_bits 7 && (unused_bits == 0 || not (octet_count == 0))
 
 -- 8.6.2.1: the bits of octets as digits, without the unused bits, after a space if there are any: 30 is the digit 0
 abbrev pub used_digits : ℕ → List ℕ → List ℕ
@@ -71,7 +71,7 @@ used_digits unused_bits octets =
 abbrev pub bits_value : List ℕ → Value
 bits_value [] = octets_value []
 bits_value (unused_bits ∷ octets) =
-    if is_readable unused_bits (length octets)
+    if can_have_unused_bits unused_bits (length octets)
     then value_on_line (bit_count_text unused_bits (length octets) ++ used_digits unused_bits octets)
     else octets_value (unused_bits ∷ octets)
 
@@ -92,14 +92,14 @@ object_value name_of relative octets =
 -- ---- Of any kind
 
 -- contents of up to this many octets are read as a whole, to be on the element's line if they can be read; longer
--- contents are shown in rows
+-- contents are shown in rows. 9 in a BIT STRING: the first octet, and eight octets of bits
 abbrev pub most_on_line : Kind → ℕ
 most_on_line Bits = 9
 most_on_line Object = 64
 most_on_line Relative = 64
 most_on_line kind = row_size kind
 
--- contents of n octets are longer
+-- contents of n octets are *long*: more octets than `most_on_line`
 abbrev pub is_long : Kind → ℕ → Bool
 is_long kind n = nat_lt (most_on_line kind) n
 
@@ -114,8 +114,8 @@ short_value name_of kind octets =
     if is_text kind then value_on_line (quoted_text kind octets) else octets_value octets
 
 -- 8.6.2: the text after the tag of a long value: the number of bits for a BIT STRING with at most 7 unused bits, and
--- nothing for any other value. `size` is the announced length. It is above 9, so all that `is_readable` still asks is
--- "at most 7"
+-- nothing for any other value. `size` is the announced length, above 9: so there are octets that can have unused bits, and
+-- only "at most 7" is left to ask
 abbrev pub long_text : Kind → ℕ → List ℕ → List ℕ
 long_text Bits size (unused_bits ∷ octets) =
     if nat_le unused_bits 7 then 0x20 ∷ bit_count_text unused_bits (size - 1) else []

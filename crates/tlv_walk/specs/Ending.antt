@@ -17,16 +17,16 @@ use Rattle.tlv_walk.specs.Forest.{primitive_extent, spelling}
 use Rattle.tlv_walk.specs.Place.{Fits, IsHeaderAt, Place, announced_extent, place_after, place_of_children, top_place}
 use Rattle.tlv_walk.specs.Reading.{CannotBecomeSound, IsReading, IsSoundList}
 
--- the innermost thing that is open, and its place. `NoMore`: nothing is begun there (holders around may be open), and
--- the next octet goes to this place. Otherwise it is an open primitive, a wrapping BIT STRING without its first octet, a
--- header or end-of-contents octets: the place is that of its first octet, and the next octet goes after what is there
+-- where the next octet goes. `forest` is what has begun and not ended there, and `place` is the place of its first octet:
+-- an open primitive, a wrapping BIT STRING without its first contents octet, a prefix of a header, or the first of the
+-- end-of-contents octets. `NoMore`: nothing has begun there (holders around may be open), and the next octet is at `place`
 pub record OpenEnd : Type 0 where
   pub place : Place
   pub forest : Forest
 
--- the open end at this place with this forest
-abbrev pub end_at : Place → Forest → OpenEnd
-end_at p f = record { place = p; forest = f }
+-- the open end with this forest, which begins at this place
+abbrev pub open_at : Place → Forest → OpenEnd
+open_at p f = record { place = p; forest = f }
 
 -- the innermost open end of a forest that begins at p
 abbrev pub open_end : Place → Forest → OpenEnd
@@ -34,7 +34,7 @@ open_end p (PaddingOctet rest) = open_end (place_after p 1) rest
 open_end p (Primitive h c rest) = open_end (place_after p (primitive_extent h c)) rest
 open_end p (Holder h children rest) = open_end (place_after p (holder_extent h children)) rest
 open_end p (OpenHolder h children) = open_end (place_of_children p h) children
-open_end p f = end_at p f
+open_end p f = open_at p f
 
 -- why the octet x is refused at an open end, one line for each cause, in the order of "Faults" in docs/FORMAT.md. No
 -- two lines hold at once. `Fits p n → ⊥` says that n octets from here end beyond the bound
@@ -42,34 +42,34 @@ pub data IsRefusedAt : OpenEnd → ℕ → FaultCode → Type 0 where
   -- ---- in a wrapping BIT STRING without its first octet
   -- F12, a rule of our own: encodings are whole octets, so a wrapping BIT STRING has no unused bits. 8.6.2.2 allows 00
   -- to 07
-  bad_inside : {x : ℕ} {p : Place} {h : HeaderValue} → x ≢ 0 → IsRefusedAt (end_at p (OpenBitString h)) x BadInside
+  bad_inside : {x : ℕ} {p : Place} {h : HeaderValue} → x ≢ 0 → IsRefusedAt (open_at p (OpenBitString h)) x BadInside
   -- ---- after the first of two octets 00
   -- F05, 8.1.5: the bound leaves no room for the second
-  missing_end : {x : ℕ} {p : Place} → (Fits p 2 → ⊥) → IsRefusedAt (end_at p OpenEndOctets) x MissingEnd
+  missing_end : {x : ℕ} {p : Place} → (Fits p 2 → ⊥) → IsRefusedAt (open_at p OpenEndOctets) x MissingEnd
   -- F04, 8.1.5: x is not 00
-  bad_end : {x : ℕ} {p : Place} → Fits p 2 → x ≢ 0 → IsRefusedAt (end_at p OpenEndOctets) x BadEnd
+  bad_end : {x : ℕ} {p : Place} → Fits p 2 → x ≢ 0 → IsRefusedAt (open_at p OpenEndOctets) x BadEnd
   -- ---- in a header, of which the octets `o` are there
   -- F11, 8.1.3.3: the bound leaves no room for x
   no_room : {x : ℕ} {p : Place} {o : List ℕ} → (Fits p (length o + 1) → ⊥)
-      → IsRefusedAt (end_at p (OpenHeader o)) x Overrun
+      → IsRefusedAt (open_at p (OpenHeader o)) x Overrun
   -- F06 to F09: no header goes on with that octet, and `IsRefusedOctet` says why
   refused_octet : {x : ℕ} {p : Place} {o : List ℕ} {code : FaultCode} → Fits p (length o + 1) → IsRefusedOctet o x code
-      → IsRefusedAt (end_at p (OpenHeader o)) x code
+      → IsRefusedAt (open_at p (OpenHeader o)) x code
   -- F10, a limit of our own: x completes the header of a holder, inside `depth_limit` holders
   too_deep : {x : ℕ} {p : Place} {o : List ℕ} → Fits p (length o + 1) → (h : HeaderValue) → IsHeaderAt p h
       → holds h ≡ true → octets_of h ≡ o ++ x ∷ [] → depth_limit ≤ p.depth
-      → IsRefusedAt (end_at p (OpenHeader o)) x TooDeep
+      → IsRefusedAt (open_at p (OpenHeader o)) x TooDeep
   -- F11, 8.1.3.3: x completes a header that F10 does not refuse, and the contents that it announces would end beyond
   -- the bound
   overrun : {x : ℕ} {p : Place} {o : List ℕ} → Fits p (length o + 1) → (h : HeaderValue) → IsHeaderAt p h
       → octets_of h ≡ o ++ x ∷ [] → (holds h ≡ true → p.depth < depth_limit)
-      → (Fits p (announced_extent h) → ⊥) → IsRefusedAt (end_at p (OpenHeader o)) x Overrun
+      → (Fits p (announced_extent h) → ⊥) → IsRefusedAt (open_at p (OpenHeader o)) x Overrun
   -- ---- where no element is begun
   -- F05, 8.1.5: the bound is reached inside an indefinite holder
-  no_end : {x : ℕ} {p : Place} → p.indefinite ≡ true → (Fits p 1 → ⊥) → IsRefusedAt (end_at p NoMore) x MissingEnd
+  no_end : {x : ℕ} {p : Place} → p.indefinite ≡ true → (Fits p 1 → ⊥) → IsRefusedAt (open_at p NoMore) x MissingEnd
   -- F03, 8.1.5: 00 where neither end-of-contents octets nor padding are allowed
   stray_end : {x : ℕ} {p : Place} → p.indefinite ≡ false → p.padding ≡ false → x ≡ 0
-      → IsRefusedAt (end_at p NoMore) x StrayEnd
+      → IsRefusedAt (open_at p NoMore) x StrayEnd
 
 -- the fault with this code, at this offset
 abbrev pub fault_at : FaultCode → ℕ → Fault

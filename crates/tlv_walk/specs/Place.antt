@@ -17,7 +17,7 @@ use Rattle.tlv_walk.specs.Forest.{is_whole, is_wrapping_bit_string, opening, pri
 pub record Place : Type 0 where
   -- the offset of its first octet
   pub offset : ℕ
-  -- the number of open holders around it
+  -- the number of holders around it
   pub depth : ℕ
   -- the end of the innermost holder around it that has a definite length
   pub bound : Option ℕ
@@ -69,8 +69,13 @@ pub record IsHeaderAt (p : Place) (h : HeaderValue) : Type 0 where
   pub offset : h.offset ≡ p.offset
   pub named : h.named ≡ is_among p.offset p.inside
 
+-- 8.1.3.3: the number of octets of the header and of all the contents octets that it announces
+abbrev pub announced_extent : HeaderValue → ℕ
+announced_extent h = length (octets_of h) + announced_length h.size
+
 -- 8.1.4: a primitive that is no wrapper is there, and n octets, counted from its first octet, do not go beyond the
--- bound. n counts all its octets if it has ended, and is `announced_extent` if it is open
+-- bound. n is the number of its octets: of those that are there if it has ended, and of those that its header announces
+-- (`announced_extent`) if it is open
 pub record IsPrimitiveAt (p : Place) (h : HeaderValue) (n : ℕ) : Type 0 where
   pub header : IsHeaderAt p h
   pub holding : holds h ≡ false
@@ -84,20 +89,17 @@ pub record IsHolderAt (p : Place) (h : HeaderValue) (n : ℕ) : Type 0 where
   pub shallow : p.depth < depth_limit
   pub fits : Fits p n
 
--- 8.1.3.3: the number of octets of the header and of all the contents octets that it announces
-abbrev pub announced_extent : HeaderValue → ℕ
-announced_extent h = length (octets_of h) + announced_length h.size
-
 -- 8.1.3.3: a definite length is the length of the contents, for an element with this header that holds these elements
 abbrev pub HasItsLength : HeaderValue → Forest → Type 0
 HasItsLength h children = IfSome (definite_length h.size) (λ n. contents_length h children ≡ n)
 
--- a forest that obeys the grammar, and may be open at its end: each element in it obeys the grammar, and no octet and
--- no announced end lies beyond the bound
+-- what may be at this place, one line for each form of a `Forest`. The last thing may be open. No octet, and no
+-- announced end, lies beyond the bound
 abbrev pub ObeysGrammar : Place → Forest → Type 0
 ObeysGrammar p NoMore = Unit {0}
--- 8.1.1: padding, at the top level only. There are no bound and no indefinite holder there, so only `p.padding` counts;
--- the other two conditions are for the laws, which are about any `Place`
+-- padding, which X.690 does not have: at the top level only, if the user allows it. There are no bound and no indefinite
+-- holder at the top level, so only `p.padding` counts; the other two conditions are for the laws, which are about any
+-- `Place`
 ObeysGrammar p (PaddingOctet rest) =
     ((p.padding ≡ true) × (p.indefinite ≡ false) × Fits p 1) × ObeysGrammar (place_after p 1) rest
 -- 8.1.4: a primitive with all its contents octets

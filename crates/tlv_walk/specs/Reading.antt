@@ -13,9 +13,9 @@ use Rattle.tlv_walk.specs.Place.{top_place}
 abbrev pub AreOctets : List ℕ → Type 0
 AreOctets b = All (λ x. x < 256) b
 
--- p is a prefix of b
+-- the first octets are a prefix of the second
 abbrev pub IsPrefixOf : List ℕ → List ℕ → Type 0
-IsPrefixOf p b = (rest : List ℕ) × (p ++ rest ≡ b)
+IsPrefixOf begun octets = (rest : List ℕ) × (begun ++ rest ≡ octets)
 
 -- the reading of an input: a forest that obeys the grammar and spells a prefix of it, the longest prefix that any
 -- such forest spells. There is exactly one (the law `octets_have_one_reading`)
@@ -26,9 +26,9 @@ pub record IsReading (framing : Framing) (b : List ℕ) (f : Forest) : Type 0 wh
       → length (spelling g) ≤ length (spelling f)
 
 -- 8.1.1 to 8.1.5: nothing is open, each definite length is the length of the contents, and each holder is inside fewer
--- than `depth_limit` holders; padding is at the top level only. A wrapper is a holder, so it has to hold sound
--- encodings, which X.690 does not ask for. No bound is asked for: each definite length is that of the contents, so
--- nothing inside ends beyond it
+-- than `depth_limit` holders. Padding, which X.690 does not have, is at the top level only. A wrapper is a holder, so it
+-- has to hold sound encodings, which X.690 does not ask for. No bound is asked for: each definite length is that of the
+-- contents, so what a holder holds ends where its contents end
 abbrev pub IsSound : Place → Forest → Type 0
 IsSound p NoMore = Unit {0}
 IsSound p (PaddingOctet rest) = (p.padding ≡ true) × IsSound (place_after p 1) rest
@@ -47,6 +47,6 @@ pub record IsSoundList (framing : Framing) (b : List ℕ) : Type 0 where
   pub some : has_element forest ≡ true
   pub spelled : spelling forest ≡ b
 
--- no input that begins with p is a sound list
+-- no input that begins with these octets is a sound list
 abbrev pub CannotBecomeSound : Framing → List ℕ → Type 0
-CannotBecomeSound framing p = (rest : List ℕ) → IsSoundList framing (p ++ rest) → ⊥
+CannotBecomeSound framing begun = (rest : List ℕ) → IsSoundList framing (begun ++ rest) → ⊥

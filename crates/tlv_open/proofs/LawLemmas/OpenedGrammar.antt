@@ -6,7 +6,7 @@ use Rattle.tlv_head.specs.declared.fault.FaultCode.{FaultCode}
 use Rattle.tlv_head.specs.declared.header.Size.TheVariants.{Definite}
 use Rattle.tlv_head.specs.Header.{HeaderValue, definite_length, octets_of}
 use Rattle.tlv_head.proofs.ReaderLemmas.Prefix.{header-two}
-use Rattle.tlv_walk.specs.Ending.{IsRefusedAt, OpenEnd, bad_end, bad_inside, end_at, missing_end, no_end, no_room}
+use Rattle.tlv_walk.specs.Ending.{IsRefusedAt, OpenEnd, bad_end, bad_inside, open_at, missing_end, no_end, no_room}
 use Rattle.tlv_walk.specs.Ending.{open_end, overrun, refused_octet, stray_end, too_deep}
 use Rattle.tlv_walk.specs.Forest.{Forest, Holder, NoMore, OpenBitString, OpenEndOctets, OpenHeader, OpenHolder}
 use Rattle.tlv_walk.specs.Forest.{OpenPrimitive, Primitive, holder_extent}
@@ -85,7 +85,7 @@ header-same p q h s e none k = record {
 
 refused-same : (e : OpenEnd) (q : Place) (x : ℕ) (code : FaultCode) → IsRefusedAt e x code → IsSamePlace e.place q
     → e.place.inside ≡ [] → (is_header_begun e.forest ≡ true → is_among q.offset q.inside ≡ false)
-    → IsRefusedAt (end_at q e.forest) x code
+    → IsRefusedAt (open_at q e.forest) x code
 refused-same e q x code (bad_inside nz) s i n = bad_inside nz
 refused-same e q x code (missing_end {p = p} a) s i n = missing_end (λ f. a (fits-back p q 2 s f))
 refused-same e q x code (bad_end {p = p} f nz) s i n = bad_end (fits-same p q 2 2 s refl f) nz
@@ -138,7 +138,7 @@ pub opened-grammar : {w : Where} {f : Forest} {xs : List ℕ} (p q : Place) → 
     → AreOpenedWell p q f (opened_forest d)
 opened-grammar p q no_more e k z s o agrees = record {
   obeys = tt;
-  refuses = λ x code t. refused-same (end_at p NoMore) q x code t s e (λ u. absurd (cc (u)));
+  refuses = λ x code t. refused-same (open_at p NoMore) q x code t s e (λ u. absurd (cc (u)));
 }
 opened-grammar {w = w} p q (padded {rest = rest} r) e k z s o agrees =
     let i : AreOpenedWell (place_after p 1) (place_after q 1) rest (opened_forest r) =
@@ -309,16 +309,16 @@ opened-grammar {w = w} p q (open_primitive {h = h} {contents = contents}) e k z 
         },
         o.1,
       );
-      refuses = λ x code t. absurd (contents-taken (end_at p (OpenPrimitive h contents)) x code t refl);
+      refuses = λ x code t. absurd (contents-taken (open_at p (OpenPrimitive h contents)) x code t refl);
     }
 opened-grammar p q (open_bit_string {h = h}) e k z s o agrees = absurd (grammar-plain p (OpenBitString h) e o)
 opened-grammar p q (open_header {octets = octets}) e k z s o agrees = record {
   obeys = (o.0, o.1, fits-same p q _ _ s refl o.2);
   refuses = λ x code t.
-      refused-same (end_at p (OpenHeader octets)) q x code t s e
+      refused-same (open_at p (OpenHeader octets)) q x code t s e
       (λ u. agrees q.offset (omega arith) (omega (arith, some-octet octets o.0)));
 }
 opened-grammar p q open_end_octets e k z s o agrees = record {
   obeys = (s.indefinite ∙ o.0, fits-same p q 1 1 s refl o.1);
-  refuses = λ x code t. refused-same (end_at p OpenEndOctets) q x code t s e (λ u. absurd (cc (u)));
+  refuses = λ x code t. refused-same (open_at p OpenEndOctets) q x code t s e (λ u. absurd (cc (u)));
 }

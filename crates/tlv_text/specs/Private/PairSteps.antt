@@ -3,7 +3,7 @@ use Rattle.std.specs.Prelude.{◌≡◌, ℕ, ◌%◌, true, ◌&&◌, if◌then
 use Rattle.std.specs.Prelude.{Option, Some, None, unwrap_or}
 use Rattle.std.specs.List.{AllPass}
 use Rattle.hex.specs.Hex.{hex_digit_value, is_hex_digit}
-use Rattle.tlv_text.specs.Pairs.{pair_octet, pairs_read}
+use Rattle.tlv_text.specs.Pairs.{is_between_pairs, pair_octet, pairs_read}
 use Rattle.tlv_text.specs.Plain.{are_lines_of_digits}
 
 -- digits in pairs
@@ -24,6 +24,10 @@ octet_of x y = if is_hex_digit x && is_hex_digit y then Some (pair_octet x y) el
 -- the value of a digit, or 256 for another character
 abbrev pub value_or_256 : ℕ → ℕ
 value_or_256 x = unwrap_or (hex_digit_value x) 256
+
+-- 0 for a character that may be between pairs, and 256 for another
+abbrev pub zero_between_pairs : ℕ → ℕ
+zero_between_pairs x = if is_between_pairs x then 0 else 256
 
 -- a text has nothing but digits and line ends and is pairs to its end, and its octets
 pub record IsOfDigits (text octets : List ℕ) : Type 0 where
