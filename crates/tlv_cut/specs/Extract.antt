@@ -33,7 +33,8 @@ elements_only (OpenHolder h children) = OpenHolder h (elements_only children)
 elements_only (OpenBitString h) = OpenBitString h
 elements_only _ = NoMore
 
--- 8.1.1.1: the octets of elements, as far as they are there, without those that belong to none of them (`elements_only`)
+-- 8.1.1.1: the octets of elements, as far as they are there, without those that belong to none of them
+-- (`elements_only`)
 abbrev pub octets_so_far : Forest → List ℕ
 octets_so_far f = spelling (elements_only f)
 
@@ -52,8 +53,8 @@ abbrev pub extract_text : ℕ → Bool → Forest → List ℕ
 extract_text n contents_only f =
     option_map_or (λ e. if contents_only then contents_so_far e else octets_so_far e) (element_at n f) []
 
--- write the element at the offset, or only its contents. When it has ended, nothing more is wanted. It is found once its
--- header is complete
+-- write the element at the offset, or only its contents. When it has ended, nothing more is wanted. It is found once
+-- its header is complete
 abbrev pub extract_job : ℕ → Bool → Framing → Job Cut
 extract_job offset contents_only framing = record {
   framing = framing;

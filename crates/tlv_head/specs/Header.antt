@@ -35,8 +35,9 @@ pub record IsLowForm (class : Class) (constructed : Bool) (number : ℕ) (octets
   pub nonzero : identifier_octet class constructed number ≢ 0
 
 -- 8.1.2.4: a first octet with bits 5 to 1 set, then an octet for each digit in base 128: bit 8 is set in those of
--- `digits`, and clear in `last`. These are at most nine octets, a limit of our own (F06). A number below 31 and first
--- digits that are 0, which 8.1.2.2 and 8.1.2.4.2 c) forbid, are taken here, and left to findings (B01, B02)
+-- `digits`, and clear in `last`. There are at most nine octets after the first one, a limit of our own (F06). A number
+-- below 31 and first digits that are 0, which 8.1.2.2 and 8.1.2.4.2 c) forbid, are taken here, and left to findings
+-- (B01, B02)
 pub record IsHighForm (class : Class) (constructed : Bool) (number : ℕ) (octets : List ℕ) : Type 0 where
   pub digits : List ℕ
   pub last : ℕ
@@ -112,8 +113,8 @@ is_universal Application = false
 is_universal Context = false
 is_universal Private = false
 
--- 8.6.2, 8.7.2: a primitive OCTET STRING, or a primitive BIT STRING of one or more contents octets: its contents can be
--- encodings
+-- a primitive OCTET STRING (8.7.2), or a primitive BIT STRING (8.6.2) of one or more contents octets. Only these can be
+-- wrappers, which X.690 does not have
 abbrev pub can_wrap : HeaderValue → Bool
 can_wrap h =
     not h.constructed && is_universal h.class

@@ -36,8 +36,7 @@ pub record IsNumberPrefix (class : Class) (constructed : Bool) (octets : List �
   pub each : All (λ d. d < 128) digits
   pub octets_are : octets ≡ identifier_octet class constructed 31 ∷ with_bit_8 digits
 
--- 8.1.3.5: identifier octets, the first length octet, and digits. `left` more digits are to come, the next octet
--- included
+-- 8.1.3.5: identifier octets, the first length octet, and the digits so far; `left` digits, one or more, are missing
 pub record IsLengthPrefix (class : Class) (constructed : Bool) (number left : ℕ) (octets : List ℕ) : Type 0 where
   pub identifier_octets : List ℕ
   pub digits : List ℕ
@@ -61,8 +60,8 @@ pub data IsRefusedOctet (octets : List ℕ) (x : ℕ) : FaultCode → Type 0 whe
   indefinite_primitive : (class : Class) (number : ℕ)
       → IsIdentifier class false number octets → x ≡ 128
       → IsRefusedOctet octets x IndefinitePrimitive
-  -- F09, a limit of our own on 8.1.3.5: x is a length octet after the first one, and is not 00, and five or more are to
-  -- follow it (`left` counts x too). So the length is at least 2^40
+  -- F09, a limit of our own on 8.1.3.5: x is a length octet after the first one and is not 00, and six or more are
+  -- missing, of which x is the first. So five or more follow x, and the length is at least 256^5 = 2^40
   length_too_large : (class : Class) (constructed : Bool) (number left : ℕ)
       → IsLengthPrefix class constructed number left octets → 6 ≤ left → x ≢ 0
       → IsRefusedOctet octets x LengthTooLarge

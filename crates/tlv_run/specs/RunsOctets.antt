@@ -10,8 +10,9 @@ use Rattle.tlv_run.specs.Results.{CommandResult, IsResult}
 
 -- the job, all the octets, and whether a read fails after them
 module _ (job : Job ReportValue) (octets : List ℕ) (read_fails : Bool) where
-  -- the report of a run that had room for all of its output. `f` and `e` are the reading and the ending of the octets
-  -- that are read. One line for each thing that comes after these octets; if two lines hold, they give the same report
+  -- the report of a run that had room for all of its output. `f` and `e` are the reading and the ending of the first
+  -- `input_limit` octets, as if the input ended there. One line for each thing that may come next; if two lines hold,
+  -- they give the same report
   pub data IsReport (f : Forest) (e : Ending) : ReportValue → Type 0 where
     -- nothing that could follow matters
     at_settled_result : IsSettled job f e → IsReport f e (job.returns f e)

@@ -34,7 +34,8 @@ is_not_full (Primitive h c rest) = not (announced_length h.size == 1000)
 is_not_full (Holder h children rest) = not (has_primitive_form h && announced_length h.size == 1000)
 is_not_full _ = false
 
--- with a header at a site: the rules that it may violate. The letter of a code says whose rule it is
+-- the findings that a header may have at this site, each beside its condition. The letter of a code says whose rule it
+-- is
 abbrev pub listed_header_conditions : Site → HeaderValue → List (Finding × Bool)
 listed_header_conditions s h =
     -- ---- of all encodings: B
@@ -51,12 +52,13 @@ listed_header_conditions s h =
     -- B16, 8.6.4: each segment of a BIT STRING but the last has a multiple of eight bits. A constructed segment right
     -- before is not looked into
     ∷ (B16, in_bit_string s && leaves_unused_bits s.previous)
-    -- B17, 8.6.4, 8.7.3: a segment has the tag of BIT STRING in a BIT STRING, and of OCTET STRING in any other string
+    -- B17, 8.6.4, 8.7.3, and 8.23.3 for the strings of characters: a segment has the tag of BIT STRING in a BIT STRING,
+    -- and of OCTET STRING in any other string
     ∷ (B17, in_string s && not (is_a (if in_bit_string s then universal.bit_string else universal.octet_string) h))
     -- ---- of DER and of CER: S
     -- S01, 9.1, 10.1: a definite length has the fewest octets. There are too many if octets follow the first, and the
-    -- length is below 128 (8.1.3.4) or the second octet is 00 (8.1.3.5). 9.1 asks this of primitives alone; under CER a
-    -- constructed element with a definite length is wrong anyway (C01)
+    -- length is below 128 (8.1.3.4) or the second octet is 00 (8.1.3.5). 9.1 asks this of primitives alone. Here it is
+    -- asked of constructed elements too; under CER these have C01 in any case
     ∷ (
       S01,
       nat_lt 1 (length h.length_octets)
@@ -88,8 +90,8 @@ headers (Holder h children rest) = h ∷ headers rest
 headers _ = []
 
 -- 9.2: the number of contents octets that a string with these segments has as a primitive: the contents octets of all
--- segments. In a BIT STRING the first octet of each segment, for unused bits (8.6.2), is left out, and one for the whole
--- string is added
+-- segments. In a BIT STRING the first octet of each segment, for unused bits (8.6.2), is left out, and one for the
+-- whole string is added
 abbrev pub length_as_primitive : HeaderValue → List HeaderValue → ℕ
 length_as_primitive h segments =
     let unused_octet = if is_a universal.bit_string h then 1 else 0 in
@@ -101,7 +103,8 @@ ends_empty [] = false
 ends_empty (h ∷ []) = has_primitive_form h && announced_length h.size == 0
 ends_empty (h ∷ g ∷ hs) = ends_empty (g ∷ hs)
 
--- with the end of a holder: the rules that it may violate, by its header and the headers of what it held
+-- the findings that a holder may have with its end, each beside its condition: by its header and the headers of what it
+-- held
 abbrev pub listed_end_conditions : HeaderValue → List HeaderValue → List (Finding × Bool)
 listed_end_conditions h children =
     -- C05, 9.2: a string of at most 1000 contents octets is primitive. If a segment is constructed, C03 says so, and

@@ -1,6 +1,6 @@
 -- The conditions of a header, and of an end, by what is kept when elements come event by event. `AllConditions` has
--- them by the site of an element, and by the headers of what it held: lemmas say that both find the same. The conditions
--- of a header are in parts here, as the code looks at them.
+-- them by the site of an element, and by the headers of what it held: lemmas say that both find the same. The
+-- conditions of a header are in parts here, as the code looks at them.
 use Rattle.std.specs.Prelude.{ℕ, ◌%◌, Bool, ◌&&◌, ◌||◌, not, ◌==◌, nat_le, nat_lt, if◌then◌else◌, List, [], ◌∷◌, ◌++◌}
 use Rattle.std.specs.Prelude.{length, slice_index}
 use Rattle.tlv_head.specs.Header.{HeaderValue, announced_length}

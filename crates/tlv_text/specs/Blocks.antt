@@ -115,7 +115,8 @@ pub data IsPemBlock (text : List ℕ) (place : ℕ) (label body rest : List ℕ)
         line = line_at text place;
         label = label;
         octets = octets;
-        state = state_with_end rest (state_at_place text (length text - (length (base64_part body) + length rest)) refused);
+        state = state_with_end rest
+            (state_at_place text (length text - (length (base64_part body) + length rest)) refused);
       })
 
 -- the blocks of PEM of a text, in order, from this part of it on
@@ -158,8 +159,8 @@ pub data IsBlocksFault (text : List ℕ) (form : Form) : TextFault → Type 0 wh
       → IsBlocksFault text form TooLong
   no_memory : IsBlocksFault text form Memory
 
--- a text is hexadecimal and neither PEM nor a dump: it has no block of PEM and no row of a dump, so that as a dump it is
--- refused at its end; and this is its block, which is not too long
+-- a text is hexadecimal and neither PEM nor a dump: it has no block of PEM and no row of a dump, so that as a dump it
+-- is refused at its end; and this is its block, which is not too long
 pub record IsHexAlone (text : List ℕ) (b : BlockValue) : Type 0 where
   pub no_pem : HasNoBlock text
   pub no_row : dump_read text ≡ refused_with 0

@@ -102,8 +102,8 @@ begins_row_at offset rest =
     has_offset offset (row_at Hexadecimal (after_blanks rest)) || has_offset offset (row_at Octal (after_blanks rest))
 
 -- the line of a row with this offset and this number of octets holds no more than the row: few other characters come
--- after the pairs, and the row after it does not begin there. If one does, a line end is lost. A colon at once shows that
--- the last pairs are the digits of its offset
+-- after the pairs, and the row after it does not begin there. If one does, a line end is lost. A colon at once shows
+-- that the last pairs are the digits of its offset
 abbrev pub ends_line : ℕ → ℕ → List ℕ → Bool
 ends_line offset octets rest =
     has_few_others octets rest && not (begins_colon rest || begins_row_at (offset + octets) rest)

@@ -1,5 +1,5 @@
--- Rows whose pairs are not their octets in order: words in reverse, as `xxd -e` writes them, and bits, as `xxd -b` does.
--- The characters behind them tell.
+-- Rows whose pairs are not their octets in order: words in reverse, as `xxd -e` writes them, and bits, as `xxd -b`
+-- does. The characters behind them tell.
 use Rattle.std.specs.Prelude.{ℕ, zero, suc, ◌+◌, ◌-◌, ◌*◌, ◌/◌, ◌%◌, ◌==◌, Bool, true, ◌&&◌, ◌||◌, not, nat_le}
 use Rattle.std.specs.Prelude.{if◌then◌else◌, List, get_or, length}
 use Rattle.std.specs.List.{list_all}

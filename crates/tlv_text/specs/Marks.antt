@@ -1,5 +1,6 @@
 -- Marks at the start of a text: the marks of UTF-8 and of UTF-16 (Unicode 16.0, section 23.8).
-use Rattle.std.specs.Prelude.{ℕ, ◌==◌, Bool, true, false, ◌&&◌, if◌then◌else◌, List, [], ◌∷◌, Option, Some, None, nat_lt}
+use Rattle.std.specs.Prelude.{ℕ, ◌==◌, Bool, true, false, ◌&&◌, if◌then◌else◌, List, [], ◌∷◌, Option, Some, None}
+use Rattle.std.specs.Prelude.{nat_lt}
 
 -- the text after the mark of UTF-8, if it has the mark
 abbrev pub after_mark : List ℕ → List ℕ

@@ -24,8 +24,8 @@ first_arcs v =
     else if nat_lt v 80 then 1 ∷ (v - 40) ∷ []
     else 2 ∷ (v - 80) ∷ []
 
--- the arcs that subidentifiers stand for. 8.20.3, 8.20.4: in a relative object identifier each stands for one. 8.19.3
--- to 8.19.5: in any other, the first stands for two
+-- the arcs that subidentifiers stand for; `true` is for a relative object identifier. There each stands for one
+-- (8.20.3, 8.20.4). In any other the first stands for two (8.19.3 to 8.19.5)
 abbrev pub arcs_of : Bool → List ℕ → List ℕ
 arcs_of true vs = vs
 arcs_of false [] = []

@@ -11,7 +11,7 @@ last_octet [] = 0
 last_octet (x ∷ []) = x
 last_octet (x ∷ y ∷ ys) = last_octet (y ∷ ys)
 
--- 8.3.2: the first nine bits are all equal
+-- the first nine bits are all equal, which 8.3.2 forbids
 abbrev pub is_padded_integer : List ℕ → Bool
 is_padded_integer (x ∷ y ∷ ys) = (x == 0 && nat_lt y 128) || (x == 255 && nat_le 128 y)
 is_padded_integer octets = false

@@ -1,5 +1,5 @@
--- What must be kept of the contents of a REAL so that the findings on them can be reported at their end: the part of the
--- encoding that has come last, and whether the octets so far are canonical.
+-- What must be kept of the contents of a REAL so that the findings on them can be reported at their end: the part of
+-- the encoding that has come last, and whether the octets so far are canonical.
 use Rattle.std.specs.Prelude.{ℕ, ◌-◌, ◌%◌, Bool, true, false, ◌&&◌, ◌||◌, not, ◌==◌, nat_le}
 use Rattle.std.specs.Prelude.{if◌then◌else◌, List, [], ◌∷◌}
 use Rattle.std.specs.Char.{is_ascii_digit}

@@ -11,7 +11,7 @@ row_size kind = if is_text kind then 64 else 16
 
 -- the number of octets, from this one on, that must be kept in one row. In UTF-8 this octet says how many octets its
 -- character has, whether or not that character follows. The characters of two or four octets of other strings are not
--- cut either, since a row of them has 64 octets
+-- cut either: a row of them has 64 octets, a multiple of two and of four
 abbrev pub character_length : Kind → ℕ → ℕ
 character_length Utf8 x = utf8_length x
 character_length _ x = 1

@@ -38,7 +38,7 @@ second = two_digits 0 60
 abbrev pub utc_zone : Form
 utc_zone = mark 0x5a or (sign followed_by hour followed_by minute)
 
--- X.680 47.3
+-- X.680 47.3, with the ranges above, which are lenient
 abbrev pub utc_time_form : Form
 utc_time_form =
     year_digits followed_by month_and_day followed_by hour followed_by minute followed_by maybe second

@@ -91,8 +91,9 @@ object_value name_of relative octets =
 
 -- ---- Of any kind
 
--- contents of up to this many octets are read as a whole, to be on the element's line if they can be read; longer
--- contents are shown in rows. 9 in a BIT STRING: the first octet, and eight octets of bits
+-- contents of up to this many octets are read as a whole. If they can be read, what they say is on the element's line;
+-- if not, `octets_value` shows them, in rows if there are more than 16. Longer contents are shown in rows. 9 in a BIT
+-- STRING: the first octet, and eight octets of bits
 abbrev pub most_on_line : Kind → ℕ
 most_on_line Bits = 9
 most_on_line Object = 64
@@ -114,8 +115,8 @@ short_value name_of kind octets =
     if is_text kind then value_on_line (quoted_text kind octets) else octets_value octets
 
 -- 8.6.2: the text after the tag of a long value: the number of bits for a BIT STRING with at most 7 unused bits, and
--- nothing for any other value. `size` is the announced length, above 9: so there are octets that can have unused bits, and
--- only "at most 7" is left to ask
+-- nothing for any other value. `size` is the announced length, above 9 (`is_long`), so of `can_have_unused_bits` only
+-- "at most 7" is left to ask
 abbrev pub long_text : Kind → ℕ → List ℕ → List ℕ
 long_text Bits size (unused_bits ∷ octets) =
     if nat_le unused_bits 7 then 0x20 ∷ bit_count_text unused_bits (size - 1) else []

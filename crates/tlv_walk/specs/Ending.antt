@@ -17,9 +17,10 @@ use Rattle.tlv_walk.specs.Forest.{primitive_extent, spelling}
 use Rattle.tlv_walk.specs.Place.{Fits, IsHeaderAt, Place, announced_extent, place_after, place_of_children, top_place}
 use Rattle.tlv_walk.specs.Reading.{CannotBecomeSound, IsReading, IsSoundList}
 
--- where the next octet goes. `forest` is what has begun and not ended there, and `place` is the place of its first octet:
--- an open primitive, a wrapping BIT STRING without its first contents octet, a prefix of a header, or the first of the
--- end-of-contents octets. `NoMore`: nothing has begun there (holders around may be open), and the next octet is at `place`
+-- where the next octet goes. `forest` is what has begun there and has not ended: an open primitive, a wrapping BIT
+-- STRING without its first contents octet, a prefix of a header, or the first of the end-of-contents octets. `place` is
+-- the place of its first octet. If nothing has begun (holders around may be open), `forest` is `NoMore`, and the next
+-- octet is at `place`
 pub record OpenEnd : Type 0 where
   pub place : Place
   pub forest : Forest

@@ -29,8 +29,8 @@ pub data Forest : Type 0 where
   -- the first of the end-of-contents octets
   OpenEndOctets : Forest
 
--- 8.6.2: asked only of the header of a holder: the holder is a wrapping BIT STRING. A holder that is not constructed is a
--- wrapper, so its class is universal, and its number says which string it is
+-- 8.6.2: the holder with this header is a wrapping BIT STRING. Asked only of headers of holders: a holder that is not
+-- constructed is a wrapper, so its class is universal, and its number says which string it is
 abbrev pub is_wrapping_bit_string : HeaderValue → Bool
 is_wrapping_bit_string h = not h.constructed && h.number == universal.bit_string
 

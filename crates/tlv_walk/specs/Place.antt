@@ -48,8 +48,8 @@ abbrev pub is_indefinite : Size → Bool
 is_indefinite size = is_none (definite_length size)
 
 -- 8.1.4: the place of the elements inside an element with this header. 8.1.3.3: the bound is the end of its contents,
--- if its length is definite, and otherwise the bound outside. The first contents octet of a wrapping BIT STRING (`lead`)
--- is before the elements, and counts for the bound
+-- if its length is definite, and otherwise the bound outside. The first contents octet of a wrapping BIT STRING
+-- (`lead`) is before the elements, and counts for the bound
 abbrev pub place_of_children : Place → HeaderValue → Place
 place_of_children p h = record p {
   offset = p.offset + length (opening h);
@@ -73,16 +73,16 @@ pub record IsHeaderAt (p : Place) (h : HeaderValue) : Type 0 where
 abbrev pub announced_extent : HeaderValue → ℕ
 announced_extent h = length (octets_of h) + announced_length h.size
 
--- 8.1.4: a primitive that is no wrapper is there, and n octets, counted from its first octet, do not go beyond the
--- bound. n is the number of its octets: of those that are there if it has ended, and of those that its header announces
--- (`announced_extent`) if it is open
+-- 8.1.4: a primitive that is no wrapper is there, and n octets from its first octet on do not go beyond the bound.
+-- `ObeysGrammar` gives as n its `primitive_extent` if it has ended, and its `announced_extent` if it is open
 pub record IsPrimitiveAt (p : Place) (h : HeaderValue) (n : ℕ) : Type 0 where
   pub header : IsHeaderAt p h
   pub holding : holds h ≡ false
   pub fits : Fits p n
 
--- 8.1.4: a holder is there, and n octets, counted from its first octet, do not go beyond the bound, n as in
--- `IsPrimitiveAt`. It is inside fewer than `depth_limit` holders, a limit of our own
+-- 8.1.4: a holder is there, and n octets from its first octet on do not go beyond the bound. n is its `holder_extent`
+-- if it has ended, and its `announced_extent` if it is open: only the header, if the length is indefinite. The holder
+-- is inside fewer than `depth_limit` holders, a limit of our own
 pub record IsHolderAt (p : Place) (h : HeaderValue) (n : ℕ) : Type 0 where
   pub header : IsHeaderAt p h
   pub holding : holds h ≡ true
@@ -97,9 +97,9 @@ HasItsLength h children = IfSome (definite_length h.size) (λ n. contents_length
 -- announced end, lies beyond the bound
 abbrev pub ObeysGrammar : Place → Forest → Type 0
 ObeysGrammar p NoMore = Unit {0}
--- padding, which X.690 does not have: at the top level only, if the user allows it. There are no bound and no indefinite
--- holder at the top level, so only `p.padding` counts; the other two conditions are for the laws, which are about any
--- `Place`
+-- padding, which X.690 does not have: at the top level only, if the user allows it. There are no bound and no
+-- indefinite holder at the top level, so only `p.padding` counts; the other two conditions are for the laws, which are
+-- about any `Place`
 ObeysGrammar p (PaddingOctet rest) =
     ((p.padding ≡ true) × (p.indefinite ≡ false) × Fits p 1) × ObeysGrammar (place_after p 1) rest
 -- 8.1.4: a primitive with all its contents octets
@@ -113,7 +113,7 @@ ObeysGrammar p (Holder h children rest) =
 -- 8.1.4: a primitive that lacks contents octets
 ObeysGrammar p (OpenPrimitive h c) = IsPrimitiveAt p h (announced_extent h) × (length c < announced_length h.size)
 -- 8.1.4: a holder that is open. If all in it is whole and its length is definite, it has fewer contents octets than
--- that: with all of them it would be a `Holder`
+-- its header announces: with all of them it would be a `Holder`
 ObeysGrammar p (OpenHolder h children) =
     (IsHolderAt p h (announced_extent h)
     × (is_whole children ≡ true → IfSome (definite_length h.size) (λ n. contents_length h children < n)))

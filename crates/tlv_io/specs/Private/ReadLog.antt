@@ -1,6 +1,7 @@
 -- What the code keeps about reads.
 use Rattle.std.specs.Prelude.{ℕ, Result}
-use Rattle.tlv_io.specs.Device.{LastReadValue, ReadLogState, never, gave, failed, failures_after, last_after, next_count}
+use Rattle.tlv_io.specs.Device.{LastReadValue, ReadLogState, never, gave, failed, failures_after, last_after}
+use Rattle.tlv_io.specs.Device.{next_count}
 use Rattle.tlv_io.specs.declared.source.LastRead.{LastRead}
 use Rattle.tlv_io.specs.declared.source.LastRead.TheVariants.{Never, Gave, Failed}
 
