@@ -138,7 +138,7 @@ right-short places n few fits =
     )
 
 -- the octets of a list of two
-pub two-octets : (l : List ℕ) → length l ≡ 2 → get_or l 0 0 ∷ get_or l 1 0 ∷ [] ≡ l
+two-octets : (l : List ℕ) → length l ≡ 2 → get_or l 0 0 ∷ get_or l 1 0 ∷ [] ≡ l
 two-octets (x ∷ y ∷ []) e = refl
 two-octets [] e = absurd (omega (arith, e))
 two-octets (x ∷ []) e = absurd (omega (arith, e))

@@ -45,8 +45,10 @@ two_digits-of n places few is = ⊎_elim
 abbrev pub no_size : List ℕ
 no_size = spaces 7 ++ 58 ∷ 32 ∷ []
 
-pub columns-no_size : (n : ℕ) → columns n [] ≡ at_right 8 (decimal n) ++ no_size
-columns-no_size n = append_assoc (at_right 8 (decimal n) ++ 32 ∷ []) (spaces 6) (58 ∷ 32 ∷ []) ∙ append_assoc (at_right 8 (decimal n)) (32 ∷ []) (spaces 6 ++ 58 ∷ 32 ∷ [])
+columns-no_size : (n : ℕ) → columns n [] ≡ at_right 8 (decimal n) ++ no_size
+columns-no_size n =
+    append_assoc (at_right 8 (decimal n) ++ 32 ∷ []) (spaces 6) (58 ∷ 32 ∷ [])
+    ∙ append_assoc (at_right 8 (decimal n)) (32 ∷ []) (spaces 6 ++ 58 ∷ 32 ∷ [])
 
 -- two more digits take two more places
 wider : (places : ℕ) (xs ys : List ℕ) → length ys ≡ 2 → length xs ≤ places
@@ -56,7 +58,8 @@ wider places xs ys two few =
     append_assoc (spaces (places - length xs)) xs ys ∙ ap (λ (n : ℕ). spaces n ++ (xs ++ ys)) left
 
 -- an offset in eight places: its hundreds, and two digits
-hundreds : (n : ℕ) → 100 ≤ n → n < 100000000 → at_right 8 (decimal n) ≡ at_right 6 (decimal (n / 100)) ++ pair (n % 100)
+hundreds : (n : ℕ) → 100 ≤ n → n < 100000000
+    → at_right 8 (decimal n) ≡ at_right 6 (decimal (n / 100)) ++ pair (n % 100)
 hundreds n many few =
     let below : n / 100 < 1000000 = omega (arith, few) in
     let short : length (decimal (n / 100)) ≤ 6 = length-decimal-le 6 (n / 100) (omega arith) below (omega (arith, below)) in
@@ -69,7 +72,7 @@ hundreds-size n few =
     right-size 6 (decimal (n / 100)) (length-decimal-le 6 (n / 100) (omega arith) below (omega (arith, below)))
 
 -- two octets were written over two others
-pub two_set : (prefix rest : List ℕ) (at a b c d : ℕ) → length prefix ≡ at
+two_set : (prefix rest : List ℕ) (at a b c d : ℕ) → length prefix ≡ at
     → set (set (prefix ++ (a ∷ b ∷ rest)) at c) (at + 1) d ≡ prefix ++ (c ∷ d ∷ rest)
 two_set prefix rest at a b c d size =
     let none : at - at ≡ 0 = omega arith in
