@@ -122,7 +122,7 @@ right_end old new prefix text tail start places is short e kept written =
     ∙ ap (λ (l : List ℕ). prefix ++ l) (sym (append_assoc (spaces left) text tail))
 
 -- a text that is not too long takes so many places
-right-size : (places : ℕ) (text : List ℕ) → length text ≤ places → length (at_right places text) ≡ places
+pub right-size : (places : ℕ) (text : List ℕ) → length text ≤ places → length (at_right places text) ≡ places
 right-size places text short =
     omega
     (arith, length-append (spaces (places - length text)) text, length-replicate {A = ℕ} (places - length text) 32)
@@ -209,13 +209,6 @@ module _ (old : List ℕ) (start : ℕ) (within : start + 6 ≤ length old) (bla
       ∙ ap (λ (l : List ℕ). before ++ l) (sym (append_assoc (spaces 4) (at_right 2 text) after))
       ∙ ap (λ (l : List ℕ). before ++ (l ++ after)) wider
 
--- a colon was written to spaces
-blanks-written : (prefix tail : List ℕ) (at : ℕ) → length prefix ≡ at
-    → set (prefix ++ (spaces 17 ++ tail)) (at + 15) 58 ≡ prefix ++ (spaces 15 ++ 58 ∷ 32 ∷ tail)
-blanks-written prefix tail at size =
-    set-append_right prefix (spaces 17 ++ tail) at (at + 15) 58 size (omega arith)
-    ∙ let place : at + 15 - at ≡ 15 = omega arith in ap (λ (n : ℕ). prefix ++ set (spaces 17 ++ tail) n 58) place
-
 module _ (old first tail : List ℕ) (at : ℕ) (within : at ≤ length old) (short : length first ≤ 8) where
   -- what is before the second column
   abbrev pub first_column : List ℕ
@@ -235,23 +228,10 @@ module _ (old first tail : List ℕ) (at : ℕ) (within : at ≤ length old) (sh
         right-size 8 first short,
       )
 
-  -- spaces and a colon are there, and an offset was written to them
-  pub offset_written : (pad middle : List ℕ) (start : ℕ) → pad ≡ spaces 17 → start + length first ≡ at + 8
-      → take start middle ≡ take start (set (take at old ++ (pad ++ tail)) (at + 15) 58)
-      → drop start middle ≡ first ++ drop (at + 8) (set (take at old ++ (pad ++ tail)) (at + 15) 58)
+  -- the columns are there, without a size
+  pub no_size_written : (middle : List ℕ) → middle ≡ take at old ++ (columns_of (spaces 6) ++ tail)
       → middle ≡ first_column ++ (spaces 6 ++ 58 ∷ 32 ∷ tail)
-  offset_written pad middle start blank e kept written =
-      let size : length (take at old) ≡ at = length-take-le at old within in
-      let there : List ℕ = set (take at old ++ (pad ++ tail)) (at + 15) 58 in
-      let more : List ℕ = 32 ∷ (spaces 6 ++ 58 ∷ 32 ∷ tail) in
-      let is =
-      ap (λ (l : List ℕ). set (take at old ++ (l ++ tail)) (at + 15) 58) blank
-      ∙ blanks-written (take at old) tail at size in
-      right_end there middle (take at old) first more start 8 is short (omega (arith, e, size)) kept
-      (written ∙ ap (λ (n : ℕ). first ++ drop (n + 8) there) (sym size))
-      ∙ ap (λ (l : List ℕ). take at old ++ l)
-      (sym (append_assoc (at_right 8 first) (32 ∷ []) (spaces 6 ++ 58 ∷ 32 ∷ tail)))
-      ∙ sym (append_assoc (take at old) (at_right 8 first ++ 32 ∷ []) (spaces 6 ++ 58 ∷ 32 ∷ tail))
+  no_size_written middle is = is ∙ simp append_assoc refl
 
   -- both columns are there
   pub columns_there : (new second : List ℕ) → length second ≡ 6 → new ≡ first_column ++ (second ++ 58 ∷ 32 ∷ tail)

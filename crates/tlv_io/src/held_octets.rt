@@ -4,9 +4,11 @@ ghost use Rattle.tlv_io.specs.OutLimits.{held_limit};
 ghost use Rattle.tlv_io.specs.LineTexts.{AddsIfRoom, HasRoomFor, spaced_pairs, spaces};
 
 mod numbers;
+mod offset_text;
 mod pair_table;
 mod texts;
 
+use offset_text::OffsetText;
 use pair_table::PairTable;
 use std::marker::Model;
 use texts::{fill_spaces, write_spaced_pairs, write_spaced_row};
@@ -24,6 +26,8 @@ pub struct HeldOctets {
     octets: [u8; CAPACITY],
     /// Filled once, so that no pair of digits costs a call of `hex`.
     pairs: PairTable,
+    /// Kept from line to line, so that mostly two digits of an offset are written.
+    offsets: OffsetText,
 }
 
 impl Model for HeldOctets {
@@ -48,6 +52,7 @@ impl HeldOctets {
             len: 0,
             octets: [0; CAPACITY],
             pairs,
+            offsets: OffsetText::new(),
         }
     }
 

@@ -76,13 +76,14 @@ impl HeldOctets {
         requires { HasRoomFor self.old 43 }
         ensures { self.new ≡ self.old ++ columns offset (decimal size) }
     {
-        if offset >= 100_000_000 || size >= 1_000_000 {
+        if size >= 1_000_000 {
             return self.wide_columns(offset, size);
         }
+        let Some(last) = self.offsets.take_for(offset) else {
+            return self.wide_columns(offset, size);
+        };
         let start = self.len();
-        self.octets[start..start + 17].copy_from_slice(&[b' '; 17]);
-        self.octets[start + 15] = b':';
-        let _ = write_digits(offset, &mut self.octets, start + 8);
+        self.offsets.write(last, &mut self.octets, start);
         write_size(size, &mut self.octets, start + 9);
         self.len = start + 17;
     }
@@ -106,13 +107,11 @@ impl HeldOctets {
         requires { HasRoomFor self.old 29 }
         ensures { self.new ≡ self.old ++ columns offset word.now }
     {
-        if offset >= 100_000_000 {
+        let Some(last) = self.offsets.take_for(offset) else {
             return self.wide_word_columns(offset, word);
-        }
+        };
         let start = self.len();
-        self.octets[start..start + 17].copy_from_slice(&[b' '; 17]);
-        self.octets[start + 15] = b':';
-        let _ = write_digits(offset, &mut self.octets, start + 8);
+        self.offsets.write(last, &mut self.octets, start);
         // A local copy, as in `add_prefix`.
         let word = *word;
         self.octets[start + 9..start + 15].copy_from_slice(&word);
@@ -180,7 +179,7 @@ fn write_size(size: u64, octets: &mut [u8], start: usize)
 
 /// A number below 100, right-aligned in two places.
 #[inline(always)]
-fn in_two_places(number: u64) -> [u8; 2]
+pub(super) fn in_two_places(number: u64) -> [u8; 2]
     requires { number < 100 }
     ensures { result ≡ at_right 2 (decimal number) }
 {
