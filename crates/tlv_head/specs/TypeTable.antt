@@ -12,7 +12,8 @@ pub record TypeRow : Type 0 where
   pub number : ℕ
   pub name : List ℕ
   -- which encodings the type has: `Primitive`, `Constructed`, or `Segmented` (a string: primitive, or constructed of
-  -- segments). `Unjudged`: X.690 says primitive (8.21, 8.22, 8.26), but B04 does not judge it; B22 of tlvdump-show does
+  -- segments). `Unjudged`: primitive by X.690 (8.21, 8.22, 8.26), but a constructed one has no finding of `tlvdump`;
+  -- `tlvdump-show` reports B22
   pub encodings : Encodings
   -- how the contents of a primitive are shown
   pub kind : Kind

@@ -1,7 +1,8 @@
 -- The columns of an offset, and those of others that have the same digits but for a few.
 use Rattle.std.proofs.Common.{◌≡◌, ◌∙◌, ℕ, ◌+◌, ◌-◌, ◌/◌, ◌%◌, ◌^◌, ◌<◌, ◌≤◌, List, [], ◌∷◌, ◌++◌}
 use Rattle.std.proofs.Common.{ap, ap₂, append_assoc, arith, bit_or, decimal, drop, get_or, length}
-use Rattle.std.proofs.Common.{length-append, map, refl, set, slice_index_or, sym, take, ⊎_elim}
+use Rattle.std.proofs.Common.{length-append, map, refl, set, slice_index_or, suc, sym, take, zero, ⊎_elim}
+use Rattle.std.specs.Int.Bits.{or_zero_r}
 use Rattle.std.specs.List.{range_with_len}
 use Rattle.std.proofs.lemmas.Bool.{cases_lt}
 use Rattle.std.proofs.lemmas.Fmt.{decimal_digit, length-decimal-le}
@@ -9,12 +10,13 @@ use Rattle.std.proofs.lemmas.List.{length-take-le, set-append_right}
 use Rattle.std.proofs.lemmas.List.FromFn.{get_or-map-range_with_len}
 use Rattle.itoa.proofs.Decimal.{decimal_pair, decimal_two, pair}
 use Rattle.tlv_io.specs.LineTexts.{at_right, columns, spaces}
+use Rattle.tlv_io.specs.Private.OffsetText.{zero_bit_of}
 use Rattle.tlv_io.proofs.HeldTexts.{right_end, right-size}
 
 -- ---- two digits
 
-abbrev with_bit : List ℕ → List ℕ
-with_bit l = bit_or (slice_index_or l 0 0) 16 ∷ slice_index_or l 1 0 ∷ []
+abbrev with_bit : ℕ → List ℕ → List ℕ
+with_bit bit l = bit_or (slice_index_or l 0 0) bit ∷ slice_index_or l 1 0 ∷ []
 
 bits : map (λ (d : ℕ). bit_or (48 + d) 16) (range_with_len 0 10) ≡ map (λ (d : ℕ). 48 + d) (range_with_len 0 10)
 bits = refl
@@ -31,12 +33,23 @@ two_digits-of n places few is = ⊎_elim
     (λ (low : n < 10).
     let tens : 0 ≡ n / 10 = omega (arith, low) in
     let ones : n ≡ n % 10 = omega (arith, low) in
-    ap with_bit (is ∙ ap (at_right 2) (decimal_digit n low))
+    ap (with_bit 16) (is ∙ ap (at_right 2) (decimal_digit n low))
     ∙ ap₂ (λ (x y : ℕ). (48 + x) ∷ (48 + y) ∷ []) tens ones)
     (λ (high : 10 ≤ n).
     let digit : n / 10 < 10 = omega (arith, few) in
-    ap with_bit (is ∙ ap (at_right 2) (decimal_two n high few))
+    ap (with_bit 16) (is ∙ ap (at_right 2) (decimal_two n high few))
     ∙ ap (λ (tens : ℕ). tens ∷ (48 + n % 10) ∷ []) (digit-has_bit (n / 10) digit))
+    (cases_lt n 10)
+
+-- two places, of which none is changed
+no_bit : (n : ℕ) (places : List ℕ) → n < 100 → places ≡ at_right 2 (decimal n) → with_bit 0 places ≡ at_right 2 (decimal n)
+no_bit n places few is = ⊎_elim
+    (λ (low : n < 10).
+    let digits : at_right 2 (decimal n) ≡ 32 ∷ (48 + n) ∷ [] = ap (at_right 2) (decimal_digit n low) in
+    ap (with_bit 0) (is ∙ digits) ∙ sym digits)
+    (λ (high : 10 ≤ n).
+    let digits : at_right 2 (decimal n) ≡ pair n = ap (at_right 2) (decimal_two n high few) in
+    ap (with_bit 0) (is ∙ digits) ∙ ap (λ (tens : ℕ). tens ∷ (48 + n % 10) ∷ []) (or_zero_r (48 + n / 10)) ∙ sym digits)
     (cases_lt n 10)
 
 -- ---- digits and the columns after them
@@ -56,6 +69,17 @@ wider : (places : ℕ) (xs ys : List ℕ) → length ys ≡ 2 → length xs ≤ 
 wider places xs ys two few =
     let left : places - length xs ≡ places + 2 - length (xs ++ ys) = omega (arith, length-append xs ys, two, few) in
     append_assoc (spaces (places - length xs)) xs ys ∙ ap (λ (n : ℕ). spaces n ++ (xs ++ ys)) left
+
+-- an offset below 100 in eight places: six spaces, and two places
+first_hundred : (n : ℕ) → n < 100 → at_right 8 (decimal n) ≡ spaces 6 ++ at_right 2 (decimal n)
+first_hundred n few = ⊎_elim
+    (λ (low : n < 10).
+    ap (at_right 8) (decimal_digit n low)
+    ∙ sym (ap (λ (l : List ℕ). spaces 6 ++ at_right 2 l) (decimal_digit n low)))
+    (λ (high : 10 ≤ n).
+    ap (at_right 8) (decimal_two n high few)
+    ∙ sym (ap (λ (l : List ℕ). spaces 6 ++ at_right 2 l) (decimal_two n high few)))
+    (cases_lt n 10)
 
 -- an offset in eight places: its hundreds, and two digits
 hundreds : (n : ℕ) → 100 ≤ n → n < 100000000
@@ -86,12 +110,12 @@ two_set prefix rest at a b c d size =
 -- ---- the last two digits of an offset
 
 -- over those of another that has the same hundreds
-pub last_digits : (first last start : ℕ) (old text tail digits : List ℕ) → start ≤ length old
+last_of_many : (first last start : ℕ) (old text tail digits : List ℕ) → start ≤ length old
     → 100 ≤ first → first < 100000000 → first % 100 ≡ 0 → last < 100
     → text ≡ columns first [] → digits ≡ pair last
     → set (set (take start old ++ (text ++ tail)) (start + 6) (get_or digits 0 0)) (start + 7) (get_or digits 1 0)
     ≡ take start old ++ (columns (first + last) [] ++ tail)
-last_digits first last start old text tail digits within many few zeros short is ends =
+last_of_many first last start old text tail digits within many few zeros short is ends =
     let offset : ℕ = first + last in
     let below : offset < 100000000 = omega (arith, few, zeros, short) in
     let some : 100 ≤ offset = omega (arith, many) in
@@ -118,6 +142,62 @@ last_digits first last start old text tail digits within many few zeros short is
     ∙ simp append_assoc refl
     ∙ ap (λ (l : List ℕ). take start old ++ (l ++ tail))
     (ap (λ (l : List ℕ). l ++ no_size) (sym (hundreds offset some below)) ∙ sym (columns-no_size offset))
+
+-- two places over those of the offset 0
+last_of_none : (last start : ℕ) (old text tail places : List ℕ) → start ≤ length old → last < 100
+    → text ≡ columns 0 [] → places ≡ at_right 2 (decimal last)
+    → set (set (take start old ++ (text ++ tail)) (start + 6) (bit_or (slice_index_or places 0 0) 0)) (start + 7)
+    (slice_index_or places 1 0)
+    ≡ take start old ++ (columns last [] ++ tail)
+last_of_none last start old text tail places within short is ends =
+    let before : List ℕ = take start old ++ spaces 6 in
+    let more : List ℕ = no_size ++ tail in
+    let x : ℕ = bit_or (slice_index_or places 0 0) 0 in
+    let y : ℕ = slice_index_or places 1 0 in
+    let size : length before ≡ start + 6 =
+    omega (arith, length-append (take start old) (spaces 6), length-take-le start old within) in
+    let parts : columns 0 [] ≡ (spaces 6 ++ 32 ∷ 48 ∷ []) ++ no_size =
+    columns-no_size 0
+    ∙ ap (λ (l : List ℕ). l ++ no_size)
+    (first_hundred 0 (omega arith) ∙ ap (λ (l : List ℕ). spaces 6 ++ at_right 2 l) (decimal_digit 0 (omega arith))) in
+    let there : take start old ++ (text ++ tail) ≡ before ++ (32 ∷ 48 ∷ more) =
+    ap (λ (l : List ℕ). take start old ++ (l ++ tail)) (is ∙ parts)
+    ∙ simp append_assoc refl in
+    let next : start + 7 ≡ start + 6 + 1 = omega arith in
+    ap₂ (λ (l : List ℕ) (n : ℕ). set (set l (start + 6) x) n y) there next
+    ∙ two_set before more (start + 6) 32 48 x y size
+    ∙ ap (λ (l : List ℕ). before ++ (l ++ more)) (no_bit last places short ends)
+    ∙ simp append_assoc refl
+    ∙ ap (λ (l : List ℕ). take start old ++ (l ++ tail))
+    (ap (λ (l : List ℕ). l ++ no_size) (sym (first_hundred last short)) ∙ sym (columns-no_size last))
+
+pub bit-of_none : (n : ℕ) → n ≤ 0 → 0 ≡ zero_bit_of n
+bit-of_none zero none = refl
+bit-of_none (suc k) none = omega (arith, none)
+
+pub bit-of_some : (n : ℕ) → 0 < n → 16 ≡ zero_bit_of n
+bit-of_some zero some = omega (arith, some)
+bit-of_some (suc k) some = refl
+
+-- the last two digits, over those of another offset that has the same hundreds
+pub last_digits : (first last start bit : ℕ) (old text tail places : List ℕ) → start ≤ length old
+    → first < 100000000 → first % 100 ≡ 0 → last < 100
+    → text ≡ columns first [] → bit ≡ zero_bit_of first → places ≡ at_right 2 (decimal last)
+    → set (set (take start old ++ (text ++ tail)) (start + 6) (bit_or (slice_index_or places 0 0) bit)) (start + 7)
+    (slice_index_or places 1 0)
+    ≡ take start old ++ (columns (first + last) [] ++ tail)
+last_digits zero last start bit old text tail places within few zeros short is none ends =
+    let offset : last ≡ 0 + last = omega arith in
+    ap (λ (b : ℕ). set (set (take start old ++ (text ++ tail)) (start + 6) (bit_or (slice_index_or places 0 0) b))
+    (start + 7) (slice_index_or places 1 0)) none
+    ∙ last_of_none last start old text tail places within short is ends
+    ∙ ap (λ (n : ℕ). take start old ++ (columns n [] ++ tail)) offset
+last_digits (suc k) last start bit old text tail places within few zeros short is some ends =
+    let many : 100 ≤ suc k = omega (arith, zeros) in
+    ap (λ (b : ℕ). set (set (take start old ++ (text ++ tail)) (start + 6) (bit_or (slice_index_or places 0 0) b))
+    (start + 7) (slice_index_or places 1 0)) some
+    ∙ last_of_many (suc k) last start old text tail (with_bit 16 places) within many few zeros short is
+    (two_digits-of last places short ends)
 
 -- ---- other columns
 
@@ -174,9 +254,6 @@ all_digits n start new below e kept written =
     right_end (spaces 8 ++ no_size) new [] (decimal n) no_size start 8 refl short e kept written
     ∙ sym (columns-no_size n)
 
--- the columns of the first offset of three digits
-pub columns-first : columns 100 [] ≡ at_right 8 (49 ∷ 48 ∷ 48 ∷ []) ++ no_size
-columns-first =
-    columns-no_size 100
-    ∙ ap (λ (l : List ℕ). at_right 8 l ++ no_size)
-    (decimal_pair 100 (omega arith) (omega arith) ∙ ap (λ (l : List ℕ). l ++ pair 0) (decimal_digit 1 (omega arith)))
+-- the columns of the offset 0
+pub columns-first : columns 0 [] ≡ spaces 7 ++ 48 ∷ no_size
+columns-first = columns-no_size 0 ∙ ap (λ (l : List ℕ). at_right 8 l ++ no_size) (decimal_digit 0 (omega arith))

@@ -1,3 +1,4 @@
+pub mod OffsetText
 pub mod PairTable
 pub mod ReadLog
 pub mod WritesOver

@@ -14,7 +14,7 @@ use Rattle.tlv_open.specs.Held.{HoldsEncodings, inner_octets}
 use Rattle.tlv_open.specs.Opens.{Where, closed_framing, is_one_primitive, where_at_top, where_of_children}
 use Rattle.tlv_open.specs.Opens.{where_of_held}
 use Rattle.tlv_value.specs.Types.{is_a}
-use Rattle.tlv_walk.specs.declared.ending.Ending.TheVariants as ending
+use Rattle.tlv_walk.specs.declared.ending.Ending.TheVariants as endings
 use Rattle.tlv_walk.specs.declared.framing.Framing.{Framing}
 use Rattle.tlv_walk.specs.Ending.{IsEnding, fault_at}
 use Rattle.tlv_walk.specs.Forest.{Forest, Holder, NoMore, OpenBitString, OpenEndOctets, OpenHeader, OpenHolder}
@@ -96,7 +96,7 @@ framing_around depth = record { inside = 2 * depth ∷ []; padding = false }
 -- not beyond the end of the string. These octets are an input, so there are no more than an input may have
 pub record BreaksAt (depth : ℕ) (string : List ℕ) (fault : Fault) : Type 0 where
   pub within_limit : length (octets_around depth string) ≤ input_limit
-  pub is_ending : IsEnding (framing_around depth) (octets_around depth string) (ending.Fault fault)
+  pub is_ending : IsEnding (framing_around depth) (octets_around depth string) (endings.Fault fault)
   pub within_string : fault.offset ≤ 2 * depth + length string
 
 -- the same fault for a string at `offset`: its offset is counted from where `offset` is counted

@@ -11,7 +11,7 @@ use Rattle.tlv_io.specs.Device.{DrainState}
 use Rattle.tlv_io.specs.Out.{Sends}
 use Rattle.tlv_io.specs.declared.drain.WriteFault.{WriteFault}
 use Rattle.tlv_walk.specs.declared.ending.Ending.{Ending}
-use Rattle.tlv_walk.specs.declared.ending.Ending.TheVariants as ending
+use Rattle.tlv_walk.specs.declared.ending.Ending.TheVariants as endings
 use Rattle.tlv_walk.specs.declared.run.DeviceFault.{DeviceFault}
 use Rattle.tlv_walk.specs.declared.run.DeviceFault.TheVariants.{ReadFailed, WriteFailed, InputTooLong}
 use Rattle.tlv_run.specs.declared.report.Report.{Report}
@@ -42,9 +42,9 @@ abbrev pub outcome_report : Outcome → ReportValue
 outcome_report outcome = record (by_case outcome.ending outcome.unused) { findings = outcome.findings }
   where
     by_case : Ending → Option ℕ → ReportValue
-    by_case (ending.Fault f) unused = report_with 2 (fault_line f)
-    by_case ending.Done (Some offset) = report_with 1 (codes "E7 no string to read at offset " ++ decimal offset)
-    by_case ending.Done None =
+    by_case (endings.Fault f) unused = report_with 2 (fault_line f)
+    by_case endings.Done (Some offset) = report_with 1 (codes "E7 no string to read at offset " ++ decimal offset)
+    by_case endings.Done None =
         if outcome.findings == 0 then report_with 0 []
         else report_with 1 (codes "findings: " ++ decimal outcome.findings)
 
@@ -53,14 +53,14 @@ abbrev pub cut_report : ℕ → Cut → ReportValue
 cut_report offset cut = by_case cut.ending cut.found
   where
     by_case : Ending → Bool → ReportValue
-    by_case (ending.Fault f) found = report_with 2 (fault_line f)
-    by_case ending.Done false = report_with 1 (codes "E4 no element at offset " ++ decimal offset)
-    by_case ending.Done true = report_with 0 []
+    by_case (endings.Fault f) found = report_with 2 (fault_line f)
+    by_case endings.Done false = report_with 1 (codes "E4 no element at offset " ++ decimal offset)
+    by_case endings.Done true = report_with 0 []
 
 -- an input written with indefinite lengths: a fault, or nothing
 abbrev pub indef_report : Ending → ReportValue
-indef_report (ending.Fault f) = report_with 2 (fault_line f)
-indef_report ending.Done = report_with 0 []
+indef_report (endings.Fault f) = report_with 2 (fault_line f)
+indef_report endings.Done = report_with 0 []
 
 -- ---- devices
 

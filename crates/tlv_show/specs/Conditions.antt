@@ -50,7 +50,7 @@ listed_header_conditions s h =
     -- B05, 8.9.1, 8.11.1, 8.17, 8.18, 8.24: the encodings of these types are constructed
     ∷ (B05, has_primitive_form h && has_encodings encodings.Constructed h)
     -- B16, 8.6.4: each segment of a BIT STRING but the last has a multiple of eight bits. A constructed segment right
-    -- before is not looked into
+    -- before is not looked into. The finding is on the element after the segment that breaks the rule
     ∷ (B16, in_bit_string s && leaves_unused_bits s.previous)
     -- B17, 8.6.4, 8.7.3, and 8.23.3 for the strings of characters: a segment has the tag of BIT STRING in a BIT STRING,
     -- and of OCTET STRING in any other string
@@ -76,7 +76,8 @@ listed_header_conditions s h =
     ∷ (C02, has_primitive_form h && is_string h && nat_lt 1000 (announced_length h.size))
     -- C03, 9.2: segments are primitive
     ∷ (C03, h.constructed && in_string s)
-    -- C04, 9.2: each segment but the last has 1000 contents octets
+    -- C04, 9.2: each segment but the last has 1000 contents octets. The finding is on the element after the segment
+    -- that breaks the rule
     ∷ (C04, in_string s && is_not_full s.previous)
     ∷ []
 
@@ -94,10 +95,10 @@ headers _ = []
 -- whole string is added
 abbrev pub length_as_primitive : HeaderValue → List HeaderValue → ℕ
 length_as_primitive h segments =
-    let unused_octet = if is_a universal.bit_string h then 1 else 0 in
-    unused_octet + sum_by (λ (g : HeaderValue). announced_length g.size - unused_octet) segments
+    let octets_for_unused_bits = if is_a universal.bit_string h then 1 else 0 in
+    octets_for_unused_bits + sum_by (λ (g : HeaderValue). announced_length g.size - octets_for_unused_bits) segments
 
--- whether the last of the elements is a primitive without contents octets
+-- whether the last of the elements has the form of a primitive (so also a wrapper) and no contents octets
 abbrev pub ends_empty : List HeaderValue → Bool
 ends_empty [] = false
 ends_empty (h ∷ []) = has_primitive_form h && announced_length h.size == 0

@@ -11,7 +11,7 @@ use Rattle.tlv_show.specs.declared.rules.Rules.TheVariants.{Ber, Der, Cer}
 use Rattle.tlv_show.specs.Conditions.{headers, listed_end_conditions, listed_header_conditions}
 use Rattle.tlv_show.specs.Site.{Site}
 
--- what is found in an element with this header, at this site
+-- what is found in an element, given its site and its header
 pub record ElementFindings : Type 0 where
   -- with its header
   pub of_header : Site → HeaderValue → List Finding

@@ -6,8 +6,8 @@ use Rattle.tlv_head.specs.UniversalTypes as universal
 use Rattle.tlv_value.specs.Types.{has_segments, is_a}
 use Rattle.tlv_walk.specs.Forest.{Forest, NoMore, PaddingOctet, opening}
 
--- where an element is shown: what is around it, and what is right before it. `Place` of tlv_walk is where the grammar
--- is
+-- where an element is shown: what is around it, and what is right before it. `Place` of tlv_walk is the record for the
+-- grammar: it has bound, padding and named offsets
 pub record Site : Type 0 where
   -- the offset of its first octet
   pub offset : ℕ

@@ -63,7 +63,7 @@ canonical_form number =
 
 -- ---- The findings
 
--- from findings beside their conditions: the findings whose conditions hold, in the same order
+-- of findings that are given with their conditions: those whose conditions hold, in the same order
 abbrev pub findings_by : List (Finding × Bool) → List Finding
 findings_by rows = flat_map (λ row. if row.1 then row.0 ∷ [] else []) rows
 
@@ -79,7 +79,7 @@ listed_basic_type_conditions number contents =
     ∷ (B08, is_among number integer_types && is_padded_integer contents)
     -- B09, 8.8.2: a NULL has no octets
     ∷ (B09, number == universal.null && not (length contents == 0))
-    -- B10, 8.19.2: an OBJECT IDENTIFIER has one subidentifier or more
+    -- B10, 8.19.2, 8.19.3: an OBJECT IDENTIFIER has two arcs or more, so one subidentifier or more
     ∷ (B10, number == universal.object_identifier && length contents == 0)
     -- B11, 8.19.2, 8.20.2: no subidentifier begins with 80
     ∷ (B11, is_among number object_types && list_any (begins_with 0x80) (parts_of contents))

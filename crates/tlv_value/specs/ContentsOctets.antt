@@ -1,7 +1,7 @@
 -- The first octets and the last octet of contents, or of a part of them.
 use Rattle.std.specs.Prelude.{◌==◌, ℕ, Bool, false, ◌&&◌, ◌||◌, nat_le, nat_lt, List, [], ◌∷◌, slice_index}
 
--- the first octet, or 0 if there is none. In a BIT STRING it is the number of unused bits
+-- the first octet, or 0 if there is none. If a BIT STRING has one, it is the number of unused bits
 abbrev pub first_octet : List ℕ → ℕ
 first_octet contents = slice_index contents 0
 

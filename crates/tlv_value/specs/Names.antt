@@ -16,8 +16,8 @@ use Rattle.tlv_value.specs.Units.{is_printable}
 use Rattle.tlv_value.specs.declared.names.fault.NamesFault.{NamesFault}
 use Rattle.tlv_value.specs.declared.names.fault.NamesFault.TheVariants.{BadOid, BadName, Repeated, TooLarge}
 
--- what a names file gives: a finite map from dotted texts to names. Its first argument is the order of the dotted
--- texts: octet by octet
+-- what a names file gives: a finite map from dotted texts to names. The first argument of `FinMap` is the order of the
+-- dotted texts, octet by octet; the second is the type of the names
 abbrev pub NamesValue : Type 0
 NamesValue = finite.FinMap (slice_cmp nat_cmp) (List ℕ)
 

@@ -55,7 +55,7 @@ has_encodings encodings h =
     is_universal h.class
     && option_map_or (λ t. are_same_encodings encodings t.encodings) (type_at h.number) false
 
--- a string; the two times are strings too
+-- a string of bits, octets or characters. UTCTime, GeneralizedTime and ObjectDescriptor are strings too (8.25)
 abbrev pub is_string : HeaderValue → Bool
 is_string h = has_encodings Segmented h
 

@@ -61,7 +61,8 @@ bit_count_text unused_bits octet_count = decimal (8 * octet_count - unused_bits)
 abbrev pub can_have_unused_bits : ℕ → ℕ → Bool
 can_have_unused_bits unused_bits octet_count = nat_le unused_bits 7 && (unused_bits == 0 || not (octet_count == 0))
 
--- 8.6.2.1: the bits of octets as digits, without the unused bits, after a space if there are any: 30 is the digit 0
+-- 8.6.2.1: nothing without octets; otherwise a space, and the bits of the octets as digits, without the unused bits: 30
+-- is the digit 0
 abbrev pub used_digits : ℕ → List ℕ → List ℕ
 used_digits unused_bits [] = []
 used_digits unused_bits octets =
@@ -91,18 +92,18 @@ object_value name_of relative octets =
 
 -- ---- Of any kind
 
--- contents of up to this many octets are read as a whole. If they can be read, what they say is on the element's line;
--- if not, `octets_value` shows them, in rows if there are more than 16. Longer contents are shown in rows. 9 in a BIT
--- STRING: the first octet, and eight octets of bits
-abbrev pub most_on_line : Kind → ℕ
-most_on_line Bits = 9
-most_on_line Object = 64
-most_on_line Relative = 64
-most_on_line kind = row_size kind
+-- contents of up to this many octets are not *long*: they are read as a whole, and what they say is on the element's
+-- line. If they cannot be read, `octets_value` shows them: on the line up to 16 octets, otherwise in rows. Long
+-- contents are always in rows. 9 in a BIT STRING: the first octet, and eight octets of bits
+abbrev pub most_not_long : Kind → ℕ
+most_not_long Bits = 9
+most_not_long Object = 64
+most_not_long Relative = 64
+most_not_long kind = row_size kind
 
--- contents of n octets are *long*: more octets than `most_on_line`
+-- contents of n octets are long
 abbrev pub is_long : Kind → ℕ → Bool
-is_long kind n = nat_lt (most_on_line kind) n
+is_long kind n = nat_lt (most_not_long kind) n
 
 -- the value of contents that are not long
 abbrev pub short_value : NameOf → Kind → List ℕ → Value
@@ -115,8 +116,8 @@ short_value name_of kind octets =
     if is_text kind then value_on_line (quoted_text kind octets) else octets_value octets
 
 -- 8.6.2: the text after the tag of a long value: the number of bits for a BIT STRING with at most 7 unused bits, and
--- nothing for any other value. `size` is the announced length, above 9 (`is_long`), so of `can_have_unused_bits` only
--- "at most 7" is left to ask
+-- nothing for any other value. `size` is the announced length. It is above 9 (`is_long`), so octets follow the first
+-- one, and the condition `can_have_unused_bits` is just "at most 7"
 abbrev pub long_text : Kind → ℕ → List ℕ → List ℕ
 long_text Bits size (unused_bits ∷ octets) =
     if nat_le unused_bits 7 then 0x20 ∷ bit_count_text unused_bits (size - 1) else []

@@ -5,7 +5,7 @@ ghost use Rattle.tlv_io.specs.LineTexts.{AddsAtMost, HasRoomFor};
 ghost use Rattle.tlv_io.specs.Out.{Puts, held_octets};
 ghost use Rattle.tlv_value.specs.RowSizes.{row_size};
 ghost use Rattle.tlv_value.specs.Private.PrimitiveLines.{bits_line, line_prefix};
-ghost use Rattle.tlv_value.specs.Value.{most_on_line};
+ghost use Rattle.tlv_value.specs.Value.{most_not_long};
 ghost use Rattle.tlv_value.specs.ValueTextState.{is_long_primitive, long_value_line, new_primitive, primitive_line};
 ghost use Rattle.tlv_value.specs.ValueTextState.{primitive_lines};
 
@@ -178,7 +178,7 @@ impl Primitive {
         names: &N,
         out: &mut Out<'_, D>,
     ) -> Result<(), WriteFault>
-        requires { length contents.now ≤ most_on_line self.now.kind }
+        requires { length contents.now ≤ most_not_long self.now.kind }
         ensures { Puts D.state out.old out.new
             (primitive_lines (N.name_of names.now) self.now contents.now) result }
     {

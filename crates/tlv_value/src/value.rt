@@ -6,7 +6,7 @@ ghost use Rattle.tlv_value.specs.Bits.{last_bits};
 ghost use Rattle.tlv_value.specs.Private.UndottedText.{integer_text, undotted_text};
 ghost use Rattle.tlv_value.specs.Units.{quoted_text};
 ghost use Rattle.tlv_value.specs.Value.{bit_count_text, bits_value, boolean_value};
-ghost use Rattle.tlv_value.specs.Value.{is_long, can_have_unused_bits, long_text, most_on_line};
+ghost use Rattle.tlv_value.specs.Value.{is_long, can_have_unused_bits, long_text, most_not_long};
 ghost use Rattle.tlv_value.specs.TextBeside.{on_line_text_with, row_text_with};
 ghost use Rattle.tlv_value.specs.Value.{used_digits};
 ghost use Rattle.tlv_value.specs.Private.Rows.{digits_of_bits};
@@ -36,7 +36,7 @@ pub(crate) fn write_row(held: &mut HeldOctets, kind: Kind, with_text: bool, row:
 /// `with_text` is set, text is shown beside pairs of digits.
 #[inline(always)]
 pub(crate) fn write_undotted(held: &mut HeldOctets, kind: Kind, with_text: bool, contents: &[u8])
-    requires short { length contents.now ≤ most_on_line kind }
+    requires short { length contents.now ≤ most_not_long kind }
     requires room { HasRoomFor held.old 400 }
     ensures { AddsAtMost 330 held.old held.new (undotted_text with_text kind contents.now) }
 {

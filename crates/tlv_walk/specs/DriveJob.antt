@@ -2,7 +2,7 @@
 use Rattle.std.specs.Prelude.{◌≡◌, ℕ, true, false, if◌then◌else◌, not, List, length, Option, Result, OnOk}
 use Rattle.std.specs.List.{find}
 use Rattle.tlv_walk.specs.declared.ending.Ending.{Ending}
-use Rattle.tlv_walk.specs.declared.ending.Ending.TheVariants as ending
+use Rattle.tlv_walk.specs.declared.ending.Ending.TheVariants as endings
 use Rattle.tlv_walk.specs.declared.framing.Framing.{Framing}
 use Rattle.tlv_walk.specs.declared.run.DeviceFault.{DeviceFault}
 use Rattle.tlv_walk.specs.declared.run.Run.{Run}
@@ -27,7 +27,7 @@ first_not_among ns others = find (λ n. not (is_among n others)) ns
 abbrev pub enough_run : Framing → List EventValue → Run
 enough_run framing es =
     record {
-      ending = ending.Done;
+      ending = endings.Done;
       octets = length (octets_of_events es);
       enough = true;
       unused = first_not_among framing.inside (entered_offsets es);

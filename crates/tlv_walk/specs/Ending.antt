@@ -10,7 +10,7 @@ use Rattle.tlv_head.specs.Refusal.{IsRefusedOctet}
 use Rattle.tlv_walk.specs.declared.framing.Framing.{Framing}
 use Rattle.tlv_walk.specs.declared.ending.Ending.{Ending}
 use Rattle.tlv_walk.specs.declared.ending.Ending.TheVariants.{Done}
-use Rattle.tlv_walk.specs.declared.ending.Ending.TheVariants as ending
+use Rattle.tlv_walk.specs.declared.ending.Ending.TheVariants as endings
 use Rattle.tlv_walk.specs.Forest.{Forest, NoMore, PaddingOctet, Primitive, Holder, OpenHolder, OpenBitString}
 use Rattle.tlv_walk.specs.Forest.{OpenHeader, OpenEndOctets, holder_extent, has_element, is_whole}
 use Rattle.tlv_walk.specs.Forest.{primitive_extent, spelling}
@@ -29,7 +29,8 @@ pub record OpenEnd : Type 0 where
 abbrev pub open_at : Place → Forest → OpenEnd
 open_at p f = record { place = p; forest = f }
 
--- the innermost open end of a forest that begins at p
+-- the open end of a forest that begins at p; in an open holder it is that of what the holder holds. A forest has
+-- exactly one
 abbrev pub open_end : Place → Forest → OpenEnd
 open_end p (PaddingOctet rest) = open_end (place_after p 1) rest
 open_end p (Primitive h c rest) = open_end (place_after p (primitive_extent h c)) rest
@@ -38,7 +39,8 @@ open_end p (OpenHolder h children) = open_end (place_of_children p h) children
 open_end p f = open_at p f
 
 -- why the octet x is refused at an open end, one line for each cause, in the order of "Faults" in docs/FORMAT.md. No
--- two lines hold at once. `Fits p n → ⊥` says that n octets from here end beyond the bound
+-- two lines hold at once. `p` is the place of the first octet of what is open, and after `NoMore` that of x.
+-- `Fits p n → ⊥` says that n octets from `p` on end beyond the bound
 pub data IsRefusedAt : OpenEnd → ℕ → FaultCode → Type 0 where
   -- ---- in a wrapping BIT STRING without its first octet
   -- F12, a rule of our own: encodings are whole octets, so a wrapping BIT STRING has no unused bits. 8.6.2.2 allows 00
@@ -78,7 +80,7 @@ fault_at code offset = record { code = code; offset = offset }
 
 -- the ending with this fault
 abbrev pub fault_ending : FaultCode → ℕ → Ending
-fault_ending code offset = ending.Fault (fault_at code offset)
+fault_ending code offset = endings.Fault (fault_at code offset)
 
 -- the ending of an input with the reading f, one line for each case
 pub data IsEndingOf (framing : Framing) (b : List ℕ) (f : Forest) : Ending → Type 0 where
@@ -102,7 +104,7 @@ pub record IsEnding (framing : Framing) (b : List ℕ) (e : Ending) : Type 0 whe
 -- a fault that stays the ending whatever follows: one other than F01 and F02, which say that the input ends too early
 abbrev pub IsFinalEnding : Ending → Type 0
 IsFinalEnding Done = ⊥
-IsFinalEnding (ending.Fault f) = (f.code ≢ Empty) × (f.code ≢ Short)
+IsFinalEnding (endings.Fault f) = (f.code ≢ Empty) × (f.code ≢ Short)
 
 -- what the ending of octets shows: it is `Done` if and only if the octets are a sound list; and if it is a fault
 -- other than F01 and F02, no input that begins with the octets is a sound list
@@ -110,7 +112,7 @@ pub record ShowsSoundness (framing : Framing) (b : List ℕ) (e : Ending) : Type
   pub done_is_sound : (e ≡ Done) ↔ IsSoundList framing b
   pub faults_are_right : IsFinalEnding e → CannotBecomeSound framing b
 
--- the octets have this ending, which shows whether they are sound
+-- the octets have this ending. `soundness` does not choose the ending: it is a further promise about it
 pub record HasEnding (framing : Framing) (b : List ℕ) (e : Ending) : Type 0 where
   pub is_ending : IsEnding framing b e
   pub soundness : ShowsSoundness framing b e

@@ -93,7 +93,7 @@ pub record IsHolderAt (p : Place) (h : HeaderValue) (n : ℕ) : Type 0 where
 abbrev pub HasItsLength : HeaderValue → Forest → Type 0
 HasItsLength h children = IfSome (definite_length h.size) (λ n. contents_length h children ≡ n)
 
--- what may be at this place, one line for each form of a `Forest`. The last thing may be open. No octet, and no
+-- what may be at this place, one line for each constructor of `Forest`. The last thing may be open. No octet, and no
 -- announced end, lies beyond the bound
 abbrev pub ObeysGrammar : Place → Forest → Type 0
 ObeysGrammar p NoMore = Unit {0}
@@ -112,8 +112,9 @@ ObeysGrammar p (Holder h children rest) =
     × ObeysGrammar (place_of_children p h) children × ObeysGrammar (place_after p (holder_extent h children)) rest
 -- 8.1.4: a primitive that lacks contents octets
 ObeysGrammar p (OpenPrimitive h c) = IsPrimitiveAt p h (announced_extent h) × (length c < announced_length h.size)
--- 8.1.4: a holder that is open. If all in it is whole and its length is definite, it has fewer contents octets than
--- its header announces: with all of them it would be a `Holder`
+-- 8.1.4: a holder that is open. If something in it is open, nothing more is asked here: the line of that thing keeps it
+-- inside the bound. If all in it is whole and the length of the holder is definite, contents octets are still missing:
+-- with all of them it would be a `Holder`
 ObeysGrammar p (OpenHolder h children) =
     (IsHolderAt p h (announced_extent h)
     × (is_whole children ≡ true → IfSome (definite_length h.size) (λ n. contents_length h children < n)))

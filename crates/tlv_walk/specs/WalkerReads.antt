@@ -11,7 +11,7 @@ use Rattle.tlv_walk.specs.Events.{AreEqualJoined, Close, End, EventValue, IsNoEm
 use Rattle.tlv_walk.specs.Private.Zipper.{HasPrivateState}
 use Rattle.tlv_walk.specs.Reading.{CannotBecomeSound, IsReading}
 use Rattle.tlv_head.specs.declared.fault.Fault.{Fault}
-use Rattle.tlv_walk.specs.declared.ending.Ending.TheVariants as ending
+use Rattle.tlv_walk.specs.declared.ending.Ending.TheVariants as endings
 use Rattle.tlv_walk.specs.Ending.{IsEnding}
 use Rattle.tlv_walk.specs.Wrappers.{first_without_wrapper}
 use Rattle.tlv_walk.specs.declared.event.Event.{Event}
@@ -98,7 +98,7 @@ pub record IsRefusedAfter (framing : Framing) (p : List ℕ) (octet : ℕ) (yiel
   pub offset : f.offset ≡ length p
   pub all_events : AreEqualJoined yielded (events reading)
   pub stays : (c : List ℕ) → IsReading framing (p ++ octet ∷ c) reading
-  pub ends : (c : List ℕ) → IsEnding framing (p ++ octet ∷ c) (ending.Fault f)
+  pub ends : (c : List ℕ) → IsEnding framing (p ++ octet ∷ c) (endings.Fault f)
   pub never_sound : CannotBecomeSound framing (p ++ octet ∷ [])
 
 -- what a walker that refused an octet stands for: the octets before it, and the yielded events, which are all events

@@ -4,7 +4,7 @@ use Rattle.tlv_head.specs.declared.fault.Fault.{Fault}
 use Rattle.tlv_head.specs.Header.{HeaderValue}
 use Rattle.tlv_head.specs.Refusal.{BeginsWith, BeginsWithNoHeader}
 use Rattle.tlv_walk.specs.declared.ending.Ending.{Ending}
-use Rattle.tlv_walk.specs.declared.ending.Ending.TheVariants as ending
+use Rattle.tlv_walk.specs.declared.ending.Ending.TheVariants as endings
 use Rattle.tlv_walk.specs.declared.framing.Framing.{Framing}
 use Rattle.tlv_walk.specs.Ending.{IsEnding, OpenEnd, open_end}
 use Rattle.tlv_walk.specs.Forest.{Forest, Holder, OpenBitString, OpenEndOctets, OpenHeader, OpenHolder}
@@ -70,8 +70,8 @@ end_of_reading framing reading = open_end (top_place framing) reading
 
 -- the ending with this fault, or the ending without a fault
 abbrev pub ending_by : Option Fault → Ending
-ending_by None = ending.Done
-ending_by (Some fault) = ending.Fault fault
+ending_by None = endings.Done
+ending_by (Some fault) = endings.Fault fault
 
 -- the facts about the open end of this reading, and about what comes before it
 pub record AreFactsOf (framing : Framing) (octets : List ℕ) (reading : Forest) (facts : Facts) : Type 0 where

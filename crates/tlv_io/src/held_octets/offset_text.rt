@@ -1,6 +1,7 @@
 //! The first columns of a line, most of which are those of the line before.
 ghost use Rattle.std.specs.Prelude.{◌≡◌, ◌+◌, ◌-◌, ◌/◌, ◌%◌, ◌<◌, ◌≤◌, ◌++◌, ◌∷◌, [], IfSome, drop, length, take};
 ghost use Rattle.tlv_io.specs.LineTexts.{columns};
+ghost use Rattle.tlv_io.specs.Private.OffsetText.{zero_bit_of};
 
 use super::numbers::in_two_places;
 use itoa::write_digits;
@@ -13,23 +14,26 @@ pub(super) struct OffsetText {
     /// The offset: the first of the hundred whose other digits are the same.
     first: u64,
     text: [u8; 17],
+    /// The bit that makes a digit 0 of a space; no bit if the offset is 0, since a space then stays before one digit.
+    zero_bit: u8,
     ghost is: { text ≡ columns first [] },
     ghost zeros: { first % 100 ≡ 0 },
-    ghost within: { (100 ≤ first) × (first < 100000000) },
+    ghost within: { first < 100000000 },
+    ghost bit: { zero_bit ≡ zero_bit_of first },
 }
 
 impl OffsetText {
-    /// The columns for the offsets from 100 to 199.
+    /// The columns for the offsets from 0 to 99.
     pub fn new() -> OffsetText {
         OffsetText {
-            first: 100,
-            text: *b"     100       : ",
+            first: 0,
+            text: *b"       0       : ",
+            zero_bit: 0,
         }
     }
 
     /// Takes the columns for an offset, and returns the number that its last two digits are. Returns `None` if the
-    /// offset has fewer than three digits, since a space may then stand in place of the last but one, or more than
-    /// eight.
+    /// offset has more than eight digits.
     #[inline(always)]
     pub fn take_for(&mut self, offset: u64) -> Option<u64>
         ensures { IfSome result (λ last. (self.new.first + last ≡ offset) × (last < 100)) }
@@ -38,7 +42,7 @@ impl OffsetText {
         let last = offset.wrapping_sub(self.first);
         if last < 100 {
             Some(last)
-        } else if offset < 100 || offset >= 100_000_000 {
+        } else if offset >= 100_000_000 {
             None
         } else {
             self.take_other(offset);
@@ -49,7 +53,7 @@ impl OffsetText {
     /// Takes the columns for an offset of another hundred.
     #[inline(never)]
     fn take_other(&mut self, offset: u64)
-        requires { (100 ≤ offset) × (offset < 100000000) }
+        requires { offset < 100000000 }
         ensures { self.new.first ≡ offset - offset % 100 }
     {
         let first = offset - offset % 100;
@@ -64,6 +68,7 @@ impl OffsetText {
             let _ = write_digits(first, &mut text, 8);
             self.text = text;
         }
+        self.zero_bit = if first > 0 { 0x10 } else { 0 };
         self.first = first;
     }
 
@@ -78,8 +83,9 @@ impl OffsetText {
         // A local copy, as in `HeldOctets::add_prefix`.
         let text = self.text;
         octets[start..start + 17].copy_from_slice(&text);
-        let [tens, ones] = two_digits(last);
-        octets[start + 6] = tens;
+        let [tens, ones] = in_two_places(last);
+        // A digit 0 is a space with this bit set, and the other digits have it.
+        octets[start + 6] = tens | self.zero_bit;
         octets[start + 7] = ones;
     }
 }
@@ -90,7 +96,7 @@ fn two_digits(number: u64) -> [u8; 2]
     requires { number < 100 }
     ensures { result ≡ (48 + number / 10) ∷ (48 + number % 10) ∷ [] }
 {
-    // A digit 0 is a space with this bit set, and the other digits have it.
+    // As in `OffsetText::write`.
     let [tens, ones] = in_two_places(number);
     [tens | 0x10, ones]
 }

@@ -15,7 +15,7 @@ use Rattle.tlv_value.specs.TextBeside.{on_line_text_with, shown_row_lines_with}
 use Rattle.tlv_value.specs.ValueTextState.{KeptContents, ValueTextState, contents_lines, end_lines, primitive_line}
 use Rattle.tlv_value.specs.ValueTextState.{primitive_lines, row_lines}
 use Rattle.tlv_value.specs.Value.{NameOf, Value, bit_count_text, bits_value, boolean_value, integer_value, is_long}
-use Rattle.tlv_value.specs.Value.{can_have_unused_bits, long_text, most_on_line, no_names, octets_value, row_octets}
+use Rattle.tlv_value.specs.Value.{can_have_unused_bits, long_text, most_not_long, no_names, octets_value, row_octets}
 use Rattle.tlv_value.specs.Value.{short_value, used_digits, value_on_line}
 use Rattle.tlv_value.specs.Private.UndottedText.{undotted_text}
 use Rattle.tlv_value.proofs.TextLemmas.RowLines.{no-row_lines}
@@ -100,7 +100,7 @@ bits-rows (u ∷ row) h =
     (octets_value (u ∷ row)) refl (octets-rows (u ∷ row) (omega arith))
 
 pub held-undotted : (with_text : Bool) (name_of : NameOf) (kind : Kind) (row : List ℕ) → (kind ≡ Object → ⊥) → (kind ≡ Relative → ⊥)
-    → length row ≤ most_on_line kind → IsUndotted with_text name_of kind row
+    → length row ≤ most_not_long kind → IsUndotted with_text name_of kind row
 held-undotted with_text name_of Octets row o r h = octets-text with_text name_of row h
 held-undotted with_text name_of Boolean row o r h = (refl, boolean-rows row h)
 held-undotted with_text name_of Integer row o r h = (integer-on_line with_text row, integer-rows row h)
@@ -124,7 +124,7 @@ undotted_at with_text name_of kind layout line row p =
     (sym (append-nil text) ∙ ap (λ (t : List ℕ). text ++ t) (sym (no-row_lines with_text kind layout))))
 
 pub shown-undotted : (name_of : NameOf) (p : Primitive) (octets : List ℕ) → (p.kind ≡ Object → ⊥)
-    → (p.kind ≡ Relative → ⊥) → length octets ≤ most_on_line p.kind
+    → (p.kind ≡ Relative → ⊥) → length octets ≤ most_not_long p.kind
     → line_prefix p ++ (undotted_text p.with_text p.kind octets ++ 10 ∷ []) ≡ primitive_lines name_of p octets
 shown-undotted name_of p octets o r h =
     undotted_at p.with_text name_of p.kind p.layout (line_prefix p) octets (held-undotted p.with_text name_of p.kind octets o r h)
@@ -168,5 +168,5 @@ pub rows-first : (with_text : Bool) (kind : Kind) (layout : Layout) (n : ℕ) (r
 rows-first with_text kind layout n row begun rest e z r = rw (e, z, r) refl
 
 -- a value on its line has few octets
-pub held-most : (kind : Kind) (n size : ℕ) → is_long kind size ≡ false → n ≡ size → n ≤ most_on_line kind
+pub held-most : (kind : Kind) (n size : ℕ) → is_long kind size ≡ false → n ≡ size → n ≤ most_not_long kind
 held-most kind n size l e = grind (arith, nat_tests)

@@ -1,7 +1,7 @@
 -- What a turn returns after a followed piece.
 use Rattle.std.specs.Prelude.{◌≡◌, ℕ, ◌<◌, Bool, true, false, Result, Ok, Err}
 use Rattle.tlv_walk.specs.declared.ending.Ending.{Ending}
-use Rattle.tlv_walk.specs.declared.ending.Ending.TheVariants as ending
+use Rattle.tlv_walk.specs.declared.ending.Ending.TheVariants as endings
 use Rattle.tlv_walk.specs.declared.run.DeviceFault.{DeviceFault}
 use Rattle.tlv_walk.specs.declared.run.DeviceFault.TheVariants.{InputTooLong}
 use Rattle.tlv_walk.specs.declared.run.Run.{Run}
@@ -25,8 +25,8 @@ IsRunAtEnd run w =
 
 -- what a turn returns after this pause of a walker, given the number of octets read and the number of octets followed
 abbrev pub IsResultOfPause : ℕ → ℕ → WalkerState → Pause → Result Turn DeviceFault → Type 0
-IsResultOfPause read followed w pause.Enough (Ok (Ended run)) = run ≡ run_of w ending.Done true
-IsResultOfPause read followed w (pause.Fault f) (Ok (Ended run)) = run ≡ run_of w (ending.Fault f) false
+IsResultOfPause read followed w pause.Enough (Ok (Ended run)) = run ≡ run_of w endings.Done true
+IsResultOfPause read followed w (pause.Fault f) (Ok (Ended run)) = run ≡ run_of w (endings.Fault f) false
 IsResultOfPause read followed w pause.UsedUp (Err InputTooLong) = followed < read
 IsResultOfPause read followed w pause.UsedUp (Ok (Ended run)) = (followed < read → ⊥) × (read ≡ 0) × IsRunAtEnd run w
 IsResultOfPause read followed w pause.UsedUp (Ok Again) = (followed < read → ⊥) × (read ≡ 0 → ⊥)

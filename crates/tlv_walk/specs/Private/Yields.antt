@@ -1,7 +1,7 @@
 -- What the walker's own functions yield.
 use Rattle.std.specs.Prelude.{◌≡◌, ◌⊎◌, ℕ, List, [], ◌∷◌, ◌++◌, Option, Some, None}
 use Rattle.tlv_head.specs.declared.fault.Fault.{Fault}
-use Rattle.tlv_walk.specs.declared.ending.Ending.TheVariants as ending
+use Rattle.tlv_walk.specs.declared.ending.Ending.TheVariants as endings
 use Rattle.tlv_walk.specs.declared.event.Event.{Event}
 use Rattle.tlv_walk.specs.declared.event.Step.{Step}
 use Rattle.tlv_walk.specs.declared.event.Step.TheVariants as step
@@ -47,7 +47,7 @@ pub record RefusesWithZipper (old : WalkerState) (b : List ℕ) (octet : ℕ) (y
   pub has_zipper : HasZipper walker b yielded zipper
   pub idle : IsIdle walker
   pub offset : f.offset ≡ walker.offset
-  pub ends : (c : List ℕ) → IsEnding old.framing (b ++ octet ∷ c) (ending.Fault f)
+  pub ends : (c : List ℕ) → IsEnding old.framing (b ++ octet ∷ c) (endings.Fault f)
   pub framing : walker.framing ≡ old.framing
   pub stack : walker.stack ≡ old.stack
 

@@ -13,7 +13,7 @@ write_size-requires-clause-blank c =
     let tail : List ℕ = drop (at + 17) octets in
     let within : at ≤ length octets = omega (arith, c.len-start.ensures.within, c.self.told) in
     let below : c.args.offset < 100000000 =
-    omega (arith, kept.within.1, kept.zeros, c.in-Some.ensures.0, c.in-Some.ensures.1) in
+    omega (arith, kept.within, kept.zeros, c.in-Some.ensures.0, c.in-Some.ensures.1) in
     let short : length first ≤ 8 = length-decimal-le 8 c.args.offset (omega arith) below c.ranges.offset.fits in
     six_left octets first tail at within short _
     (no_size_written octets first tail at within short _
@@ -28,7 +28,7 @@ returns c =
     let tail : List ℕ = drop (at + 17) octets in
     let within : at ≤ length octets = omega (arith, c.len-start.ensures.within, c.self.told) in
     let below : c.args.offset < 100000000 =
-    omega (arith, kept.within.1, kept.zeros, c.in-Some.ensures.0, c.in-Some.ensures.1) in
+    omega (arith, kept.within, kept.zeros, c.in-Some.ensures.0, c.in-Some.ensures.1) in
     let short : length first ≤ 8 = length-decimal-le 8 c.args.offset (omega arith) below c.ranges.offset.fits in
     let few : length (decimal c.args.size) ≤ 6 =
     length-decimal-le 6 c.args.size (omega arith) (omega arith) c.ranges.size.fits in

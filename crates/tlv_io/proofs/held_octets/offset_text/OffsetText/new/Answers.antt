@@ -7,5 +7,6 @@ invariant_of-result c =
     record {
       is = sym columns-first;
       zeros = refl;
-      within = (omega arith, omega arith);
+      within = omega arith;
+      bit = refl;
     }

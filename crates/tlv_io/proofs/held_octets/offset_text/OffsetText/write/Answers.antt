@@ -12,8 +12,8 @@ returns c =
     let within : at ≤ length octets = omega (arith, c.requires.within) in
     let end : at + (at + 17 - at) ≡ at + 17 = omega arith in
     let tail : List ℕ = drop (at + 17 - at) (drop at octets) in
-    last_digits kept.first c.args.last at octets c.copy_from_slice.new.self tail c.two_digits.result within
-    kept.within.0 kept.within.1 kept.zeros c.requires.digits (c.copy_from_slice.ensures.after ∙ kept.is)
-    c.two_digits.ensures
+    last_digits kept.first c.args.last at kept.zero_bit octets c.copy_from_slice.new.self tail c.in_two_places.result
+    within kept.within kept.zeros c.requires.digits (c.copy_from_slice.ensures.after ∙ kept.is) kept.bit
+    c.in_two_places.ensures
     ∙ ap (λ (l : List ℕ). take at octets ++ (columns (kept.first + c.args.last) [] ++ l))
     (drop-drop (at + 17 - at) at octets ∙ ap (λ (n : ℕ). drop n octets) end)
