@@ -240,21 +240,21 @@ module _ (kind : Kind) where
       let r : HaveRoom kind (length row) rest (length rest) = rw (e, l) at room in
       rw all (open-more row rest o r (omega arith))
 
-  begun-open_at : (row : List ℕ) (x : ℕ) (xs : List ℕ) (room last : Bool) → has_room kind (length row) x ≡ room
+  begun-open_from : (row : List ℕ) (x : ℕ) (xs : List ℕ) (room last : Bool) → has_room kind (length row) x ≡ room
       → eqb (length row + 1) (row_size kind) ≡ last → IsOpenRow kind row
       → ((r : List ℕ) → IsOpenRow kind r → IsOpenRow kind (row_begun kind r xs))
       → IsOpenRow kind
       (if room then (if last then row_begun kind [] xs else row_begun kind (row ++ x ∷ []) xs)
       else row_begun kind (x ∷ []) xs)
-  begun-open_at row x xs true true r l o more = more [] none-open
-  begun-open_at row x xs true false r l o more =
+  begun-open_from row x xs true true r l o more = more [] none-open
+  begun-open_from row x xs true false r l o more =
       let h = o.short in
       more (row ++ x ∷ []) (open-one row x o r (grind (arith, nat_tests)))
-  begun-open_at row x xs false last r l o more = more (x ∷ []) (one-open x)
+  begun-open_from row x xs false last r l o more = more (x ∷ []) (one-open x)
 
   -- the row that octets after it begin is open too
   pub begun-open : (row xs : List ℕ) → IsOpenRow kind row → IsOpenRow kind (row_begun kind row xs)
   begun-open row [] o = o
   begun-open row (x ∷ xs) o =
-      begun-open_at row x xs (has_room kind (length row) x) (eqb (length row + 1) (row_size kind)) refl refl o
+      begun-open_from row x xs (has_room kind (length row) x) (eqb (length row + 1) (row_size kind)) refl refl o
       (λ r q. begun-open r xs q)

@@ -154,8 +154,8 @@ module _ (with_text : Bool) (layout : Layout) (line : List ℕ → List ℕ) (si
   abbrev begun_at : Kind → Bool → List ℕ
   begun_at kind long = if long then (if has_line kind [] then line [] else []) else []
 
-  abbrev open_at : Kind → Bool → List ℕ → List ℕ
-  open_at kind long octets =
+  abbrev open_from : Kind → Bool → List ℕ → List ℕ
+  open_from kind long octets =
       if long && has_line kind octets
       then line (long_text kind size octets) ++ row_lines with_text kind layout 0 (full_rows kind [] (row_octets kind octets))
       else []
@@ -168,14 +168,14 @@ module _ (with_text : Bool) (layout : Layout) (line : List ℕ → List ℕ) (si
       ++ shown_row_lines_with with_text kind layout (full_rows kind [] (row_octets kind octets))
       else []
 
-  known-open : (kind : Kind) (long : Bool) (octets : List ℕ) → known_at kind long octets ≡ open_at kind long octets
+  known-open : (kind : Kind) (long : Bool) (octets : List ℕ) → known_at kind long octets ≡ open_from kind long octets
   known-open kind long octets =
       ap (λ (t : List ℕ). if long && has_line kind octets then line (long_text kind size octets) ++ t else [])
       (sym (row_lines-all with_text kind layout (full_rows kind [] (row_octets kind octets))))
 
   abbrev OpenIsNew : Kind → Bool → List ℕ → Type 0
   OpenIsNew kind long octets =
-      open_at kind long octets
+      open_from kind long octets
       ≡ begun_at kind long ++ new_by with_text kind layout line size long (has_line kind []) (begin_kept kind) octets
 
   open-new : (kind : Kind) (long : Bool) (octets : List ℕ) → OpenIsNew kind long octets
@@ -209,7 +209,7 @@ module _ (with_text : Bool) (layout : Layout) (line : List ℕ → List ℕ) (si
   abbrev WholeIsEnded : NameOf → Kind → Bool → List ℕ → Type 0
   WholeIsEnded name_of kind long octets =
       whole_at name_of kind long octets
-      ≡ open_at kind long octets
+      ≡ open_from kind long octets
       ++ ended_at name_of kind long
       (kept_by with_text kind layout line size long (has_line kind []) (begin_kept kind) octets)
 

@@ -9,10 +9,10 @@ abbrev same : ℕ → ℕ
 same x = x
 
 -- the table says what the definition says: both are computed at each character
-zeros : map same NOT_BETWEEN ≡ map zero_between_pairs (range_with_len 0 256)
-zeros = refl
+same-says : map same NOT_BETWEEN ≡ map zero_between_pairs (range_with_len 0 256)
+same-says = refl
 
 pub returns : goal.returns
 returns c =
     ap (λ (i : ℕ). get_or NOT_BETWEEN i 0) c.from.ensures
-    ∙ says-at ℕ 0 same zero_between_pairs NOT_BETWEEN refl zeros c.args.character (omega arith)
+    ∙ says-at ℕ 0 same zero_between_pairs NOT_BETWEEN refl same-says c.args.character (omega arith)
