@@ -34,10 +34,10 @@ pub record IsLowForm (class : Class) (constructed : Bool) (number : ℕ) (octets
   pub octets_are : octets ≡ identifier_octet class constructed number ∷ []
   pub nonzero : identifier_octet class constructed number ≢ 0
 
--- 8.1.2.4: a first octet with bits 5 to 1 set, then an octet for each digit in base 128: bit 8 is set in those of
--- `digits`, and clear in `last`. There are at most nine octets after the first one, a limit of our own (F06). A number
--- below 31 and first digits that are 0, which 8.1.2.2 and 8.1.2.4.2 c) forbid, are taken here, and left to findings
--- (B01, B02)
+-- 8.1.2.4: a first octet with bits 5 to 1 set, then an octet for each digit in base 128. `last` is the last digit; its
+-- octet has bit 8 clear. `digits` are those before it; their octets have bit 8 set. They are at most eight, so at most
+-- nine octets follow the first one, a limit of our own (F06). A number below 31 and a first digit 0, which 8.1.2.2 and
+-- 8.1.2.4.2 c) forbid, are taken here, and left to findings (B01, B02)
 pub record IsHighForm (class : Class) (constructed : Bool) (number : ℕ) (octets : List ℕ) : Type 0 where
   pub digits : List ℕ
   pub last : ℕ

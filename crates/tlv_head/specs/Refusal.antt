@@ -61,7 +61,8 @@ pub data IsRefusedOctet (octets : List ℕ) (x : ℕ) : FaultCode → Type 0 whe
       → IsIdentifier class false number octets → x ≡ 128
       → IsRefusedOctet octets x IndefinitePrimitive
   -- F09, a limit of our own on 8.1.3.5: x is a length octet after the first one and is not 00, and six or more are
-  -- missing, of which x is the first. So five or more follow x, and the length is at least 256^5 = 2^40
+  -- missing, of which x is the first. So five or more follow x, and the length is at least 256^5 = 2^40. The digits
+  -- before x are all 0: any other was refused where it came
   length_too_large : (class : Class) (constructed : Bool) (number left : ℕ)
       → IsLengthPrefix class constructed number left octets → 6 ≤ left → x ≢ 0
       → IsRefusedOctet octets x LengthTooLarge

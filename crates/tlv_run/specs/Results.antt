@@ -26,11 +26,12 @@ job_with_report report job = record {
 abbrev pub command_job : Command → NamesValue → Job ReportValue
 command_job (Dump options names_file file) names = job_with_report outcome_report (dump_job options names)
 command_job (Check rules framing file) names = job_with_report outcome_report (check_job rules framing)
-command_job (Extract offset contents framing file) names =
-    job_with_report (cut_report offset) (extract_job offset contents framing)
+command_job (Extract offset contents_only framing file) names =
+    job_with_report (cut_report offset) (extract_job offset contents_only framing)
 command_job (Indef padding file) names = job_with_report indef_report (indef_job padding)
 
--- the result of an input: the octets written, its ending, and the report, with status, number of findings and message
+-- the result of an input: the octets written, the ending of the job (`EndsWith`), and the report, with status, number
+-- of findings and message
 pub record CommandResult : Type 0 where
   pub output : List ℕ
   pub ending : Ending

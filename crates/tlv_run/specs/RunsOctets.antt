@@ -10,13 +10,13 @@ use Rattle.tlv_run.specs.Results.{CommandResult, IsResult}
 
 -- the job, all the octets, and whether a read fails after them
 module _ (job : Job ReportValue) (octets : List ℕ) (read_fails : Bool) where
-  -- the report of a run that had room for all of its output. `f` and `e` are the reading and the ending of the first
-  -- `input_limit` octets, as if the input ended there. One line for each thing that may come next; if two lines hold,
-  -- they give the same report
+  -- the report of a run that had room for all of its output. `f` is the reading of the first `input_limit` octets, and
+  -- `e` the ending of the job for them (`EndsWith`), as if the input ended there. One line for each thing that may come
+  -- next; if two lines hold, they give the same report
   pub data IsReport (f : Forest) (e : Ending) : ReportValue → Type 0 where
     -- nothing that could follow matters
     at_settled_result : IsSettled job f e → IsReport f e (job.returns f e)
-    -- the input ends with the octets
+    -- after the octets neither an octet nor a failed read comes
     at_source_end : read_fails ≡ false → length octets ≤ input_limit → IsReport f e (job.returns f e)
     -- a read failed after the octets
     read_failed : (IsSettled job f e → ⊥) → read_fails ≡ true → length octets ≤ input_limit

@@ -21,8 +21,8 @@ use Rattle.tlv_show.specs.Site.{Site, in_bit_string, in_string}
 abbrev pub has_high_form : HeaderValue → Bool
 has_high_form h = nat_lt 1 (length h.identifier_octets)
 
--- 8.6.2.2: what is right before is a primitive BIT STRING whose first contents octet is not 0, whatever it is (also
--- above 7: then it has B14 too)
+-- 8.6.2.2: what is right before is a primitive BIT STRING whose first contents octet is not 0. An octet above 7 counts
+-- too, although that BIT STRING also has B14
 abbrev pub leaves_unused_bits : Forest → Bool
 leaves_unused_bits (Primitive h (x ∷ c) rest) = is_a universal.bit_string h && not (x == 0)
 leaves_unused_bits _ = false

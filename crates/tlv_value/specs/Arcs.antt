@@ -4,8 +4,8 @@ use Rattle.std.specs.Prelude.{[], ◌∷◌, ◌++◌, length, map, slice_index,
 use Rattle.std.specs.List.{join_by, list_all, onto_first}
 use Rattle.tlv_head.specs.Header.{value_of}
 
--- 8.19.2: the octets, cut after each octet that has bit 8 clear. Octets after the last such octet are a part too: an
--- unfinished subidentifier
+-- 8.19.2: the octets, cut after each octet that has bit 8 clear; an octet with bit 8 set is in one part with the octet
+-- after it. Octets after the last cut are a part too: an unfinished subidentifier
 abbrev pub parts_of : List ℕ → List (List ℕ)
 parts_of [] = []
 parts_of (x ∷ xs) = if nat_lt x 128 then (x ∷ []) ∷ parts_of xs else onto_first x (parts_of xs)

@@ -87,9 +87,9 @@ listed_basic_type_conditions number contents =
     ∷ (B12, is_among number object_types && nat_le 128 (last_octet contents))
     -- B13, 8.6.2: a BIT STRING has a first octet, the number of unused bits
     ∷ (B13, number == universal.bit_string && length contents == 0)
-    -- B14, 8.6.2.2: it is at most 7
+    -- B14, 8.6.2.2: the number of unused bits is at most 7
     ∷ (B14, number == universal.bit_string && nat_lt 7 (first_octet contents))
-    -- B15, 8.6.2.3: it is 0 if no other octet follows. Above 7 it has B14 alone
+    -- B15, 8.6.2.3: the number of unused bits is 0 if no other octet follows. For a number above 7 there is only B14
     ∷ (
       B15,
       number == universal.bit_string && length contents == 1

@@ -43,8 +43,9 @@ abbrev pub three_octets : ℕ → List ℕ
 three_octets n = (n / 65536) % 256 ∷ (n / 256) % 256 ∷ n % 256 ∷ []
 
 -- how many of the first octets make a unit: a character, or an octet that belongs to no character. UTF-8 (RFC 3629, 4):
--- as many octets are taken as the first one announces. If they are UTF-8, they are exactly one character; otherwise the
--- first octet belongs to none
+-- as many octets are taken as the first one announces, or as are left. A character that begins with this octet has
+-- exactly the announced number of octets. So if these octets are UTF-8, they are one character; otherwise the first
+-- octet belongs to none
 abbrev pub unit_size : Kind → List ℕ → ℕ
 unit_size Ucs2 octets = if nat_le 2 (length octets) then 2 else 1
 unit_size Ucs4 octets = if nat_le 4 (length octets) then 4 else 1

@@ -58,8 +58,8 @@ abbrev pub bit_count_text : ℕ → ℕ → List ℕ
 bit_count_text unused_bits octet_count = decimal (8 * octet_count - unused_bits) ++ codes " bits"
 
 -- 8.6.2: the number of unused bits is at most 7, and 0 if there is no octet for them
-abbrev pub can_have_unused_bits : ℕ → ℕ → Bool
-can_have_unused_bits unused_bits octet_count = nat_le unused_bits 7 && (unused_bits == 0 || not (octet_count == 0))
+abbrev pub is_unused_count : ℕ → ℕ → Bool
+is_unused_count unused_bits octet_count = nat_le unused_bits 7 && (unused_bits == 0 || not (octet_count == 0))
 
 -- 8.6.2.1: nothing without octets; otherwise a space, and the bits of the octets as digits, without the unused bits: 30
 -- is the digit 0
@@ -72,7 +72,7 @@ used_digits unused_bits octets =
 abbrev pub bits_value : List ℕ → Value
 bits_value [] = octets_value []
 bits_value (unused_bits ∷ octets) =
-    if can_have_unused_bits unused_bits (length octets)
+    if is_unused_count unused_bits (length octets)
     then value_on_line (bit_count_text unused_bits (length octets) ++ used_digits unused_bits octets)
     else octets_value (unused_bits ∷ octets)
 
@@ -116,8 +116,8 @@ short_value name_of kind octets =
     if is_text kind then value_on_line (quoted_text kind octets) else octets_value octets
 
 -- 8.6.2: the text after the tag of a long value: the number of bits for a BIT STRING with at most 7 unused bits, and
--- nothing for any other value. `size` is the announced length. It is above 9 (`is_long`), so octets follow the first
--- one, and the condition `can_have_unused_bits` is just "at most 7"
+-- nothing for any other value. `size` is the announced length, also if fewer octets are there. It is above 9
+-- (`is_long`), so octets are announced after the first one, and the condition `is_unused_count` is just "at most 7"
 abbrev pub long_text : Kind → ℕ → List ℕ → List ℕ
 long_text Bits size (unused_bits ∷ octets) =
     if nat_le unused_bits 7 then 0x20 ∷ bit_count_text unused_bits (size - 1) else []

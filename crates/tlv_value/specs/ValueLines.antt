@@ -30,9 +30,9 @@ shown_row_lines kind layout rows = flat_map (inner_line layout) (shown_rows layo
 --                    10 11 12 13
 abbrev pub value_lines : HeaderValue → Layout → Value → List ℕ
 value_lines h layout value =
-    line layout (columns h.offset (decimal (announced_length h.size)))
-    (tag_text h.class h.number ++ on_line_text value.on_line)
-    ++ shown_row_lines (header_kind h) layout value.rows
+    let first_columns = columns h.offset (decimal (announced_length h.size)) in
+    let text = tag_text h.class h.number ++ on_line_text value.on_line in
+    line layout first_columns text ++ shown_row_lines (header_kind h) layout value.rows
 
 -- the lines of a primitive that is whole
 abbrev pub whole_lines : NameOf → HeaderValue → Layout → List ℕ → List ℕ

@@ -6,7 +6,7 @@ ghost use Rattle.tlv_value.specs.Bits.{last_bits};
 ghost use Rattle.tlv_value.specs.Private.UndottedText.{integer_text, undotted_text};
 ghost use Rattle.tlv_value.specs.Units.{quoted_text};
 ghost use Rattle.tlv_value.specs.Value.{bit_count_text, bits_value, boolean_value};
-ghost use Rattle.tlv_value.specs.Value.{is_long, can_have_unused_bits, long_text, most_not_long};
+ghost use Rattle.tlv_value.specs.Value.{is_long, is_unused_count, long_text, most_not_long};
 ghost use Rattle.tlv_value.specs.TextBeside.{on_line_text_with, row_text_with};
 ghost use Rattle.tlv_value.specs.Value.{used_digits};
 ghost use Rattle.tlv_value.specs.Private.Rows.{digits_of_bits};
@@ -122,7 +122,7 @@ fn write_bits(held: &mut HeldOctets, with_text: bool, contents: &[u8])
     ensures { held.new ≡ held.old ++ on_line_text_with with_text (bits_value contents.now).on_line }
 {
     match contents {
-        [unused_bits, octets @ ..] if can_have_unused_bits(*unused_bits, octets.len()) => {
+        [unused_bits, octets @ ..] if is_unused_count(*unused_bits, octets.len()) => {
             write_bit_count(held, *unused_bits, octets.len() as u64);
             write_used_digits(held, *unused_bits, octets);
         }
@@ -184,8 +184,8 @@ fn write_used_digits(held: &mut HeldOctets, unused_bits: u8, octets: &[u8])
 }
 
 /// Whether the first contents octet of a BIT STRING can be read, if `octet_count` others follow it.
-fn can_have_unused_bits(unused_bits: u8, octet_count: usize) -> bool
-    ensures { result ≡ can_have_unused_bits unused_bits octet_count }
+fn is_unused_count(unused_bits: u8, octet_count: usize) -> bool
+    ensures { result ≡ is_unused_count unused_bits octet_count }
 {
     unused_bits <= 7 && (unused_bits == 0 || octet_count != 0)
 }

@@ -17,10 +17,10 @@ use Rattle.tlv_walk.specs.Forest.{primitive_extent, spelling}
 use Rattle.tlv_walk.specs.Place.{Fits, IsHeaderAt, Place, announced_extent, place_after, place_of_children, top_place}
 use Rattle.tlv_walk.specs.Reading.{CannotBecomeSound, IsReading, IsSoundList}
 
--- where the next octet goes. `forest` is what has begun there and has not ended: an open primitive, a wrapping BIT
--- STRING without its first contents octet, a prefix of a header, or the first of the end-of-contents octets. `place` is
--- the place of its first octet. If nothing has begun (holders around may be open), `forest` is `NoMore`, and the next
--- octet is at `place`
+-- the open end of a forest. `forest` is what the next octet goes on with: an open primitive, a wrapping BIT STRING
+-- without its first contents octet, a prefix of a header, or the first of the end-of-contents octets. `place` is the
+-- place of its first octet. If there is no such thing (holders around may be open), `forest` is `NoMore`, and `place`
+-- is that of the next octet
 pub record OpenEnd : Type 0 where
   pub place : Place
   pub forest : Forest
@@ -39,8 +39,8 @@ open_end p (OpenHolder h children) = open_end (place_of_children p h) children
 open_end p f = open_at p f
 
 -- why the octet x is refused at an open end, one line for each cause, in the order of "Faults" in docs/FORMAT.md. No
--- two lines hold at once. `p` is the place of the first octet of what is open, and after `NoMore` that of x.
--- `Fits p n → ⊥` says that n octets from `p` on end beyond the bound
+-- two lines hold at once. `p` is the place of the open end: that of the first octet of its forest, or, if this is
+-- `NoMore`, that of x. `Fits p n → ⊥` says that n octets from `p` on end beyond the bound
 pub data IsRefusedAt : OpenEnd → ℕ → FaultCode → Type 0 where
   -- ---- in a wrapping BIT STRING without its first octet
   -- F12, a rule of our own: encodings are whole octets, so a wrapping BIT STRING has no unused bits. 8.6.2.2 allows 00

@@ -46,8 +46,8 @@ module _ {A : Type 0} where
   drain_result result = Ok tt
 
 module _ {A : Type 0} (job : Job A) where
-  -- the ending of a job for octets with this reading: `Done` if nothing more is wanted, even if the octets then hold a
-  -- fault or break off; otherwise the ending of the octets, which shows whether they are sound
+  -- the ending of a job for octets with this reading: `Done` if nothing more is wanted, even if octets after that
+  -- are refused, or the octets break off; otherwise the ending of the octets, which shows whether they are sound
   pub data EndsWith (octets : List ℕ) (f : Forest) : Ending → Type 0 where
     with_enough : job.is_enough f ≡ true → EndsWith octets f Done
     without_enough : (e : Ending) → job.is_enough f ≡ false → HasEnding job.framing octets e → EndsWith octets f e

@@ -27,9 +27,8 @@ pub record IsReading (framing : Framing) (b : List ℕ) (f : Forest) : Type 0 wh
 
 -- 8.1.1 to 8.1.5: nothing is open, each definite length is the length of the contents, and each holder is inside fewer
 -- than `depth_limit` holders. Padding, which X.690 does not have, is at the top level only. A wrapper is a holder, so
--- it has to hold sound encodings, which X.690 does not ask for. No bound is asked for: `HasItsLength` says that what a
--- holder of definite length holds, with all that is inside it, is as long as its header announces, so nothing in it
--- goes beyond its end
+-- it has to hold sound encodings, which X.690 does not ask for. No bound is asked for, and none is needed: by
+-- `HasItsLength` all that a holder of definite length holds is together exactly as long as its header announces
 abbrev pub IsSound : Place → Forest → Type 0
 IsSound p NoMore = Unit {0}
 IsSound p (PaddingOctet rest) = (p.padding ≡ true) × IsSound (place_after p 1) rest

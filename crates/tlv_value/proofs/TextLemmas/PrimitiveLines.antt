@@ -15,7 +15,7 @@ use Rattle.tlv_value.specs.TextBeside.{on_line_text_with, shown_row_lines_with}
 use Rattle.tlv_value.specs.ValueTextState.{KeptContents, ValueTextState, contents_lines, end_lines, primitive_line}
 use Rattle.tlv_value.specs.ValueTextState.{primitive_lines, row_lines}
 use Rattle.tlv_value.specs.Value.{NameOf, Value, bit_count_text, bits_value, boolean_value, integer_value, is_long}
-use Rattle.tlv_value.specs.Value.{can_have_unused_bits, long_text, most_not_long, no_names, octets_value, row_octets}
+use Rattle.tlv_value.specs.Value.{is_unused_count, long_text, most_not_long, no_names, octets_value, row_octets}
 use Rattle.tlv_value.specs.Value.{short_value, used_digits, value_on_line}
 use Rattle.tlv_value.specs.Private.UndottedText.{undotted_text}
 use Rattle.tlv_value.proofs.TextLemmas.RowLines.{no-row_lines}
@@ -96,7 +96,7 @@ if-rows false x y e f = f
 bits-rows : (row : List ℕ) → length row ≤ 9 → (bits_value row).rows ≡ []
 bits-rows [] h = refl
 bits-rows (u ∷ row) h =
-    if-rows (can_have_unused_bits u (length row)) (value_on_line (bit_count_text u (length row) ++ used_digits u row))
+    if-rows (is_unused_count u (length row)) (value_on_line (bit_count_text u (length row) ++ used_digits u row))
     (octets_value (u ∷ row)) refl (octets-rows (u ∷ row) (omega arith))
 
 pub held-undotted : (with_text : Bool) (name_of : NameOf) (kind : Kind) (row : List ℕ) → (kind ≡ Object → ⊥) → (kind ≡ Relative → ⊥)

@@ -24,7 +24,7 @@ use Rattle.tlv_value.specs.Units.{escaped_number, escaped_octet, is_printable, o
 use Rattle.tlv_value.specs.Units.{first_units, three_octets, unit_size, unit_text, units, utf8_number, without_leading_zeros}
 use Rattle.tlv_value.proofs.TextLemmas.UnitSteps.{size-within}
 use Rattle.tlv_value.specs.Value.{InPairs, OnLine, Value, Written, bit_count_text, bits_value, boolean_value}
-use Rattle.tlv_value.specs.Value.{can_have_unused_bits}
+use Rattle.tlv_value.specs.Value.{is_unused_count}
 use Rattle.tlv_value.specs.TextBeside.{on_line_text_with, pairs_with_text, text_behind}
 use Rattle.tlv_value.specs.Private.UndottedText.{integer_text, line_pairs}
 use Rattle.tlv_io.specs.LineTexts.{AddsAtMost}
@@ -230,7 +230,7 @@ count-short unused_bits octets h =
 pub bits-short : (with_text : Bool) (octets : List ℕ) → length octets ≤ 9 → length (on_line_text_with with_text (bits_value octets).on_line) ≤ 330
 bits-short with_text [] h = octets-text-short with_text []
 bits-short with_text (unused_bits ∷ octets) h =
-    elim (can_have_unused_bits unused_bits (length octets)) as (λ b. length (on_line_text_with with_text
+    elim (is_unused_count unused_bits (length octets)) as (λ b. length (on_line_text_with with_text
     (if b then value_on_line (bit_count_text unused_bits (length octets) ++ used_digits unused_bits octets)
     else octets_value (unused_bits ∷ octets)).on_line)
     ≤ 330) [

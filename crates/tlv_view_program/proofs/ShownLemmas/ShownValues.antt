@@ -19,7 +19,7 @@ use Rattle.tlv_value.specs.Rows.{full_rows_in, rows_of}
 use Rattle.tlv_value.proofs.RowLemmas.RowsFilled.{rows-are_cut}
 use Rattle.tlv_value.specs.Units.{is_printable, quoted_text}
 use Rattle.tlv_value.specs.Value.{NameOf, Value, bit_count_text, bits_value, boolean_value, incomplete_value}
-use Rattle.tlv_value.specs.Value.{integer_value, is_long, can_have_unused_bits, long_text, long_value, name_text}
+use Rattle.tlv_value.specs.Value.{integer_value, is_long, is_unused_count, long_text, long_value, name_text}
 use Rattle.tlv_value.specs.Value.{no_names, object_value, octets_value, row_octets}
 use Rattle.tlv_value.specs.TextBeside.{on_line_text_with, pairs_with_text, row_text_with, text_behind}
 use Rattle.tlv_value.specs.Value.{short_value, spaced_pairs, used_digits, value_on_line, whole_value}
@@ -144,7 +144,7 @@ used-shown unused_bits (x ∷ xs) =
 
 bits-shown : (octets : List ℕ) → AreOctets octets → IsShownValue (bits_value octets)
 bits-shown [] o = octets_value-shown [] o
-bits-shown (u ∷ octets) o = elim (cases_Bool (can_have_unused_bits u (length octets))) [
+bits-shown (u ∷ octets) o = elim (cases_Bool (is_unused_count u (length octets))) [
   | inl readable ↦
       rw readable
       (on_line-shown (bit_count_text u (length octets) ++ used_digits u octets)
