@@ -1,6 +1,6 @@
 //! The findings of a header, and of the end of an element that holds others.
 ghost use Rattle.std.specs.Prelude.{IsTrue, false, ◌≡◌, ◌<◌, ◌≤◌, ◌+◌, ◌++◌, nat_le};
-ghost use Rattle.std.specs.Prelude.{length, []};
+ghost use Rattle.std.specs.Prelude.{length, [], ◌∷◌};
 ghost use Rattle.tlv_value.specs.Checks.{findings_by};
 ghost use Rattle.tlv_show.specs.KeptConditions.{begins_with_zero_bits, cer_conditions_in, der_conditions};
 ghost use Rattle.tlv_show.specs.KeptConditions.{end_findings_in, first_basic_conditions_in, header_findings_in};
@@ -8,6 +8,7 @@ ghost use Rattle.tlv_show.specs.KeptConditions.{is_high_form_needless, length_co
 ghost use Rattle.tlv_show.specs.NestingState.{has_frame, segments_in, surroundings_in};
 ghost use Rattle.tlv_show.specs.Private.UsualTypes.{IsUsual, later_basic_conditions_in};
 ghost use Rattle.tlv_value.specs.ValueCheckState.{finding_if};
+ghost use Rattle.tlv_value.specs.declared.finding.Finding.TheVariants.{D01};
 
 use crate::headers::{
     announced_length, has_high_form, has_segments, is_always_constructed, is_always_primitive,
@@ -80,6 +81,22 @@ pub(crate) fn has_no_header_findings_if_usual(
                 && !is_length_padded(header)
         }
     }
+}
+
+/// Whether a short look shows that D01 is the only finding of a header by these rules, in any scope.
+#[inline(always)]
+pub(crate) fn is_only_indefinite(rules: Rules, frame: &HolderFrame, header: &Header) -> bool
+    ensures finding { IsTrue result → (scope : Scope)
+        → header_findings_in (record { rules = rules; scope = scope }) (surroundings_in frame.now) header.now
+        ≡ D01 ∷ [] }
+    ensures no_frame { IsTrue result → has_frame frame.now header.now ≡ false }
+{
+    matches!(rules, Rules::Der)
+        && is_indefinite(header)
+        && is_usual(header)
+        && !frame.has_segments
+        && is_tag_usual(header)
+        && !is_length_padded(header)
 }
 
 /// Whether the form of the tag has no findings: it is the low form, or the high form as it has to be.
