@@ -22,9 +22,9 @@ element_at n (OpenHolder h children) =
 element_at n (OpenBitString h) = if h.offset == n then Some (OpenBitString h) else None
 element_at n _ = None
 
--- the elements, without padding, and without what has begun and is no element yet, at any depth: a prefix of a header,
--- or the first of the end-of-contents octets without the second. These octets are not written, although by 8.1.4 and
--- 8.1.5 they are octets of the holder around them
+-- the elements, without padding, and without a prefix of a header, or the first of the end-of-contents octets without
+-- the second, at any depth. These octets are not written, although by 8.1.4 and 8.1.5 they are octets of the holder
+-- around them
 abbrev pub elements_only : Forest → Forest
 elements_only (PaddingOctet rest) = elements_only rest
 elements_only (Primitive h c rest) = Primitive h c (elements_only rest)
@@ -38,8 +38,8 @@ elements_only _ = NoMore
 abbrev pub octets_so_far : Forest → List ℕ
 octets_so_far f = spelling (elements_only f)
 
--- 8.1.4: the contents octets of one element that are written so far. Of a holder without those that `elements_only`
--- leaves out (`contents_length` counts these). Those of a wrapping BIT STRING begin with the octet for unused bits
+-- 8.1.4: the contents octets of one element that are written so far. In a holder, those that `elements_only` leaves out
+-- are not written (`contents_length` counts them). Those of a wrapping BIT STRING begin with the octet for unused bits
 abbrev pub contents_so_far : Forest → List ℕ
 contents_so_far (Primitive h c _) = c
 contents_so_far (Holder h children _) = lead h ++ octets_so_far children

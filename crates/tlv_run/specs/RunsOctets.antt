@@ -24,7 +24,8 @@ module _ (job : Job ReportValue) (octets : List ℕ) (read_fails : Bool) where
     -- there are too many octets
     too_long : (IsSettled job f e → ⊥) → input_limit < length octets → IsReport f e (device_report InputTooLong)
 
-  -- what was written, into this much room, and what is reported
+  -- what was written, into this much room, and what is reported. A write fails when the room is full, and this takes
+  -- precedence
   pub record RunsOctets (room : ℕ) (written : List ℕ) (report : ReportValue) : Type 0 where
     pub made : CommandResult
     pub is_made : IsResult job (take input_limit octets) made

@@ -15,7 +15,7 @@ pub record Site : Type 0 where
   pub depth : ℕ
   -- the innermost of these
   pub holder : Option HeaderValue
-  -- what is right before it in this holder, by itself: a whole element, an octet of padding, or nothing (`NoMore`)
+  -- what is right before it in this holder, alone: a whole element, an octet of padding, or nothing (`NoMore`)
   pub previous : Forest
 
 -- the start of the input

@@ -17,10 +17,10 @@ use Rattle.tlv_walk.specs.Forest.{primitive_extent, spelling}
 use Rattle.tlv_walk.specs.Place.{Fits, IsHeaderAt, Place, announced_extent, place_after, place_of_children, top_place}
 use Rattle.tlv_walk.specs.Reading.{CannotBecomeSound, IsReading, IsSoundList}
 
--- the open end of a forest. `forest` is what the next octet goes on with: an open primitive, a wrapping BIT STRING
--- without its first contents octet, a prefix of a header, or the first of the end-of-contents octets. `place` is the
--- place of its first octet. If there is no such thing (holders around may be open), `forest` is `NoMore`, and `place`
--- is that of the next octet
+-- the open end of a forest. `forest` is what the next octet continues: an open primitive, a wrapping BIT STRING without
+-- its first contents octet, a prefix of a header, or the first of the end-of-contents octets. `place` is the place of
+-- its first octet. If there is no such thing (holders around may be open), `forest` is `NoMore`, and `place` is that of
+-- the next octet
 pub record OpenEnd : Type 0 where
   pub place : Place
   pub forest : Forest
@@ -55,7 +55,7 @@ pub data IsRefusedAt : OpenEnd → ℕ → FaultCode → Type 0 where
   -- F11, 8.1.3.3: the bound leaves no room for x
   no_room : {x : ℕ} {p : Place} {o : List ℕ} → (Fits p (length o + 1) → ⊥)
       → IsRefusedAt (open_at p (OpenHeader o)) x Overrun
-  -- F06 to F09: no header goes on with that octet, and `IsRefusedOctet` says why
+  -- F06 to F09: no header continues with x, and `IsRefusedOctet` says why
   refused_octet : {x : ℕ} {p : Place} {o : List ℕ} {code : FaultCode} → Fits p (length o + 1) → IsRefusedOctet o x code
       → IsRefusedAt (open_at p (OpenHeader o)) x code
   -- F10, a limit of our own: x completes the header of a holder, inside `depth_limit` holders
@@ -70,7 +70,8 @@ pub data IsRefusedAt : OpenEnd → ℕ → FaultCode → Type 0 where
   -- ---- where no element is begun
   -- F05, 8.1.5: the bound is reached inside an indefinite holder
   no_end : {x : ℕ} {p : Place} → p.indefinite ≡ true → (Fits p 1 → ⊥) → IsRefusedAt (open_at p NoMore) x MissingEnd
-  -- F03, 8.1.5: 00 where neither end-of-contents octets nor padding are allowed
+  -- F03, 8.1.5: 00 where neither end-of-contents octets nor padding are allowed. The bound leaves room for it, since a
+  -- definite holder that is full has ended
   stray_end : {x : ℕ} {p : Place} → p.indefinite ≡ false → p.padding ≡ false → x ≡ 0
       → IsRefusedAt (open_at p NoMore) x StrayEnd
 

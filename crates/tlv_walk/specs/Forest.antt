@@ -86,7 +86,8 @@ is_whole (Primitive h c rest) = is_whole rest
 is_whole (Holder h children rest) = is_whole rest
 is_whole _ = false
 
--- at least one octet of an element is there
+-- at least one octet of an element is there. It is asked of outermost elements, so the last line is never for
+-- `OpenEndOctets`, which are inside a holder
 abbrev pub has_element : Forest → Bool
 has_element NoMore = false
 has_element (PaddingOctet rest) = has_element rest
