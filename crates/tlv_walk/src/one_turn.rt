@@ -4,7 +4,7 @@ ghost use Rattle.tlv_walk.specs.Follow.{ReturnsEffect};
 ghost use Rattle.tlv_walk.specs.Private.ResultOfPause.{IsResultOfPause, run_of};
 ghost use Rattle.tlv_walk.specs.Private.FollowsPiece.{FollowsAndFlushes, FollowsOneOrNone, FollowsPiece};
 ghost use Rattle.tlv_walk.specs.Private.FollowsPiece.{FollowsPrefix, follow_states};
-ghost use Rattle.tlv_walk.specs.Private.WalkerCalls.{CanPassWithin};
+ghost use Rattle.tlv_walk.specs.Private.WalkerCalls.{CanPass};
 ghost use Rattle.tlv_walk.specs.WalkerReads.{IsReady};
 ghost use Rattle.tlv_walk.specs.Walker.{IsWithinInputLimit};
 ghost use Rattle.tlv_io.specs.Out.{held_octets, drain_of};
@@ -217,8 +217,8 @@ fn follow_primitive<F: Follow, D: Drain>(
     Ok(false)
 }
 
-/// Follows the primitive with which the piece begins, as the walker found, if it ends within the bound and the follower
-/// takes it in one go. Returns whether it was followed; otherwise takes nothing.
+/// Follows the primitive with which the piece begins, as the walker found, if the follower takes it in one go.
+/// Returns whether it was followed; otherwise takes nothing.
 #[inline(always)]
 fn follow_found<F: Follow, D: Drain>(
     walker: &mut Walker<'_>,
@@ -227,16 +227,13 @@ fn follow_found<F: Follow, D: Drain>(
     piece: &mut &[u8],
     out: &mut Out<'_, D>,
 ) -> Result<bool, WriteFault>
-    requires can { CanPassWithin walker.old piece.old.now primitive.now }
+    requires can { CanPass walker.old piece.old.now primitive.now }
     requires limit { IsWithinInputLimit walker.old piece.old.now }
     ensures { FollowsPrefix F.next D.state
         (follow_states walker.old follower.old out.old)
         (follow_states walker.new follower.new out.new)
         piece.old.now piece.new.now result }
 {
-    if !walker.has_room(primitive) {
-        return Ok(false);
-    }
     let octets = *piece;
     let header = Header::new(&primitive.fields, &octets[..primitive.header_length]);
     if !follower.whole(&header, &octets[..primitive.octet_count], out)? {

@@ -158,11 +158,6 @@ pub record CanPass (w : WalkerState) (piece : List ℕ) (p : WholePrimitive) : T
   pub within : p.octet_count ≤ length piece
   pub fits : IsWithin (bound_of w.stack) (w.offset + p.octet_count)
 
--- a primitive that can be passed if it ends within the bound
-pub record CanPassWithin (w : WalkerState) (piece : List ℕ) (p : WholePrimitive) : Type 0 where
-  pub within : p.octet_count ≤ length piece
-  pub passes : IsWithin (bound_of w.stack) (w.offset + p.octet_count) → CanPass w piece p
-
 -- the header of such a primitive
 abbrev pub header_at : WholePrimitive → List ℕ → HeaderValue
 header_at p piece = new_header p.fields (take p.header_length piece)

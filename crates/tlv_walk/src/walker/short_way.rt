@@ -1,12 +1,9 @@
 //! How a walker finds the next event in few instructions.
-ghost use Rattle.std.specs.Prelude.{◌≡◌, ◌+◌, ◌≤◌, ◌↔◌, IfNone, IfSome, IsTrue, take, true};
-ghost use Rattle.tlv_head.specs.Limits.{input_limit};
+ghost use Rattle.std.specs.Prelude.{◌≡◌, IfNone, IfSome, take, true};
 ghost use Rattle.tlv_head.specs.HeaderFields.{IsHeaderSized};
 ghost use Rattle.tlv_walk.specs.Follow.{whole_events};
 ghost use Rattle.tlv_walk.specs.Walker.{IsWithinInputLimit};
-ghost use Rattle.tlv_walk.specs.Private.WalkerCalls.{CanPass, CanPassWithin, HasNoContents, HasOpenPrimitive};
-ghost use Rattle.tlv_walk.specs.Private.WalkerCalls.{Passes};
-ghost use Rattle.tlv_walk.specs.Stack.{IsWithin, bound_of};
+ghost use Rattle.tlv_walk.specs.Private.WalkerCalls.{CanPass, HasNoContents, HasOpenPrimitive, Passes};
 ghost use Rattle.tlv_walk.specs.Private.WalkerCalls.{end_event_if_taken, enter_event_if_taken, header_at};
 ghost use Rattle.tlv_walk.specs.Private.WalkerCalls.{open_event_if_taken, unused_event_if_taken};
 ghost use Rattle.tlv_walk.specs.Private.Yields.{StepsAtOnce, YieldsEvents};
@@ -37,12 +34,11 @@ pub(crate) enum HolderEnd {
 
 impl Walker<'_> {
     /// The primitive with which these octets begin, if they hold all of it, its header has few octets, its offset is
-    /// not named, and it is allowed here if it ends within the bound ([`Walker::has_room`]). With `two_octets`, only if
-    /// its header has two octets.
+    /// not named, and it is allowed here. With `two_octets`, only if its header has two octets.
     #[inline(always)]
     pub(crate) fn primitive(&self, octets: &[u8], two_octets: bool) -> Option<WholePrimitive>
         requires { IsWithinInputLimit self.now octets.now }
-        ensures { IfSome result (λ p. CanPassWithin self.now octets.now p) }
+        ensures { IfSome result (λ p. CanPass self.now octets.now p) }
     {
         let [first, ..] = octets else {
             return None;
@@ -66,23 +62,15 @@ impl Walker<'_> {
         if length > (octets.len() - header_length) as u64 {
             return None;
         }
+        let octet_count = header_length + length as usize;
+        if !self.stack.is_within(self.offset + octet_count as u64) {
+            return None;
+        }
         Some(WholePrimitive {
             fields,
             header_length,
-            octet_count: header_length + length as usize,
+            octet_count,
         })
-    }
-
-    /// Whether a primitive ends within the bound if it begins here. This is asked when the primitive is known: as the
-    /// last question about it, the compiler would ask it twice.
-    #[inline(always)]
-    pub(crate) fn has_room(&self, primitive: &WholePrimitive) -> bool
-        requires { self.now.offset + primitive.now.octet_count ≤ input_limit }
-        ensures { IsTrue result ↔ IsWithin (bound_of self.now.stack)
-            (self.now.offset + primitive.now.octet_count) }
-    {
-        self.stack
-            .is_within(self.offset + primitive.octet_count as u64)
     }
 
     /// Takes the primitive with which the piece begins: its header, its contents and its end.

@@ -6,13 +6,13 @@ use Rattle.tlv_walk.proofs.one_turn.follow_found.Goals as goal
 
 pub whole-requires : goal.whole-requires
 whole-requires g c = rw c.new-header.ensures (record {
-  whole = is_whole_element c.args.walker.now c.args.piece.now.now c.args.primitive.now (c.requires.can.passes (search rules));
+  whole = is_whole_element c.args.walker.now c.args.piece.now.now c.args.primitive.now c.requires.can;
 })
 
 pub returns-in_err-whole : goal.returns-in_err-whole
 returns-in_err-whole g c =
     let p = err_from_is_err_and c.from_residual.result c.from_residual.ensures.1 in rw p.1
-    (prefix_fails g.F.Follow.next g.D.Drain.state _ _ _ _ c.args.primitive.now c.new-header.result _ _ (c.requires.can.passes (search rules))
+    (prefix_fails g.F.Follow.next g.D.Drain.state _ _ _ _ c.args.primitive.now c.new-header.result _ _ c.requires.can
     c.new-header.ensures c.in_err-whole.ensures)
 
 pub returns : goal.returns
