@@ -46,7 +46,7 @@ pub record IsLengthPrefix (class : Class) (constructed : Bool) (number left : �
   pub within : length digits + left ≤ 126
   pub octets_are : octets ≡ identifier_octets ++ (128 + (length digits + left)) ∷ digits
 
--- why the octet x is refused after a prefix of a header, wherever the header is, one line for each cause
+-- why the octet x is refused after a prefix of a header, at any place in an input. One line for each cause
 pub data IsRefusedOctet (octets : List ℕ) (x : ℕ) : FaultCode → Type 0 where
   -- F06, a limit of our own on 8.1.2.4.2: a ninth subsequent identifier octet with bit 8 set
   tag_too_long : (class : Class) (constructed : Bool) (prefix : IsNumberPrefix class constructed octets)
@@ -60,9 +60,9 @@ pub data IsRefusedOctet (octets : List ℕ) (x : ℕ) : FaultCode → Type 0 whe
   indefinite_primitive : (class : Class) (number : ℕ)
       → IsIdentifier class false number octets → x ≡ 128
       → IsRefusedOctet octets x IndefinitePrimitive
-  -- F09, a limit of our own on 8.1.3.5: x is a length octet after the first one and is not 00, and six or more are
-  -- missing, of which x is the first. So five or more follow x, and the length is at least 256^5 = 2^40. The digits
-  -- before x are all 0: any other was refused where it came
+  -- F09, a limit of our own on 8.1.3.5: x is a length octet after the first one, it is not 00, and five or more follow
+  -- it (`left` counts x too). So the length is at least 256^5 = 2^40. The digits before x are all 0: any other was
+  -- refused where it came
   length_too_large : (class : Class) (constructed : Bool) (number left : ℕ)
       → IsLengthPrefix class constructed number left octets → 6 ≤ left → x ≢ 0
       → IsRefusedOctet octets x LengthTooLarge

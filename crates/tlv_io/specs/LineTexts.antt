@@ -23,8 +23,8 @@ spaces n = replicate n 0x20
 abbrev pub at_right : ℕ → List ℕ → List ℕ
 at_right places text = spaces (places - length text) ++ text
 
--- the first columns of a line: an offset, and the number of contents octets of an element, or a word, as in
--- `       4     20: ` or `       0  indef: `
+-- the first columns of a line: an offset, and after it either the number of contents octets of an element, or a word.
+-- Examples are `       4     20: ` and `       0  indef: `
 abbrev pub columns : ℕ → List ℕ → List ℕ
 columns offset word = at_right 8 (decimal offset) ++ codes " " ++ at_right 6 word ++ codes ": "
 

@@ -16,12 +16,12 @@ module _ (job : Job ReportValue) (octets : List ℕ) (read_fails : Bool) where
   pub data IsReport (f : Forest) (e : Ending) : ReportValue → Type 0 where
     -- nothing that could follow matters
     at_settled_result : IsSettled job f e → IsReport f e (job.returns f e)
-    -- after the octets neither an octet nor a failed read comes
+    -- the input is not too long, and no read fails after it
     at_source_end : read_fails ≡ false → length octets ≤ input_limit → IsReport f e (job.returns f e)
-    -- a read failed after the octets
+    -- there are at most `input_limit` octets, and the read after them failed
     read_failed : (IsSettled job f e → ⊥) → read_fails ≡ true → length octets ≤ input_limit
         → IsReport f e (device_report ReadFailed)
-    -- there are too many octets
+    -- there are more than `input_limit` octets, whether or not a read fails after them
     too_long : (IsSettled job f e → ⊥) → input_limit < length octets → IsReport f e (device_report InputTooLong)
 
   -- what was written, into this much room, and what is reported. A write fails when the room is full, and this takes

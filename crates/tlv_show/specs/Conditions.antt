@@ -91,8 +91,8 @@ headers (Holder h children rest) = h ∷ headers rest
 headers _ = []
 
 -- 9.2: the number of contents octets that a string with these segments has as a primitive: the contents octets of all
--- segments. In a BIT STRING the first octet of each segment, for unused bits (8.6.2), is left out, and one for the
--- whole string is added
+-- segments. In a BIT STRING the first octet of each segment, for unused bits (8.6.2), is left out (a segment without
+-- octets counts 0), and one for the whole string is added
 abbrev pub length_as_primitive : HeaderValue → List HeaderValue → ℕ
 length_as_primitive h segments =
     let octets_for_unused_bits = if is_a universal.bit_string h then 1 else 0 in

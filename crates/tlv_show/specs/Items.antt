@@ -49,6 +49,8 @@ module _ (found : ElementFindings) where
       ++ (ClosingLine s.depth (end_octets_offset h children)
       ∷ finding_items s.depth h.offset (found.of_holder s h children)
       ++ items (site_after s (holder_extent h children) (Holder h children NoMore)) rest))
+  -- of what is open, the findings of its header, its line and rows, and for a holder what it holds so far: it has no
+  -- other findings yet, and no last line
   items s (OpenPrimitive h c) =
       finding_items s.depth h.offset (found.of_header s h) ++ OpenPrimitiveLines s.depth h c ∷ []
   items s (OpenHolder h children) =

@@ -15,7 +15,7 @@ pub record Site : Type 0 where
   pub depth : ℕ
   -- the innermost of these
   pub holder : Option HeaderValue
-  -- what is right before it in this holder, alone: a whole element, an octet of padding, or nothing (`NoMore`)
+  -- a forest of only what is right before it: a whole element, or an octet of padding; `NoMore` if it is the first
   pub previous : Forest
 
 -- the start of the input
@@ -39,7 +39,7 @@ abbrev pub is_padding : Forest → Bool
 is_padding (PaddingOctet rest) = true
 is_padding _ = false
 
--- 8.6.4, 8.7.3: in a constructed string: the element is a segment of it
+-- 8.6.4, 8.7.3: the element is a segment, since its holder is a constructed string
 abbrev pub in_string : Site → Bool
 in_string s = option_map_or has_segments s.holder false
 

@@ -1,22 +1,21 @@
 //! The findings in elements, event by event.
 ghost use Rattle.std.specs.Option.{is_some};
-ghost use Rattle.std.specs.Prelude.{◌≡◌, ◌||◌, ◌∷◌, []};
+ghost use Rattle.std.specs.Prelude.{◌≡◌, ◌||◌};
 ghost use Rattle.tlv_head.specs.Header.{HasAllContents, octets_of};
 ghost use Rattle.tlv_show.specs.FinderState.{finder_in_primitive, finder_begin_step, finder_bytes_step};
 ghost use Rattle.tlv_show.specs.FinderState.{finder_close_step, finder_end_step, finder_open_step};
-ghost use Rattle.tlv_show.specs.FinderState.{end_findings_with, offset_at_end, with_findings, with_header_findings};
-ghost use Rattle.tlv_show.specs.KeptConditions.{header_findings_in};
-ghost use Rattle.tlv_show.specs.NestingState.{depth_in, surroundings_in};
+ghost use Rattle.tlv_show.specs.FinderState.{end_findings_with, offset_at_end, with_findings};
+ghost use Rattle.tlv_show.specs.NestingState.{depth_in};
 ghost use Rattle.tlv_show.specs.Private.Suits.{Suits};
 ghost use Rattle.tlv_show.specs.Private.FinderState.{PassesOrStays, ReturnsFindings};
 ghost use Rattle.tlv_show.specs.Private.FinderState.{new_finder, with_check_state};
-ghost use Rattle.tlv_value.specs.declared.finding.Finding.TheVariants.{D01};
+
+mod headers;
 
 use crate::Wanted;
 use crate::contents_findings::add_findings_at_end;
 use crate::header_findings::{
-    add_end_findings, add_header_findings, has_no_header_findings, has_no_header_findings_if_usual,
-    is_only_indefinite,
+    add_end_findings, has_no_header_findings, has_no_header_findings_if_usual, is_only_indefinite,
 };
 use crate::holder_frame::{HolderFrame, top_frame};
 use crate::last_findings::LastFindings;
@@ -34,7 +33,7 @@ use crate::wanted_strings::{
 use arrayvec::ArrayVec;
 use std::marker::Model;
 use tlv_head::Header;
-use tlv_value::{Finding, ValueCheck, is_clear};
+use tlv_value::{ValueCheck, is_clear};
 
 /// Finds what violates the rules, event by event. It keeps what it must know of the open elements that hold others,
 /// and of the open primitive. `TRACKED` says what may be wanted; the code for all else is not there:
@@ -148,37 +147,6 @@ impl<const TRACKED: usize> Finder<TRACKED> {
         self.is_open = false;
         self.holders.note_element();
         true
-    }
-
-    /// Determines the findings of a header, without a short look.
-    #[inline(always)]
-    fn find_with_header(&mut self, header: &Header)
-        ensures { self.new ≡ with_header_findings self.old.kept header.now self.old.kept }
-    {
-        let level = self.holders.depth();
-        self.last.restart(level, header.offset);
-        add_header_findings(
-            self.wanted,
-            self.holders.frame(),
-            header,
-            &mut self.last.findings,
-        );
-        self.finding_count = self
-            .finding_count
-            .saturating_add(self.last.findings.len() as u64);
-    }
-
-    /// Takes D01 for the only finding of a header.
-    #[inline(always)]
-    fn find_indefinite(&mut self, header: &Header)
-        requires { header_findings_in self.old.kept.wanted (surroundings_in self.old.kept.holders.frame) header.now
-            ≡ D01 ∷ [] }
-        ensures { self.new ≡ with_header_findings self.old.kept header.now self.old.kept }
-    {
-        let level = self.holders.depth();
-        self.last.restart(level, header.offset);
-        self.last.findings.push(Finding::D01);
-        self.finding_count = self.finding_count.saturating_add(1);
     }
 
     /// Records the offset of a primitive, and that none of its contents has come.

@@ -43,9 +43,9 @@ abbrev pub three_octets : ℕ → List ℕ
 three_octets n = (n / 65536) % 256 ∷ (n / 256) % 256 ∷ n % 256 ∷ []
 
 -- how many of the first octets make a unit: a character, or an octet that belongs to no character. UTF-8 (RFC 3629, 4):
--- as many octets are taken as the first one announces, or as are left. A character that begins with this octet has
--- exactly the announced number of octets. So if these octets are UTF-8, they are one character; otherwise the first
--- octet belongs to none
+-- as many octets are taken as the first one announces, or as are left. If they are UTF-8, they are one character, since
+-- a character that begins with this octet has exactly the announced number of octets. Otherwise the first octet belongs
+-- to no character
 abbrev pub unit_size : Kind → List ℕ → ℕ
 unit_size Ucs2 octets = if nat_le 2 (length octets) then 2 else 1
 unit_size Ucs4 octets = if nat_le 4 (length octets) then 4 else 1
@@ -69,11 +69,11 @@ units kind octets = first_units (length octets) kind octets
 -- the text of a unit
 abbrev pub unit_text : Kind → List ℕ → List ℕ
 unit_text kind [] = []
--- in a BMPString: a character of two octets, or an octet that belongs to none
+-- in a BMPString: a character of two octets, or an octet that belongs to none, which is escaped even if it is printable
 unit_text Ucs2 (a ∷ b ∷ []) =
     if a == 0 && is_printable b then printable_text b else escaped_number (a ∷ b ∷ [])
 unit_text Ucs2 (a ∷ more) = escaped_octet a
--- in a UniversalString: a character of four octets, or an octet that belongs to none
+-- in a UniversalString: a character of four octets, or an octet that belongs to none, which is escaped too
 unit_text Ucs4 (a ∷ b ∷ c ∷ d ∷ []) =
     if a == 0 && b == 0 && c == 0 && is_printable d
     then printable_text d

@@ -17,7 +17,8 @@ use Rattle.tlv_value.specs.RowSizes.{row_size}
 use Rattle.tlv_value.specs.Rows.{full_rows_in, rows_of}
 use Rattle.tlv_value.specs.Units.{quoted_text}
 
--- what a line has after the tag text: a text, with the space before it, or octets that are shown as pairs of digits
+-- what a line has after the tag text: a text that begins with a space, or nothing (`Written`), or octets that are shown
+-- as pairs of digits
 pub data OnLine : Type 0 where
   Written : (text : List ℕ) → OnLine
   InPairs : (octets : List ℕ) → OnLine

@@ -39,8 +39,8 @@ open_end p (OpenHolder h children) = open_end (place_of_children p h) children
 open_end p f = open_at p f
 
 -- why the octet x is refused at an open end, one line for each cause, in the order of "Faults" in docs/FORMAT.md. No
--- two lines hold at once. `p` is the place of the open end: that of the first octet of its forest, or, if this is
--- `NoMore`, that of x. `Fits p n → ⊥` says that n octets from `p` on end beyond the bound
+-- two lines hold at once. `p` is the place of the open end: the place of the first octet of its forest, or the place of
+-- x if the forest is `NoMore`. `Fits p n → ⊥` says that n octets from `p` on end beyond the bound
 pub data IsRefusedAt : OpenEnd → ℕ → FaultCode → Type 0 where
   -- ---- in a wrapping BIT STRING without its first octet
   -- F12, a rule of our own: encodings are whole octets, so a wrapping BIT STRING has no unused bits. 8.6.2.2 allows 00

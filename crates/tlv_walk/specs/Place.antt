@@ -48,8 +48,8 @@ abbrev pub is_indefinite : Size → Bool
 is_indefinite size = is_none (definite_length size)
 
 -- 8.1.4: the place of the elements inside an element with this header. 8.1.3.3: the bound is the end of its contents,
--- if its length is definite, and otherwise the bound outside. The first contents octet of a wrapping BIT STRING
--- (`lead`) is before the elements, and counts for the bound
+-- if its length is definite, and otherwise the bound outside; then end-of-contents octets may come. There is no padding.
+-- The first contents octet of a wrapping BIT STRING (`lead`) is before the elements, and counts for the bound
 abbrev pub place_of_children : Place → HeaderValue → Place
 place_of_children p h = record p {
   offset = p.offset + length (opening h);
@@ -110,7 +110,7 @@ ObeysGrammar p (Primitive h c rest) =
 ObeysGrammar p (Holder h children rest) =
     (IsHolderAt p h (holder_extent h children) × (is_whole children ≡ true) × HasItsLength h children)
     × ObeysGrammar (place_of_children p h) children × ObeysGrammar (place_after p (holder_extent h children)) rest
--- 8.1.4: a primitive that lacks contents octets
+-- 8.1.4: a primitive that lacks contents octets. The bound leaves room for all that its header announces
 ObeysGrammar p (OpenPrimitive h c) = IsPrimitiveAt p h (announced_extent h) × (length c < announced_length h.size)
 -- 8.1.4: a holder that is open. If something in it is open, nothing more is asked here: the line of that thing keeps it
 -- inside the bound. If all in it is whole and the length of the holder is definite, contents octets are still missing:
@@ -119,7 +119,7 @@ ObeysGrammar p (OpenHolder h children) =
     (IsHolderAt p h (announced_extent h)
     × (is_whole children ≡ true → IfSome (definite_length h.size) (λ n. contents_length h children < n)))
     × ObeysGrammar (place_of_children p h) children
--- 8.6.2.2: a wrapping BIT STRING with only its header there
+-- 8.6.2.2: a wrapping BIT STRING with only its header there. The bound leaves room for all that this announces
 ObeysGrammar p (OpenBitString h) = IsHolderAt p h (announced_extent h) × (is_wrapping_bit_string h ≡ true)
 -- a prefix of a header, or the first of the end-of-contents octets, inside the bound
 ObeysGrammar p (OpenHeader octets) = (octets ≢ []) × IsHeaderPrefix octets × Fits p (length octets)

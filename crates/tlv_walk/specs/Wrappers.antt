@@ -6,7 +6,7 @@ use Rattle.tlv_walk.specs.Events.{Enter, EventValue}
 use Rattle.tlv_walk.specs.Forest.{Forest, PaddingOctet, Primitive, Holder, OpenHolder, OpenBitString}
 use Rattle.tlv_head.specs.Lists.{is_among}
 
--- a list of the offset of a holder with this header, if it is a wrapper. An empty list if it is constructed
+-- a list of one offset, that of a holder with this header, if it is a wrapper; an empty list if it is constructed
 abbrev pub wrapper_offset : HeaderValue → List ℕ
 wrapper_offset h = if h.constructed then [] else h.offset ∷ []
 
