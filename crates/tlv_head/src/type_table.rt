@@ -14,7 +14,8 @@ pub enum Encodings {
     Constructed,
     /// Primitive ones, and constructed ones that hold segments (8.6.1, 8.7.1, 8.23, 8.25).
     Segmented,
-    /// Primitive ones too (8.21, 8.22, 8.26). B04 does not judge them; B22, which `tlvdump` does not list, does.
+    /// Primitive ones (8.21, 8.22, 8.26), as for [`Encodings::Primitive`]. A constructed one has B22, which `tlvdump`
+    /// does not list, and not B04.
     Unjudged,
 }
 

@@ -30,7 +30,7 @@ struct Findings {
 /// Writes what may be done with an input that does not parse, in lines of ASCII: which single length would make it
 /// sound; what was done to it as if it were a text; which other kind of file it is; and from which offset it is sound.
 /// Writes a line for each that applies, and nothing if none applies. `candidates` are the offsets of headers whose
-/// length may be wrong, the nearest to the fault first. With `padding`, octets `00` are allowed at the top level.
+/// length may be wrong, in the order in which they are tried. With `padding`, octets `00` are allowed at the top level.
 ///
 /// # Errors
 ///
@@ -54,7 +54,7 @@ pub fn write_remedies<D: Drain>(
 }
 
 /// Writes the line about the single length that would make an input sound, in ASCII; nothing if there is none.
-/// `candidates` are the offsets of headers whose length may be wrong, the nearest to the fault first. `framing` says
+/// `candidates` are the offsets of headers whose length may be wrong, in the order in which they are tried. `framing` says
 /// how the input is read: which strings hold encodings, and whether octets `00` are allowed at the top level.
 ///
 /// # Errors

@@ -56,9 +56,9 @@ pub fn one_spelling()
 
 /// Each sound input has a spelling by DER, and one by CER: a sound input whose elements agree with its own, one by
 /// one, in class, form, number and contents, with as much padding between them, and in which a check under DER, or
-/// under CER, finds none of B01, B02, S01, D01 and C01. In the spelling, the strings that hold encodings are named at
-/// the offsets that they have there, and no others; a user may name these offsets if the offsets of the input may be
-/// named. This holds for inputs of at most 2^38 octets in which no primitive is the universal 0.
+/// under CER, finds none of B01, B02, S01, D01 and C01. In the spelling, exactly the strings that hold encodings are
+/// named, at the offsets that they have there. If a user may name the offsets of the input, a user may name these too.
+/// This holds for inputs of at most 2^38 octets in which no primitive is the universal 0.
 pub fn some_spelling()
     ensures { SomeSpelling }
 {}
@@ -76,13 +76,13 @@ pub fn longer_lengths_are_found()
     ensures { LongerLengthsAreFound }
 {}
 
-/// Event by event, the whole elements are found that are out of order in a SET, and no others.
+/// Event by event, exactly those whole elements are found that are out of order in a SET.
 pub fn out_of_order_is_found()
     ensures { OutOfOrderIsFound }
 {}
 
-/// Event by event, the whole strings are found that have a segment with an octet that their type does not allow, and no
-/// others.
+/// Event by event, exactly those whole strings are found that have a segment with an octet that their type does not
+/// allow.
 pub fn wrong_characters_are_found()
     ensures { WrongCharactersAreFound }
 {}

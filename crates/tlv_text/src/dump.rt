@@ -38,11 +38,11 @@ pub(crate) struct Reading {
 }
 
 /// Decodes a hex dump with offsets, as xxd, hexdump, od, Wireshark, tcpdump, Format-Hex and OpenSSL write it. A text
-/// is refused at the first line that does not fit. A row does not fit if more characters come after its pairs than it
-/// has octets, besides two bars, or if the row after it begins there: its line then holds more than a row, as it does
-/// if line ends are lost. Offsets are hexadecimal. They are octal if the offset of the first row has seven octal digits
-/// and no colon after it, as od writes it, and the text read so is not refused, or is refused further on than with
-/// hexadecimal offsets.
+/// is refused at the first line that does not fit. A row does not fit if its line holds more than the row, as it does if
+/// line ends are lost. There are two signs of that: after the pairs come more characters than the row has octets, besides
+/// two bars; or the next row begins there. Offsets are hexadecimal. They are octal if two things hold: the offset of the
+/// first row has seven octal digits and no colon after it, as od writes it; and with octal offsets the text is not
+/// refused, or is refused further on than with hexadecimal ones.
 ///
 /// # Errors
 ///

@@ -46,7 +46,8 @@ pub enum Finding {
     B19,
     /// A REAL of no form (8.5.6 to 8.5.9).
     B20,
-    /// A DATE, TIME-OF-DAY or DATE-TIME that is none (8.26).
+    /// A DATE, TIME-OF-DAY or DATE-TIME that is not written as it has to be, or whose day or time does not exist
+    /// (8.26).
     B21,
     /// A constructed time or internationalized resource identifier (8.21, 8.22, 8.26).
     B22,

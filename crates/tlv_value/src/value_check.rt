@@ -242,7 +242,8 @@ impl ValueCheck {
         self.are_full_rows_utf8 = both(self.are_full_rows_utf8, take_rows(&mut self.row, octets));
     }
 
-    /// The findings on the contents, in order, by the rules of BER, CER or DER.
+    /// All findings on the contents, in order: those of BER, DER and CER together. The caller leaves out those that its
+    /// rules do not have.
     #[inline(always)]
     pub fn end(&self) -> ArrayVec<Finding, 16>
         requires { self.now.left ≡ 0 }

@@ -50,10 +50,11 @@ pub struct Viewed {
     pub broken: Vec<BrokenString>,
 }
 
-/// Writes a view of the octets to the drain, and returns the report and the broken strings. It writes and reports
-/// what `run` does for the same command over these octets if the strings that hold encodings are named, with all findings
-/// in place of the listed ones; a dump may also have text beside pairs of digits. With `closed`, no string is named, and none is looked at. With `padding`,
-/// octets `00` are allowed before, between and after the encodings.
+/// Writes a view of the octets to the drain, and returns the report and the broken strings. It writes and reports what
+/// `run` does for the same command over these octets, with two differences. The strings that hold encodings are named,
+/// and all findings are reported, not only the listed ones. A dump may also have text beside pairs of digits. With
+/// `closed`, no string is named, and none is looked at. With `padding`, octets `00` are allowed before, between and
+/// after the encodings.
 ///
 /// # Errors
 ///

@@ -11,17 +11,17 @@ pub fn notes_are_shown()
     ensures { NotesAreShown }
 {}
 
-/// So is the line before a block.
+/// The line before a block is printable ASCII and a line feed, whatever the labels and the names of files are.
 pub fn titles_are_shown()
     ensures { TitlesAreShown }
 {}
 
-/// So are the lines that report on a block, and on the broken strings in it.
+/// The lines that report on a block, and on the broken strings in it, are printable ASCII and line feeds.
 pub fn messages_are_shown()
     ensures { MessagesAreShown }
 {}
 
-/// So is the line of the findings in octets that parse.
+/// The line of the findings in octets that parse is printable ASCII and a line feed.
 pub fn findings_lines_are_shown()
     ensures { FindingsLinesAreShown }
 {}

@@ -48,7 +48,7 @@ abbrev pub is_indefinite : Size → Bool
 is_indefinite size = is_none (definite_length size)
 
 -- 8.1.4: the place of the elements inside an element with this header. 8.1.3.3: the bound is the end of its contents,
--- if its length is definite, and otherwise the bound outside; then end-of-contents octets may come. There is no padding.
+-- if its length is definite; otherwise it is the bound outside, and end-of-contents octets may come. No padding may.
 -- The first contents octet of a wrapping BIT STRING (`lead`) is before the elements, and counts for the bound
 abbrev pub place_of_children : Place → HeaderValue → Place
 place_of_children p h = record p {

@@ -35,9 +35,10 @@ pub trait Follow {
         ensures { ReturnsEffect D.state (next self.old (event_value_of event.now)) out.old out.new
             self.new result };
 
-    /// Follows an element whose octets, header and contents, are all at hand, as a primitive: its header, its contents
-    /// and its end, one after another. If it does, it wants more after each, and returns `true`. It may decline: it
-    /// then returns `false`, has put nothing and changed nothing, and the events come to [`Follow::on`].
+    /// Follows an element as a primitive: its header, its contents and its end, one after another. All its octets,
+    /// header and contents, are at hand. If the follower does this, it wants more after each of the three, and returns
+    /// `true`. It may decline: it then returns `false`, has put nothing and changed nothing, and the events come to
+    /// [`Follow::on`].
     ///
     /// # Errors
     ///

@@ -13,7 +13,7 @@ pub enum UsageFault {
     /// `clap` refuses the words, or they ask for help or for the version: the kind of the error says which. There is no
     /// code: the text is `clap`'s own.
     Parser(clap::Error),
-    /// U2: the text of this option, the first such, is not valid. The name is as on the command line, with `--`.
+    /// U2: this is the first option whose text is not valid. The name is as on the command line, with `--`.
     Value(&'static str),
     /// U3: memory was refused.
     Memory,
