@@ -21,10 +21,9 @@ The encodings may be there as they are, or as a text: PEM, a hex dump with offse
 hexadecimal, decimal numbers, base64, or base64 inside another text. What a text was taken
 for is reported on standard error.
 
-With --check the findings alone are shown, with --offset the octets of one element are
-written, with --offsets the offsets of the strings that are opened, with --raw the decoded
-octets, and with --why the reasons why the input does not parse. Otherwise they follow a
-fault on standard error.";
+With --check only the findings are listed. --offset writes the octets of one element, --offsets
+the offsets of the strings that are opened, and --raw the decoded octets. --why says why the
+input does not parse. Without --why and --raw these reasons follow a fault, on standard error.";
 
 pub(super) const AFTER: &str = "\
 Examples:
@@ -35,8 +34,8 @@ Examples:
   tlvdump-show --raw cert.pem | tlvdump check
   
 Exit status, the highest of several files:
-  0  the input is one or more whole encodings, and nothing else
-  1  findings, a string that breaks when it is opened, or no element at --offset (E4)
+  0  the input is one or more whole encodings, nothing else, and nothing is found
+  1  findings, a string that breaks, or no element at --offset (E4)
   2  an octet is refused, or the input ends too early (F01 to F12)
   3  a read or a write failed (E1, E2), more than 2^40 octets (E3), FILE does not open (E5)
   4  the command line (U1, U2, U4), the file of names (N1 to N5) or a text (X1 to X4) is refused
@@ -46,9 +45,8 @@ Messages go to standard error. One that concerns a FILE has its name before it."
 pub(super) const FILE: &str =
     "The files to read, one after another [default: standard input]; \"-\" is standard input";
 
-pub(super) const CHECK: &str = "\
-List what violates the rules, and nothing else: in each element, and in what the strings
-hold that are opened";
+pub(super) const CHECK: &str =
+    "List what violates the rules, and nothing else, also in the strings that are opened";
 
 pub(super) const OFFSET: &str = "\
 Write the octets of the element whose first octet stands here, in octets from the start

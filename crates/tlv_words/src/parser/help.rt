@@ -64,13 +64,13 @@ Examples:
   tlvdump extract --offset 4 certificate.der | tlvdump dump
 
 Exit status:
-  0  the input is one or more whole encodings, and nothing else
+  0  the input is one or more whole encodings, nothing else, and nothing is found
   1  findings, no element at the offset of extract (E4), no string at an offset of --inside (E7)
   2  an octet is refused, or the input ends too early (F01 to F12)
   3  a read or a write failed (E1, E2), more than 2^40 octets (E3), FILE does not open (E5)
   4  the command line (U1, U2) or the file of names (N1 to N5) is refused
   5  memory was refused (U3, N6)
-The message goes to standard error: one line, or several on a refused command line.",
+The message goes to standard error: one line, or several if the command line is refused.",
 };
 
 pub(super) const DUMP: Help<'static> = Help {
@@ -87,22 +87,23 @@ Examples:
   tlvdump dump --rules der --inside 445,475 certificate.der
 
 Exit status:
-  0  the input is one or more whole encodings, and nothing else
+  0  the input is one or more whole encodings, nothing else, and nothing is found
   1  findings, or no OCTET STRING or BIT STRING at an offset of --inside (E7)
   2  an octet is refused, or the input ends too early (F01 to F12)
   3  a read or a write failed (E1, E2), more than 2^40 octets (E3), FILE does not open (E5)
   4  the command line (U1, U2) or the file of names (N1 to N5) is refused
   5  memory was refused (U3, N6)
-The message goes to standard error: one line, or several on a refused command line.",
+The message goes to standard error: one line, or several if the command line is refused.",
 };
 
 pub(super) const CHECK: Help<'static> = Help {
     about: "List what violates the rules of BER, DER or CER",
     more: "\
 Lists what violates the rules, a finding on each line: the offset of the element, the code of
-the finding, and what is wrong. Nothing is written of an input without findings. Not looked
-for: default values, the order of SET and SET OF, the contents of REAL, the parts of EXTERNAL,
-EMBEDDED PDV and CHARACTER STRING, and OID-IRI, RELATIVE-OID-IRI, TIME and the types like it.",
+the finding, and what is wrong. If nothing is found, nothing is written. Not looked for:
+default values, the order of SET and SET OF, the contents of REAL, the parts of EXTERNAL,
+EMBEDDED PDV and CHARACTER STRING, and OID-IRI, RELATIVE-OID-IRI, TIME, DATE, TIME-OF-DAY,
+DATE-TIME and DURATION.",
     after: "\
 Examples:
   tlvdump check certificate.der
@@ -115,7 +116,7 @@ Exit status:
   3  a read or a write failed (E1, E2), more than 2^40 octets (E3), FILE does not open (E5)
   4  the command line is refused (U1, U2)
   5  memory was refused (U3)
-The message goes to standard error: one line, or several on a refused command line.",
+The message goes to standard error: one line, or several if the command line is refused.",
 };
 
 pub(super) const EXTRACT: Help<'static> = Help {
@@ -135,7 +136,7 @@ Exit status:
   3  a read or a write failed (E1, E2), more than 2^40 octets (E3), FILE does not open (E5)
   4  the command line is refused (U1, U2)
   5  memory was refused (U3)
-The message goes to standard error: one line, or several on a refused command line.",
+The message goes to standard error: one line, or several if the command line is refused.",
 };
 
 pub(super) const INDEF: Help<'static> = Help {
@@ -154,5 +155,5 @@ Exit status:
   3  a read or a write failed (E1, E2), more than 2^40 octets (E3), FILE does not open (E5)
   4  the command line is refused (U1)
   5  memory was refused (U3)
-The message goes to standard error: one line, or several on a refused command line.",
+The message goes to standard error: one line, or several if the command line is refused.",
 };
