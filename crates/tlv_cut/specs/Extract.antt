@@ -23,7 +23,8 @@ element_at n (OpenBitString h) = if h.offset == n then Some (OpenBitString h) el
 element_at n _ = None
 
 -- the elements, at any depth. Left out are padding, a prefix of a header, and the first of the end-of-contents octets
--- if the second is missing. These are not written, although those inside a holder are octets of it (8.1.4, 8.1.5)
+-- if the second is missing. The last two may be inside a holder. They are octets of it (8.1.4, 8.1.5), but are not
+-- written
 abbrev pub elements_only : Forest → Forest
 elements_only (PaddingOctet rest) = elements_only rest
 elements_only (Primitive h c rest) = Primitive h c (elements_only rest)

@@ -1,8 +1,7 @@
 -- How many octets an input may have, and how many holders may be open.
 use Rattle.std.specs.Prelude.{ℕ, ◌^◌}
 
--- the most octets that an input may have. Of a longer input these are shown, and E3 is reported, unless the run has
--- ended within them
+-- the most octets that an input may have
 abbrev pub input_limit : ℕ
 input_limit = 2 ^ 40
 

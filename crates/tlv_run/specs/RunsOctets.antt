@@ -24,8 +24,8 @@ module _ (job : Job ReportValue) (octets : List ℕ) (read_fails : Bool) where
     -- there are more than `input_limit` octets, whether or not a read fails after them
     too_long : (IsSettled job f e → ⊥) → input_limit < length octets → IsReport f e (device_report InputTooLong)
 
-  -- what was written, into this much room, and what is reported. A write fails when the room is full, and this takes
-  -- precedence
+  -- what was written, into this much room, and what is reported. If the output has more octets than the room, a write
+  -- fails, and E2 is reported, whatever else there is to report
   pub record RunsOctets (room : ℕ) (written : List ℕ) (report : ReportValue) : Type 0 where
     pub made : CommandResult
     pub is_made : IsResult job (take input_limit octets) made
