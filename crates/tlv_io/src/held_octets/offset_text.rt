@@ -1,5 +1,5 @@
 //! The first columns of a line, most of which are those of the line before.
-ghost use Rattle.std.specs.Prelude.{◌≡◌, ◌+◌, ◌-◌, ◌/◌, ◌%◌, ◌<◌, ◌≤◌, ◌++◌, ◌∷◌, [], IfSome, drop, length, take};
+ghost use Rattle.std.specs.Prelude.{◌≡◌, ◌+◌, ◌-◌, ◌/◌, ◌%◌, ◌<◌, ◌≤◌, ◌++◌, ◌∷◌, [], MatchOption, drop, length, take};
 ghost use Rattle.tlv_io.specs.LineTexts.{columns};
 ghost use Rattle.tlv_io.specs.Private.OffsetText.{zero_bit_of};
 
@@ -36,7 +36,8 @@ impl OffsetText {
     /// offset has more than eight digits.
     #[inline(always)]
     pub fn take_for(&mut self, offset: u64) -> Option<u64>
-        ensures { IfSome result (λ last. (self.new.first + last ≡ offset) × (last < 100)) }
+        ensures { MatchOption result (100000000 ≤ offset)
+            (λ last. (self.new.first + last ≡ offset) × (last < 100)) }
     {
         // One comparison for both bounds: if the offset is less, the difference wraps, and is large.
         let last = offset.wrapping_sub(self.first);
