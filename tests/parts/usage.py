@@ -217,8 +217,19 @@ def files(part):
     part.gives(["dump", ""], NULL, 3, err="E5 cannot open the file")
 
 
+def no_raw_octets(part):
+    """A word that `clap` repeats reaches a terminal with a question mark for each octet that is not printable ASCII."""
+    shown = {"--\x1b[31mX": b"--?[31mX", "--a\x07\x7f\n\r": b"--a??\n?", "--\u00e9": b"--??"}
+    for word, wanted in shown.items():
+        for name, program, words in (("tlvdump", None, ["dump", word]), ("tlvdump-show", part.suite.show_program, [word])):
+            got = part.run(words, NULL, program=program or part.program)
+            fine = got.status == 4 and wanted in got.err and all(it == 10 or 32 <= it < 127 for it in got.err)
+            part.expect(f"{name}: no raw octet of {ascii(word)}", fine, *got.lines())
+
+
 def test(part):
     check_refusals(part)
+    no_raw_octets(part)
     check_taken(part)
     not_utf_8(part)
     files(part)

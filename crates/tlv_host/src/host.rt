@@ -1,6 +1,7 @@
 //! The system of a program, and its files.
 ghost use Rattle.tlv_program.specs.System.{unknown_system};
 
+use crate::printable::Printable;
 use std::fs;
 use std::io::{Eprint, Print};
 use std::rt::Files;
@@ -31,6 +32,11 @@ impl<R: Files + Print + Eprint> System for Host<'_, R> {
     }
 
     fn print(&mut self, error: &clap::Error) -> bool {
-        error.print(self.rt).is_ok()
+        let text = Printable { text: error };
+        if error.use_stderr() {
+            self.rt.eprint(text).is_ok()
+        } else {
+            self.rt.print(text).is_ok()
+        }
     }
 }

@@ -2,6 +2,7 @@
 #![tactic(auto)]
 
 mod host;
+mod printable;
 mod words;
 
 pub use host::Host;
