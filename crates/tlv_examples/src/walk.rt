@@ -30,9 +30,9 @@ fn take_the_first_event(rt: HostRuntime) {
     expect_eq(&rt, piece, b"\x02\x01\x05");
 }
 
-/// tlv_walk: walks over a whole input, here a SEQUENCE that holds an INTEGER, and notes the number of each tag. The loop
-/// ends when the walker needs more octets, or has refused one. Then `finish` returns how the input ends: `Done` if it is
-/// whole encodings, and otherwise the fault.
+/// tlv_walk: walks over a whole input, here a SEQUENCE that holds an INTEGER, and notes the number of each tag. The
+/// loop ends when the walker needs more octets, or has refused one. Then `finish` returns how the input ends: `Done` if
+/// it is whole encodings, and otherwise the fault.
 #[test]
 fn walk_over_a_slice(rt: HostRuntime) {
     let framing = Framing::plain();
