@@ -1,6 +1,7 @@
-"""Checks that what the pages name exists: the pages and sections that they link to, files by their names or paths, and
-in docs/READING.md the files of definitions of each crate.
+"""Checks that what the pages name exists: the pages and sections that they link to, files by their names or paths, in
+docs/READING.md the files of definitions of each crate, and in docs/MAP.md all names in backticks.
 """
+import fnmatch
 import glob
 import os
 import re
@@ -49,6 +50,39 @@ def missing_definitions(root, text):
                     yield f"{crate}: {name}"
 
 
+def sources(root, paths):
+    """Yields the files of code, definitions and proofs, without their comments."""
+    for path in paths:
+        if re.match(r"crates/\w+/(?:src/.*\.rt|(?:specs|proofs)/.*\.antt)$", path):
+            with open(os.path.join(root, path), encoding="utf-8") as file:
+                yield re.sub("//.*" if path.endswith(".rt") else "--.*", "", file.read())
+
+
+def gone_names(root, text, known):
+    """Yields the names in backticks that the sources lack, each with its line: words, members of types, and paths."""
+    paths = "\n".join(path for path in known if re.match(r"crates/\w+/(?:src|specs|proofs)/|tests/", path))
+    codes = list(sources(root, paths.split("\n")))
+    with open(os.path.join(root, "crates.txt"), encoding="utf-8") as file:
+        words = set(re.findall(r"[\w-]+", "\n".join([*codes, paths, file.read()])))
+    text = re.sub(r"^```.*?^```", lambda block: "\n" * block[0].count("\n"), text, flags=re.M | re.S)
+    for span in re.finditer("`([^`]+)`", text):
+        name = span[1].split()[0]
+        if re.fullmatch(r"[^\W\d][\w-]*", name):
+            there = name in words
+        elif re.fullmatch(r"\w+::\w+", name):
+            owner, member = name.split("::")
+            there = any(re.search(rf"^(?:pub )?(?:impl|trait|enum)\b.*\b{owner}\b", code, re.M)
+                        and re.search(rf"(?:\bfn |^ +){member}\b", code, re.M) for code in codes)
+        elif re.fullmatch(r"[\w.*/-]*[/*][\w.*/-]*", name) and not MADE & set(name.split("/")):
+            pattern = re.escape(name.rstrip("/")).replace(r"\*", "[^/\n]*")
+            there = re.search(rf"(?:^|/){pattern}(?:/|\.\w+$|$)", paths, re.M)
+        else:
+            continue
+        if not there:
+            line = text.count("\n", 0, span.start()) + 1
+            yield f"line {line}: {name}"
+
+
 def test(part):
     paths = [path for pattern in PAGES for path in sorted(glob.glob(os.path.join(part.root, pattern)))]
     texts = {}
@@ -62,3 +96,5 @@ def test(part):
         part.expect(f"{page} names what is there", not broken, *broken)
     lacking = list(missing_definitions(part.root, texts["docs/READING.md"]))
     part.expect("docs/READING.md names files of definitions", not lacking, *lacking)
+    gone = list(gone_names(part.root, texts["docs/MAP.md"], known))
+    part.expect("docs/MAP.md has no name that the sources lack", not gone, *gone)

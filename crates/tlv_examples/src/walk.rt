@@ -1,8 +1,9 @@
 //! Examples of headers, events and output.
 use crate::expect::expect_eq;
+use arrayvec::ArrayVec;
 use tlv_head::{Size, read_header};
 use tlv_io::{MemDrain, Out, send};
-use tlv_walk::{Event, Framing, Step, Walker};
+use tlv_walk::{Ending, Event, Framing, Step, Walker};
 
 /// tlv_head: reads the header at the start of octets, here that of a SEQUENCE with three contents octets.
 #[test]
@@ -27,6 +28,28 @@ fn take_the_first_event(rt: HostRuntime) {
     }
     expect_eq(&rt, walker.depth(), 1);
     expect_eq(&rt, piece, b"\x02\x01\x05");
+}
+
+/// tlv_walk: walks over a whole input, here a SEQUENCE that holds an INTEGER, and notes the number of each tag. The
+/// loop ends when the walker needs more octets, or has refused one. Then `finish` returns how the input ends: `Done` if
+/// it is whole encodings, and otherwise the fault.
+#[test]
+fn walk_over_a_slice(rt: HostRuntime) {
+    let framing = Framing::plain();
+    let mut walker = Walker::new(&framing);
+    let mut piece: &[u8] = b"\x30\x03\x02\x01\x05";
+    let mut numbers = ArrayVec::<u64, 4>::new();
+    'steps: loop {
+        match walker.step(&mut piece) {
+            Step::Event(Event::Open(header) | Event::Begin(header)) => {
+                let _ = numbers.try_push(header.number);
+            }
+            Step::Event(_) => {}
+            Step::NeedMore | Step::Fault(_) => break,
+        }
+    }
+    expect_eq(&rt, numbers.as_slice(), &[16, 2]);
+    expect_eq(&rt, walker.finish(), Ending::Done);
 }
 
 /// tlv_io: holds octets, and hands them to a drain that takes four at a time.
