@@ -9,6 +9,8 @@ mod failing_reads;
 #[cfg(test)]
 mod framings;
 #[cfg(test)]
+mod generated;
+#[cfg(test)]
 mod long_inputs;
 #[cfg(test)]
 mod messages;
@@ -22,8 +24,6 @@ mod row;
 mod rows;
 #[cfg(test)]
 mod runs;
-#[cfg(test)]
-mod table;
 #[cfg(test)]
 mod words;
 #[cfg(test)]

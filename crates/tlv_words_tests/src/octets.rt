@@ -1,8 +1,8 @@
 //! Tests of `run_octets`, which runs a command over octets in memory and supplies the devices.
 use super::{ONES, READ_FAILED, WRITE_FAILED};
 use crate::expect::expect_eq_of;
+use crate::generated::tables;
 use crate::row::{Case, case_of, command_for};
-use crate::table::tables;
 use std::process::Abort;
 use std::test::Fail;
 use tlv_run::{OctetsRun, run_octets};

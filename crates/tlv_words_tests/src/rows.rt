@@ -1,11 +1,11 @@
 //! Tests that run each row of tests/rows, and each row of long inputs, in each way.
+use crate::generated::tables;
 use crate::long_inputs::LONG;
 use crate::row::{Case, case_of};
 use crate::runs::{
     expect_failed_reads, expect_failed_writes, expect_final_fault, expect_prefixes,
     expect_same_again, expect_whole,
 };
-use crate::table::tables;
 use std::alloc::Global;
 use std::process::Abort;
 use std::test::Fail;

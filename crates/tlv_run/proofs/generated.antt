@@ -1,0 +1,13 @@
+pub mod CharactersRows
+pub mod EachFindingRows
+pub mod ElementsRows
+pub mod ExtractRows
+pub mod FaultsRows
+pub mod FindingsRows
+pub mod IndefKeptRows
+pub mod IndefRows
+pub mod InsideRows
+pub mod LayoutsRows
+pub mod PaddingRows
+pub mod TimesRows
+pub mod ValuesRows
