@@ -10,6 +10,7 @@ import subprocess
 
 from parts import show_text_rows, text_makers
 from parts.show_program import Program
+from parts.text_makers import ROW, len_of_row
 from second_opinion import show_cases, showing, text_drawing, texts
 from second_opinion import text_dump_drawing as rows_of
 from second_opinion.findings import shortest
@@ -17,7 +18,6 @@ from second_opinion.findings import shortest
 BATCHES, EACH = 100, 200
 CUTS = 16
 MARK = b"\xef\xbb\xbf"
-ROW = re.compile(rb"\s*(?:0x)?[0-9a-fA-F]{4,}[: \t].*\d")
 PLAIN = re.compile(rb"[\n\x20-\x7e]*")
 NO_PEM_END = "its end marker is missing"
 
@@ -131,6 +131,21 @@ def not_in_order(checks, octets):
         checks.refused(f"{what}, --as", text, b"", "dump", 1)
 
 
+def decimal_offsets(checks, octets):
+    """A dump with decimal offsets is refused in the first row whose offset is 10 or more, since there they are not
+    hexadecimal. If this is the second row, the first one is shown, though it is shorter than its offsets say.
+    """
+    checks.part.write("octets", octets)
+    for width in (1, 4, 7, 8, 9, 10, 16, 32, 90):
+        command = ["xxd", "-d", "-c", f"{width}", "octets"]
+        text = subprocess.run(command, cwd=checks.part.folder, capture_output=True, timeout=60).stdout
+        what = f"xxd -d -c {width}, {len(octets)} octets"
+        got = checks.raw(what, text)
+        checks.part.expect(f"{what}: no octets", got.status != 0 and not got.out, *got.lines())
+        rows = -(-10 // width)
+        checks.refused(f"{what}, --as", text, octets[: rows * width], "dump", rows + 1)
+
+
 def shown(checks, what, text, octets):
     """The dump of a text is that of its octets, on a pipe and as a file."""
     part, program = checks.part, checks.program
@@ -230,12 +245,6 @@ def repeats(checks):
             checks.part.expect(f"{command}: no octets", got.status == 2 and not got.out, *got.lines())
 
 
-def len_of_row(name):
-    """Returns how many octets a row of this dump has."""
-    width = re.search(r"-[cw](\d+)", name)
-    return int(width[1]) if width else 16
-
-
 def drawn(part, program):
     """20,000 random texts, in batches of FILEs: the output is
     printable, and --raw writes what the second opinion expects.
@@ -291,6 +300,8 @@ def test(part):
     if "xxd" in checks.tools:
         for octets in (*fixed, zeros, element(0x30, b"\x02\x01\x05"), element(0x30, element(4, b"text and more"))):
             not_in_order(checks, octets)
+        for octets in (*fixed, zeros):
+            decimal_offsets(checks, octets)
     cuts(checks, fixed[0])
     cuts(checks, zeros)
     drawn(part, program)
