@@ -3,23 +3,20 @@ random texts.
 
 The output of --raw is compared with the octets that the tool was given, and each run with the second opinion.
 """
-import os
 import random
 import re
 import subprocess
 
-from parts import show_text_rows, text_makers
+from parts import show_text_rows, text_batches, text_damages, text_makers
 from parts.show_program import Program
-from second_opinion import show_cases, showing, text_drawing, texts
+from parts.text_makers import ROW, len_of_row
 from second_opinion import text_dump_drawing as rows_of
+from second_opinion import texts
 from second_opinion.findings import shortest
 
-BATCHES, EACH = 100, 200
 CUTS = 16
 MARK = b"\xef\xbb\xbf"
-ROW = re.compile(rb"\s*(?:0x)?[0-9a-fA-F]{4,}[: \t].*\d")
 PLAIN = re.compile(rb"[\n\x20-\x7e]*")
-NO_PEM_END = "its end marker is missing"
 
 
 def element(tag, octets):
@@ -131,6 +128,21 @@ def not_in_order(checks, octets):
         checks.refused(f"{what}, --as", text, b"", "dump", 1)
 
 
+def decimal_offsets(checks, octets):
+    """A dump with decimal offsets is refused in the first row whose offset is 10 or more, since there they are not
+    hexadecimal. If this is the second row, the first one is shown, though it is shorter than its offsets say.
+    """
+    checks.part.write("octets", octets)
+    for width in (1, 4, 7, 8, 9, 10, 16, 32, 90):
+        command = ["xxd", "-d", "-c", f"{width}", "octets"]
+        text = subprocess.run(command, cwd=checks.part.folder, capture_output=True, timeout=60).stdout
+        what = f"xxd -d -c {width}, {len(octets)} octets"
+        got = checks.raw(what, text)
+        checks.part.expect(f"{what}: no octets", got.status != 0 and not got.out, *got.lines())
+        rows = -(-10 // width)
+        checks.refused(f"{what}, --as", text, octets[: rows * width], "dump", rows + 1)
+
+
 def shown(checks, what, text, octets):
     """The dump of a text is that of its octets, on a pipe and as a file."""
     part, program = checks.part, checks.program
@@ -154,64 +166,6 @@ def cuts(checks, octets):
                 checks.begins(f"{what}, --as", text[:place], octets, form)
 
 
-def damaged_base64(checks, octets):
-    """A character that is not base64 in each third line of PEM and of base64, a missing line, and damaged markers."""
-    body = text_makers.in_lines(octets).splitlines(True)
-    label = b"-----BEGIN CERTIFICATE-----\n"
-    end = b"-----END CERTIFICATE-----\n"
-    for at in range(0, len(body) - 1, 3):
-        for form, front, back in (("pem", label, end), ("base64", b"", b"")):
-            for wrong in (b"*", b"\xc3\xa9", b"."):
-                lines = [*body[:at], body[at][:8] + wrong + body[at][9:], *body[at + 1 :]]
-                kept = octets[: at * 48 + 6]
-                what = f"{form}, {wrong!r} in line {at + 1} of its base64"
-                checks.refused(what, front + b"".join(lines) + back, kept, form, at + 1 + front.count(b"\n"))
-    whole = b"".join(body)
-    got = checks.raw("PEM without an end marker", label + whole)
-    fine = (got.status, got.out) == (0, octets) and got.err == f"taken for PEM, CERTIFICATE; {NO_PEM_END}\n".encode()
-    checks.part.expect("PEM without an end marker", fine, *got.lines())
-    checks.same("PEM, its end marker twice", label + whole + end + end, octets)
-    checks.same("PEM, its beginning twice", label + label + whole + end, octets, blocks=2)
-    checks.same("PEM without its beginning", whole + b"\n" + end, octets, "runs")
-    for wrong in (b"\x1b[31mX", b"", b"A" * 65, b"A\tB", b"caf\xc3\xa9"):
-        checks.begins(f"PEM, a label {wrong[:9]!r}", label.replace(b"CERTIFICATE", wrong) + whole + end, octets)
-
-
-def damaged_digits(checks, octets):
-    """The last digit of the third line is wrong: the octets before its pair or token are shown."""
-    for name, form, text in checks.all_of(octets):
-        lines = text.splitlines(True)
-        if form != "hex" or len(lines) < 5 or name == "Wireshark's string":
-            continue
-        pair = rb"0[xX]" if b"0x" in text.lower() else rb"[0-9a-fA-F]{2}"
-        count = len(re.findall(pair, b"".join(lines[:3])))
-        wrong = re.sub(rb"[0-9a-fA-F]([^0-9a-fA-F]*)$", rb"g\1", lines[2])
-        checks.refused(f"{name}, a wrong digit", b"".join([*lines[:2], wrong, *lines[3:]]), octets[: count - 1], form, 3)
-
-
-def damaged_dumps(checks, octets):
-    """A wrong offset or digit, a missing line, or an added line: the line is named, and the octets before it are shown.
-    """
-    for name, form, text in checks.all_of(octets):
-        lines = text.splitlines(True)
-        rows = [at for at, line in enumerate(lines) if ROW.match(line)]
-        if form != "dump" or len(rows) < 6 or b"*\n" in text:
-            continue
-        width, at = len_of_row(name), rows[3]
-        before, after = lines[:at], lines[at + 1 :]
-        offset = re.sub(rb"^(\s*(?:0x)?)[0-9a-fA-F]", rb"\g<1>7", lines[at])
-        digit = re.sub(rb"^(\s*(?:0x)?\w+:?\s+(?:-\s)?\w\w\s?)\w", rb"\g<1>g", lines[at])
-        for what, kept, more, changed in (
-            ("a line is missing", 3 * width, 1, before + after),
-            ("a line twice", 4 * width, 2, [*before, lines[at], lines[at], *after]),
-            ("a line of another kind", 3 * width, 1, [*before, b"end\n", lines[at], *after]),
-            ("a repeat of no row", 3 * width, 2, [*before, b"*\n", lines[at], *after]),
-            ("a wrong offset", 3 * width, 1, [*before, offset, *after]),
-            ("a wrong digit", 3 * width, 1, [*before, digit, *after]),
-        ):
-            checks.refused(f"{name}, {what}", b"".join(changed), octets[:kept], form, at + more)
-
-
 def repeats(checks):
     """Dumps whose second line repeats a row. Dumps in words and in bits are not taken for octets."""
     for octets in (element(4, bytes(14)) * 5 + b"\x05\0", element(4, bytes(14)) * 3, bytes(48), bytes(58)):
@@ -230,47 +184,6 @@ def repeats(checks):
             checks.part.expect(f"{command}: no octets", got.status == 2 and not got.out, *got.lines())
 
 
-def len_of_row(name):
-    """Returns how many octets a row of this dump has."""
-    width = re.search(r"-[cw](\d+)", name)
-    return int(width[1]) if width else 16
-
-
-def drawn(part, program):
-    """20,000 random texts, in batches of FILEs: the output is
-    printable, and --raw writes what the second opinion expects.
-    """
-    for batch in range(BATCHES):
-        rng = random.Random(f"texts {batch}")
-        given = {f"{batch}.{number}": show_cases.text(rng) for number in range(EACH)}
-        for name, text in given.items():
-            part.write(name, text)
-        form = rng.choice([None, None, None, *text_drawing.FORMS])
-        words = [f"--as={form}"] if form else []
-        got = program.run([*rng.choice([[], ["--check"], ["--closed"]]), *words, *given], stdin=subprocess.DEVNULL)
-        fine = got.status in range(5) and PLAIN.fullmatch(got.out) and PLAIN.fullmatch(got.err)
-        part.expect(f"drawn texts {batch}: shown", fine, *got.lines())
-        got = program.run(["--raw", *words, *given], stdin=subprocess.DEVNULL)
-        show = showing.Show("raw", as_form=form, files=[showing.File(name, text) for name, text in given.items()])
-        wanted = showing.run(show, dict)
-        same = (got.status, got.out, got.err) == (wanted.status, wanted.out, wanted.err)
-        part.expect(f"drawn texts {batch}, --as {form}: --raw", same, *unlike(program, given, form)[:9] if not same else ())
-        for name in given:
-            os.remove(part.path(name))
-
-
-def unlike(program, given, form):
-    """Returns lines that name the texts of a batch on which the program and the second opinion differ."""
-    lines = []
-    for name, text in given.items():
-        words = ["--raw"] + ([f"--as={form}"] if form else [])
-        got, wanted = program.run(words, text), program.wanted("raw", text, as_form=form)
-        if got != wanted:
-            lines += [f"{name}: {text[:400]!r}", *(f"  wanted {it}" for it in wanted.lines())]
-            lines += [f"  got {it}" for it in got.lines()]
-    return lines
-
-
 def test(part):
     program = Program(part)
     checks = Texts(part, program)
@@ -282,15 +195,17 @@ def test(part):
     for octets in (element(0x30, b"\x02\x01\x05" * 5), element(0x30, b"\x02\x01\x05" * 4 + b"\x04\x02hi")):
         short_in_one_line(checks, octets)
     for octets in fixed:
-        damaged_base64(checks, octets)
-        damaged_digits(checks, octets)
-        damaged_dumps(checks, octets)
+        text_damages.test_damages(checks, octets)
     _, rest = text_makers.dump(fixed[0], rows_of.xxd).split(b"\n", 1)
     checks.same("a dump that does not begin at 0", rest, fixed[0][16:])
     repeats(checks)
     if "xxd" in checks.tools:
         for octets in (*fixed, zeros, element(0x30, b"\x02\x01\x05"), element(0x30, element(4, b"text and more"))):
             not_in_order(checks, octets)
+        for octets in (*fixed, zeros):
+            decimal_offsets(checks, octets)
     cuts(checks, fixed[0])
     cuts(checks, zeros)
-    drawn(part, program)
+    small = element(0x30, b"\x02\x01\x05" * 6 + element(4, bytes(range(0xF0, 0xFC))))
+    text_batches.at_each_place(checks, small)
+    text_batches.drawn(part, program)

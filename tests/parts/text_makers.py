@@ -12,20 +12,29 @@ from second_opinion import text_dump_drawing as rows
 COMMANDS = (
     ("dump", "xxd octets"), ("dump", "xxd -u octets"), ("dump", "xxd -g1 octets"), ("dump", "xxd -g4 octets"),
     ("dump", "xxd -c8 octets"), ("dump", "xxd -c32 octets"), ("dump", "xxd -g0 octets"), ("dump", "xxd -o4096 octets"),
-    ("dump", "xxd -a octets"), ("hex", "xxd -p octets"), ("hex", "xxd -p -u octets"), ("hex", "xxd -p -c7 octets"),
-    ("hex", "xxd -i octets"), ("hex", "xxd -i -u octets"), ("hex", "od -v -An -tx1 octets"),
+    ("dump", "xxd -a octets"), ("dump", "xxd -E octets"), ("dump", "xxd -C octets"),
+    ("hex", "xxd -p octets"), ("hex", "xxd -p -u octets"), ("hex", "xxd -p -c7 octets"),
+    ("hex", "xxd -i octets"), ("hex", "xxd -i -u octets"), ("hex", "xxd -C -i octets"), ("hex", "xxd -n NAME -i octets"),
+    ("hex", "od -v -An -tx1 octets"),
     ("dump", "hexdump -C octets"), ("dump", "hexdump -v -C octets"),
     ("dump", "od -tx1 octets"), ("dump", "od -v -tx1 octets"),
     ("dump", "od -Ax -tx1 octets"), ("dump", "od -Ax -tx1z octets"), ("dump", "od -w8 -tx1 octets"),
     ("base64", "base64 octets"), ("base64", "base64 -w0 octets"), ("base64", "base64 -w4 octets"),
     ("base64", "openssl base64 -in octets"), ("base64", "openssl base64 -A -in octets"),
 )
+ROW = re.compile(rb"\s*(?:0x)?[0-9a-fA-F]{4,}[: \t].*\d")
 CAPTURE = b"12:00:01.500000 IP 192.0.2.1.389 > 192.0.2.7.40000: Flags [P.], length 5\n"
 
 
 def tools_of(part):
     """Returns those of the tools that the machine has."""
     return {tool for tool in sorted({command.split()[0] for _, command in COMMANDS}) if part.has(tool)}
+
+
+def len_of_row(name):
+    """Returns how many octets a row of this dump has."""
+    width = re.search(r"-[cw](\d+)", name)
+    return int(width[1]) if width else 16
 
 
 def made(part, tools, octets):
