@@ -16,7 +16,6 @@ pub mod Value
 pub mod ValueLines
 pub mod TextBeside
 pub mod ValueTextState
-pub mod PutsRest
 pub mod ValueTextFields
 pub mod Laws
 pub mod Types

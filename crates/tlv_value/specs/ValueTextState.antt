@@ -1,11 +1,14 @@
 -- What is kept of the contents of a primitive between their pieces, and the lines that are known with each piece.
-use Rattle.std.specs.Prelude.{◌==◌, ℕ, ◌+◌, ◌-◌, Bool, true, false, nat_lt, if◌then◌else◌, List, [], ◌∷◌, ◌++◌, length}
-use Rattle.std.specs.Prelude.{Option, Some, None, codes, decimal}
+use Rattle.std.specs.Prelude.{◌≡◌, ◌==◌, ℕ, ◌+◌, ◌-◌, Bool, true, false, nat_lt, if◌then◌else◌, List, [], ◌∷◌, ◌++◌}
+use Rattle.std.specs.Prelude.{length, Option, Some, None, Result, codes, decimal}
 use Rattle.std.specs.Option.{option_map_or}
 use Rattle.tlv_head.specs.declared.header.Class.TheVariants.{Private}
 use Rattle.tlv_head.specs.Header.{HeaderValue, announced_length}
 use Rattle.tlv_head.specs.Tag.{tag_text}
+use Rattle.tlv_io.specs.declared.out.Out.{Out}
 use Rattle.tlv_io.specs.Cuts.{last_rows}
+use Rattle.tlv_io.specs.Device.{DrainState}
+use Rattle.tlv_io.specs.Out.{Puts}
 use Rattle.tlv_head.specs.declared.kind.Kind.{Kind}
 use Rattle.tlv_head.specs.declared.kind.Kind.TheVariants.{Octets}
 use Rattle.tlv_value.specs.declared.layout.Layout.{Layout}
@@ -180,3 +183,11 @@ end_lines name_of s =
     if is_long_primitive s.primitive
     then row_lines s.primitive.with_text s.primitive.kind s.primitive.layout s.kept.row_count (last_rows s.kept.row)
     else primitive_lines name_of s.primitive s.kept.row
+
+-- what is put to an `Out` is the rest of all these octets, if the octets before it were put already
+pub record PutsRest {D T E : Type 0} (state_of : D → DrainState)
+    (old new : Out D) (before all : List ℕ) (result : Result T E)
+    : Type 0 where
+  pub rest : List ℕ
+  pub together : before ++ rest ≡ all
+  pub puts : Puts state_of old new rest result

@@ -2,12 +2,11 @@
 ghost use Rattle.std.specs.Prelude.{◌≡◌, ◌≤◌, ◌++◌, ◌∷◌, [], ℕ, Bool, List, length, OnOk};
 ghost use Rattle.tlv_head.specs.Header.{HasAllContents, HeaderValue};
 ghost use Rattle.tlv_io.specs.Out.{Puts};
-ghost use Rattle.tlv_value.specs.PutsRest.{PutsRest};
 ghost use Rattle.tlv_value.specs.Value.{row_octets};
 ghost use Rattle.tlv_value.specs.TextBeside.{incomplete_lines_with, whole_lines_with};
 ghost use Rattle.tlv_value.specs.ValueTextState.{begin_lines, contents_lines, end_lines, idle_value_text};
 ghost use Rattle.tlv_value.specs.ValueTextState.{new_value_text, new_value_text_of, new_value_text_with};
-ghost use Rattle.tlv_value.specs.ValueTextState.{value_text_after, value_text_for};
+ghost use Rattle.tlv_value.specs.ValueTextState.{PutsRest, value_text_after, value_text_for};
 
 use crate::primitive::Primitive;
 use crate::row_form::RowForm;

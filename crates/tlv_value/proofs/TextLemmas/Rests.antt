@@ -7,11 +7,10 @@ use Rattle.tlv_io.specs.Device.{DrainState}
 use Rattle.tlv_io.specs.Out.{Puts}
 use Rattle.tlv_io.proofs.Puts.{puts_text}
 use Rattle.tlv_value.specs.declared.layout.Layout.{Layout}
-use Rattle.tlv_value.specs.PutsRest.{PutsRest}
 use Rattle.tlv_value.specs.Value.{NameOf}
 use Rattle.tlv_value.specs.TextBeside.{incomplete_lines_with, whole_lines_with}
 use Rattle.tlv_value.specs.ValueTextState.{ValueTextState, begin_lines, contents_lines, end_lines}
-use Rattle.tlv_value.specs.ValueTextState.{new_value_text_with, value_text_for}
+use Rattle.tlv_value.specs.ValueTextState.{PutsRest, new_value_text_with, value_text_for}
 use Rattle.tlv_value.proofs.TextLemmas.Pieces.{lines-begin, lines-end, lines-go_on}
 
 module _ {D T E : Type 0} (state_of : D → DrainState) (old new : Out D) (result : Result T E) (with_text : Bool)
