@@ -10,9 +10,10 @@ abbrev pub is_run_blank : ℕ → Bool
 is_run_blank x = (x == 32) || (x == 9)
 
 -- what comes after symbols that reach to the end of their line, if the text goes on: a line feed, a carriage return,
--- `=`, `<` or a quote
+-- `=`, `<`, `&`, `)`, a backtick or a quote
 abbrev pub ends_symbols : ℕ → Bool
-ends_symbols x = (x == 10) || (x == 13) || (x == 61) || (x == 60) || is_quote x
+ends_symbols x =
+    (x == 10) || (x == 13) || (x == 61) || (x == 60) || (x == 38) || (x == 41) || (x == 96) || is_quote x
 
 -- the leading symbols of a text reach to the end of their line
 abbrev pub reaches_line_end : List ℕ → Bool
