@@ -1,4 +1,8 @@
 -- Runs of base64 inside another text: in LDIF, mail, XML and JSON.
+--
+--   run    = symbol *([break] symbol) *2"="     40 symbols or more, with no symbol right before them
+--   break  = [return] feed *blank               the symbols after it reach to the end of their line
+--   symbol =                                    a letter, a digit, "+" or "/": RFC 4648, section 4
 use Rattle.std.specs.Prelude.{◌≡◌, ℕ, zero, suc, ◌+◌, ◌<◌, ◌≤◌, ◌==◌, Bool, true, false, ◌&&◌, ◌||◌, if◌then◌else◌}
 use Rattle.std.specs.Prelude.{List, [], ◌∷◌, ◌++◌, drop, length, slice_index}
 use Rattle.tlv_text.specs.Base64.{is_symbol}
