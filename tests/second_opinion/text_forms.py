@@ -13,7 +13,7 @@ DASHES = b"-----"
 LINE_END = re.compile(rb"\n|\\n")
 BLANK_LINE = re.compile(rb"(?:[ \t\r\"'>]|\\r)*")
 # Symbols and padding. The symbols may go on in further lines, each of which they fill up to its end.
-RUN = re.compile(rb"[A-Za-z0-9+/]+(?:\r?\n[ \t]*[A-Za-z0-9+/]+(?=[\n\r=<\"']|\Z))*={0,2}")
+RUN = re.compile(rb"[A-Za-z0-9+/]+(?:\r?\n[ \t]*[A-Za-z0-9+/]+(?=[\n\r=<&)`\"']|\Z))*={0,2}")
 FEWEST_SYMBOLS = 40
 ZERO_X = rb"(?<![A-Za-z0-9_])0[xX]([0-9a-fA-F]{1,2})(?![A-Za-z0-9_])"
 TOKEN = re.compile(ZERO_X + rb"|\\x([0-9a-fA-F]{2})(?=[\\\"' \t\n\r]|\Z)")

@@ -102,6 +102,22 @@ row-element_after : IsFirstRun (codes "<c>MIICAzCCAWygAwIBAgIB\nATANBgkqhkiG9w0B
 unfolding all_short
 row-element_after = row-of _ 3 _ _ refl refl refl refl
 
+-- in Markdown and in brackets, and in XML that is itself in XML
+row-backtick_after : IsFirstRun (codes "is `MIICAzCCAWygAwIBAgIB\nATANBgkqhkiG9w0BAQEB` here") 4
+    (codes "MIICAzCCAWygAwIBAgIB\nATANBgkqhkiG9w0BAQEB") (codes "` here")
+unfolding all_short
+row-backtick_after = row-of _ 4 _ _ refl refl refl refl
+
+row-bracket_after : IsFirstRun (codes "(MIICAzCCAWygAwIBAgIB\n ATANBgkqhkiG9w0BAQEB)") 1
+    (codes "MIICAzCCAWygAwIBAgIB\n ATANBgkqhkiG9w0BAQEB") (codes ")")
+unfolding all_short
+row-bracket_after = row-of _ 1 _ _ refl refl refl refl
+
+row-reference_after : IsFirstRun (codes "&lt;c&gt;MIICAzCCAWygAwIBAgIB\nATANBgkqhkiG9w0BAQEB&lt;/c&gt;") 9
+    (codes "MIICAzCCAWygAwIBAgIB\nATANBgkqhkiG9w0BAQEB") (codes "&lt;/c&gt;")
+unfolding all_short
+row-reference_after = row-of _ 9 _ _ refl refl refl refl
+
 -- an empty line, and a blank at the end of a line, end a run
 row-empty_line : HasNoRun (codes "MIICAzCCAWygAwIBAgIB\n\nATANBgkqhkiG9w0BAQEB")
 unfolding all_short

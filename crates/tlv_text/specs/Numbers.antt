@@ -1,4 +1,10 @@
 -- Octets as decimal numbers from -128 to 255 in brackets or braces, as JSON, Go and Java write them.
+--
+--   text   = *character list *character         with one list alone
+--   list   = "[" items "]" / "{" items "}"      of two numbers or more
+--   items  = item *("," item) ["," *white]
+--   item   = *white number *white
+--   number = ["-"] 1*3digit                     from -128 to 255
 use Rattle.std.specs.Prelude.{ℕ, zero, suc, ◌+◌, ◌-◌, ◌*◌, ◌%◌, ◌==◌, Bool, true, false, ◌&&◌, nat_le, if◌then◌else◌}
 use Rattle.std.specs.Prelude.{List, [], ◌∷◌, Option, Some, None, is_some, length, option_map}
 use Rattle.tlv_text.specs.Characters.{is_white}

@@ -1,4 +1,8 @@
 -- Runs of base64 inside another text: in LDIF, mail, XML and JSON.
+--
+--   run    = symbol *([break] symbol) *2"="     40 symbols or more, with no symbol right before them
+--   break  = [return] feed *blank               the symbols after it reach to the end of their line
+--   symbol =                                    a letter, a digit, "+" or "/": RFC 4648, section 4
 use Rattle.std.specs.Prelude.{◌≡◌, ℕ, zero, suc, ◌+◌, ◌<◌, ◌≤◌, ◌==◌, Bool, true, false, ◌&&◌, ◌||◌, if◌then◌else◌}
 use Rattle.std.specs.Prelude.{List, [], ◌∷◌, ◌++◌, drop, length, slice_index}
 use Rattle.tlv_text.specs.Base64.{is_symbol}
@@ -10,9 +14,10 @@ abbrev pub is_run_blank : ℕ → Bool
 is_run_blank x = (x == 32) || (x == 9)
 
 -- what comes after symbols that reach to the end of their line, if the text goes on: a line feed, a carriage return,
--- `=`, `<` or a quote
+-- `=`, `<`, `&`, `)`, a backtick or a quote
 abbrev pub ends_symbols : ℕ → Bool
-ends_symbols x = (x == 10) || (x == 13) || (x == 61) || (x == 60) || is_quote x
+ends_symbols x =
+    (x == 10) || (x == 13) || (x == 61) || (x == 60) || (x == 38) || (x == 41) || (x == 96) || is_quote x
 
 -- the leading symbols of a text reach to the end of their line
 abbrev pub reaches_line_end : List ℕ → Bool

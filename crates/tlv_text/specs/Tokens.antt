@@ -1,5 +1,11 @@
 -- Octets as tokens of a source text: `0x30`, `0x3` or `\x30`, as arrays and strings of C, Rust, Go and Python write
 -- them.
+--
+--   text   = *(token / broken / other)
+--   token  = ("0x" / "0X") 1*2digit             not after a letter, a digit or "_", and not before one
+--          / "\x" 2digit                        after white space, a quote, a token or at the start; before a backslash, a
+--                                               quote, white space or the end
+--   broken = ("0x" / "0X" / "\x") digit         where a token may begin, and none does: refused
 use Rattle.std.specs.Prelude.{ℕ, zero, suc, ◌+◌, ◌==◌, Bool, true, false, ◌&&◌, ◌||◌, not, nat_le, if◌then◌else◌}
 use Rattle.std.specs.Prelude.{List, [], ◌∷◌, Option, Some, None}
 use Rattle.hex.specs.Hex.{is_hex_digit}

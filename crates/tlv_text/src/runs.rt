@@ -30,8 +30,8 @@ struct Stretch {
 
 /// Returns the first run of base64 in a text: at least 40 symbols of the standard alphabet (RFC 4648, section 4),
 /// with no symbol right before them. A line end and blanks after it may stand between two symbols, if the symbols
-/// after them reach to the end of their line: to the end of the text, a line feed, a carriage return, `=`, `<` or a
-/// quote. One or two `=` may follow.
+/// after them reach to the end of their line: to the end of the text, a line feed, a carriage return, `=`, `<`, `&`,
+/// `)`, a backtick or a quote. One or two `=` may follow.
 pub fn first_run(text: &[u8]) -> Option<Base64Run<'_>>
     ensures { MatchOption result (HasNoRun text.now) (λ r. IsFirstRun text.now r.start r.text.now r.rest.now) }
 {
@@ -127,7 +127,10 @@ fn reaches_line_end(text: &[u8]) -> bool
 fn ends_symbols(character: u8) -> bool
     ensures { result ≡ ends_symbols character }
 {
-    matches!(character, b'\n' | b'\r' | b'=' | b'<' | b'"' | b'\'')
+    matches!(
+        character,
+        b'\n' | b'\r' | b'=' | b'<' | b'&' | b')' | b'`' | b'"' | b'\''
+    )
 }
 
 /// Whether this is a space or a tab.

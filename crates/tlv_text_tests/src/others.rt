@@ -134,7 +134,7 @@ fn bodies_are_taken_apart(rt: HostRuntime) {
 /// A text, and its first run of base64: where it begins, and the text after it.
 type RunRow<'a> = (&'a [u8], Option<(usize, &'a [u8])>);
 
-static RUNS: [RunRow<'static>; 8] = [
+static RUNS: [RunRow<'static>; 11] = [
     (
         b"<X>AAAAAAAAAAAAAAAAAAAA\n  AAAAAAAAAAAAAAAAAAAA</X>",
         Some((3, b"</X>")),
@@ -154,6 +154,18 @@ static RUNS: [RunRow<'static>; 8] = [
     (
         b"x: 'AAAAAAAAAAAAAAAAAAAA\n    AAAAAAAAAAAAAAAAAAAA'",
         Some((4, b"'")),
+    ),
+    (
+        b"see `AAAAAAAAAAAAAAAAAAAA\nAAAAAAAAAAAAAAAAAAAA`, and",
+        Some((5, b"`, and")),
+    ),
+    (
+        b"(x AAAAAAAAAAAAAAAAAAAA\n   AAAAAAAAAAAAAAAAAAAA)",
+        Some((3, b")")),
+    ),
+    (
+        b"&quot;AAAAAAAAAAAAAAAAAAAA\r\nAAAAAAAAAAAAAAAAAAAA&quot;",
+        Some((6, b"&quot;")),
     ),
     (
         b"words of prose, of which none is long enough to be one",
