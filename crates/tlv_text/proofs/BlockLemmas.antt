@@ -16,8 +16,7 @@ use Rattle.tlv_text.specs.Pairs.{pairs_read}
 use Rattle.tlv_text.proofs.TokenPlaceLemmas.{no-token-in_pairs}
 use Rattle.tlv_text.specs.Blocks.{is_too_long, is_url_symbol, line_at, only_block}
 use Rattle.tlv_text.specs.Blocks.{numbers_block, or_absent, place_in_text, state_at_place, state_with_end}
-use Rattle.tlv_text.specs.Dump.{dump_limit, dump_read}
-use Rattle.tlv_text.specs.DumpFault.{IsFault}
+use Rattle.tlv_text.specs.Dump.{IsFault, dump_limit, dump_read}
 use Rattle.tlv_text.specs.Numbers.{numbers_of}
 use Rattle.tlv_text.specs.Pem.{HasNoBlock, IsFirstBlock, begin_marker, dashes}
 use Rattle.tlv_text.specs.PemBody.{after_line, base64_part, has_headers, is_encrypted, is_escaped_line_feed}

@@ -12,9 +12,11 @@
 --                                              at once
 --   others = *(blank / character)              not more characters than the row has octets, and two more: bars; and not
 --                                              a colon first, nor the row after it, behind blanks
-use Rattle.std.specs.Prelude.{ℕ, zero, suc, ◌+◌, ◌-◌, ◌/◌, ◌%◌, ◌==◌, Bool, true, false, ◌&&◌, nat_le, nat_lt}
+use Rattle.std.specs.Prelude.{◌<◌, ℕ, zero, suc, ◌+◌, ◌-◌, ◌/◌, ◌%◌, ◌==◌, Bool, true, false, ◌&&◌, nat_le, nat_lt}
 use Rattle.std.specs.Prelude.{if◌then◌else◌, List, [], ◌∷◌, ◌++◌, length, Option, Some, None, option_map}
 use Rattle.std.specs.List.{list_all}
+use Rattle.tlv_text.specs.declared.text_fault.TextFault.{TextFault}
+use Rattle.tlv_text.specs.declared.text_fault.TextFault.TheVariants.{Memory, TooLong}
 use Rattle.tlv_text.specs.DumpLines.{LineKind, RowRead, TextLine, dump_lines, has_od_offset, is_dump_blank, line_kind}
 use Rattle.tlv_text.specs.DumpPairs.{dump_row_octets, has_pair, single_row_octets}
 use Rattle.tlv_text.specs.DumpWords.{has_other_octets}
@@ -209,3 +211,8 @@ refused_in text left = option_map (λ n. length text - n) left
 -- the maximum number of octets in a dump
 abbrev pub dump_limit : ℕ
 dump_limit = 1073741824
+
+-- why a text is not decoded: it has too many octets, or memory is refused
+abbrev pub IsFault : List ℕ → TextFault → Type 0
+IsFault text TooLong = dump_limit < length (dump_read text).octets
+IsFault text Memory = Unit {0}

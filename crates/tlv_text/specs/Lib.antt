@@ -10,7 +10,6 @@ pub mod Runs
 pub mod Tokens
 pub mod Private
 pub mod Dump
-pub mod DumpFault
 pub mod DumpLines
 pub mod DumpPairs
 pub mod DumpWords

@@ -1,10 +1,9 @@
 //! Octets of a hex dump with offsets.
 ghost use Rattle.std.specs.Prelude.{◌≡◌, ◌<◌, ◌≤◌, IfErr, IfOk, OnOk, Some, None, length, true};
-ghost use Rattle.tlv_text.specs.Dump.{dump_in, dump_limit, dump_read, goes_further, left_in, read_from};
+ghost use Rattle.tlv_text.specs.Dump.{IsFault, dump_in, dump_limit, dump_read, goes_further, left_in, read_from};
 ghost use Rattle.tlv_text.specs.Dump.{read_in_order, refused_in, refused_with, rows_read, size_in};
 ghost use Rattle.tlv_text.specs.DumpLines.{dump_lines};
 ghost use Rattle.tlv_text.specs.DumpPairs.{begins_pair, pairs_at, single_row_octets};
-ghost use Rattle.tlv_text.specs.DumpFault.{IsFault};
 ghost use Rattle.tlv_text.specs.Private.DumpSteps.{IsAdded, IsFirstRow, Reads, dump_place_of, row_seen};
 ghost use Rattle.tlv_text.specs.Private.PairSteps.{AreWholePairs};
 

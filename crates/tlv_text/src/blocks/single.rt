@@ -2,7 +2,7 @@
 ghost use Rattle.std.specs.Prelude.{◌≡◌, IfErr, IfOk, length};
 ghost use Rattle.tlv_text.specs.Blocks.{IsBase64Block, absent_block, alphabet_of, block_value, dump_block, hex_block};
 ghost use Rattle.tlv_text.specs.Blocks.{hex_read, numbers_block, only_block, state_at_place};
-ghost use Rattle.tlv_text.specs.DumpFault.{IsFault};
+ghost use Rattle.tlv_text.specs.Dump.{IsFault};
 ghost use Rattle.tlv_text.specs.Numbers.{numbers_of};
 ghost use Rattle.tlv_text.specs.Private.BlockSteps.{IsRefusedWithin};
 ghost use Rattle.tlv_text.specs.TextRead.{refused_at};
