@@ -1,5 +1,5 @@
 """Tests tlvdump-show on texts (docs/TEXTS.md): sound texts as tools make them, cut at many places, and damaged; then
-random texts.
+random texts and large ones.
 
 The output of --raw is compared with the octets that the tool was given, and each run with the second opinion.
 """
@@ -7,7 +7,7 @@ import random
 import re
 import subprocess
 
-from parts import show_text_rows, text_batches, text_damages, text_makers
+from parts import show_text_rows, text_batches, text_damages, text_makers, text_sizes
 from parts.show_program import Program
 from parts.text_makers import ROW, len_of_row
 from second_opinion import text_dump_drawing as rows_of
@@ -209,3 +209,5 @@ def test(part):
     small = element(0x30, b"\x02\x01\x05" * 6 + element(4, bytes(range(0xF0, 0xFC))))
     text_batches.at_each_place(checks, small)
     text_batches.drawn(part, program)
+    text_sizes.one_line(part, program)
+    text_sizes.hostile(part, program)

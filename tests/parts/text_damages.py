@@ -20,7 +20,7 @@ COUNTS = range(44, 48)
 
 
 def damaged_base64(checks, octets):
-    """A character that is not base64 in each third line of PEM and of base64, a missing line, and damaged markers."""
+    """A character that is not base64 in each third line of PEM and of base64, and damaged markers."""
     body = text_makers.in_lines(octets).splitlines(True)
     label = b"-----BEGIN CERTIFICATE-----\n"
     end = b"-----END CERTIFICATE-----\n"
@@ -40,18 +40,6 @@ def damaged_base64(checks, octets):
     checks.same("PEM without its beginning", whole + b"\n" + end, octets, "runs")
     for wrong in (b"\x1b[31mX", b"", b"A" * 65, b"A\tB", b"caf\xc3\xa9"):
         checks.begins(f"PEM, a label {wrong[:9]!r}", label.replace(b"CERTIFICATE", wrong) + whole + end, octets)
-
-
-def damaged_digits(checks, octets):
-    """The last digit of the third line is wrong: the octets before its pair or token are shown."""
-    for name, form, text in checks.all_of(octets):
-        lines = text.splitlines(True)
-        if form != "hex" or len(lines) < 5 or name == "Wireshark's string":
-            continue
-        pair = rb"0[xX]" if b"0x" in text.lower() else rb"[0-9a-fA-F]{2}"
-        count = len(re.findall(pair, b"".join(lines[:3])))
-        wrong = re.sub(rb"[0-9a-fA-F]([^0-9a-fA-F]*)$", rb"g\1", lines[2])
-        checks.refused(f"{name}, a wrong digit", b"".join([*lines[:2], wrong, *lines[3:]]), octets[: count - 1], form, 3)
 
 
 def damaged_dumps(checks, octets):
@@ -109,12 +97,23 @@ def wrong_symbol(checks, name, form, text, octets):
     start = text.find(base64.b64encode(octets)[: COUNTS[0]])
     if form not in ("runs", None) or start < 0:
         return
-    for count in COUNTS:
-        what, place = f"{name}, a wrong character after {count} symbols", start + count
-        got = checks.raw(what, text[:place] + b"*" + text[place + 1 :])
+    for count, as_form in itertools.product(COUNTS, {None, form}):
+        what, place = f"{name}, a wrong character after {count} symbols, --as {as_form}", start + count
+        got = checks.raw(what, text[:place] + b"*" + text[place + 1 :], as_form)
         said = f"X2 refused in line {line_of(text, place)}, where base64 is expected\n".encode()
         fine = got.out.startswith(octets[: count // 4 * 3]) and (count % 4 != 1 or got.status and said in got.err)
         checks.part.expect(what, fine, *got.lines())
+
+
+def wrong_in_base64(checks, name, form, text, octets):
+    """A character of the first line of base64 is no symbol: the octets of the whole groups before it are shown."""
+    start = text.find(base64.b64encode(octets)[:12])
+    if form not in ("pem", "base64") or start < 0:
+        return
+    for place in range(start + 8, start + 12):
+        what, changed = f"{name}, a wrong character at {place}", text[:place] + b"*" + text[place + 1 :]
+        checks.raw(what, changed)
+        checks.refused(f"{what}, --as", changed, octets[:6], form, line_of(text, place))
 
 
 def wrong_in_layers(checks, name, form, text, octets):
@@ -125,7 +124,8 @@ def wrong_in_layers(checks, name, form, text, octets):
     for place in range(start + 80, start + 84):
         what = f"{name}, a wrong character at {place}"
         got = checks.raw(what, text[:place] + b"*" + text[place + 1 :])
-        checks.part.expect(what, got.out != octets and lacks_piece(got.out, octets), *got.lines())
+        fine = got.out != octets and lacks_piece(got.out, octets) and (got.out or got.status)
+        checks.part.expect(what, fine, *got.lines())
 
 
 def lacks_piece(out, octets):
@@ -159,8 +159,8 @@ def pairs_of(text):
 
 
 def wrong_digit(checks, name, form, text, octets):
-    """A digit of the second pair or token, of one in the middle, or of the last but one is wrong. Of a string the last
-    is left out: what follows its last token is passed over, and no token may follow a wrong one in its line.
+    """A digit of the second pair or token, of one in the middle, or of the last but one is wrong. The last of these is
+    left out for strings: no token follows a wrong one in its line, and what is after the last token is passed over.
     """
     if form != "hex":
         return
@@ -214,13 +214,13 @@ def without_symbols(lines, octets):
     return found
 
 
-DAMAGES = (lost_line_ends, wrong_symbol, wrong_in_layers, wrong_number, wrong_digit, mixed_case, missing_line)
+DAMAGES = (lost_line_ends, missing_line, mixed_case)
+DAMAGES += (wrong_symbol, wrong_in_base64, wrong_in_layers, wrong_number, wrong_digit)
 
 
 def test_damages(checks, octets):
     """Counts the tests of all damages of texts of these octets."""
     damaged_base64(checks, octets)
-    damaged_digits(checks, octets)
     damaged_dumps(checks, octets)
     for name, form, text in checks.all_of(octets):
         for damage in DAMAGES:
