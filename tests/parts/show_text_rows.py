@@ -67,6 +67,9 @@ SEALED = pem(b"RSA PRIVATE KEY", b"\xd3\x9d\x34\xff", b"Proc-Type: 4,ENCRYPTED\n
 SLASHES = b'["' + pem(b"CMS", element(4, b"\xff" * 9)).replace(b"/", b"\\/").replace(b"\n", b"\\r\\n") + b'"]'
 BOTH = element(0xA0, element(4, b"\0" * 21)).hex().upper().encode()
 WRAPPED = element(12, pem(b"CMS", NULL))
+# A run of two lines: 60 symbols, which are 45 octets, and 24.
+TWO_LINES = element(0x30, element(4, bytes(59)))
+RUN = base64.b64encode(TWO_LINES[:45]) + b"\n" + base64.b64encode(TWO_LINES[45:])
 # An encoding that consists of printable characters.
 PRIVATE = element(0x41, b"cn=admin,dc=example,dc=org".ljust(40))
 # Words, a text, the status, the output of --raw, and the note.
@@ -99,6 +102,10 @@ RAW = [
     (["--as=numbers"], b"[5, 0] [1, 2]", 2, b"", NO_LIST), (["--as=numbers"], b"[-1, -128]", 0, b"\xff\x80", LIST),
     (["--as=pem"], SOUND, 2, b"", NO_PEM), (["--as=runs"], b"Dear Sir", 2, b"", NO_BASE64),
     (["--as=runs"], b"x:\n" + b"A" * 40 + b"\n", 0, bytes(30), "taken for base64 of line 2"),
+    ([], b"see `" + RUN + b"`.\n", 0, TWO_LINES, "taken for base64 of line 1"),
+    ([], b"x\n(" + RUN + b")\n", 0, TWO_LINES, "taken for base64 of line 2"),
+    ([], b"&quot;" + RUN + b"&quot;", 0, TWO_LINES, "taken for base64 of line 1"),
+    ([], b"<c>\n" + RUN.replace(b"\n", b"&#13;\n") + b"&#13;\n</c>", 2, TWO_LINES[:45], t2("base64 of line 2", 2)),
     ([], BOTH, 0, bytes.fromhex(BOTH.decode()), HEX), (["--as=hex"], BOTH, 0, bytes.fromhex(BOTH.decode()), HEX),
     (["--as=ber"], BOTH, 0, BOTH, ""),
     (["--as=der"], BOTH, 0, BOTH, ""), (["--as=cer"], BOTH, 0, BOTH, ""), (["--as", "octets"], BOTH, 0, BOTH, ""),

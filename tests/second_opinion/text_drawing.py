@@ -123,13 +123,17 @@ def runs(rng, octets, others=()):
         return b"Content-Transfer-Encoding: base64\n\n" + b"\n--x\n\n".join(in_lines(rng, text) for text in texts) + b"\n"
     if kind == 2:
         lines = [b"<b>" + pick(rng, text, in_lines(rng, text)) + b"</b>\n" for text in texts]
+        if rng.random() < 0.2:
+            end = rng.choice([b"&#13;\n", b"&#xD;\n"])
+            lines = [line.replace(b"\n", end) for line in lines]
         return b"<a>\n" + b"".join(lines) + b"</a>\n"
     if kind == 3:
         return b'{"kid": "' + b"a" * rng.choice([5, 39, 40, 43]) + b'", "x5c": ["' + b'", "'.join(texts) + b'"]}\n'
     if kind == 4:
         lines = [b"  tls.crt: " + text + b"\n" for text in texts]
         return b"data:\n" + b"".join(lines) + pick(rng, b"", b"kind: Secret\n", b"  tls.key: AAAA\n")
-    return rng.choice([b" ", b"#", b"\n\n", b":", b"-"]).join(texts) + pick(rng, b".", b"=", b"===", b" x", b"-")
+    end = pick(rng, b".", b"=", b"===", b" x", b"-", b")", b"`")
+    return rng.choice([b" ", b"#", b"\n\n", b":", b"-"]).join(texts) + end
 
 
 def several(rng, octets, others):

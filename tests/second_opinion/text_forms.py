@@ -13,8 +13,9 @@ DASHES = b"-----"
 LINE_END = re.compile(rb"\n|\\n")
 BLANK_LINE = re.compile(rb"(?:[ \t\r\"'>]|\\r)*")
 # Symbols and padding. The symbols may go on in further lines, each of which they fill up to its end.
-RUN = re.compile(rb"[A-Za-z0-9+/]+(?:\r?\n[ \t]*[A-Za-z0-9+/]+(?=[\n\r=<&)`\"']|\Z))*={0,2}")
+RUN = re.compile(rb"[A-Za-z0-9+/]+(?:(?:\r|&#13;|&#xD;)?\n[ \t]*[A-Za-z0-9+/]+(?=[\n\r=<&)`\"']|\Z))*={0,2}")
 FEWEST_SYMBOLS = 40
+RETURN = re.compile(rb"&#(?:13|xD);")
 ZERO_X = rb"(?<![A-Za-z0-9_])0[xX]([0-9a-fA-F]{1,2})(?![A-Za-z0-9_])"
 TOKEN = re.compile(ZERO_X + rb"|\\x([0-9a-fA-F]{2})(?=[\\\"' \t\n\r]|\Z)")
 BEFORE_BACKSLASH = b" \t\n\r\"'"
@@ -172,7 +173,7 @@ def of_runs(text):
     """Returns the runs of base64."""
     runs = []
     for found in RUN.finditer(text):
-        if len(re.findall(rb"[A-Za-z0-9+/]", found[0])) >= FEWEST_SYMBOLS:
+        if len(re.findall(rb"[A-Za-z0-9+/]", RETURN.sub(b"", found[0]))) >= FEWEST_SYMBOLS:
             decoded = of_base64(found[0])
             if decoded.place is not None:
                 decoded.place += found.start()

@@ -7,8 +7,9 @@ use Rattle.std.proofs.lemmas.Bool.{and_parts, cases_order, eqb-true, or_cases}
 use Rattle.std.proofs.lemmas.List.{drop-drop, drop_all, length-drop, length-take-le, take-append-drop}
 use Rattle.tlv_text.proofs.Slices.{from-on, slice_from}
 use Rattle.tlv_text.specs.Base64.{is_symbol}
-use Rattle.tlv_text.specs.Runs.{HasNoRun, IsAfterNoSymbol, IsFirstRun, Stretch, break_size, is_run_blank, padding_size}
-use Rattle.tlv_text.specs.Runs.{reaches_line_end, stretch_after, stretch_of, symbol_before, up_to_symbol}
+use Rattle.tlv_text.specs.Runs.{HasNoRun, IsAfterNoSymbol, IsFirstRun, Stretch, break_size, ends_reference}
+use Rattle.tlv_text.specs.Runs.{is_run_blank, padding_size, reaches_line_end, stretch_after, stretch_of, symbol_before}
+use Rattle.tlv_text.specs.Runs.{up_to_symbol}
 use Rattle.tlv_text.specs.declared.base64_text.Alphabet.TheVariants.{Standard}
 
 -- ---- a stretch, while it is read
@@ -60,14 +61,11 @@ stretch-more text (x ∷ more) symbols n one e b within i =
       within = omega (arith, i.within, length-drop n more, fits);
     })
 
--- ---- no symbol stands in a break
+-- ---- few symbols stand in a break
 
 is_true_or : (b : Bool) → (b ≡ true) ⊎ (b ≡ false)
 is_true_or true = inl refl
 is_true_or false = inr refl
-
-abbrev NoSymbols : ℕ → List ℕ → Type 0
-NoSymbols n text = (k : ℕ) → k < n → is_symbol Standard (slice_index text k) ≡ false
 
 blank-clear : (x : ℕ) → is_run_blank x ≡ true → is_symbol Standard x ≡ false
 blank-clear x e =
@@ -92,23 +90,82 @@ up_to-clear n (x ∷ text) k less =
     cases false true (suc k) further f less = further k (omega (arith, less))
     cases false false k further f less = absurd (omega arith)
 
-break-clear : (text : List ℕ) → NoSymbols (break_size text) text
-break-clear [] k less = absurd (omega arith)
-break-clear (x ∷ []) k less = absurd (omega arith)
-break-clear (x ∷ y ∷ text) k less = cases (x == 10) ((x == 13) && (y == 10)) k refl refl less
-  where
-    cases : (feed return : Bool) (k : ℕ) → (x == 10) ≡ feed → ((x == 13) && (y == 10)) ≡ return
-        → k < (if feed then up_to_symbol 1 (y ∷ text) else (if return then up_to_symbol 2 text else 0))
-        → is_symbol Standard (slice_index (x ∷ y ∷ text) k) ≡ false
-    cases true return zero e f less = rw (eqb-true x 10 e) refl
-    cases true return (suc k) e f less = up_to-clear 1 (y ∷ text) k (omega (arith, less))
-    cases false true zero e f less = rw (eqb-true x 13 (and_parts (x == 13) (y == 10) f).0) refl
-    cases false true (suc zero) e f less = rw (eqb-true y 10 (and_parts (x == 13) (y == 10) f).1) refl
-    cases false true (suc (suc k)) e f less = up_to-clear 2 text k (omega (arith, less))
-    cases false false k e f less = absurd (omega arith)
-
 none-has_none : (x : ℕ) (more : List ℕ) → is_symbol Standard x ≡ false → (stretch_of (x ∷ more)).symbols ≡ 0
 none-has_none x more e = rw e refl
+
+-- where no symbol stands, no stretch begins
+clear-none : (text : List ℕ) (k : ℕ) → is_symbol Standard (slice_index text k) ≡ false
+    → (stretch_of (drop k text)).symbols ≡ 0
+clear-none [] zero e = refl
+clear-none [] (suc k) e = refl
+clear-none (x ∷ text) zero e = none-has_none x text e
+clear-none (x ∷ text) (suc k) e = clear-none text k e
+
+-- in a carriage return as XML writes it, two symbols stand together
+reference-few : (c d : ℕ) (more : List ℕ) (k : ℕ) → (stretch_of (c ∷ d ∷ 59 ∷ 10 ∷ more)).symbols ≤ 2
+    → (stretch_of (d ∷ 59 ∷ 10 ∷ more)).symbols ≤ 2 → k < up_to_symbol 6 more
+    → (stretch_of (drop k (38 ∷ 35 ∷ c ∷ d ∷ 59 ∷ 10 ∷ more))).symbols ≤ 2
+reference-few c d more zero two one less = omega arith
+reference-few c d more (suc zero) two one less = omega arith
+reference-few c d more (suc (suc zero)) two one less = two
+reference-few c d more (suc (suc (suc zero))) two one less = one
+reference-few c d more (suc (suc (suc (suc zero)))) two one less = omega arith
+reference-few c d more (suc (suc (suc (suc (suc zero))))) two one less = omega arith
+reference-few c d more (suc (suc (suc (suc (suc (suc k)))))) two one less =
+    omega (arith, clear-none more k (up_to-clear 6 more k (omega (arith, less))))
+
+reference-in : (x y : ℕ) (text : List ℕ) (k : ℕ) → ((x == 38) && ends_reference (y ∷ text)) ≡ true
+    → k < up_to_symbol 6 (drop 4 text) → (stretch_of (drop k (x ∷ y ∷ text))).symbols ≤ 2
+reference-in x y [] k e less = cc (and_parts (x == 38) false e).1
+reference-in x y (c ∷ []) k e less = cc (and_parts (x == 38) false e).1
+reference-in x y (c ∷ d ∷ []) k e less = cc (and_parts (x == 38) false e).1
+reference-in x y (c ∷ d ∷ s ∷ []) k e less = cc (and_parts (x == 38) false e).1
+reference-in x y (c ∷ d ∷ s ∷ f ∷ more) k e less =
+    let (first, after) = and_parts (x == 38) _ e in
+    let (to_end, feed) = and_parts _ (f == 10) after in
+    let (to_digits, end) = and_parts _ (s == 59) to_end in
+    let (hash, digits) = and_parts (y == 35) _ to_digits in
+    rw (eqb-true x 38 first, eqb-true y 35 hash, eqb-true s 59 end, eqb-true f 10 feed)
+    (elim (or_cases ((c == 49) && (d == 51)) ((c == 120) && (d == 68)) digits) [
+      | inl decimal ↦
+          let (one, three) = and_parts (c == 49) (d == 51) decimal in
+          rw (eqb-true c 49 one, eqb-true d 51 three) (reference-few 49 51 more k (omega arith) (omega arith) less)
+      | inr hexadecimal ↦
+          let (ex, dee) = and_parts (c == 120) (d == 68) hexadecimal in
+          rw (eqb-true c 120 ex, eqb-true d 68 dee) (reference-few 120 68 more k (omega arith) (omega arith) less)
+    ])
+
+-- few symbols stand together in a break
+abbrev FewTogether : ℕ → List ℕ → Type 0
+FewTogether n text = (k : ℕ) → k < n → (stretch_of (drop k text)).symbols ≤ 2
+
+break-few : (text : List ℕ) → FewTogether (break_size text) text
+break-few [] k less = absurd (omega arith)
+break-few (x ∷ []) k less = absurd (omega arith)
+break-few (x ∷ y ∷ text) k less =
+    cases (x == 10) ((x == 13) && (y == 10)) ((x == 38) && ends_reference (y ∷ text)) k refl refl refl less
+  where
+    clear : (k : ℕ) → is_symbol Standard (slice_index (x ∷ y ∷ text) k) ≡ false
+        → (stretch_of (drop k (x ∷ y ∷ text))).symbols ≤ 2
+    clear k e = omega (arith, clear-none (x ∷ y ∷ text) k e)
+
+    cases : (feed return reference : Bool) (k : ℕ) → (x == 10) ≡ feed → ((x == 13) && (y == 10)) ≡ return
+        → ((x == 38) && ends_reference (y ∷ text)) ≡ reference
+        → k < (
+        if feed then up_to_symbol 1 (y ∷ text)
+        else (if return then up_to_symbol 2 text else (if reference then up_to_symbol 6 (drop 4 text) else 0))
+        )
+        → (stretch_of (drop k (x ∷ y ∷ text))).symbols ≤ 2
+    cases true return reference zero e f g less = clear 0 (rw (eqb-true x 10 e) refl)
+    cases true return reference (suc k) e f g less = clear (suc k) (up_to-clear 1 (y ∷ text) k (omega (arith, less)))
+    cases false true reference zero e f g less =
+        clear 0 (rw (eqb-true x 13 (and_parts (x == 13) (y == 10) f).0) refl)
+    cases false true reference (suc zero) e f g less =
+        clear 1 (rw (eqb-true y 10 (and_parts (x == 13) (y == 10) f).1) refl)
+    cases false true reference (suc (suc k)) e f g less =
+        clear (suc (suc k)) (up_to-clear 2 text k (omega (arith, less)))
+    cases false false true k e f g less = reference-in x y text k g less
+    cases false false false k e f g less = absurd (omega arith)
 
 symbol-size : (x : ℕ) (more : List ℕ) → is_symbol Standard x ≡ true
     → (stretch_of (x ∷ more)).size ≡ 1 + (stretch_after (break_size more) more).size
@@ -118,22 +175,21 @@ symbol-symbols : (x : ℕ) (more : List ℕ) → is_symbol Standard x ≡ true
     → (stretch_of (x ∷ more)).symbols ≡ 1 + (stretch_after (break_size more) more).symbols
 symbol-symbols x more e = rw e refl
 
--- a stretch that begins inside another has no more symbols
-inside-no_longer : (n : ℕ) (text : List ℕ) (k : ℕ) → NoSymbols n text → k < (stretch_after n text).size
-    → (stretch_of (drop k text)).symbols ≤ (stretch_after n text).symbols
-inside-no_longer n [] k clear less = absurd (omega (arith, less))
-inside-no_longer zero (x ∷ text) zero clear less = omega arith
-inside-no_longer zero (x ∷ text) (suc k) clear less =
+-- a stretch that begins inside a short one is short
+inside-short : (n : ℕ) (text : List ℕ) (k : ℕ) → FewTogether n text → (stretch_after n text).symbols < 40
+    → k < (stretch_after n text).size → (stretch_of (drop k text)).symbols < 40
+inside-short n [] k few short less = absurd (omega (arith, less))
+inside-short zero (x ∷ text) zero few short less = short
+inside-short zero (x ∷ text) (suc k) few short less =
     elim (is_true_or (is_symbol Standard x)) [
       | inl e ↦
-          let inside = inside-no_longer (break_size text) text k (break-clear text)
-          (omega (arith, less, symbol-size x text e)) in
-          omega (arith, inside, symbol-symbols x text e)
+          inside-short (break_size text) text k (break-few text) (omega (arith, short, symbol-symbols x text e))
+          (omega (arith, less, symbol-size x text e))
       | inr e ↦ absurd (omega (arith, less, none-begins x text e))
     ]
-inside-no_longer (suc n) (x ∷ text) zero clear less = omega (arith, none-has_none x text (clear 0 (omega arith)))
-inside-no_longer (suc n) (x ∷ text) (suc k) clear less =
-    inside-no_longer n text k (λ j below. clear (suc j) (omega (arith, below))) (omega (arith, less))
+inside-short (suc n) (x ∷ text) zero few short less = omega (arith, few 0 (omega arith))
+inside-short (suc n) (x ∷ text) (suc k) few short less =
+    inside-short n text k (λ j below. few (suc j) (omega (arith, below))) short (omega (arith, less))
 
 -- ---- where the first run begins
 
@@ -166,9 +222,9 @@ no-run-inside text start size more s short m before k less =
       | inr (inr up) ↦
           let at : drop (k - start) (drop start text) ≡ drop k text =
           drop-drop (k - start) start text ∙ ap (λ (n : ℕ). drop n text) (omega (arith, up)) in
-          let inside = inside-no_longer 0 (drop start text) (k - start) (λ j below. absurd (omega arith))
+          let inside = inside-short 0 (drop start text) (k - start) (λ j below. absurd (omega arith)) here
           (omega (arith, less, up, long, m)) in
-          omega (arith, rw at at inside, here)
+          rw at at inside
     ]
 
 pub size-within : (text : List ℕ) (start size more : ℕ) → start < length text
@@ -189,12 +245,14 @@ long-begins (x ∷ text) long =
 no-break : (text : List ℕ) → is_symbol Standard (slice_index text 0) ≡ true → break_size text ≡ 0
 no-break [] e = refl
 no-break (x ∷ []) e = refl
-no-break (x ∷ y ∷ text) e = cases (x == 10) (x == 13) refl refl
+no-break (x ∷ y ∷ text) e = cases (x == 10) (x == 13) (x == 38) refl refl refl
   where
-    cases : (feed return : Bool) → (x == 10) ≡ feed → (x == 13) ≡ return → break_size (x ∷ y ∷ text) ≡ 0
-    cases true return f r = let wrong = rw (eqb-true x 10 f) at e in cc wrong
-    cases false true f r = let wrong = rw (eqb-true x 13 r) at e in cc wrong
-    cases false false f r = rw (f, r) refl
+    cases : (feed return reference : Bool) → (x == 10) ≡ feed → (x == 13) ≡ return → (x == 38) ≡ reference
+        → break_size (x ∷ y ∷ text) ≡ 0
+    cases true return reference f r a = let wrong = rw (eqb-true x 10 f) at e in cc wrong
+    cases false true reference f r a = let wrong = rw (eqb-true x 13 r) at e in cc wrong
+    cases false false true f r a = let wrong = rw (eqb-true x 38 a) at e in cc wrong
+    cases false false false f r a = rw (f, r, a) refl
 
 -- a symbol before a stretch makes it longer
 one-longer : (x : ℕ) (text : List ℕ) → is_symbol Standard x ≡ true → 0 < (stretch_of text).symbols

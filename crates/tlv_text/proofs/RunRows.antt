@@ -118,6 +118,23 @@ row-reference_after : IsFirstRun (codes "&lt;c&gt;MIICAzCCAWygAwIBAgIB\nATANBgkq
 unfolding all_short
 row-reference_after = row-of _ 9 _ _ refl refl refl refl
 
+-- lines of XML that end with `&#13;`, as Java writes a carriage return, or with `&#xD;`: one run, which base64 refuses at
+-- the first `&`
+row-reference_in : IsFirstRun (codes "<c>MIICAzCCAWygAwIBAgIB&#13;\nATANBgkqhkiG9w0BAQEB&#13;\n</c>") 3
+    (codes "MIICAzCCAWygAwIBAgIB&#13;\nATANBgkqhkiG9w0BAQEB") (codes "&#13;\n</c>")
+unfolding all_short
+row-reference_in = row-of _ 3 _ _ refl refl refl refl
+
+row-reference_in_hexadecimal : IsFirstRun (codes "<c>MIICAzCCAWygAwIBAgIB&#xD;\n  ATANBgkqhkiG9w0BAQEB&#xD;\n</c>") 3
+    (codes "MIICAzCCAWygAwIBAgIB&#xD;\n  ATANBgkqhkiG9w0BAQEB") (codes "&#xD;\n</c>")
+unfolding all_short
+row-reference_in_hexadecimal = row-of _ 3 _ _ refl refl refl refl
+
+-- the two digits are not symbols of the run: these are 39
+row-digits_between : HasNoRun (codes "<c>MIICAzCCAWygAwIBAgIB&#13;\nATANBgkqhkiG9w0BAQE&#13;\n</c>")
+unfolding all_short
+row-digits_between = row-of_none _ refl
+
 -- an empty line, and a blank at the end of a line, end a run
 row-empty_line : HasNoRun (codes "MIICAzCCAWygAwIBAgIB\n\nATANBgkqhkiG9w0BAQEB")
 unfolding all_short

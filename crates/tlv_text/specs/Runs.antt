@@ -2,6 +2,7 @@
 --
 --   run    = symbol *([break] symbol) *2"="     40 symbols or more, with no symbol right before them
 --   break  = [return] feed *blank               the symbols after it reach to the end of their line
+--   return = carriage-return / "&#13;" / "&#xD;"
 --   symbol =                                    a letter, a digit, "+" or "/": RFC 4648, section 4
 use Rattle.std.specs.Prelude.{◌≡◌, ℕ, zero, suc, ◌+◌, ◌<◌, ◌≤◌, ◌==◌, Bool, true, false, ◌&&◌, ◌||◌, if◌then◌else◌}
 use Rattle.std.specs.Prelude.{List, [], ◌∷◌, ◌++◌, drop, length, slice_index}
@@ -32,14 +33,25 @@ up_to_symbol n (x ∷ text) =
     if is_symbol Standard x && reaches_line_end text then n
     else (if is_run_blank x then up_to_symbol (1 + n) text else 0)
 
--- the size of a break between two symbols: a line end (a line feed, or a carriage return and a line feed), and blanks
--- after it; 0 if the text does not begin with such a break and symbols that reach to the end of their line. So the
--- first word of the line after base64 does not belong to it: `cn` of `cn: x` in LDIF, `tls` of `tls.key: x` in YAML
+-- a carriage return as XML writes it, and a line feed: `&#13;` or `&#xD;`, here without its `&`
+abbrev pub ends_reference : List ℕ → Bool
+ends_reference (x ∷ y ∷ z ∷ s ∷ f ∷ text) =
+    (x == 35) && (((y == 49) && (z == 51)) || ((y == 120) && (z == 68))) && (s == 59) && (f == 10)
+ends_reference text = false
+
+-- the size of a break between two symbols: a line end (a line feed, perhaps with a carriage return before it, which XML
+-- may write as above), and blanks after it; 0 if the text does not begin with such a break and symbols that reach to
+-- the end of their line. So the first word of the line after base64 does not belong to it: `cn` of `cn: x` in LDIF,
+-- `tls` of `tls.key: x` in YAML. Base64 has no `&`, so a run with `&#13;` in it is refused there
 abbrev pub break_size : List ℕ → ℕ
 break_size [] = 0
 break_size (x ∷ []) = 0
 break_size (x ∷ y ∷ text) =
-    if x == 10 then up_to_symbol 1 (y ∷ text) else (if (x == 13) && (y == 10) then up_to_symbol 2 text else 0)
+    if x == 10 then up_to_symbol 1 (y ∷ text)
+    else (
+    if (x == 13) && (y == 10) then up_to_symbol 2 text
+    else (if (x == 38) && ends_reference (y ∷ text) then up_to_symbol 6 (drop 4 text) else 0)
+    )
 
 -- a stretch of symbols: the number of symbols, and the number of characters that they take with the breaks between them
 pub record Stretch : Type 0 where

@@ -1,8 +1,8 @@
 //! Runs of base64 inside another text: in LDIF, mail, XML and JSON.
-ghost use Rattle.std.specs.Prelude.{◌≡◌, ◌≤◌, ◌+◌, length, MatchOption};
+ghost use Rattle.std.specs.Prelude.{◌≡◌, ◌≤◌, ◌+◌, length, MatchOption, true};
 ghost use Rattle.tlv_text.specs.Base64.{is_symbol};
 ghost use Rattle.tlv_text.specs.Runs.{HasNoRun, IsFirstRun, break_size, ends_symbols, is_run_blank, padding_size};
-ghost use Rattle.tlv_text.specs.Runs.{reaches_line_end, stretch_of, up_to_symbol};
+ghost use Rattle.tlv_text.specs.Runs.{ends_reference, reaches_line_end, stretch_of, up_to_symbol};
 ghost use Rattle.tlv_text.specs.declared.base64_text.Alphabet.TheVariants.{Standard};
 
 use crate::{Alphabet, symbols};
@@ -31,7 +31,8 @@ struct Stretch {
 /// Returns the first run of base64 in a text: at least 40 symbols of the standard alphabet (RFC 4648, section 4),
 /// with no symbol right before them. A line end and blanks after it may stand between two symbols, if the symbols
 /// after them reach to the end of their line: to the end of the text, a line feed, a carriage return, `=`, `<`, `&`,
-/// `)`, a backtick or a quote. One or two `=` may follow.
+/// `)`, a backtick or a quote. One or two `=` may follow. A line end is a line feed, perhaps with a carriage return
+/// before it, which may be written `&#13;` or `&#xD;`; base64 refuses a run with these.
 pub fn first_run(text: &[u8]) -> Option<Base64Run<'_>>
     ensures { MatchOption result (HasNoRun text.now) (λ r. IsFirstRun text.now r.start r.text.now r.rest.now) }
 {
@@ -83,14 +84,26 @@ fn break_size(text: &[u8]) -> usize
     match text {
         [x, more @ ..] if *x == b'\n' => up_to_symbol(1, more),
         [x, y, more @ ..] if *x == b'\r' && *y == b'\n' => up_to_symbol(2, more),
+        [b'&', more @ ..] if ends_reference(more) => up_to_symbol(6, &more[5..]),
         _ => 0,
     }
+}
+
+/// Whether the text begins with a carriage return as XML writes it, without its `&`, and a line feed.
+fn ends_reference(text: &[u8]) -> bool
+    ensures whether { result ≡ ends_reference text.now }
+    ensures long { result ≡ true → 5 ≤ length text.now }
+{
+    matches!(
+        text,
+        [b'#', b'1', b'3', b';', b'\n', ..] | [b'#', b'x', b'D', b';', b'\n', ..]
+    )
 }
 
 /// The size of `before` characters and the blanks after them, if symbols follow that reach to the end of their line;
 /// otherwise 0.
 fn up_to_symbol(before: usize, text: &[u8]) -> usize
-    requires { before ≤ 2 }
+    requires { before ≤ 6 }
     ensures size { result ≡ up_to_symbol before text.now }
     ensures within { result ≤ before + length text.now }
 {

@@ -53,7 +53,7 @@ static PEM: [OneRow<'static>; 7] = [
     (Form::Pem, b"", (1, b"", b"", BlockState::Absent)),
 ];
 
-static OTHERS: [OneRow<'static>; 16] = [
+static OTHERS: [OneRow<'static>; 17] = [
     (
         Form::Dump,
         b"00000000: 3003 0201 05  0....\n",
@@ -126,6 +126,12 @@ static OTHERS: [OneRow<'static>; 16] = [
         Form::Base64,
         b"MAMC\r\n\r\n*",
         (1, b"", b"\x30\x03\x02", BlockState::Refused(3)),
+    ),
+    // A carriage return as Java writes it in XML. The lines are one run, and base64 refuses it at the first `&`.
+    (
+        Form::Runs,
+        b"<X>\nAAAAAAAAAAAAAAAAAAAA&#13;\nAAAAAAAAAAAAAAAAAAAA&#13;\n</X>",
+        (2, b"", &[0; 15], BlockState::Refused(2)),
     ),
     (
         Form::Runs,

@@ -134,7 +134,7 @@ fn bodies_are_taken_apart(rt: HostRuntime) {
 /// A text, and its first run of base64: where it begins, and the text after it.
 type RunRow<'a> = (&'a [u8], Option<(usize, &'a [u8])>);
 
-static RUNS: [RunRow<'static>; 11] = [
+static RUNS: [RunRow<'static>; 14] = [
     (
         b"<X>AAAAAAAAAAAAAAAAAAAA\n  AAAAAAAAAAAAAAAAAAAA</X>",
         Some((3, b"</X>")),
@@ -166,6 +166,18 @@ static RUNS: [RunRow<'static>; 11] = [
     (
         b"&quot;AAAAAAAAAAAAAAAAAAAA\r\nAAAAAAAAAAAAAAAAAAAA&quot;",
         Some((6, b"&quot;")),
+    ),
+    (
+        b"<X>AAAAAAAAAAAAAAAAAAAA&#13;\nAAAAAAAAAAAAAAAAAAAA&#13;\n</X>",
+        Some((3, b"&#13;\n</X>")),
+    ),
+    (
+        b"<X>AAAAAAAAAAAAAAAAAAAA&#xD;\n AAAAAAAAAAAAAAAAAAAA=&#xD;\n</X>",
+        Some((3, b"&#xD;\n</X>")),
+    ),
+    (
+        b"<X>AAAAAAAAAAAAAAAAAAAA&#13;\nAAAAAAAAAAAAAAAAAAA&#13;\n</X>",
+        None,
     ),
     (
         b"words of prose, of which none is long enough to be one",
