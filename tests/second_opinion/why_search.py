@@ -13,6 +13,8 @@ KINDS = (
 LATIN_1 = ("It was taken for a text in Latin-1 and written in UTF-8. "
            "Try: fetch it anew, in binary, or: iconv -f UTF-8 -t ISO-8859-1 FILE | tlvdump-show")
 LINE_ENDS = "It was taken for a text: octets 0d were put in front of 0a. Try: fetch it anew, in binary."
+REPLACED = ("It has the octets ef bf bd, with which programs replace what is no UTF-8: it was copied as a text. "
+            "Try: fetch it anew, in binary.")
 START = ("From offset {} on it parses: what stands in front may be a header of the file or of the record, or damaged. "
          "Try: tail -c +{} FILE | tlvdump-show")
 
@@ -85,7 +87,7 @@ def text_change(octets, padding):
         return [LATIN_1]
     if b"\r\n" in octets and parses(octets.replace(b"\r\n", b"\n"), padding):
         return [LINE_ENDS]
-    return []
+    return [REPLACED] if b"\xef\xbf\xbd" in octets else []
 
 
 def other_kind(octets):

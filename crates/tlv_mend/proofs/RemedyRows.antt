@@ -2,7 +2,7 @@
 use Rattle.std.proofs.Common.{◌≡◌, [], ◌∷◌, ◌++◌, refl}
 use Rattle.std.specs.Prelude.{None, Some, codes}
 use Rattle.std.specs.Fmt.{digits}
-use Rattle.tlv_mend.specs.declared.text_changes.TextChange.TheVariants.{LineEnds, Utf8}
+use Rattle.tlv_mend.specs.declared.text_changes.TextChange.TheVariants.{LineEnds, Replaced, Utf8}
 use Rattle.tlv_mend.specs.Remedies.{change_line, kind_line, length_line, remedy_lines}
 use Rattle.tlv_mend.specs.Remedies.{start_line, start_reason}
 
@@ -24,6 +24,11 @@ utf8-row = refl
 line_ends-row : change_line (Some LineEnds)
     ≡ codes "It was taken for a text: octets 0d were put in front of 0a. Try: fetch it anew, in binary.\n"
 line_ends-row = refl
+
+replaced-row : change_line (Some Replaced)
+    ≡ codes "It has the octets ef bf bd, with which programs replace what is no UTF-8: it was copied as a text. "
+    ++ codes "Try: fetch it anew, in binary.\n"
+replaced-row = refl
 
 zip-row : kind_line (0x50 ∷ 0x4b ∷ 3 ∷ 4 ∷ 0x14 ∷ []) ≡ codes "It begins as a ZIP file does: unpack it first.\n"
 zip-row = refl

@@ -1,13 +1,13 @@
 -- What may be done with an input that does not parse, in lines: which change would make it sound, and what it may be.
-use Rattle.std.specs.Prelude.{◌≡◌, ℕ, ◌+◌, Bool, eqb, nat_eq, if◌then◌else◌, List, [], ◌∷◌, ◌++◌}
+use Rattle.std.specs.Prelude.{◌≡◌, ℕ, ◌+◌, Bool, false, true, eqb, nat_eq, if◌then◌else◌, List, [], ◌∷◌, ◌++◌}
 use Rattle.std.specs.Prelude.{Option, None, Some, codes, decimal}
 use Rattle.std.specs.List.{starts_with}
 use Rattle.tlv_open.specs.Opens.{closed_framing}
 use Rattle.tlv_mend.specs.declared.lengths.WrongLength.{WrongLength}
 use Rattle.tlv_mend.specs.declared.text_changes.TextChange.{TextChange}
-use Rattle.tlv_mend.specs.declared.text_changes.TextChange.TheVariants.{LineEnds, Utf8}
+use Rattle.tlv_mend.specs.declared.text_changes.TextChange.TheVariants.{LineEnds, Replaced, Utf8}
 use Rattle.tlv_mend.specs.NextStart.{IsNextStart}
-use Rattle.tlv_mend.specs.TextCopies.{IsSoundWithLfAlone, IsSoundWithoutUtf8}
+use Rattle.tlv_mend.specs.TextCopies.{IsSoundWithLfAlone, IsSoundWithoutUtf8, has_replacement}
 use Rattle.tlv_mend.specs.WrongLength.{IsWrongLength}
 
 -- ---- one length
@@ -25,13 +25,16 @@ length_line (Some w) =
 
 -- ---- a text
 
--- what was done to the input as if it were a text, if undoing it makes the input sound: UTF-8 is tried first
+-- what was done to the input as if it were a text: what makes the input sound if it is undone, UTF-8 first; else, what
+-- has left octets ef bf bd
 pub data IsTextChange (padding : Bool) (octets : List ℕ) : Option TextChange → Type 0 where
   utf8 : IsSoundWithoutUtf8 padding octets → IsTextChange padding octets (Some Utf8)
   line_ends : (IsSoundWithoutUtf8 padding octets → ⊥) → IsSoundWithLfAlone padding octets
       → IsTextChange padding octets (Some LineEnds)
-  neither : (IsSoundWithoutUtf8 padding octets → ⊥) → (IsSoundWithLfAlone padding octets → ⊥)
-      → IsTextChange padding octets None
+  replaced : (IsSoundWithoutUtf8 padding octets → ⊥) → (IsSoundWithLfAlone padding octets → ⊥)
+      → has_replacement octets ≡ true → IsTextChange padding octets (Some Replaced)
+  none : (IsSoundWithoutUtf8 padding octets → ⊥) → (IsSoundWithLfAlone padding octets → ⊥)
+      → has_replacement octets ≡ false → IsTextChange padding octets None
 
 -- the line about what was done, if anything was
 abbrev pub change_line : Option TextChange → List ℕ
@@ -41,6 +44,9 @@ change_line (Some Utf8) =
     ++ codes "Try: fetch it anew, in binary, or: iconv -f UTF-8 -t ISO-8859-1 FILE | tlvdump-show\n"
 change_line (Some LineEnds) =
     codes "It was taken for a text: octets 0d were put in front of 0a. Try: fetch it anew, in binary.\n"
+change_line (Some Replaced) =
+    codes "It has the octets ef bf bd, with which programs replace what is no UTF-8: it was copied as a text. "
+    ++ codes "Try: fetch it anew, in binary.\n"
 
 -- ---- other kinds of file
 

@@ -52,6 +52,10 @@ pub(crate) fn change_line(change: Option<TextChange>) -> &'static [u8]
         Some(TextChange::LineEnds) => {
             b"It was taken for a text: octets 0d were put in front of 0a. Try: fetch it anew, in binary.\n"
         }
+        Some(TextChange::Replaced) => {
+            b"It has the octets ef bf bd, with which programs replace what is no UTF-8: it was copied as a text. \
+              Try: fetch it anew, in binary.\n"
+        }
         None => b"",
     }
 }

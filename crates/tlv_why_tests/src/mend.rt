@@ -67,8 +67,8 @@ fn a_wrong_length_in_a_string_is_found(rt: HostRuntime) -> Result<(), Fail> {
     Ok(())
 }
 
-/// Two changes are recognized: an octet that was written in UTF-8, and a carriage return that was added before a line
-/// feed. An input that parses shows neither.
+/// Three changes are recognized: an octet that was written in UTF-8, a carriage return that was added before a line
+/// feed, and a replacement character, which is looked for last. An input without these shows none.
 #[test]
 fn what_was_done_to_a_text_is_found(rt: HostRuntime) -> Result<(), Fail> {
     let utf8 = b"\x04\x01\xc3\xa9";
@@ -85,6 +85,24 @@ fn what_was_done_to_a_text_is_found(rt: HostRuntime) -> Result<(), Fail> {
         "lines",
         text_change(rt.alloc(), line_ends, false)?,
         Some(TextChange::LineEnds),
+    );
+    expect_of(
+        &rt,
+        "lines of replacements",
+        text_change(rt.alloc(), b"\x04\x04\xef\xbf\xbd\x0d\x0a", false)?,
+        Some(TextChange::LineEnds),
+    );
+    expect_of(
+        &rt,
+        "replacements",
+        text_change(rt.alloc(), b"\x04\x09\xef\xef\xbf\xbd", false)?,
+        Some(TextChange::Replaced),
+    );
+    expect_of(
+        &rt,
+        "part of one",
+        text_change(rt.alloc(), b"\x04\x09\xef\xbf", false)?,
+        None,
     );
     expect_of(&rt, "none", text_change(rt.alloc(), none, false)?, None);
     expect_of(&rt, "UTF-8", undone_utf8(rt.alloc(), utf8, false)?, true);
