@@ -2,6 +2,7 @@
 from second_opinion.reading import Element, Reading
 
 MOST_SEARCHED, MOST_OFF, LAST_START = 1 << 20, 5, 64
+UTF_16 = "It begins as text in UTF-16 does. Try: iconv -f UTF-16 -t UTF-8 FILE | tlvdump-show"
 KINDS = (
     (b"PK\x03\x04", "It begins as a ZIP file does: unpack it first."),
     (b"\x1f\x8b", "It begins as a file of gzip does. Try: gzip -dc FILE | tlvdump-show"),
@@ -9,6 +10,8 @@ KINDS = (
     (b"%PDF", "It begins as a PDF file does."),
     (b"<", "It begins with the character <, as XML and HTML do."),
     (b"openssh-key", "It is a key of OpenSSH, which is no encoding by X.690."),
+    (b"\xff\xfe", UTF_16),
+    (b"\xfe\xff", UTF_16),
 )
 LATIN_1 = ("It was taken for a text in Latin-1 and written in UTF-8. "
            "Try: fetch it anew, in binary, or: iconv -f UTF-8 -t ISO-8859-1 FILE | tlvdump-show")

@@ -51,6 +51,14 @@ openssh-row : kind_line (0x6f ∷ 0x70 ∷ 0x65 ∷ 0x6e ∷ 0x73 ∷ 0x73 ∷ 0
     ≡ codes "It is a key of OpenSSH, which is no encoding by X.690.\n"
 openssh-row = refl
 
+utf16-row : kind_line (0xff ∷ 0xfe ∷ 0x41 ∷ [])
+    ≡ codes "It begins as text in UTF-16 does. Try: iconv -f UTF-16 -t UTF-8 FILE | tlvdump-show\n"
+utf16-row = refl
+
+utf16_high_first-row : kind_line (0xfe ∷ 0xff ∷ [])
+    ≡ codes "It begins as text in UTF-16 does. Try: iconv -f UTF-16 -t UTF-8 FILE | tlvdump-show\n"
+utf16_high_first-row = refl
+
 -- the octets have to be there whole
 short-row : kind_line (0x50 ∷ 0x4b ∷ 3 ∷ []) ≡ []
 short-row = refl

@@ -1,5 +1,5 @@
 -- What may be done with an input that does not parse, in lines: which change would make it sound, and what it may be.
-use Rattle.std.specs.Prelude.{◌≡◌, ℕ, ◌+◌, Bool, false, true, eqb, nat_eq, if◌then◌else◌, List, [], ◌∷◌, ◌++◌}
+use Rattle.std.specs.Prelude.{◌≡◌, ℕ, ◌+◌, ◌||◌, Bool, false, true, eqb, nat_eq, if◌then◌else◌, List, [], ◌∷◌, ◌++◌}
 use Rattle.std.specs.Prelude.{Option, None, Some, codes, decimal}
 use Rattle.std.specs.List.{starts_with}
 use Rattle.tlv_open.specs.Opens.{closed_framing}
@@ -50,6 +50,11 @@ change_line (Some Replaced) =
 
 -- ---- other kinds of file
 
+-- Unicode 16.0, section 23.8: the octets begin with a byte order mark of UTF-16
+abbrev pub begins_utf16 : List ℕ → Bool
+begins_utf16 octets =
+    starts_with nat_eq octets (0xff ∷ 0xfe ∷ []) || starts_with nat_eq octets (0xfe ∷ 0xff ∷ [])
+
 -- the line about another kind of file, by the octets with which files of that kind begin
 abbrev pub kind_line : List ℕ → List ℕ
 kind_line octets =
@@ -64,7 +69,9 @@ kind_line octets =
     codes "It begins with the character <, as XML and HTML do.\n"
     else (if starts_with nat_eq octets (codes "openssh-key") then
     codes "It is a key of OpenSSH, which is no encoding by X.690.\n"
-    else [])))))
+    else (if begins_utf16 octets then
+    codes "It begins as text in UTF-16 does. Try: iconv -f UTF-16 -t UTF-8 FILE | tlvdump-show\n"
+    else []))))))
 
 -- ---- another start
 

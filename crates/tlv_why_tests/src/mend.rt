@@ -156,11 +156,15 @@ fn another_start_is_found(rt: HostRuntime) {
 
 #[test]
 fn remedies_are_written(rt: HostRuntime) -> Result<(), Fail> {
+    let utf16 =
+        b"It begins as text in UTF-16 does. Try: iconv -f UTF-16 -t UTF-8 FILE | tlvdump-show\n";
     let gzip = b"It begins as a file of gzip does. Try: gzip -dc FILE | tlvdump-show\n";
     let length = b"If the header at offset 2 said 1 octet and not 2, all would parse.\n";
     for (octets, candidates, want) in [
         (TOO_LONG, [2, 0].as_slice(), length.as_slice()),
         (b"\x1f\x8b\x08", &[], gzip),
+        (b"\xff\xfe", &[], utf16),
+        (b"\xfe\xff", &[], utf16),
         (b"\x04\x05\x01", &[], b""),
     ] {
         let mut room = [0; 256];
