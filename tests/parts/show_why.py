@@ -117,6 +117,9 @@ def findings(ber, der):
 
 
 BODY = element(0x30, b"\x02\x01\x05" * 9 + b"\x04\x02\xe9\x0a")
+REPLACED = ("It has the octets ef bf bd, with which programs replace what is no UTF-8: it was copied as a text. "
+            "Try: fetch it anew, in binary.")
+UTF_16 = "It begins as text in UTF-16 does. Try: iconv -f UTF-16 -t UTF-8 FILE | tlvdump-show"
 # Hints for a wrong start, a copy as text, and files of other kinds: words that must be written, and the status.
 HINTS = [
     ("a wrong start", b"\0\0\0" + BODY, "From offset 3 on it parses", 2),
@@ -125,12 +128,16 @@ HINTS = [
     ("a text in UTF-8", element(0x30, b"\x04\x81\xe9" + b"a" * 0xE9).decode("latin-1").encode(),
      "iconv -f UTF-8 -t ISO-8859-1", 2),
     ("a text with CR", element(0x30, string(b"\x0a")).replace(b"\x0a", b"\r\n"), "octets 0d were put in front of 0a", 2),
-    ("a text with marks", element(0x30, b"\x02\x01\x05\xef\xbf\xbd")[:-1] + b"\xbd\xff", "ef bf bd", 2),
+    ("a text with marks", element(0x30, b"\x02\x01\x05\xef\xbf\xbd") + b"\xff", REPLACED, 2),
+    ("a string with marks, and CR", element(0x30, string(b"\x0a\xef\xbf\xbd")).replace(b"\x0a", b"\r\n"),
+     "octets 0d were put in front of 0a", 2),
     ("gzip", b"\x1f\x8b\x08\x00\x00\x00", "a file of gzip", 2),
     ("ZIP", b"PK\x03\x04\x14\x00", "a ZIP file", 2),
     ("PDF", b"%PDF-1.7", "a PDF file", 2),
     ("XML", b"<?xml version", "the character <", 2),
     ("OpenSSH", b"openssh-key-v1\0", "a key of OpenSSH", 2),
+    ("UTF-16", b"\xff\xfe\xe9\x00", UTF_16, 2),
+    ("UTF-16, high octets first", b"\xfe\xff\x00\x30", UTF_16, 2),
 ]
 # Octets for which no other start may be suggested: those after whole encodings.
 NO_START = [BODY + b"garbage\n", BODY + b"\x41\x82\x13\x04\x30"]

@@ -12,6 +12,7 @@ FILES.append(os.path.join(os.path.dirname(TESTS), "data", "certificate.der"))
 MOST_OCTETS = 1200
 FRONTS = (b"PK\x03\x04", b"PK\x03", b"\x1f\x8b", b"\x1f\x8b\x08\0", b"BZh", b"BZh91AY", b"%PDF-1.7", b"<", b"<?xml ")
 FRONTS += (b"openssh-key", b"openssh-key-v1\0", b"\0", b"\0\0\0", b"\xef\xbb\xbf", b"\x02\x93", b"\x7a", b"\x3a\x05")
+FRONTS += (b"\xff\xfe", b"\xfe\xff", b"\xef\xbf\xbd", b"\xef\xbf")
 BLANKS = (b"\n", b"\r\n", b" ", b"\t", b"\x1a", b"\n\n", b"\r", b" \n ", b"\n\x1a")
 FIRST_OCTETS = bytes.fromhex("30303124020405 8080a0bf9f81828586ff 0000000102030a")
 INDEFINITE = 0.25
@@ -109,6 +110,8 @@ def as_text(rng, octets):
         octets += b"" if b"\n" in octets or rng.random() < 0.3 else inside_string(rng, b"\x0a")
         return octets.replace(b"\n", b"\r\n") if place % 3 else octets.replace(b"\n", b"\r\n", 1)
     octets += b"" if rng.random() < 0.5 else inside_string(rng, rng.randbytes(rng.choice([1, 3, 20, 200])))
+    if rng.random() < 0.3:
+        return octets.decode("utf-8", "replace").encode()
     return octets.decode("latin-1").encode("utf-8", "replace")
 
 

@@ -2,6 +2,7 @@
 from second_opinion.reading import Element, Reading
 
 MOST_SEARCHED, MOST_OFF, LAST_START = 1 << 20, 5, 64
+UTF_16 = "It begins as text in UTF-16 does. Try: iconv -f UTF-16 -t UTF-8 FILE | tlvdump-show"
 KINDS = (
     (b"PK\x03\x04", "It begins as a ZIP file does: unpack it first."),
     (b"\x1f\x8b", "It begins as a file of gzip does. Try: gzip -dc FILE | tlvdump-show"),
@@ -9,10 +10,14 @@ KINDS = (
     (b"%PDF", "It begins as a PDF file does."),
     (b"<", "It begins with the character <, as XML and HTML do."),
     (b"openssh-key", "It is a key of OpenSSH, which is no encoding by X.690."),
+    (b"\xff\xfe", UTF_16),
+    (b"\xfe\xff", UTF_16),
 )
 LATIN_1 = ("It was taken for a text in Latin-1 and written in UTF-8. "
            "Try: fetch it anew, in binary, or: iconv -f UTF-8 -t ISO-8859-1 FILE | tlvdump-show")
 LINE_ENDS = "It was taken for a text: octets 0d were put in front of 0a. Try: fetch it anew, in binary."
+REPLACED = ("It has the octets ef bf bd, with which programs replace what is no UTF-8: it was copied as a text. "
+            "Try: fetch it anew, in binary.")
 START = ("From offset {} on it parses: what stands in front may be a header of the file or of the record, or damaged. "
          "Try: tail -c +{} FILE | tlvdump-show")
 
@@ -85,7 +90,7 @@ def text_change(octets, padding):
         return [LATIN_1]
     if b"\r\n" in octets and parses(octets.replace(b"\r\n", b"\n"), padding):
         return [LINE_ENDS]
-    return []
+    return [REPLACED] if b"\xef\xbf\xbd" in octets else []
 
 
 def other_kind(octets):

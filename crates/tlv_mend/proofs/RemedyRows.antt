@@ -2,7 +2,7 @@
 use Rattle.std.proofs.Common.{◌≡◌, [], ◌∷◌, ◌++◌, refl}
 use Rattle.std.specs.Prelude.{None, Some, codes}
 use Rattle.std.specs.Fmt.{digits}
-use Rattle.tlv_mend.specs.declared.text_changes.TextChange.TheVariants.{LineEnds, Utf8}
+use Rattle.tlv_mend.specs.declared.text_changes.TextChange.TheVariants.{LineEnds, Replaced, Utf8}
 use Rattle.tlv_mend.specs.Remedies.{change_line, kind_line, length_line, remedy_lines}
 use Rattle.tlv_mend.specs.Remedies.{start_line, start_reason}
 
@@ -25,6 +25,11 @@ line_ends-row : change_line (Some LineEnds)
     ≡ codes "It was taken for a text: octets 0d were put in front of 0a. Try: fetch it anew, in binary.\n"
 line_ends-row = refl
 
+replaced-row : change_line (Some Replaced)
+    ≡ codes "It has the octets ef bf bd, with which programs replace what is no UTF-8: it was copied as a text. "
+    ++ codes "Try: fetch it anew, in binary.\n"
+replaced-row = refl
+
 zip-row : kind_line (0x50 ∷ 0x4b ∷ 3 ∷ 4 ∷ 0x14 ∷ []) ≡ codes "It begins as a ZIP file does: unpack it first.\n"
 zip-row = refl
 
@@ -45,6 +50,14 @@ markup-row = refl
 openssh-row : kind_line (0x6f ∷ 0x70 ∷ 0x65 ∷ 0x6e ∷ 0x73 ∷ 0x73 ∷ 0x68 ∷ 0x2d ∷ 0x6b ∷ 0x65 ∷ 0x79 ∷ 0x2d ∷ [])
     ≡ codes "It is a key of OpenSSH, which is no encoding by X.690.\n"
 openssh-row = refl
+
+utf16-row : kind_line (0xff ∷ 0xfe ∷ 0x41 ∷ [])
+    ≡ codes "It begins as text in UTF-16 does. Try: iconv -f UTF-16 -t UTF-8 FILE | tlvdump-show\n"
+utf16-row = refl
+
+utf16_high_first-row : kind_line (0xfe ∷ 0xff ∷ [])
+    ≡ codes "It begins as text in UTF-16 does. Try: iconv -f UTF-16 -t UTF-8 FILE | tlvdump-show\n"
+utf16_high_first-row = refl
 
 -- the octets have to be there whole
 short-row : kind_line (0x50 ∷ 0x4b ∷ 3 ∷ []) ≡ []

@@ -8,7 +8,7 @@ use Rattle.std.proofs.lemmas.Bool.{cases_Bool}
 use Rattle.std.proofs.lemmas.List.Folds.{list_all-append}
 use Rattle.tlv_mend.specs.declared.lengths.WrongLength.{WrongLength}
 use Rattle.tlv_mend.specs.declared.text_changes.TextChange.{TextChange}
-use Rattle.tlv_mend.specs.declared.text_changes.TextChange.TheVariants.{LineEnds, Utf8}
+use Rattle.tlv_mend.specs.declared.text_changes.TextChange.TheVariants.{LineEnds, Replaced, Utf8}
 use Rattle.tlv_why.specs.Laws.{AreShown, is_shown_octet}
 use Rattle.tlv_mend.specs.Remedies.{AreRemedies, change_line, changes_lines, kind_line, length_line, octets_word}
 use Rattle.tlv_mend.specs.Remedies.{other_lines, start_line, start_reason}
@@ -56,6 +56,7 @@ change_line-shown : (change : Option TextChange) → AreShown (change_line chang
 change_line-shown None = refl
 change_line-shown (Some Utf8) = refl
 change_line-shown (Some LineEnds) = refl
+change_line-shown (Some Replaced) = refl
 
 kind_line-shown : (octets : List ℕ) → AreShown (kind_line octets)
 kind_line-shown octets = simp (either-all, either-true)

@@ -1,13 +1,13 @@
 -- What may be done with an input that does not parse, in lines: which change would make it sound, and what it may be.
-use Rattle.std.specs.Prelude.{◌≡◌, ℕ, ◌+◌, Bool, eqb, nat_eq, if◌then◌else◌, List, [], ◌∷◌, ◌++◌}
+use Rattle.std.specs.Prelude.{◌≡◌, ℕ, ◌+◌, ◌||◌, Bool, false, true, eqb, nat_eq, if◌then◌else◌, List, [], ◌∷◌, ◌++◌}
 use Rattle.std.specs.Prelude.{Option, None, Some, codes, decimal}
 use Rattle.std.specs.List.{starts_with}
 use Rattle.tlv_open.specs.Opens.{closed_framing}
 use Rattle.tlv_mend.specs.declared.lengths.WrongLength.{WrongLength}
 use Rattle.tlv_mend.specs.declared.text_changes.TextChange.{TextChange}
-use Rattle.tlv_mend.specs.declared.text_changes.TextChange.TheVariants.{LineEnds, Utf8}
+use Rattle.tlv_mend.specs.declared.text_changes.TextChange.TheVariants.{LineEnds, Replaced, Utf8}
 use Rattle.tlv_mend.specs.NextStart.{IsNextStart}
-use Rattle.tlv_mend.specs.TextCopies.{IsSoundWithLfAlone, IsSoundWithoutUtf8}
+use Rattle.tlv_mend.specs.TextCopies.{IsSoundWithLfAlone, IsSoundWithoutUtf8, has_replacement}
 use Rattle.tlv_mend.specs.WrongLength.{IsWrongLength}
 
 -- ---- one length
@@ -25,13 +25,16 @@ length_line (Some w) =
 
 -- ---- a text
 
--- what was done to the input as if it were a text, if undoing it makes the input sound: UTF-8 is tried first
+-- what was done to the input as if it were a text: what makes the input sound if it is undone, UTF-8 first; else, what
+-- has left octets ef bf bd
 pub data IsTextChange (padding : Bool) (octets : List ℕ) : Option TextChange → Type 0 where
   utf8 : IsSoundWithoutUtf8 padding octets → IsTextChange padding octets (Some Utf8)
   line_ends : (IsSoundWithoutUtf8 padding octets → ⊥) → IsSoundWithLfAlone padding octets
       → IsTextChange padding octets (Some LineEnds)
-  neither : (IsSoundWithoutUtf8 padding octets → ⊥) → (IsSoundWithLfAlone padding octets → ⊥)
-      → IsTextChange padding octets None
+  replaced : (IsSoundWithoutUtf8 padding octets → ⊥) → (IsSoundWithLfAlone padding octets → ⊥)
+      → has_replacement octets ≡ true → IsTextChange padding octets (Some Replaced)
+  none : (IsSoundWithoutUtf8 padding octets → ⊥) → (IsSoundWithLfAlone padding octets → ⊥)
+      → has_replacement octets ≡ false → IsTextChange padding octets None
 
 -- the line about what was done, if anything was
 abbrev pub change_line : Option TextChange → List ℕ
@@ -41,8 +44,16 @@ change_line (Some Utf8) =
     ++ codes "Try: fetch it anew, in binary, or: iconv -f UTF-8 -t ISO-8859-1 FILE | tlvdump-show\n"
 change_line (Some LineEnds) =
     codes "It was taken for a text: octets 0d were put in front of 0a. Try: fetch it anew, in binary.\n"
+change_line (Some Replaced) =
+    codes "It has the octets ef bf bd, with which programs replace what is no UTF-8: it was copied as a text. "
+    ++ codes "Try: fetch it anew, in binary.\n"
 
 -- ---- other kinds of file
+
+-- Unicode 16.0, section 23.8: the octets begin with a byte order mark of UTF-16
+abbrev pub begins_utf16 : List ℕ → Bool
+begins_utf16 octets =
+    starts_with nat_eq octets (0xff ∷ 0xfe ∷ []) || starts_with nat_eq octets (0xfe ∷ 0xff ∷ [])
 
 -- the line about another kind of file, by the octets with which files of that kind begin
 abbrev pub kind_line : List ℕ → List ℕ
@@ -58,7 +69,9 @@ kind_line octets =
     codes "It begins with the character <, as XML and HTML do.\n"
     else (if starts_with nat_eq octets (codes "openssh-key") then
     codes "It is a key of OpenSSH, which is no encoding by X.690.\n"
-    else [])))))
+    else (if begins_utf16 octets then
+    codes "It begins as text in UTF-16 does. Try: iconv -f UTF-16 -t UTF-8 FILE | tlvdump-show\n"
+    else []))))))
 
 -- ---- another start
 

@@ -1,6 +1,7 @@
 -- What programs do to octets that they take for a text, and how to undo it.
-use Rattle.std.specs.Prelude.{◌≡◌, ◌≢◌, ℕ, ◌+◌, ◌*◌, ◌-◌, Bool, false, ◌&&◌, ◌||◌, ◌==◌, nat_le, nat_lt, if◌then◌else◌}
-use Rattle.std.specs.Prelude.{List, [], ◌∷◌, Option, None, Some}
+use Rattle.std.specs.Prelude.{◌≡◌, ◌≢◌, ℕ, ◌+◌, ◌*◌, ◌-◌, Bool, false, ◌&&◌, ◌||◌, ◌==◌, nat_eq, nat_le, nat_lt}
+use Rattle.std.specs.Prelude.{if◌then◌else◌, List, [], ◌∷◌, Option, None, Some}
+use Rattle.std.specs.List.{starts_with}
 use Rattle.std.specs.Option.{option_map}
 use Rattle.tlv_open.specs.Opens.{closed_framing}
 use Rattle.tlv_walk.specs.Reading.{IsSoundList}
@@ -19,6 +20,12 @@ with_lf_alone (x ∷ more) = if begins_crlf (x ∷ more) then with_lf_alone more
 pub record IsSoundWithLfAlone (padding : Bool) (octets : List ℕ) : Type 0 where
   pub changed : with_lf_alone octets ≢ octets
   pub sound : IsSoundList (closed_framing padding) (with_lf_alone octets)
+
+-- RFC 3629, section 3: whether the replacement character U+FFFD is among the octets, in UTF-8: ef bf bd
+abbrev pub has_replacement : List ℕ → Bool
+has_replacement [] = false
+has_replacement (x ∷ more) =
+    starts_with nat_eq (x ∷ more) (0xef ∷ 0xbf ∷ 0xbd ∷ []) || has_replacement more
 
 -- an octet before others, if these are there
 abbrev pub octet_and : ℕ → Option (List ℕ) → Option (List ℕ)

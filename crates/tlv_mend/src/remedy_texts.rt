@@ -52,6 +52,10 @@ pub(crate) fn change_line(change: Option<TextChange>) -> &'static [u8]
         Some(TextChange::LineEnds) => {
             b"It was taken for a text: octets 0d were put in front of 0a. Try: fetch it anew, in binary.\n"
         }
+        Some(TextChange::Replaced) => {
+            b"It has the octets ef bf bd, with which programs replace what is no UTF-8: it was copied as a text. \
+              Try: fetch it anew, in binary.\n"
+        }
         None => b"",
     }
 }
@@ -72,6 +76,8 @@ pub(crate) fn kind_line(octets: &[u8]) -> &'static [u8]
         b"It begins with the character <, as XML and HTML do.\n"
     } else if octets.starts_with(b"openssh-key") {
         b"It is a key of OpenSSH, which is no encoding by X.690.\n"
+    } else if octets.starts_with(b"\xff\xfe") || octets.starts_with(b"\xfe\xff") {
+        b"It begins as text in UTF-16 does. Try: iconv -f UTF-16 -t UTF-8 FILE | tlvdump-show\n"
     } else {
         b""
     }

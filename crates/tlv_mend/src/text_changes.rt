@@ -3,7 +3,7 @@ ghost use Rattle.std.specs.Prelude.{◌≤◌, IfOk, length};
 ghost use Rattle.tlv_head.specs.Limits.{input_limit};
 ghost use Rattle.tlv_mend.specs.Remedies.{IsTextChange};
 
-use crate::text_copies::{undone_line_ends, undone_utf8};
+use crate::text_copies::{has_replacement, undone_line_ends, undone_utf8};
 use std::alloc::{AllocError, Global};
 
 /// What a program did to octets that it took for a text.
@@ -13,10 +13,13 @@ pub enum TextChange {
     Utf8,
     /// It put octets `0d` in front of `0a`.
     LineEnds,
+    /// It put `ef bf bd`, the replacement character U+FFFD, in place of what is no UTF-8.
+    Replaced,
 }
 
-/// The change that was made to the input as if it were a text, if undoing it makes the input sound. Tries UTF-8 first.
-/// `None` if undoing neither change makes it sound. With `padding`, octets `00` are allowed at the top level.
+/// The change that was made to the input as if it were a text: the first of UTF-8 and the line ends for which undoing it
+/// makes the input sound. If there is none, and the input has octets `ef bf bd`, what is no UTF-8 was replaced, which
+/// nothing undoes. `None` otherwise. With `padding`, octets `00` are allowed at the top level.
 ///
 /// # Errors
 ///
@@ -33,6 +36,8 @@ pub fn text_change(
         Ok(Some(TextChange::Utf8))
     } else if undone_line_ends(alloc, octets, padding)? {
         Ok(Some(TextChange::LineEnds))
+    } else if has_replacement(octets) {
+        Ok(Some(TextChange::Replaced))
     } else {
         Ok(None)
     }

@@ -1,8 +1,8 @@
 //! What programs do to octets that they take for a text, and whether undoing it makes an input sound.
 ghost use Rattle.std.specs.Prelude.{◌≡◌, ◌<◌, ◌≤◌, ◌↔◌, IfOk, IsTrue, MatchOption, None, length, option_map};
 ghost use Rattle.tlv_head.specs.Limits.{input_limit};
-ghost use Rattle.tlv_mend.specs.TextCopies.{IsSoundWithLfAlone, IsSoundWithoutUtf8, is_latin1_pair};
-ghost use Rattle.tlv_mend.specs.TextCopies.{latin1_of_utf8, octet_and, with_lf_alone};
+ghost use Rattle.tlv_mend.specs.TextCopies.{IsSoundWithLfAlone, IsSoundWithoutUtf8, has_replacement};
+ghost use Rattle.tlv_mend.specs.TextCopies.{is_latin1_pair, latin1_of_utf8, octet_and, with_lf_alone};
 
 use crate::sound::is_sound;
 use std::alloc::{AllocError, Global};
@@ -34,6 +34,20 @@ fn with_lf_alone(alloc: Global, octets: &[u8]) -> Result<Vec<u8>, AllocError>
         rest = more;
     }
     Ok(copy)
+}
+
+/// Whether the replacement character U+FFFD is among the octets, in UTF-8: `ef bf bd`.
+pub(crate) fn has_replacement(octets: &[u8]) -> bool
+    ensures { result ≡ has_replacement octets.now }
+{
+    let mut rest = octets;
+    while let [_, more @ ..] = rest {
+        if rest.starts_with(b"\xef\xbf\xbd") {
+            return true;
+        }
+        rest = more;
+    }
+    false
 }
 
 /// Whether the input was taken for a text in Latin-1 and written in UTF-8: it is UTF-8 of characters below 256, not all

@@ -67,8 +67,8 @@ fn a_wrong_length_in_a_string_is_found(rt: HostRuntime) -> Result<(), Fail> {
     Ok(())
 }
 
-/// Two changes are recognized: an octet that was written in UTF-8, and a carriage return that was added before a line
-/// feed. An input that parses shows neither.
+/// Three changes are recognized: an octet that was written in UTF-8, a carriage return that was added before a line
+/// feed, and a replacement character, which is looked for last. An input without these shows none.
 #[test]
 fn what_was_done_to_a_text_is_found(rt: HostRuntime) -> Result<(), Fail> {
     let utf8 = b"\x04\x01\xc3\xa9";
@@ -85,6 +85,24 @@ fn what_was_done_to_a_text_is_found(rt: HostRuntime) -> Result<(), Fail> {
         "lines",
         text_change(rt.alloc(), line_ends, false)?,
         Some(TextChange::LineEnds),
+    );
+    expect_of(
+        &rt,
+        "lines of replacements",
+        text_change(rt.alloc(), b"\x04\x04\xef\xbf\xbd\x0d\x0a", false)?,
+        Some(TextChange::LineEnds),
+    );
+    expect_of(
+        &rt,
+        "replacements",
+        text_change(rt.alloc(), b"\x04\x09\xef\xef\xbf\xbd", false)?,
+        Some(TextChange::Replaced),
+    );
+    expect_of(
+        &rt,
+        "part of one",
+        text_change(rt.alloc(), b"\x04\x09\xef\xbf", false)?,
+        None,
     );
     expect_of(&rt, "none", text_change(rt.alloc(), none, false)?, None);
     expect_of(&rt, "UTF-8", undone_utf8(rt.alloc(), utf8, false)?, true);
@@ -138,11 +156,15 @@ fn another_start_is_found(rt: HostRuntime) {
 
 #[test]
 fn remedies_are_written(rt: HostRuntime) -> Result<(), Fail> {
+    let utf16 =
+        b"It begins as text in UTF-16 does. Try: iconv -f UTF-16 -t UTF-8 FILE | tlvdump-show\n";
     let gzip = b"It begins as a file of gzip does. Try: gzip -dc FILE | tlvdump-show\n";
     let length = b"If the header at offset 2 said 1 octet and not 2, all would parse.\n";
     for (octets, candidates, want) in [
         (TOO_LONG, [2, 0].as_slice(), length.as_slice()),
         (b"\x1f\x8b\x08", &[], gzip),
+        (b"\xff\xfe", &[], utf16),
+        (b"\xfe\xff", &[], utf16),
         (b"\x04\x05\x01", &[], b""),
     ] {
         let mut room = [0; 256];

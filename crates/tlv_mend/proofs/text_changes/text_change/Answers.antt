@@ -15,7 +15,14 @@ returns-then-branch-2 c =
     change.line_ends (refuted _ c.in_ok-undone_utf8.ensures.1 c.if-branch.false)
     (c.in_ok-undone_line_ends.ensures.0 c.if-branch-2.true)
 
-pub returns-else-branch-2 : goal.returns-else-branch-2
-returns-else-branch-2 c =
-    change.neither (refuted _ c.in_ok-undone_utf8.ensures.1 c.if-branch.false)
+pub returns-then-has_replacement : goal.returns-then-has_replacement
+returns-then-has_replacement c =
+    change.replaced (refuted _ c.in_ok-undone_utf8.ensures.1 c.if-branch.false)
     (refuted _ c.in_ok-undone_line_ends.ensures.1 c.if-branch-2.false)
+    (sym c.has_replacement.ensures ∙ c.if-has_replacement.true)
+
+pub returns-else-has_replacement : goal.returns-else-has_replacement
+returns-else-has_replacement c =
+    change.none (refuted _ c.in_ok-undone_utf8.ensures.1 c.if-branch.false)
+    (refuted _ c.in_ok-undone_line_ends.ensures.1 c.if-branch-2.false)
+    (sym c.has_replacement.ensures ∙ c.if-has_replacement.false)
