@@ -4,7 +4,7 @@ run, and with --why.
 The rows in parts/show_why.py have the sentences about faults, and those here the sentences about strings.
 """
 from parts.harness import Done
-from parts.show_why import ANEW, FAULTS, INDEFINITE, NULL, WHOLE, WRONG, Why, element, findings, header, sound, string
+from parts.show_why import ANEW, FAULTS, INDEFINITE, NULL, WHOLE, WRONG, Why, element, findings, header, in_front, sound, string
 
 # A string that is the value of an extension, and breaks.
 BREAKS = bytes.fromhex("300b0603551d0f0404030305a0")
@@ -46,7 +46,7 @@ STRINGS = [
      ["The input ends inside the SEQUENCE at offset 9. " + header(9, "30 80", INDEFINITE),
       "The SEQUENCE at offset 0 ends with the input, at offset 14: its length leaves no room for what is missing.",
       "Elements with an indefinite length that are not ended: 1; each needs two octets 00.",
-      "Try: look for a length that is too small, or fetch the input anew, in binary.",
+      "Try: look for a length that is too small, or fetch the input anew, in binary.", in_front("INTEGER", 11, "02 01", "1 octet"),
       "If the header at offset 2 said 6 octets and not 3, all would parse."]),
 ]
 # Runs in which the reasons of a fault follow its message.

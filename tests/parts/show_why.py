@@ -27,6 +27,10 @@ def header(offset, octets, contents):
     return f"The header at offset {offset}, {octets}, says that its contents are {contents}."
 
 
+def in_front(name, offset, octets, contents):
+    return f"Or a length in front is wrong: that of the {name} at offset {offset}. {header(offset, octets, contents)}"
+
+
 CUT = "Try: fetch the input anew, since the copy was cut; or, where it is whole, look for a length that is too great."
 WRONG = "One of the two lengths is wrong, or octets between them are missing or were put in."
 INDEFINITE = "an indefinite number of octets"
@@ -46,7 +50,8 @@ FAULTS = [
      ["The input ends inside the OCTET STRING at offset 0. " + header(0, "04 20", "32 octets"), "Missing there: 31 octets.", CUT]),
     ("F02", "30 80 02 01 05", [],
      ["The input ends inside the SEQUENCE at offset 0. " + header(0, "30 80", INDEFINITE),
-      "Elements with an indefinite length that are not ended: 1; each needs two octets 00.", CUT]),
+      "Elements with an indefinite length that are not ended: 1; each needs two octets 00.", CUT,
+      in_front("INTEGER", 2, "02 01", "1 octet")]),
     ("F02", "30 80 00", [],
      ["The input ends between the two octets 00 that end the SEQUENCE at offset 0.",
       "Elements with an indefinite length that are not ended: 1; each needs two octets 00.", CUT]),
@@ -56,12 +61,12 @@ FAULTS = [
     ("F02", "05 00 02 02 01 05 30 09 02 01 05 04 02 aa", [],
      ["The input ends inside the OCTET STRING at offset 11. " + header(11, "04 02", "2 octets"), "Missing there: 1 octet.",
       "The outermost element of definite length that is not whole, the SEQUENCE at offset 6, would end at offset 17. Missing up to there: 3 octets.", CUT,
-      "Whole encodings end at offset 6. Left over: 8 octets.", WHOLE.format(6)]),
+      in_front("INTEGER", 8, "02 01", "1 octet"), "Whole encodings end at offset 6. Left over: 8 octets.", WHOLE.format(6)]),
     ("F02", "30 04 30 80 05 00", [],
      ["The input ends inside the SEQUENCE at offset 2. " + header(2, "30 80", INDEFINITE),
       "The SEQUENCE at offset 0 ends with the input, at offset 6: its length leaves no room for what is missing.",
       "Elements with an indefinite length that are not ended: 1; each needs two octets 00.",
-      "Try: look for a length that is too small, or fetch the input anew, in binary."]),
+      "Try: look for a length that is too small, or fetch the input anew, in binary.", in_front("NULL", 4, "05 00", "0 octets")]),
     ("F02", "05 00 ff ff ff", [],
      ["Whole encodings end at offset 2. The octets after them are ff alone, as filler is: 3.", WHOLE.format(2)]),
     ("F02", "05 00 0a", [],
@@ -75,19 +80,29 @@ FAULTS = [
     ("F03", "30 04 05 00 00 00", [],
      ["Inside the SEQUENCE at offset 0, which ends at offset 6, an element should begin at offset 4."
       " There is an octet 00, with which none begins. " + header(0, "30 04", "4 octets"),
-      "Left over: 2 octets. Its length, or one in front of that offset, is wrong.", ANEW]),
+      "Left over: 2 octets. Its length, or one in front of that offset, is wrong.", ANEW,
+      in_front("NULL", 2, "05 00", "0 octets")]),
     ("F04", "30 80 00 05", [],
      ["At offset 2 the octets 00 00 should end the SEQUENCE at offset 0, but the second is 05. "
       + header(0, "30 80", INDEFINITE), ANEW]),
+    ("F04", "30 80 05 00 00 05", [],
+     ["At offset 4 the octets 00 00 should end the SEQUENCE at offset 0, but the second is 05. "
+      + header(0, "30 80", INDEFINITE), ANEW, in_front("NULL", 2, "05 00", "0 octets")]),
     ("F05", "30 05 a1 80 02 01 05 00", [],
      ["The [1] at offset 2 is not ended where the SEQUENCE at offset 0 ends, at offset 7. Missing there: 2 octets, 00 00. "
-      + header(2, "a1 80", INDEFINITE) + " " + header(0, "30 05", "5 octets"), ANEW]),
+      + header(2, "a1 80", INDEFINITE) + " " + header(0, "30 05", "5 octets"), ANEW,
+      in_front("INTEGER", 4, "02 01", "1 octet")]),
     ("F06", "3f" + " ff" * 9 + " 01", [],
      ["The header at offset 0 has more than nine octets of tag number: 3f" + " ff" * 9 + ".", START]),
     ("F07", "04 ff", [], ["The header at offset 0 has the first length octet ff, which X.690 reserves: 04 ff.", START]),
     ("F08", "30 02 04 80", [],
      ["The header at offset 2 is that of a primitive, which cannot have the indefinite length: 04 80.",
-      "Try: look at the element that ends at offset 2, or begins there: its length may be wrong; or fetch the input anew, in binary."]),
+      "Try: look at the element that ends at offset 2, or begins there: its length may be wrong; or fetch the input anew, in binary.",
+      in_front("SEQUENCE", 0, "30 02", "2 octets")]),
+    ("F08", "30 04 05 00 04 80", [],
+     ["The header at offset 4 is that of a primitive, which cannot have the indefinite length: 04 80.",
+      "Try: look at the element that ends at offset 4, or begins there: its length may be wrong; or fetch the input anew, in binary.",
+      in_front("SEQUENCE", 0, "30 04", "4 octets"), in_front("NULL", 2, "05 00", "0 octets")]),
     ("F09", "04 86 01", [], ["The header at offset 0 announces a length of 2^40 or more: 04 86 01.", START]),
     ("F10", "30 80 " * 129, [], ["At offset 256 element 129 would be open. The program holds 128.",
       "Try: tail -c +M FILE, where M is 1 and the offset of an element some levels deep."]),

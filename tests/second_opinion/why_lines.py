@@ -56,11 +56,11 @@ def of_fault(stand):
             "F11": of_overrun}[code](stand)
 
 
-def suspect(stand):
-    """Returns the line about the element before, if its length is definite."""
-    if stand.before is None or stand.before.length is None:
+def suspect(stand, element):
+    """Returns the line about an element in front, if there is one and its length is definite."""
+    if element is None or element.length is None:
         return []
-    return [f"Or a length in front is wrong: that of the {named(stand.before)}. {says(stand, stand.before)}"]
+    return [f"Or a length in front is wrong: that of the {named(element)}. {says(stand, element)}"]
 
 
 def of_nothing(stand):
@@ -84,7 +84,7 @@ def of_cut(stand):
     indefinite = len(stand.open) - len(bounds)
     if indefinite:
         lines.append(f"Elements with an indefinite length that are not ended: {indefinite}; each needs two octets 00.")
-    return lines + [SMALL if ends_with_input else CUT]
+    return [*lines, SMALL if ends_with_input else CUT, *suspect(stand, stand.before)]
 
 
 def cut_at(stand):
@@ -117,14 +117,14 @@ def of_stray(stand):
     return [f"Inside the {named(inner)}, which ends at offset {end}, an element should begin at offset {place}."
             f" There is an octet 00, with which none begins. {says(stand, inner)}",
             f"Left over: {so_many(end - place)}. Its length, or one in front of that offset, is wrong.",
-            ANEW, *suspect(stand)]
+            ANEW, *suspect(stand, stand.before)]
 
 
 def of_half(stand):
     """F04."""
     refused = pairs(stand.octets[stand.fault.offset : stand.fault.offset + 1])
     return [f"At offset {stand.place} the octets 00 00 should end the {named(stand.inner)}, but the second is {refused}."
-            f" {says(stand, stand.inner)}", ANEW]
+            f" {says(stand, stand.inner)}", ANEW, *suspect(stand, stand.before)]
 
 
 def of_missing_end(stand):
@@ -132,7 +132,7 @@ def of_missing_end(stand):
     inner, holder = stand.inner, stand.bounds()[-1]
     lacks = "1 octet, 00" if stand.is_half_of_a_pair() else "2 octets, 00 00"
     return [f"The {named(inner)} is not ended where the {named(holder)} ends, at offset {end_of(holder)}. Missing there: "
-            f"{lacks}. {says(stand, inner)} {says(stand, holder)}", ANEW]
+            f"{lacks}. {says(stand, inner)} {says(stand, holder)}", ANEW, *suspect(stand, stand.before)]
 
 
 def of_header(stand):
@@ -142,7 +142,7 @@ def of_header(stand):
     look = (f"Try: look at the element that ends at offset {place}, or begins there: its length may be wrong; "
             "or fetch the input anew, in binary.")
     return [f"The header at offset {place} {HEADERS[stand.fault.code]}: {octets}.", look if place else OTHER_FILE,
-            *suspect(stand)]
+            *suspect(stand, stand.inner), *suspect(stand, stand.before)]
 
 
 def of_depth(stand):
@@ -162,4 +162,4 @@ def of_overrun(stand):
         left = stand.octets[stand.place : end]
         lines = [f"The header at offset {stand.place} runs past the end of the {named(holder)}, which ends at offset {end}. "
                  f"{says(stand, holder)}", f"Left over: {so_many(end - stand.place)}, {pairs(left)}."]
-    return [*lines, WRONG, ANEW, *suspect(stand)]
+    return [*lines, WRONG, ANEW, *suspect(stand, stand.before)]

@@ -11,11 +11,13 @@ use Rattle.tlv_why.specs.Words.{header_opening, header_closing, header_octets, h
 use Rattle.tlv_why.specs.CutLines.{cut_header_line, cut_primitive_lines}
 use Rattle.tlv_why.specs.CutLines.{cut_end_line, cut_holder_line, cut_lines_at, filled_line, lacking_line, needed_line}
 use Rattle.tlv_why.specs.CutLines.{unended_line, cut_try_line, needed_lines, missing_lines, cut_lines}
+use Rattle.tlv_why.specs.CutLines.{missing_after_lines}
 use Rattle.tlv_why.specs.EndLines.{first_zeros_line, later_zeros_line, zeros_line, padding_try_line, front_try_line}
 use Rattle.tlv_why.specs.EndLines.{zeros_try_lines, zeros_lines, stray_line, stray_lines_in, stray_lines, bad_end_line}
 use Rattle.tlv_why.specs.EndLines.{bad_end_lines, lacking_zeros, missing_end_line, missing_end_lines_in}
 use Rattle.tlv_why.specs.EndLines.{missing_end_lines}
 use Rattle.tlv_why.specs.TryLines.{anew_line, suspect_line_of, suspect_line, anew_lines, look_line, look_lines}
+use Rattle.tlv_why.specs.TryLines.{suspect_lines}
 use Rattle.tlv_why.specs.HeaderFaultLines.{header_fault_words, header_fault_line, header_fault_lines, deep_line}
 use Rattle.tlv_why.specs.HeaderFaultLines.{deep_try_line, deep_lines, header_past_line, element_past_line}
 use Rattle.tlv_why.specs.HeaderFaultLines.{one_wrong_line, past_line, wrong_lines, past_lines_in, past_lines}
@@ -45,7 +47,7 @@ unfolding digits encode_with octets_in_words octets_between first_pairs named_el
     reason_lines_in reason_lines later_lines fault_lines why_by reasons_by parses_line header_fault_words
     header_fault_line header_fault_lines deep_line deep_try_line deep_lines header_past_line element_past_line
     one_wrong_line past_line wrong_lines past_lines_in past_lines anew_line suspect_line_of suspect_line anew_lines
-    look_line look_lines
+    look_line suspect_lines look_lines
 row-past_string = refl
 
 abbrev integer_in_string : Element
@@ -69,7 +71,7 @@ unfolding digits encode_with octets_in_words octets_between first_pairs named_el
     reason_lines_in reason_lines later_lines fault_lines why_by reasons_by parses_line header_fault_words
     header_fault_line header_fault_lines deep_line deep_try_line deep_lines header_past_line element_past_line
     one_wrong_line past_line wrong_lines past_lines_in past_lines anew_line suspect_line_of suspect_line anew_lines
-    look_line look_lines
+    look_line suspect_lines look_lines
 row-past_in_string = refl
 
 -- the same without the first line
@@ -77,13 +79,15 @@ row-reasons : reasons_inside (2 ∷ []) (0x30 ∷ 0x05 ∷ 0x03 ∷ 0x03 ∷ 0x0
     ≡ codes "The header at offset 5 is that of a primitive, which cannot have the indefinite length: 04 80.\n"
     ++ codes "Try: look at the element that ends at offset 5, or begins there: its length may be wrong; or "
     ++ codes "fetch the input anew, in binary.\n"
+    ++ codes "Or a length in front is wrong: that of the BIT STRING at offset 2. The header at offset 2, 03 03, "
+    ++ codes "says that its contents are 3 octets.\n"
 unfolding digits encode_with octets_in_words octets_between first_pairs named_element size_in_words header_opening
     header_closing header_octets header_sentence whole_line whole_try_line whole_lines_of left_over_lines
     blanks_line filler_line blanks_lines filler_lines following_lines no_parse_line_of code_lines front_lines
     reason_lines_in reason_lines later_lines fault_lines why_by reasons_by parses_line header_fault_words
     header_fault_line header_fault_lines deep_line deep_try_line deep_lines header_past_line element_past_line
     one_wrong_line past_line wrong_lines past_lines_in past_lines anew_line suspect_line_of suspect_line anew_lines
-    look_line look_lines
+    look_line suspect_lines look_lines
 row-reasons = refl
 
 -- an octet 00 in a string
@@ -103,7 +107,7 @@ unfolding digits encode_with octets_in_words octets_between first_pairs named_el
     reason_lines_in reason_lines later_lines fault_lines why_by reasons_by parses_line first_zeros_line later_zeros_line
     zeros_line padding_try_line front_try_line zeros_try_lines zeros_lines stray_line stray_lines_in stray_lines
     bad_end_line bad_end_lines lacking_zeros missing_end_line missing_end_lines_in missing_end_lines anew_line
-    suspect_line_of suspect_line anew_lines look_line look_lines
+    suspect_line_of suspect_line anew_lines look_line suspect_lines look_lines
 row-stray_in_string = refl
 
 -- a string holds no encodings
@@ -126,7 +130,7 @@ unfolding digits encode_with octets_in_words octets_between first_pairs named_el
     blanks_line filler_line blanks_lines filler_lines following_lines no_parse_line_of code_lines front_lines
     reason_lines_in reason_lines later_lines fault_lines why_by reasons_by parses_line cut_header_line
     cut_primitive_lines cut_end_line cut_holder_line cut_lines_at filled_line lacking_line needed_line unended_line
-    cut_try_line needed_lines missing_lines cut_lines
+    cut_try_line needed_lines missing_lines missing_after_lines suspect_line_of suspect_line cut_lines
 row-header_of_string = refl
 
 -- what a string holds parses

@@ -11,11 +11,13 @@ use Rattle.tlv_why.specs.Words.{header_opening, header_closing, header_octets, h
 use Rattle.tlv_why.specs.CutLines.{empty_line, empty_try_line, empty_lines, cut_header_line, cut_primitive_lines}
 use Rattle.tlv_why.specs.CutLines.{cut_end_line, cut_holder_line, cut_lines_at, filled_line, lacking_line, needed_line}
 use Rattle.tlv_why.specs.CutLines.{unended_line, cut_try_line, needed_lines, missing_lines, cut_lines}
+use Rattle.tlv_why.specs.CutLines.{missing_after_lines}
 use Rattle.tlv_why.specs.EndLines.{first_zeros_line, later_zeros_line, zeros_line, padding_try_line, front_try_line}
 use Rattle.tlv_why.specs.EndLines.{zeros_try_lines, zeros_lines, stray_line, stray_lines_in, stray_lines, bad_end_line}
 use Rattle.tlv_why.specs.EndLines.{bad_end_lines, lacking_zeros, missing_end_line, missing_end_lines_in}
 use Rattle.tlv_why.specs.EndLines.{missing_end_lines}
 use Rattle.tlv_why.specs.TryLines.{anew_line, suspect_line_of, suspect_line, anew_lines, look_line, look_lines}
+use Rattle.tlv_why.specs.TryLines.{suspect_lines}
 use Rattle.tlv_why.specs.HeaderFaultLines.{header_fault_words, header_fault_line, header_fault_lines, deep_line}
 use Rattle.tlv_why.specs.HeaderFaultLines.{deep_try_line, deep_lines, header_past_line, element_past_line}
 use Rattle.tlv_why.specs.HeaderFaultLines.{one_wrong_line, past_line, wrong_lines, past_lines_in, past_lines}
@@ -55,7 +57,7 @@ unfolding digits encode_with octets_in_words octets_between first_pairs named_el
     blanks_line filler_line blanks_lines filler_lines following_lines no_parse_line_of code_lines front_lines
     reason_lines_in reason_lines later_lines fault_lines why_by empty_line empty_try_line empty_lines cut_header_line
     cut_primitive_lines cut_end_line cut_holder_line cut_lines_at filled_line lacking_line needed_line unended_line
-    cut_try_line needed_lines missing_lines cut_lines
+    cut_try_line needed_lines missing_lines missing_after_lines suspect_line_of suspect_line cut_lines
 row-cut_primitive = refl
 
 -- a header lacks an octet
@@ -69,7 +71,7 @@ unfolding digits encode_with octets_in_words octets_between first_pairs named_el
     blanks_line filler_line blanks_lines filler_lines following_lines no_parse_line_of code_lines front_lines
     reason_lines_in reason_lines later_lines fault_lines why_by empty_line empty_try_line empty_lines cut_header_line
     cut_primitive_lines cut_end_line cut_holder_line cut_lines_at filled_line lacking_line needed_line unended_line
-    cut_try_line needed_lines missing_lines cut_lines
+    cut_try_line needed_lines missing_lines missing_after_lines suspect_line_of suspect_line cut_lines
 row-cut_header = refl
 
 -- a second octet 00 is lacking
@@ -84,7 +86,7 @@ unfolding digits encode_with octets_in_words octets_between first_pairs named_el
     blanks_line filler_line blanks_lines filler_lines following_lines no_parse_line_of code_lines front_lines
     reason_lines_in reason_lines later_lines fault_lines why_by empty_line empty_try_line empty_lines cut_header_line
     cut_primitive_lines cut_end_line cut_holder_line cut_lines_at filled_line lacking_line needed_line unended_line
-    cut_try_line needed_lines missing_lines cut_lines
+    cut_try_line needed_lines missing_lines missing_after_lines suspect_line_of suspect_line cut_lines
 row-cut_end = refl
 
 -- no room for what is missing
@@ -96,12 +98,14 @@ row-cut_filled : why_of (0x30 ∷ 0x04 ∷ 0x30 ∷ 0x80 ∷ 0x05 ∷ 0x00 ∷ [
     ++ codes "is missing.\n"
     ++ codes "Elements with an indefinite length that are not ended: 1; each needs two octets 00.\n"
     ++ codes "Try: look for a length that is too small, or fetch the input anew, in binary.\n"
+    ++ codes "Or a length in front is wrong: that of the NULL at offset 4. The header at offset 4, 05 00, "
+    ++ codes "says that its contents are 0 octets.\n"
 unfolding digits encode_with octets_in_words octets_between first_pairs named_element size_in_words header_opening
     header_closing header_octets header_sentence whole_line whole_try_line whole_lines_of left_over_lines
     blanks_line filler_line blanks_lines filler_lines following_lines no_parse_line_of code_lines front_lines
     reason_lines_in reason_lines later_lines fault_lines why_by empty_line empty_try_line empty_lines cut_header_line
     cut_primitive_lines cut_end_line cut_holder_line cut_lines_at filled_line lacking_line needed_line unended_line
-    cut_try_line needed_lines missing_lines cut_lines
+    cut_try_line needed_lines missing_lines missing_after_lines suspect_line_of suspect_line cut_lines
 row-cut_filled = refl
 
 -- most of the input is whole encodings
@@ -119,7 +123,7 @@ unfolding digits encode_with octets_in_words octets_between first_pairs named_el
     blanks_line filler_line blanks_lines filler_lines following_lines no_parse_line_of code_lines front_lines
     reason_lines_in reason_lines later_lines fault_lines why_by empty_line empty_try_line empty_lines cut_header_line
     cut_primitive_lines cut_end_line cut_holder_line cut_lines_at filled_line lacking_line needed_line unended_line
-    cut_try_line needed_lines missing_lines cut_lines
+    cut_try_line needed_lines missing_lines missing_after_lines suspect_line_of suspect_line cut_lines
 row-mostly_whole = refl
 
 -- filler follows whole encodings
@@ -132,7 +136,7 @@ unfolding digits encode_with octets_in_words octets_between first_pairs named_el
     blanks_line filler_line blanks_lines filler_lines following_lines no_parse_line_of code_lines front_lines
     reason_lines_in reason_lines later_lines fault_lines why_by empty_line empty_try_line empty_lines cut_header_line
     cut_primitive_lines cut_end_line cut_holder_line cut_lines_at filled_line lacking_line needed_line unended_line
-    cut_try_line needed_lines missing_lines cut_lines
+    cut_try_line needed_lines missing_lines missing_after_lines suspect_line_of suspect_line cut_lines
 row-filler = refl
 
 -- octets 00 follow whole encodings
@@ -147,7 +151,7 @@ unfolding digits encode_with octets_in_words octets_between first_pairs named_el
     reason_lines_in reason_lines later_lines fault_lines why_by first_zeros_line later_zeros_line zeros_line
     padding_try_line front_try_line zeros_try_lines zeros_lines stray_line stray_lines_in stray_lines bad_end_line
     bad_end_lines lacking_zeros missing_end_line missing_end_lines_in missing_end_lines anew_line suspect_line_of
-    suspect_line anew_lines look_line look_lines
+    suspect_line anew_lines look_line suspect_lines look_lines
 row-zeros = refl
 
 -- an octet 00 where an element should begin
@@ -167,7 +171,7 @@ unfolding digits encode_with octets_in_words octets_between first_pairs named_el
     reason_lines_in reason_lines later_lines fault_lines why_by first_zeros_line later_zeros_line zeros_line
     padding_try_line front_try_line zeros_try_lines zeros_lines stray_line stray_lines_in stray_lines bad_end_line
     bad_end_lines lacking_zeros missing_end_line missing_end_lines_in missing_end_lines anew_line suspect_line_of
-    suspect_line anew_lines look_line look_lines
+    suspect_line anew_lines look_line suspect_lines look_lines
 row-stray = refl
 
 -- another octet than the second 00
@@ -183,7 +187,7 @@ unfolding digits encode_with octets_in_words octets_between first_pairs named_el
     reason_lines_in reason_lines later_lines fault_lines why_by first_zeros_line later_zeros_line zeros_line
     padding_try_line front_try_line zeros_try_lines zeros_lines stray_line stray_lines_in stray_lines bad_end_line
     bad_end_lines lacking_zeros missing_end_line missing_end_lines_in missing_end_lines anew_line suspect_line_of
-    suspect_line anew_lines look_line look_lines
+    suspect_line anew_lines look_line suspect_lines look_lines
 row-bad_end = refl
 
 -- an element is not ended
@@ -194,13 +198,15 @@ row-missing_end : why_of (0x30 ∷ 0x05 ∷ 0xa1 ∷ 0x80 ∷ 0x02 ∷ 0x01 ∷ 
     ++ codes "number of octets. The header at offset 0, 30 05, says that its contents are 5 octets.\n"
     ++ codes "Try: fetch the input anew, in binary; or go on at the next record, with tail -c +M FILE, where "
     ++ codes "M is its offset and 1.\n"
+    ++ codes "Or a length in front is wrong: that of the INTEGER at offset 4. The header at offset 4, 02 01, "
+    ++ codes "says that its contents are 1 octet.\n"
 unfolding digits encode_with octets_in_words octets_between first_pairs named_element size_in_words header_opening
     header_closing header_octets header_sentence whole_line whole_try_line whole_lines_of left_over_lines
     blanks_line filler_line blanks_lines filler_lines following_lines no_parse_line_of code_lines front_lines
     reason_lines_in reason_lines later_lines fault_lines why_by first_zeros_line later_zeros_line zeros_line
     padding_try_line front_try_line zeros_try_lines zeros_lines stray_line stray_lines_in stray_lines bad_end_line
     bad_end_lines lacking_zeros missing_end_line missing_end_lines_in missing_end_lines anew_line suspect_line_of
-    suspect_line anew_lines look_line look_lines
+    suspect_line anew_lines look_line suspect_lines look_lines
 row-missing_end = refl
 
 -- a reserved length octet
@@ -213,7 +219,7 @@ unfolding digits encode_with octets_in_words octets_between first_pairs named_el
     blanks_line filler_line blanks_lines filler_lines following_lines no_parse_line_of code_lines front_lines
     reason_lines_in reason_lines later_lines fault_lines why_by header_fault_words header_fault_line header_fault_lines
     deep_line deep_try_line deep_lines header_past_line element_past_line one_wrong_line past_line wrong_lines
-    past_lines_in past_lines anew_line suspect_line_of suspect_line anew_lines look_line look_lines
+    past_lines_in past_lines anew_line suspect_line_of suspect_line anew_lines look_line suspect_lines look_lines
 row-reserved = refl
 
 -- a primitive with the indefinite length
@@ -222,12 +228,14 @@ row-indefinite_primitive : why_of (0x30 ∷ 0x02 ∷ 0x04 ∷ 0x80 ∷ []) None
     ++ codes "The header at offset 2 is that of a primitive, which cannot have the indefinite length: 04 80.\n"
     ++ codes "Try: look at the element that ends at offset 2, or begins there: its length may be wrong; or "
     ++ codes "fetch the input anew, in binary.\n"
+    ++ codes "Or a length in front is wrong: that of the SEQUENCE at offset 0. The header at offset 0, 30 02, "
+    ++ codes "says that its contents are 2 octets.\n"
 unfolding digits encode_with octets_in_words octets_between first_pairs named_element size_in_words header_opening
     header_closing header_octets header_sentence whole_line whole_try_line whole_lines_of left_over_lines
     blanks_line filler_line blanks_lines filler_lines following_lines no_parse_line_of code_lines front_lines
     reason_lines_in reason_lines later_lines fault_lines why_by header_fault_words header_fault_line header_fault_lines
     deep_line deep_try_line deep_lines header_past_line element_past_line one_wrong_line past_line wrong_lines
-    past_lines_in past_lines anew_line suspect_line_of suspect_line anew_lines look_line look_lines
+    past_lines_in past_lines anew_line suspect_line_of suspect_line anew_lines look_line suspect_lines look_lines
 row-indefinite_primitive = refl
 
 -- an element runs past the end of another
@@ -245,7 +253,7 @@ unfolding digits encode_with octets_in_words octets_between first_pairs named_el
     blanks_line filler_line blanks_lines filler_lines following_lines no_parse_line_of code_lines front_lines
     reason_lines_in reason_lines later_lines fault_lines why_by header_fault_words header_fault_line header_fault_lines
     deep_line deep_try_line deep_lines header_past_line element_past_line one_wrong_line past_line wrong_lines
-    past_lines_in past_lines anew_line suspect_line_of suspect_line anew_lines look_line look_lines
+    past_lines_in past_lines anew_line suspect_line_of suspect_line anew_lines look_line suspect_lines look_lines
 row-past = refl
 
 -- a header runs past the end of an element
@@ -262,5 +270,5 @@ unfolding digits encode_with octets_in_words octets_between first_pairs named_el
     blanks_line filler_line blanks_lines filler_lines following_lines no_parse_line_of code_lines front_lines
     reason_lines_in reason_lines later_lines fault_lines why_by header_fault_words header_fault_line header_fault_lines
     deep_line deep_try_line deep_lines header_past_line element_past_line one_wrong_line past_line wrong_lines
-    past_lines_in past_lines anew_line suspect_line_of suspect_line anew_lines look_line look_lines
+    past_lines_in past_lines anew_line suspect_line_of suspect_line anew_lines look_line suspect_lines look_lines
 row-header_past = refl

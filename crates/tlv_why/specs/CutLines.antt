@@ -7,6 +7,7 @@ use Rattle.tlv_why.specs.declared.facts.Facts.{Facts}
 use Rattle.tlv_why.specs.declared.facts.Unfinished.{Unfinished}
 use Rattle.tlv_why.specs.declared.facts.Unfinished.TheVariants.{EndOctets, Header, Nothing, Primitive}
 use Rattle.tlv_why.specs.OpenHolders.{element_end, indefinite_count, innermost_holder, outermost_definite}
+use Rattle.tlv_why.specs.TryLines.{suspect_line}
 use Rattle.tlv_why.specs.Words.{first_pairs, header_sentence, named_element, octets_between, octets_in_words}
 
 -- F01: there is no element in `size` octets
@@ -97,7 +98,11 @@ needed_lines size holders = needed_line size (outermost_definite holders) ++ une
 unfoldable pub missing_lines : ℕ → List Element → List ℕ
 missing_lines size holders = needed_lines size holders ++ cut_try_line size (outermost_definite holders)
 
+-- the same, and the element before, whose length may be wrong
+unfoldable pub missing_after_lines : List ℕ → List Element → Option Element → List ℕ
+missing_after_lines octets holders before = missing_lines (length octets) holders ++ suspect_line octets before
+
 unfoldable pub cut_lines : List ℕ → Facts → List ℕ
 cut_lines octets facts =
     cut_lines_at octets facts.next (innermost_holder facts) facts.unfinished
-    ++ missing_lines (length octets) facts.holders.items
+    ++ missing_after_lines octets facts.holders.items facts.before

@@ -67,10 +67,10 @@ bad_end_line octets begun offset after e =
     ++ codes ", but the second is" ++ first_pairs (octets_between octets offset after) ++ codes ". "
     ++ header_sentence octets e ++ codes "\n"
 
-unfoldable pub bad_end_lines : List ℕ → ℕ → Option Element → List ℕ
-bad_end_lines octets offset None = []
-bad_end_lines octets offset (Some e) =
-    bad_end_line octets (offset - 1) offset (offset_sum offset 1) e ++ anew_lines octets None
+unfoldable pub bad_end_lines : List ℕ → ℕ → Option Element → Option Element → List ℕ
+bad_end_lines octets offset None before = []
+bad_end_lines octets offset (Some e) before =
+    bad_end_line octets (offset - 1) offset (offset_sum offset 1) e ++ anew_lines octets before
 
 -- F05: what is missing of two octets 00
 unfoldable pub lacking_zeros : Unfinished → List ℕ
@@ -84,11 +84,12 @@ missing_end_line octets e holder end lacking =
     ++ codes " ends, at offset " ++ decimal end ++ codes ". Missing there: " ++ lacking
     ++ header_sentence octets e ++ codes " " ++ header_sentence octets holder ++ codes "\n"
 
-unfoldable pub missing_end_lines_in : List ℕ → Unfinished → Option Element → Element → List ℕ
-missing_end_lines_in octets u None e = []
-missing_end_lines_in octets u (Some holder) e =
-    missing_end_line octets e holder (element_end holder) (lacking_zeros u) ++ anew_lines octets None
+unfoldable pub missing_end_lines_in : List ℕ → Unfinished → Option Element → Element → Option Element → List ℕ
+missing_end_lines_in octets u None e before = []
+missing_end_lines_in octets u (Some holder) e before =
+    missing_end_line octets e holder (element_end holder) (lacking_zeros u) ++ anew_lines octets before
 
-unfoldable pub missing_end_lines : List ℕ → Unfinished → List Element → Option Element → List ℕ
-missing_end_lines octets u holders None = []
-missing_end_lines octets u holders (Some e) = missing_end_lines_in octets u (innermost_definite None holders) e
+unfoldable pub missing_end_lines : List ℕ → Unfinished → List Element → Option Element → Option Element → List ℕ
+missing_end_lines octets u holders None before = []
+missing_end_lines octets u holders (Some e) before =
+    missing_end_lines_in octets u (innermost_definite None holders) e before

@@ -24,9 +24,10 @@ header_fault_line octets next after words =
     codes "The header at offset " ++ decimal next ++ words ++ first_pairs (octets_between octets next after)
     ++ codes ".\n"
 
-unfoldable pub header_fault_lines : FaultCode → List ℕ → ℕ → ℕ → Option Element → List ℕ
-header_fault_lines code octets offset next before =
-    header_fault_line octets next (offset_sum offset 1) (header_fault_words code) ++ look_lines octets next before
+unfoldable pub header_fault_lines : FaultCode → List ℕ → ℕ → ℕ → Option Element → Option Element → List ℕ
+header_fault_lines code octets offset next around before =
+    header_fault_line octets next (offset_sum offset 1) (header_fault_words code)
+    ++ look_lines octets next around before
 
 -- F10: an element begins at this offset
 unfoldable pub deep_line : ℕ → List ℕ

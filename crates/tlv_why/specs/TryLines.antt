@@ -15,7 +15,7 @@ suspect_line_of octets e =
     codes "Or a length in front is wrong: that of the " ++ named_element e ++ codes ". "
     ++ header_sentence octets e ++ codes "\n"
 
--- the line about the element before, if there is one and its length is definite
+-- the line about an element in front, if there is one and its length is definite
 unfoldable pub suspect_line : List ℕ → Option Element → List ℕ
 suspect_line octets None = []
 suspect_line octets (Some e) = if has_end e then suspect_line_of octets e else []
@@ -32,5 +32,9 @@ look_line next =
     codes "Try: look at the element that ends at offset " ++ decimal next
     ++ codes ", or begins there: its length may be wrong; or fetch the input anew, in binary.\n"
 
-unfoldable pub look_lines : List ℕ → ℕ → Option Element → List ℕ
-look_lines octets next before = look_line next ++ suspect_line octets before
+-- the line about the element around, and that about the element before
+unfoldable pub suspect_lines : List ℕ → Option Element → Option Element → List ℕ
+suspect_lines octets around before = suspect_line octets around ++ suspect_line octets before
+
+unfoldable pub look_lines : List ℕ → ℕ → Option Element → Option Element → List ℕ
+look_lines octets next around before = look_line next ++ suspect_lines octets around before

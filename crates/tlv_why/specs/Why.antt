@@ -34,16 +34,17 @@ unfoldable pub code_lines : FaultCode → ℕ → List ℕ → Facts → List �
 code_lines Empty offset octets facts = empty_lines (length octets)
 code_lines Short offset octets facts = cut_lines octets facts
 code_lines StrayEnd offset octets facts = stray_lines octets offset (innermost_holder facts) facts.before
-code_lines BadEnd offset octets facts = bad_end_lines octets offset (innermost_holder facts)
+code_lines BadEnd offset octets facts = bad_end_lines octets offset (innermost_holder facts) facts.before
 code_lines MissingEnd offset octets facts =
-    missing_end_lines octets facts.unfinished facts.holders.items (innermost_holder facts)
-code_lines TagTooLong offset octets facts = header_fault_lines TagTooLong octets offset facts.next facts.before
+    missing_end_lines octets facts.unfinished facts.holders.items (innermost_holder facts) facts.before
+code_lines TagTooLong offset octets facts =
+    header_fault_lines TagTooLong octets offset facts.next (innermost_holder facts) facts.before
 code_lines ReservedLength offset octets facts =
-    header_fault_lines ReservedLength octets offset facts.next facts.before
+    header_fault_lines ReservedLength octets offset facts.next (innermost_holder facts) facts.before
 code_lines IndefinitePrimitive offset octets facts =
-    header_fault_lines IndefinitePrimitive octets offset facts.next facts.before
+    header_fault_lines IndefinitePrimitive octets offset facts.next (innermost_holder facts) facts.before
 code_lines LengthTooLarge offset octets facts =
-    header_fault_lines LengthTooLarge octets offset facts.next facts.before
+    header_fault_lines LengthTooLarge octets offset facts.next (innermost_holder facts) facts.before
 code_lines TooDeep offset octets facts = deep_lines facts.next
 code_lines Overrun offset octets facts = past_lines octets offset facts
 code_lines BadInside offset octets facts = []

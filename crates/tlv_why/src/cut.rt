@@ -3,10 +3,11 @@ ghost use Rattle.std.specs.Prelude.{◌≡◌};
 ghost use Rattle.tlv_io.specs.Out.{Puts};
 ghost use Rattle.tlv_why.specs.CutLines.{cut_end_line, cut_header_line, cut_holder_line, cut_lines, cut_lines_at};
 ghost use Rattle.tlv_why.specs.CutLines.{cut_primitive_lines, cut_try_line, ends_with_input, filled_line};
-ghost use Rattle.tlv_why.specs.CutLines.{lacking_line, missing_lines, needed_line, needed_lines, unended_line};
+ghost use Rattle.tlv_why.specs.CutLines.{lacking_line, missing_after_lines, missing_lines, needed_line, needed_lines, unended_line};
 
 use crate::holders::{element_end, indefinite_count, innermost_holder, outermost_definite};
 use crate::part::{Part, put_parts};
+use crate::tries::put_suspect_line;
 use crate::{Element, Facts, Unfinished};
 use tlv_io::{Drain, Out, WriteFault};
 
@@ -26,7 +27,21 @@ pub(crate) fn put_cut_lines<D: Drain>(
         facts.unfinished,
         out,
     )?;
-    put_missing_lines(octets.len() as u64, facts.holders.as_slice(), out)
+    put_missing_after_lines(octets, facts.holders.as_slice(), facts.before, out)
+}
+
+/// Puts what is missing in all, and names the element before if its length may be wrong.
+#[tactic(auto, using(tlv_io::proofs::Puts::puts), unfolding(crate::specs::CutLines::missing_after_lines))]
+fn put_missing_after_lines<D: Drain>(
+    octets: &[u8],
+    holders: &[Element],
+    before: Option<Element>,
+    out: &mut Out<'_, D>,
+) -> Result<(), WriteFault>
+    ensures { Puts D.state out.old out.new (missing_after_lines octets.now holders.now before) result }
+{
+    put_missing_lines(octets.len() as u64, holders, out)?;
+    put_suspect_line(octets, before, out)
 }
 
 /// Puts the lines about what lacks octets.

@@ -87,9 +87,10 @@ pub(crate) fn put_bad_end_lines<D: Drain>(
     octets: &[u8],
     offset: u64,
     inner: Option<Element>,
+    before: Option<Element>,
     out: &mut Out<'_, D>,
 ) -> Result<(), WriteFault>
-    ensures { Puts D.state out.old out.new (bad_end_lines octets.now offset inner) result }
+    ensures { Puts D.state out.old out.new (bad_end_lines octets.now offset inner before) result }
 {
     let Some(element) = inner else {
         return Ok(());
@@ -103,7 +104,7 @@ pub(crate) fn put_bad_end_lines<D: Drain>(
         element,
         out,
     )?;
-    put_anew_lines(octets, None, out)
+    put_anew_lines(octets, before, out)
 }
 
 #[tactic(auto, unfolding(crate::specs::EndLines::bad_end_line))]
@@ -141,9 +142,11 @@ pub(crate) fn put_missing_end_lines<D: Drain>(
     unfinished: Unfinished,
     holders: &[Element],
     inner: Option<Element>,
+    before: Option<Element>,
     out: &mut Out<'_, D>,
 ) -> Result<(), WriteFault>
-    ensures { Puts D.state out.old out.new (missing_end_lines octets.now unfinished holders.now inner) result }
+    ensures { Puts D.state out.old out.new
+        (missing_end_lines octets.now unfinished holders.now inner before) result }
 {
     let Some(element) = inner else {
         return Ok(());
@@ -153,6 +156,7 @@ pub(crate) fn put_missing_end_lines<D: Drain>(
         unfinished,
         innermost_definite(holders),
         element,
+        before,
         out,
     )
 }
@@ -163,9 +167,11 @@ fn put_missing_end_lines_in<D: Drain>(
     unfinished: Unfinished,
     holder: Option<Element>,
     element: Element,
+    before: Option<Element>,
     out: &mut Out<'_, D>,
 ) -> Result<(), WriteFault>
-    ensures { Puts D.state out.old out.new (missing_end_lines_in octets.now unfinished holder element) result }
+    ensures { Puts D.state out.old out.new
+        (missing_end_lines_in octets.now unfinished holder element before) result }
 {
     let Some(holder) = holder else {
         return Ok(());
@@ -178,7 +184,7 @@ fn put_missing_end_lines_in<D: Drain>(
         lacking_zeros(unfinished),
         out,
     )?;
-    put_anew_lines(octets, None, out)
+    put_anew_lines(octets, before, out)
 }
 
 #[tactic(auto, unfolding(crate::specs::EndLines::missing_end_line))]

@@ -20,10 +20,12 @@ pub(crate) fn put_header_fault_lines<D: Drain>(
     octets: &[u8],
     offset: u64,
     next: u64,
+    around: Option<Element>,
     before: Option<Element>,
     out: &mut Out<'_, D>,
 ) -> Result<(), WriteFault>
-    ensures { Puts D.state out.old out.new (header_fault_lines code octets.now offset next before) result }
+    ensures { Puts D.state out.old out.new
+        (header_fault_lines code octets.now offset next around before) result }
 {
     put_header_fault_line(
         octets,
@@ -32,7 +34,7 @@ pub(crate) fn put_header_fault_lines<D: Drain>(
         header_fault_words(code),
         out,
     )?;
-    put_look_lines(octets, next, before, out)
+    put_look_lines(octets, next, around, before, out)
 }
 
 #[tactic(auto, unfolding(crate::specs::HeaderFaultLines::header_fault_line))]

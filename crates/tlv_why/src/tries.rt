@@ -1,7 +1,7 @@
 //! What to try, and which other lengths may be wrong.
 ghost use Rattle.tlv_io.specs.Out.{Puts};
 ghost use Rattle.tlv_why.specs.TryLines.{anew_line, anew_lines, look_line, look_lines, suspect_line};
-ghost use Rattle.tlv_why.specs.TryLines.{suspect_line_of};
+ghost use Rattle.tlv_why.specs.TryLines.{suspect_line_of, suspect_lines};
 
 use crate::Element;
 use crate::holders::has_end;
@@ -37,16 +37,16 @@ fn put_anew_line<D: Drain>(out: &mut Out<'_, D>) -> Result<(), WriteFault>
     )
 }
 
-/// Puts that the length that the element before announces may be wrong.
+/// Puts that the length that an element in front announces may be wrong.
 #[tactic(auto, unfolding(crate::specs::TryLines::suspect_line))]
-fn put_suspect_line<D: Drain>(
+pub(crate) fn put_suspect_line<D: Drain>(
     octets: &[u8],
-    before: Option<Element>,
+    found: Option<Element>,
     out: &mut Out<'_, D>,
 ) -> Result<(), WriteFault>
-    ensures { Puts D.state out.old out.new (suspect_line octets.now before) result }
+    ensures { Puts D.state out.old out.new (suspect_line octets.now found) result }
 {
-    let Some(element) = before else {
+    let Some(element) = found else {
         return Ok(());
     };
     if has_end(&element) {
@@ -76,18 +76,34 @@ fn put_suspect_line_of<D: Drain>(
     )
 }
 
-/// Puts what to try if there is no header at this offset, and names the element before if its length may be wrong.
+/// Puts that the lengths of the element around and of the element before may be wrong.
+#[tactic(auto, using(tlv_io::proofs::Puts::puts), unfolding(crate::specs::TryLines::suspect_lines))]
+fn put_suspect_lines<D: Drain>(
+    octets: &[u8],
+    around: Option<Element>,
+    before: Option<Element>,
+    out: &mut Out<'_, D>,
+) -> Result<(), WriteFault>
+    ensures { Puts D.state out.old out.new (suspect_lines octets.now around before) result }
+{
+    put_suspect_line(octets, around, out)?;
+    put_suspect_line(octets, before, out)
+}
+
+/// Puts what to try if there is no header at this offset, and names the elements around and before if their lengths may
+/// be wrong.
 #[tactic(auto, using(tlv_io::proofs::Puts::puts), unfolding(crate::specs::TryLines::look_lines))]
 pub(crate) fn put_look_lines<D: Drain>(
     octets: &[u8],
     next: u64,
+    around: Option<Element>,
     before: Option<Element>,
     out: &mut Out<'_, D>,
 ) -> Result<(), WriteFault>
-    ensures { Puts D.state out.old out.new (look_lines octets.now next before) result }
+    ensures { Puts D.state out.old out.new (look_lines octets.now next around before) result }
 {
     put_look_line(next, out)?;
-    put_suspect_line(octets, before, out)
+    put_suspect_lines(octets, around, before, out)
 }
 
 #[tactic(auto, unfolding(crate::specs::TryLines::look_line))]

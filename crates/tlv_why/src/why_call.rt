@@ -243,19 +243,23 @@ fn put_code_lines<D: Drain>(
         FaultCode::StrayEnd => {
             put_stray_lines(octets, offset, innermost_holder(facts), facts.before, out)
         }
-        FaultCode::BadEnd => put_bad_end_lines(octets, offset, innermost_holder(facts), out),
+        FaultCode::BadEnd => {
+            put_bad_end_lines(octets, offset, innermost_holder(facts), facts.before, out)
+        }
         FaultCode::MissingEnd => put_missing_end_lines(
             octets,
             facts.unfinished,
             facts.holders.as_slice(),
             innermost_holder(facts),
+            facts.before,
             out,
         ),
         FaultCode::TagTooLong
         | FaultCode::ReservedLength
         | FaultCode::IndefinitePrimitive
         | FaultCode::LengthTooLarge => {
-            put_header_fault_lines(code, octets, offset, facts.next, facts.before, out)
+            let around = innermost_holder(facts);
+            put_header_fault_lines(code, octets, offset, facts.next, around, facts.before, out)
         }
         FaultCode::TooDeep => put_deep_lines(facts.next, out),
         FaultCode::Overrun => put_past_lines(octets, offset, facts, out),

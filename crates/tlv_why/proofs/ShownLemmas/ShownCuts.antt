@@ -13,9 +13,10 @@ use Rattle.tlv_why.specs.declared.facts.Unfinished.{Unfinished}
 use Rattle.tlv_why.specs.declared.facts.Unfinished.TheVariants.{EndOctets, Header, Nothing, Primitive}
 use Rattle.tlv_why.specs.CutLines.{cut_end_line, cut_header_line, cut_holder_line, cut_lines, cut_lines_at}
 use Rattle.tlv_why.specs.CutLines.{cut_primitive_lines, cut_try_line, empty_line, empty_lines, empty_try_line}
-use Rattle.tlv_why.specs.CutLines.{ends_with_input, filled_line, lacking_line, missing_lines, needed_line}
-use Rattle.tlv_why.specs.CutLines.{needed_lines, unended_line}
+use Rattle.tlv_why.specs.CutLines.{ends_with_input, filled_line, lacking_line, missing_after_lines, missing_lines}
+use Rattle.tlv_why.specs.CutLines.{needed_line, needed_lines, unended_line}
 use Rattle.tlv_why.specs.OpenHolders.{element_end, innermost_holder}
+use Rattle.tlv_why.proofs.ShownLemmas.ShownEnds.{suspect_line-shown}
 
 empty_line-shown : (size : ℕ) → AreShown (empty_line size)
 unfolding empty_line
@@ -114,11 +115,17 @@ missing_lines-shown : (size : ℕ) (holders : List Element) → AreShown (missin
 unfolding missing_lines
 missing_lines-shown size holders = simp (list_all-append, needed_lines-shown, cut_try_line-shown)
 
+missing_after_lines-shown : (octets : List ℕ) (holders : List Element) (before : Option Element) → AreOctets octets
+    → AreShown (missing_after_lines octets holders before)
+unfolding missing_after_lines
+missing_after_lines-shown octets holders before o =
+    simp (list_all-append, missing_lines-shown, suspect_line-shown octets before o)
+
 pub cut_lines-shown : (octets : List ℕ) (facts : Facts) → AreOctets octets → AreShown (cut_lines octets facts)
 unfolding cut_lines
 cut_lines-shown octets facts o =
     simp (
       list_all-append,
       cut_lines_at-shown octets facts.next (innermost_holder facts) facts.unfinished o,
-      missing_lines-shown,
+      missing_after_lines-shown octets facts.holders.items facts.before o,
     )

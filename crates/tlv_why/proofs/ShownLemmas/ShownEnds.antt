@@ -17,6 +17,7 @@ use Rattle.tlv_why.specs.EndLines.{padding_try_line, stray_line, stray_lines, st
 use Rattle.tlv_why.specs.EndLines.{zeros_lines, zeros_try_lines}
 use Rattle.tlv_why.specs.OpenHolders.{element_end, has_end, innermost_definite}
 use Rattle.tlv_why.specs.TryLines.{anew_line, anew_lines, look_line, look_lines, suspect_line, suspect_line_of}
+use Rattle.tlv_why.specs.TryLines.{suspect_lines}
 
 -- ---- what to try
 
@@ -35,7 +36,7 @@ suspect_line_of-shown octets e o =
       header_sentence-shown octets e o,
     )
 
-suspect_line-shown : (octets : List ℕ) (before : Option Element) → AreOctets octets
+pub suspect_line-shown : (octets : List ℕ) (before : Option Element) → AreOctets octets
     → AreShown (suspect_line octets before)
 unfolding suspect_line
 suspect_line-shown octets None o = refl
@@ -57,11 +58,17 @@ look_line-shown next = elim (cases_Bool (eqb next 0)) [
   | inr later ↦ rw later (simp (list_all-append, decimal-shown))
 ]
 
-pub look_lines-shown : (octets : List ℕ) (next : ℕ) (before : Option Element) → AreOctets octets
-    → AreShown (look_lines octets next before)
+suspect_lines-shown : (octets : List ℕ) (around before : Option Element) → AreOctets octets
+    → AreShown (suspect_lines octets around before)
+unfolding suspect_lines
+suspect_lines-shown octets around before o =
+    simp (list_all-append, suspect_line-shown octets around o, suspect_line-shown octets before o)
+
+pub look_lines-shown : (octets : List ℕ) (next : ℕ) (around before : Option Element) → AreOctets octets
+    → AreShown (look_lines octets next around before)
 unfolding look_lines
-look_lines-shown octets next before o =
-    simp (list_all-append, look_line-shown, suspect_line-shown octets before o)
+look_lines-shown octets next around before o =
+    simp (list_all-append, look_line-shown, suspect_lines-shown octets around before o)
 
 -- ---- end-of-contents octets
 
@@ -146,15 +153,15 @@ bad_end_line-shown octets begun offset after e o =
       first_pairs-shown octets offset after o,
     )
 
-pub bad_end_lines-shown : (octets : List ℕ) (offset : ℕ) (inner : Option Element) → AreOctets octets
-    → AreShown (bad_end_lines octets offset inner)
+pub bad_end_lines-shown : (octets : List ℕ) (offset : ℕ) (inner before : Option Element) → AreOctets octets
+    → AreShown (bad_end_lines octets offset inner before)
 unfolding bad_end_lines
-bad_end_lines-shown octets offset None o = refl
-bad_end_lines-shown octets offset (Some e) o =
+bad_end_lines-shown octets offset None before o = refl
+bad_end_lines-shown octets offset (Some e) before o =
     simp (
       list_all-append,
       bad_end_line-shown octets (offset - 1) offset (offset_sum offset 1) e o,
-      anew_lines-shown octets None o,
+      anew_lines-shown octets before o,
     )
 
 lacking_zeros-shown : (u : Unfinished) → AreShown (lacking_zeros u)
@@ -178,19 +185,19 @@ missing_end_line-shown octets e holder end lacking o shown =
     )
 
 missing_end_lines_in-shown : (octets : List ℕ) (u : Unfinished) (found : Option Element) (e : Element)
-    → AreOctets octets → AreShown (missing_end_lines_in octets u found e)
+    (before : Option Element) → AreOctets octets → AreShown (missing_end_lines_in octets u found e before)
 unfolding missing_end_lines_in
-missing_end_lines_in-shown octets u None e o = refl
-missing_end_lines_in-shown octets u (Some holder) e o =
+missing_end_lines_in-shown octets u None e before o = refl
+missing_end_lines_in-shown octets u (Some holder) e before o =
     simp (
       list_all-append,
       missing_end_line-shown octets e holder (element_end holder) (lacking_zeros u) o (lacking_zeros-shown u),
-      anew_lines-shown octets None o,
+      anew_lines-shown octets before o,
     )
 
-pub missing_end_lines-shown : (octets : List ℕ) (u : Unfinished) (holders : List Element) (inner : Option Element)
-    → AreOctets octets → AreShown (missing_end_lines octets u holders inner)
+pub missing_end_lines-shown : (octets : List ℕ) (u : Unfinished) (holders : List Element)
+    (inner before : Option Element) → AreOctets octets → AreShown (missing_end_lines octets u holders inner before)
 unfolding missing_end_lines
-missing_end_lines-shown octets u holders None o = refl
-missing_end_lines-shown octets u holders (Some e) o =
-    missing_end_lines_in-shown octets u (innermost_definite None holders) e o
+missing_end_lines-shown octets u holders None before o = refl
+missing_end_lines-shown octets u holders (Some e) before o =
+    missing_end_lines_in-shown octets u (innermost_definite None holders) e before o

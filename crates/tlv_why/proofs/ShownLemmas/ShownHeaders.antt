@@ -39,14 +39,14 @@ unfolding header_fault_line
 header_fault_line-shown octets next after words o shown =
     simp (list_all-append, decimal-shown, shown, first_pairs-shown octets next after o)
 
-pub header_fault_lines-shown : (code : FaultCode) (octets : List ℕ) (offset next : ℕ) (before : Option Element)
-    → AreOctets octets → AreShown (header_fault_lines code octets offset next before)
+pub header_fault_lines-shown : (code : FaultCode) (octets : List ℕ) (offset next : ℕ) (around before : Option Element)
+    → AreOctets octets → AreShown (header_fault_lines code octets offset next around before)
 unfolding header_fault_lines
-header_fault_lines-shown code octets offset next before o =
+header_fault_lines-shown code octets offset next around before o =
     simp (
       list_all-append,
       header_fault_line-shown octets next (offset_sum offset 1) (header_fault_words code) o (words-shown code),
-      look_lines-shown octets next before o,
+      look_lines-shown octets next around before o,
     )
 
 deep_line-shown : (next : ℕ) → AreShown (deep_line next)

@@ -123,17 +123,18 @@ code_lines-shown fault.Empty offset octets facts o = empty_lines-shown (length o
 code_lines-shown fault.Short offset octets facts o = cut_lines-shown octets facts o
 code_lines-shown fault.StrayEnd offset octets facts o =
     stray_lines-shown octets offset (innermost_holder facts) facts.before o
-code_lines-shown fault.BadEnd offset octets facts o = bad_end_lines-shown octets offset (innermost_holder facts) o
+code_lines-shown fault.BadEnd offset octets facts o =
+    bad_end_lines-shown octets offset (innermost_holder facts) facts.before o
 code_lines-shown fault.MissingEnd offset octets facts o =
-    missing_end_lines-shown octets facts.unfinished facts.holders.items (innermost_holder facts) o
+    missing_end_lines-shown octets facts.unfinished facts.holders.items (innermost_holder facts) facts.before o
 code_lines-shown fault.TagTooLong offset octets facts o =
-    header_fault_lines-shown fault.TagTooLong octets offset facts.next facts.before o
+    header_fault_lines-shown fault.TagTooLong octets offset facts.next (innermost_holder facts) facts.before o
 code_lines-shown fault.ReservedLength offset octets facts o =
-    header_fault_lines-shown fault.ReservedLength octets offset facts.next facts.before o
+    header_fault_lines-shown fault.ReservedLength octets offset facts.next (innermost_holder facts) facts.before o
 code_lines-shown fault.IndefinitePrimitive offset octets facts o =
-    header_fault_lines-shown fault.IndefinitePrimitive octets offset facts.next facts.before o
+    header_fault_lines-shown fault.IndefinitePrimitive octets offset facts.next (innermost_holder facts) facts.before o
 code_lines-shown fault.LengthTooLarge offset octets facts o =
-    header_fault_lines-shown fault.LengthTooLarge octets offset facts.next facts.before o
+    header_fault_lines-shown fault.LengthTooLarge octets offset facts.next (innermost_holder facts) facts.before o
 code_lines-shown fault.TooDeep offset octets facts o = deep_lines-shown facts.next
 code_lines-shown fault.Overrun offset octets facts o = past_lines-shown octets offset facts o
 code_lines-shown fault.BadInside offset octets facts o = refl
