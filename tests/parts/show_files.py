@@ -1,5 +1,6 @@
 """Tests tlvdump-show on octets: its words, several FILEs, names files, and what cannot be opened, read or written."""
 import os
+import pty
 import resource
 import signal
 import subprocess
@@ -200,6 +201,18 @@ def inputs(part, program):
     part.expect("a million octets by a pipe", fine, *got.lines())
 
 
+def at_a_terminal(part, program):
+    """If standard input is a terminal, a note says that it is read. There is no note if a FILE is named."""
+    part.write("typed", NULL)
+    note = "standard input is read, up to Ctrl-D\ntaken for hexadecimal"
+    for words, keys, err in ([], b"05 00\n\x04", note), (["typed"], b"", ""):
+        mine, its = pty.openpty()
+        os.write(mine, keys)
+        program.gives(words, NULL, 0, NULL_LINE, err, f"at a terminal: {' '.join(words) or 'no words'}", stdin=its)
+        os.close(mine)
+        os.close(its)
+
+
 def outputs(part, program):
     """A full disk, a pipe without a reader, and a limit on the size of a file."""
     for given, octets in (([], SOUND), (["--check"], b"\x02\x02\x00\x05"), (["--offsets"], SOUND), (["--offset", "0"], SOUND),
@@ -228,4 +241,5 @@ def test(part):
     long_lines(part, program)
     names(part, program)
     inputs(part, program)
+    at_a_terminal(part, program)
     outputs(part, program)
