@@ -36,6 +36,8 @@ WRONG = "One of the two lengths is wrong, or octets between them are missing or 
 INDEFINITE = "an indefinite number of octets"
 ANEW = "Try: fetch the input anew, in binary; or go on at the next record, with tail -c +M FILE, where M is its offset and 1."
 START = "No encoding begins so. Try: file FILE, which knows files of other kinds."
+MORE = "If one octet more stood after the header at offset {0}, all would parse: an octet of its contents may be missing."
+FEWER = "If one octet fewer stood after the header at offset {0}, all would parse: an octet may have been put in there."
 WHOLE = "Try: head -c {0} FILE, for the whole encodings."
 # For each fault: the code, the octets, the words, and the sentences after "It does not parse".
 FAULTS = [
@@ -82,6 +84,12 @@ FAULTS = [
       " There is an octet 00, with which none begins. " + header(0, "30 04", "4 octets"),
       "Left over: 2 octets. Its length, or one in front of that offset, is wrong.", ANEW,
       in_front("NULL", 2, "05 00", "0 octets")]),
+    # One of the two contents octets of the INTEGER is missing.
+    ("F03", "30 06 02 02 01 05 00", [],
+     ["Inside the SEQUENCE at offset 0, which ends at offset 8, an element should begin at offset 6."
+      " There is an octet 00, with which none begins. " + header(0, "30 06", "6 octets"),
+      "Left over: 2 octets. Its length, or one in front of that offset, is wrong.", ANEW,
+      in_front("INTEGER", 2, "02 02", "2 octets"), MORE.format(2)]),
     ("F04", "30 80 00 05", [],
      ["At offset 2 the octets 00 00 should end the SEQUENCE at offset 0, but the second is 05. "
       + header(0, "30 80", INDEFINITE), ANEW]),
@@ -114,6 +122,11 @@ FAULTS = [
      ["The octet at offset 3 completes the header of the INTEGER at offset 2. " + header(2, "02 02", "2 octets"),
       "It would end at offset 6, but the SEQUENCE at offset 0 ends at offset 5. Missing there: 1 octet. "
       + header(0, "30 03", "3 octets"), WRONG, ANEW, "If the header at offset 2 said 1 octet and not 2, all would parse."]),
+    # The INTEGER has one octet too many.
+    ("F11", "30 05 02 01 05 07 05 00", [],
+     ["The octet at offset 6 completes the header of the ObjectDescriptor at offset 5. " + header(5, "07 05", "5 octets"),
+      "It would end at offset 12, but the SEQUENCE at offset 0 ends at offset 7. Missing there: 5 octets. "
+      + header(0, "30 05", "5 octets"), WRONG, ANEW, in_front("INTEGER", 2, "02 01", "1 octet"), FEWER.format(2)]),
     ("F11", "30 02 30 82 01 01", [],
      ["The header at offset 2 runs past the end of the SEQUENCE at offset 0, which ends at offset 4. "
       + header(0, "30 02", "2 octets"),
@@ -255,6 +268,36 @@ def real_headers(why):
     part.note(share)
 
 
+def other_counts(rng, octets):
+    """Yields offsets of random primitives with two contents octets or more, and the octets in which they lack one of
+    these or have one of them twice.
+    """
+    primitives = [it for it in Reading(octets).elements() if not it.constructed and (it.length or 0) > 1]
+    for it in rng.choices(primitives, k=CHANGES):
+        place = it.start + rng.randrange(it.length)
+        again = octets[place : place + 1] * rng.choice((0, 2))
+        yield it.offset, octets[:place] + again + octets[place + 1 :]
+
+
+def real_contents(why):
+    """In real encodings with one contents octet missing or doubled, the header in front is named in most cases.
+
+    Encodings that still parse do not count.
+    """
+    part, rng, named, other = why.part, random.Random(2), 0, []
+    for name, octets in real_encodings.encodings(part, STEP):
+        for offset, wrong in other_counts(rng, octets):
+            status, lines = why.said(wrong)
+            if status == 2:
+                is_named = any(line in lines for line in (MORE.format(offset), FEWER.format(offset)))
+                named, other = named + is_named, other + [f"{name}, {offset}"] * (not is_named)
+    count = named + len(other)
+    share = f"{count} real encodings with one contents octet missing or doubled: {named} headers named"
+    part.expect("real encodings with one contents octet missing or doubled", count >= 200, share)
+    part.expect("the header in front of them is named in most cases", named > 0.5 * count, share, *other)
+    part.note(share)
+
+
 def texts(why):
     """Each block of a text is explained. The status of several FILEs is the highest."""
     part, octets = why.part, element(0x30, b"\x02\x01\x05")
@@ -281,3 +324,4 @@ def test(part):
     texts(why)
     if part.has("openssl"):
         real_headers(why)
+        real_contents(why)

@@ -53,7 +53,7 @@ def damaged_dumps(checks, octets):
         width, at = len_of_row(name), rows[3]
         before, after = lines[:at], lines[at + 1 :]
         offset = re.sub(rb"^(\s*(?:0x)?)[0-9a-fA-F]", rb"\g<1>7", lines[at])
-        digit = re.sub(rb"^(\s*(?:0x)?\w+:?\s+(?:-\s)?\w\w\s?)\w", rb"\g<1>g", lines[at])
+        digit = re.sub(rb"^(\s*(?:0x)?\w+(?:\s<.*>)?:?\s+(?:-\s)?\w\w\s?)\w", rb"\g<1>g", lines[at])
         for what, kept, more, changed in (
             ("a line is missing", 3 * width, 1, before + after),
             ("a line twice", 4 * width, 2, [*before, lines[at], lines[at], *after]),
@@ -159,12 +159,10 @@ def pairs_of(text):
 
 
 def wrong_digit(checks, name, form, text, octets):
-    """A digit of the second pair or token, of one in the middle, or of the last but one is wrong. The last of these is
-    left out for strings: no token follows a wrong one in its line, and what is after the last token is passed over.
-    """
+    """A digit of the second pair or token, of one in the middle, or of the last but one is wrong."""
     if form != "hex":
         return
-    for at in (1, len(octets) // 2, len(octets) - 2)[: 2 if name == "Wireshark's string" else 3]:
+    for at in (1, len(octets) // 2, len(octets) - 2):
         for place in range(*pairs_of(text)[at].span(1)):
             what, changed = f"{name}, a wrong digit at {place}", text[:place] + b"g" + text[place + 1 :]
             got = checks.raw(what, changed)

@@ -34,7 +34,7 @@ def tools_of(part):
 def len_of_row(name):
     """Returns how many octets a row of this dump has."""
     width = re.search(r"-[cw](\d+)", name)
-    return int(width[1]) if width else 16
+    return int(width[1]) if width else 8 if name.startswith("gdb") else 16
 
 
 def made(part, tools, octets):
@@ -76,6 +76,8 @@ def dumps(octets):
         ("Wireshark, offsets and pairs", "dump", dump(octets, lambda at, it, width: f"{at:04x}   {it.hex(' ')}")),
         ("Format-Hex", "dump", b"\n\n           Path: C:\\cert.der\n\n" + dump(octets, rows.powershell)),
         ("BIO_dump", "dump", dump(octets, rows.bio_dump)),
+        ("gdb", "dump", dump(octets, lambda at, it, width: rows.gdb(0x555555558000 + at, it, width), 8)),
+        ("gdb, a symbol", "dump", dump(octets, lambda at, it, width: rows.gdb_symbol(0x404040 + at, it, width), 8)),
         ("Wireshark's string", "hex", b'"' + b'" \\\n"'.join(re.findall(b"(?:.{4}){1,16}", digits(octets, rb"\x"))) + b'"'),
         ("Wireshark's array", "hex", b"/* Packet */\nstatic const unsigned char p[] = {\n"
          + digits(octets, b", 0x")[2:] + b"\n};\n"),

@@ -42,6 +42,16 @@ def tcpdump(offset, octets, width):
     return f"\t0x{offset:04x}:  {joined(octets, 2):{width * 5 // 2}} {shown(octets)}"
 
 
+def gdb(offset, octets, width):
+    """Returns a row of gdb."""
+    return f"{offset:#08x}:\t" + "\t".join(f"{octet:#04x}" for octet in octets)
+
+
+def gdb_symbol(offset, octets, width):
+    """Returns a row of gdb with a symbol."""
+    return f"{offset:#08x} <a+{offset % 100}>:\t" + "\t".join(f"{octet:#04x}" for octet in octets)
+
+
 def bio_dump(offset, octets, width):
     """Returns a row of openssl."""
     half = width // 2
@@ -76,7 +86,7 @@ def words(offset, octets, width):
 
 
 ROWS = (
-    xxd, xxd, hexdump, hexdump, od, od, od_z, wireshark, tcpdump, bio_dump, powershell, one_blank, words,
+    xxd, xxd, hexdump, hexdump, od, od, od_z, wireshark, tcpdump, gdb, gdb_symbol, bio_dump, powershell, one_blank, words,
     xxd_in_words, xxd_in_bits,
 )
 OCTAL = (od,)

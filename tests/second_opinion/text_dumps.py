@@ -7,8 +7,9 @@ USUAL_WIDTH, MOST_WIDTH, WORD_SIZES = 16, 256, (2, 4, 8, 16)
 PAIR = rb"[0-9a-fA-F]{2}"
 OFFSET = rb"[ \t]*(?:0[xX])?(%s{4,16})"
 DIGITS = {16: rb"[0-9a-fA-F]", 8: rb"[0-7]"}
-# What separates the offset from the first pair of digits.
-FRONT = rb"(:|[ \t]+:?)-?[ \t]*(?=%s)" % PAIR
+PREFIX = rb"0[xX]"
+# What separates the offset from the digits of the first pair: also a symbol, and `0x`.
+FRONT = rb"(:|[ \t]+(<[^>]*>)?:?)-?[ \t]*(%s)?(?=%s)" % (PREFIX, PAIR)
 REPEAT, EMPTY = re.compile(rb"[ \t]*\*[ \t]*"), re.compile(rb"[ \t]*")
 # AT_ONCE, a digit or a colon, may not follow the pairs of a row directly. MORE may not follow the pairs of a full row: it is a blank and a
 # pair with a blank or the end of the line after it.
@@ -45,6 +46,8 @@ class Line:
     offset: int | None = None
     start: int | None = None
     has_colon: bool = False
+    has_symbol: bool = False
+    has_prefix: bool = False
 
 
 def decoded(text):
@@ -104,7 +107,8 @@ class Dump:
         """Returns a line by its kind, or None if it is of no known kind."""
         row = self.row.match(text)
         if row:
-            return Line("row", place, text, int(row[1], self.base), row.end(), row[2].startswith(b":"))
+            marks = row[2].startswith(b":"), row[3] is not None, row[4] is not None
+            return Line("row", place, text, int(row[1], self.base), row.end(), *marks)
         end = self.end.fullmatch(text)
         if end:
             return Line("end", place, text, int(end[1], self.base))
@@ -166,12 +170,13 @@ class Dump:
 
     def fits_row(self, row):
         """Adds the octets of a row. Returns whether it fits."""
-        if self.is_short() or self.is_single and row.offset != 0 and not row.has_colon:
+        if self.is_short() or self.is_single and row.offset != 0 and not (row.has_colon or row.has_symbol):
             return False
         octets, at = self.pairs(row, self.width, 1 if self.is_single else 2)
         if AT_ONCE.match(row.text, at) or len(octets) == self.width and MORE.match(row.text, at):
             return False
-        if len(BEHIND.findall(row.text, at)) > len(octets) + BARS or begins_row(row.text, at, row.offset + len(octets)):
+        most_behind = 0 if row.has_prefix else len(octets) + BARS
+        if len(BEHIND.findall(row.text, at)) > most_behind or begins_row(row.text, at, row.offset + len(octets)):
             return False
         if not self.fits_offset(row.offset):
             return False
@@ -190,7 +195,7 @@ class Dump:
     def pairs(self, row, width, most_blanks):
         """Returns the octets of a row, up to this width, and the place after them."""
         blanks = 0 if row.has_colon else 1, most_blanks
-        gap = re.compile(rb"(?:-|[ \t]{%d,%d})(%s)" % (*blanks, PAIR))
+        gap = re.compile(rb"(?:-|[ \t]{%d,%d})%s(%s)" % (*blanks, PREFIX if row.has_prefix else b"", PAIR))
         octets, at = bytes.fromhex(row.text[row.start : row.start + 2].decode()), row.start + 2
         while len(octets) != width and (pair := gap.match(row.text, at)):
             octets, at = octets + bytes.fromhex(pair[1].decode()), pair.end()

@@ -13,14 +13,14 @@ DASHES = b"-----"
 LINE_END = re.compile(rb"\n|\\n")
 BLANK_LINE = re.compile(rb"(?:[ \t\r\"'>]|\\r)*")
 # Symbols and padding. The symbols may go on in further lines, each of which they fill up to its end.
-RUN = re.compile(rb"[A-Za-z0-9+/]+(?:(?:\r|&#13;|&#xD;)?\n[ \t]*[A-Za-z0-9+/]+(?=[\n\r=<&)`\"']|\Z))*={0,2}")
-FEWEST_SYMBOLS = 40
-RETURN = re.compile(rb"&#(?:13|xD);")
+BREAK = rb"[ \t]*(?:(?:\r|&#13;|&#xD;)?\n|(?:\\r)?\\n)[ \t]*"
+AFTER_SYMBOLS = rb"[ \t]*(?:[\n\r]|\Z)|[<&)`\\\"']|=(?![A-Za-z0-9+/])"
+RUN = re.compile(rb"(?<![A-Za-z0-9+/])[A-Za-z0-9+/]{40,}(?:%s[A-Za-z0-9+/]+(?=%s))*={0,2}" % (BREAK, AFTER_SYMBOLS))
 ZERO_X = rb"(?<![A-Za-z0-9_])0[xX]([0-9a-fA-F]{1,2})(?![A-Za-z0-9_])"
-TOKEN = re.compile(ZERO_X + rb"|\\x([0-9a-fA-F]{2})(?=[\\\"' \t\n\r]|\Z)")
+TOKEN = re.compile(ZERO_X + rb"|\\x([0-9a-fA-F]{2})(?=[\"' \t\n\r]|\\(?:[x\n\r]|\Z)|\Z)")
 BEFORE_BACKSLASH = b" \t\n\r\"'"
 # The beginning of what looks like a token.
-LIKE_TOKEN = re.compile(rb"(?<![A-Za-z0-9_])0[xX][0-9a-fA-F]|\\x[0-9a-fA-F]")
+LIKE_TOKEN = re.compile(rb"(?<![A-Za-z0-9_])0[xX]|\\x")
 PAIRS = re.compile(rb"(?:[ \t\n\r:,\-\"']|[0-9a-fA-F]{2})*")
 NUMBER = rb"-?[0-9]{1,3}"
 SPACE = rb"[ \t\n\r]*"
@@ -173,9 +173,8 @@ def of_runs(text):
     """Returns the runs of base64."""
     runs = []
     for found in RUN.finditer(text):
-        if len(re.findall(rb"[A-Za-z0-9+/]", RETURN.sub(b"", found[0]))) >= FEWEST_SYMBOLS:
-            decoded = of_base64(found[0])
-            if decoded.place is not None:
-                decoded.place += found.start()
-            runs.append(Run(found.start(), decoded))
+        decoded = of_base64(found[0])
+        if decoded.place is not None:
+            decoded.place += found.start()
+        runs.append(Run(found.start(), decoded))
     return runs

@@ -3,6 +3,8 @@ from second_opinion.reading import Element, Reading
 
 MOST_SEARCHED, MOST_OFF, LAST_START = 1 << 20, 5, 64
 UTF_16 = "It begins as text in UTF-16 does. Try: iconv -f UTF-16 -t UTF-8 FILE | tlvdump-show"
+MORE = "If one octet more stood after the header at offset {}, all would parse: an octet of its contents may be missing."
+FEWER = "If one octet fewer stood after the header at offset {}, all would parse: an octet may have been put in there."
 KINDS = (
     (b"PK\x03\x04", "It begins as a ZIP file does: unpack it first."),
     (b"\x1f\x8b", "It begins as a file of gzip does. Try: gzip -dc FILE | tlvdump-show"),
@@ -26,8 +28,8 @@ def remedies(octets, padding, candidates):
     """Returns the lines about changes that would make an input parse.
     The candidates are elements whose length may be wrong.
     """
-    return [*other_length(octets, padding, candidates), *text_change(octets, padding), *other_kind(octets),
-            *other_start(octets, padding)]
+    changed = other_length(octets, padding, candidates) or other_count(octets, padding, candidates)
+    return [*changed, *text_change(octets, padding), *other_kind(octets), *other_start(octets, padding)]
 
 
 def parses(octets, padding, inside=()):
@@ -59,6 +61,22 @@ def other_length(octets, padding, candidates, inside=()):
                 word = "octet" if length == 1 else "octets"
                 said = f"said {length} {word} and not {it.length}"
                 return [f"If the header at offset {it.offset} {said}, all would parse."]
+    return []
+
+
+def other_count(octets, padding, candidates):
+    """Returns the line about the first candidate after whose header one
+    octet more, or one octet fewer, would make everything parse. There is
+    none if the last octet alone is left over.
+    """
+    if len(octets) > MOST_SEARCHED or parses(octets[:-1], padding):
+        return []
+    for it in candidates:
+        front, rest = octets[: it.start], octets[it.start :]
+        if it.length and parses(front + b"\0" + rest, padding):
+            return [MORE.format(it.offset)]
+        if parses(front + rest[1:], padding):
+            return [FEWER.format(it.offset)]
     return []
 
 

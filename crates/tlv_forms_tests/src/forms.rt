@@ -181,8 +181,8 @@ static TEXTS: [Row<'static>; 15] = [
     ),
     (
         b"MIME-Version: 1.0\nContent-Type: application/pkcs7-mime; name=smime.p7m\nCont\
-        ent-Transfer-Encoding: base64\n\nMCIEIAABAgMEBQYHCAkK\nCwwNDg8QERITFBUWFxgZGh\
-        scHR4f\n",
+        ent-Transfer-Encoding: base64\n\nMCIEIAABAgMEBQYHCAkKCwwNDg8QERITFBUWFxgZ\nGhs\
+        cHR4f\n",
         &[(
             TakenFor::Text(Form::Runs),
             &[],

@@ -1,5 +1,6 @@
 pub mod FirstLemmas
 pub mod LengthLemmas
+pub mod OctetLemmas
 pub mod LengthRows
 pub mod MovedElements
 pub mod ShownLemmas

@@ -3,7 +3,8 @@ use Rattle.std.proofs.Common.{◌≡◌, [], ◌∷◌, ◌++◌, refl}
 use Rattle.std.specs.Prelude.{None, Some, codes}
 use Rattle.std.specs.Fmt.{digits}
 use Rattle.tlv_mend.specs.declared.text_changes.TextChange.TheVariants.{LineEnds, Replaced, Utf8}
-use Rattle.tlv_mend.specs.Remedies.{change_line, kind_line, length_line, remedy_lines}
+use Rattle.tlv_mend.specs.declared.octet_changes.OctetChange.TheVariants.{Missing, PutIn}
+use Rattle.tlv_mend.specs.Remedies.{change_line, kind_line, length_line, octet_line, remedy_lines}
 use Rattle.tlv_mend.specs.Remedies.{start_line, start_reason}
 
 length-row : length_line (Some (record { offset = 39; said = 10; would = 9 }))
@@ -15,6 +16,17 @@ one_octet-row : length_line (Some (record { offset = 0; said = 2; would = 1 }))
     ≡ codes "If the header at offset 0 said 1 octet and not 2, all would parse.\n"
 unfolding digits
 one_octet-row = refl
+
+missing-row : octet_line (Some (Missing 9))
+    ≡ codes "If one octet more stood after the header at offset 9, all would parse: "
+    ++ codes "an octet of its contents may be missing.\n"
+unfolding digits
+missing-row = refl
+
+put_in-row : octet_line (Some (PutIn 0))
+    ≡ codes "If one octet fewer stood after the header at offset 0, all would parse: an octet may have been put in there.\n"
+unfolding digits
+put_in-row = refl
 
 utf8-row : change_line (Some Utf8)
     ≡ codes "It was taken for a text in Latin-1 and written in UTF-8. Try: fetch it anew, in binary, or: "
@@ -69,11 +81,11 @@ start-row : start_line (Some 9)
 unfolding digits start_reason
 start-row = refl
 
-nothing-row : remedy_lines (0x30 ∷ 5 ∷ []) None None None ≡ []
+nothing-row : remedy_lines (0x30 ∷ 5 ∷ []) None None None None ≡ []
 nothing-row = refl
 
 -- all that is found is said, the nearest remedy first
-order-row : remedy_lines (0x3c ∷ 0x0a ∷ []) None (Some LineEnds) None
+order-row : remedy_lines (0x3c ∷ 0x0a ∷ []) None None (Some LineEnds) None
     ≡ codes "It was taken for a text: octets 0d were put in front of 0a. Try: fetch it anew, in binary.\n"
     ++ codes "It begins with the character <, as XML and HTML do.\n"
 unfolding digits

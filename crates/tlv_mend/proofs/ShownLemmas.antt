@@ -7,11 +7,13 @@ use Rattle.std.specs.List.{list_all}
 use Rattle.std.proofs.lemmas.Bool.{cases_Bool}
 use Rattle.std.proofs.lemmas.List.Folds.{list_all-append}
 use Rattle.tlv_mend.specs.declared.lengths.WrongLength.{WrongLength}
+use Rattle.tlv_mend.specs.declared.octet_changes.OctetChange.{OctetChange}
+use Rattle.tlv_mend.specs.declared.octet_changes.OctetChange.TheVariants.{Missing, PutIn}
 use Rattle.tlv_mend.specs.declared.text_changes.TextChange.{TextChange}
 use Rattle.tlv_mend.specs.declared.text_changes.TextChange.TheVariants.{LineEnds, Replaced, Utf8}
 use Rattle.tlv_why.specs.Laws.{AreShown, is_shown_octet}
-use Rattle.tlv_mend.specs.Remedies.{AreRemedies, change_line, changes_lines, kind_line, length_line, octets_word}
-use Rattle.tlv_mend.specs.Remedies.{other_lines, start_line, start_reason}
+use Rattle.tlv_mend.specs.Remedies.{AreRemedies, change_line, changes_lines, count_lines, kind_line, length_line, octet_line}
+use Rattle.tlv_mend.specs.Remedies.{octets_word, other_lines, start_line, start_reason}
 
 -- ---- numbers
 
@@ -52,6 +54,11 @@ pub length_line-shown : (found : Option WrongLength) → AreShown (length_line f
 length_line-shown None = refl
 length_line-shown (Some w) = simp (list_all-append, decimal-shown, word-shown)
 
+octet_line-shown : (change : Option OctetChange) → AreShown (octet_line change)
+octet_line-shown None = refl
+octet_line-shown (Some (Missing n)) = simp (list_all-append, decimal-shown)
+octet_line-shown (Some (PutIn n)) = simp (list_all-append, decimal-shown)
+
 change_line-shown : (change : Option TextChange) → AreShown (change_line change)
 change_line-shown None = refl
 change_line-shown (Some Utf8) = refl
@@ -72,9 +79,11 @@ start_line-shown (Some n) = simp (list_all-append, decimal-shown, reason-shown)
 pub remedies-shown : (padding : Bool) (octets candidates lines : List ℕ) → AreRemedies padding octets candidates lines
     → AreShown lines
 remedies-shown padding octets candidates lines r =
-    let changes = both-shown (length_line r.wrong) (change_line r.change)
-    (length_line-shown r.wrong) (change_line-shown r.change) in
+    let counts = both-shown (length_line r.wrong) (octet_line r.octet)
+    (length_line-shown r.wrong) (octet_line-shown r.octet) in
+    let changes = both-shown (count_lines r.wrong r.octet) (change_line r.change)
+    counts (change_line-shown r.change) in
     let others = both-shown (kind_line octets) (start_line r.start)
     (kind_line-shown octets) (start_line-shown r.start) in
     subst AreShown (sym r.lines_are)
-    (both-shown (changes_lines r.wrong r.change) (other_lines octets r.start) changes others)
+    (both-shown (changes_lines r.wrong r.octet r.change) (other_lines octets r.start) changes others)

@@ -6,6 +6,8 @@ use Rattle.tlv_walk.specs.declared.framing.Framing.{Framing}
 use Rattle.tlv_walk.specs.Reading.{AreOctets}
 use Rattle.tlv_why.specs.Laws.{AreShown}
 use Rattle.tlv_mend.specs.declared.lengths.WrongLength.{WrongLength}
+use Rattle.tlv_mend.specs.declared.octet_changes.OctetChange.{OctetChange}
+use Rattle.tlv_mend.specs.OneOctet.{IsOctetChange}
 use Rattle.tlv_mend.specs.Remedies.{AreRemedies, length_line}
 use Rattle.tlv_mend.specs.WrongLength.{IsWrongLength, length_bound, with_length}
 
@@ -13,6 +15,12 @@ use Rattle.tlv_mend.specs.WrongLength.{IsWrongLength, length_bound, with_length}
 abbrev pub InputsHaveOneWrongLength : Type 0
 InputsHaveOneWrongLength = (framing : Framing) (octets candidates : List ℕ) (a b : Option WrongLength)
     → IsWrongLength framing octets candidates a → IsWrongLength framing octets candidates b → a ≡ b
+
+-- with the wrong length they also determine the octet that is missing or was put in, or that there is none
+abbrev pub InputsHaveOneOctetChange : Type 0
+InputsHaveOneOctetChange = (framing : Framing) (octets candidates : List ℕ) (wrong : Option WrongLength)
+    (a b : Option OctetChange) → IsOctetChange framing octets candidates wrong a
+    → IsOctetChange framing octets candidates wrong b → a ≡ b
 
 -- a header with another length that its length octets can state is a header of the same number of octets
 abbrev pub OtherLengthsMakeHeaders : Type 0

@@ -1,5 +1,6 @@
 pub mod FirstOf
 pub mod WrongLength
+pub mod OneOctet
 pub mod NextStart
 pub mod TextCopies
 pub mod Remedies

@@ -4,9 +4,12 @@ use Rattle.std.specs.Prelude.{Option, None, Some, codes, decimal}
 use Rattle.std.specs.List.{starts_with}
 use Rattle.tlv_open.specs.Opens.{closed_framing}
 use Rattle.tlv_mend.specs.declared.lengths.WrongLength.{WrongLength}
+use Rattle.tlv_mend.specs.declared.octet_changes.OctetChange.{OctetChange}
+use Rattle.tlv_mend.specs.declared.octet_changes.OctetChange.TheVariants.{Missing, PutIn}
 use Rattle.tlv_mend.specs.declared.text_changes.TextChange.{TextChange}
 use Rattle.tlv_mend.specs.declared.text_changes.TextChange.TheVariants.{LineEnds, Replaced, Utf8}
 use Rattle.tlv_mend.specs.NextStart.{IsNextStart}
+use Rattle.tlv_mend.specs.OneOctet.{IsOctetChange}
 use Rattle.tlv_mend.specs.TextCopies.{IsSoundWithLfAlone, IsSoundWithoutUtf8, has_replacement}
 use Rattle.tlv_mend.specs.WrongLength.{IsWrongLength}
 
@@ -22,6 +25,18 @@ length_line None = []
 length_line (Some w) =
     codes "If the header at offset " ++ decimal w.offset ++ codes " said " ++ decimal w.would ++ octets_word w.would
     ++ codes " and not " ++ decimal w.said ++ codes ", all would parse.\n"
+
+-- ---- one octet
+
+-- the line about an octet that is missing or was put in, if there is one
+abbrev pub octet_line : Option OctetChange → List ℕ
+octet_line None = []
+octet_line (Some (Missing offset)) =
+    codes "If one octet more stood after the header at offset " ++ decimal offset
+    ++ codes ", all would parse: an octet of its contents may be missing.\n"
+octet_line (Some (PutIn offset)) =
+    codes "If one octet fewer stood after the header at offset " ++ decimal offset
+    ++ codes ", all would parse: an octet may have been put in there.\n"
 
 -- ---- a text
 
@@ -89,24 +104,30 @@ start_line (Some offset) =
 
 -- ---- all lines
 
+-- the line about another length, or about one octet more or fewer
+abbrev pub count_lines : Option WrongLength → Option OctetChange → List ℕ
+count_lines wrong octet = length_line wrong ++ octet_line octet
+
 -- the lines about what was changed
-abbrev pub changes_lines : Option WrongLength → Option TextChange → List ℕ
-changes_lines wrong change = length_line wrong ++ change_line change
+abbrev pub changes_lines : Option WrongLength → Option OctetChange → Option TextChange → List ℕ
+changes_lines wrong octet change = count_lines wrong octet ++ change_line change
 
 -- the lines about what else an input may be
 abbrev pub other_lines : List ℕ → Option ℕ → List ℕ
 other_lines octets start = kind_line octets ++ start_line start
 
 -- the lines, by what was found
-abbrev pub remedy_lines : List ℕ → Option WrongLength → Option TextChange → Option ℕ → List ℕ
-remedy_lines octets wrong change start = changes_lines wrong change ++ other_lines octets start
+abbrev pub remedy_lines : List ℕ → Option WrongLength → Option OctetChange → Option TextChange → Option ℕ → List ℕ
+remedy_lines octets wrong octet change start = changes_lines wrong octet change ++ other_lines octets start
 
 -- the lines about an input, with the headers at these offsets as candidates
 pub record AreRemedies (padding : Bool) (octets candidates lines : List ℕ) : Type 0 where
   pub wrong : Option WrongLength
   pub is_wrong : IsWrongLength (closed_framing padding) octets candidates wrong
+  pub octet : Option OctetChange
+  pub is_octet : IsOctetChange (closed_framing padding) octets candidates wrong octet
   pub change : Option TextChange
   pub is_change : IsTextChange padding octets change
   pub start : Option ℕ
   pub is_start : IsNextStart padding octets start
-  pub lines_are : lines ≡ remedy_lines octets wrong change start
+  pub lines_are : lines ≡ remedy_lines octets wrong octet change start

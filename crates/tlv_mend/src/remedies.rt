@@ -3,13 +3,15 @@ ghost use Rattle.std.specs.Prelude.{◌≡◌, ◌≤◌, IfOk, IfSome, List, On
 ghost use Rattle.tlv_head.specs.Limits.{input_limit};
 ghost use Rattle.tlv_io.specs.Out.{Puts, Sends};
 ghost use Rattle.tlv_mend.specs.NextStart.{IsNextStart};
-ghost use Rattle.tlv_mend.specs.Remedies.{AreRemedies, IsTextChange, change_line, changes_lines};
-ghost use Rattle.tlv_mend.specs.Remedies.{kind_line, length_line, other_lines, remedy_lines, start_line};
+ghost use Rattle.tlv_mend.specs.OneOctet.{IsOctetChange};
+ghost use Rattle.tlv_mend.specs.Remedies.{AreRemedies, IsTextChange, change_line, changes_lines, count_lines};
+ghost use Rattle.tlv_mend.specs.Remedies.{kind_line, length_line, octet_line, other_lines, remedy_lines, start_line};
 ghost use Rattle.tlv_mend.specs.WrongLength.{IsWrongLength};
 ghost use Rattle.tlv_open.specs.Opens.{closed_framing};
 
 use crate::lengths::{WrongLength, wrong_length};
-use crate::remedy_texts::{change_line, kind_line, length_line, start_line};
+use crate::octet_changes::{OctetChange, octet_change};
+use crate::remedy_texts::{change_line, kind_line, length_line, octet_line, start_line};
 use crate::sound::closed_framing;
 use crate::start::next_start;
 use crate::text_changes::{TextChange, text_change};
@@ -21,6 +23,8 @@ use tlv_walk::{Drain, Framing, Out, WriteFault};
 struct Findings {
     /// The header whose length is wrong.
     wrong: Option<WrongLength>,
+    /// The octet that is missing or was put in.
+    octet: Option<OctetChange>,
     /// What was done to the input as if it were a text.
     change: Option<TextChange>,
     /// The offset from which the input is sound.
@@ -28,8 +32,9 @@ struct Findings {
 }
 
 /// Writes what may be done with an input that does not parse, in lines of ASCII: which single length would make it
-/// sound; what was done to it as if it were a text; which other kind of file it is; and from which offset it is sound.
-/// Writes a line for each that applies, and nothing if none applies. `candidates` are the offsets of headers whose
+/// sound; otherwise, after which header one octet is missing or was put in; what was done to it as if it were a text;
+/// which other kind of file it is; and from which offset it is sound. Writes a line for each that applies, and nothing if
+/// none applies. `candidates` are the offsets of headers whose
 /// length may be wrong, in the order in which they are tried. With `padding`, octets `00` are allowed at the top level.
 ///
 /// # Errors
@@ -97,12 +102,16 @@ fn findings_of(
 ) -> Result<Findings, AllocError>
     requires { length octets.now ≤ input_limit }
     ensures { IfOk result (λ f. IsWrongLength (closed_framing padding) octets.now candidates.now f.wrong
+        × IsOctetChange (closed_framing padding) octets.now candidates.now f.wrong f.octet
         × IsTextChange padding octets.now f.change × IsNextStart padding octets.now f.start) }
 {
-    let wrong = wrong_length(alloc, octets, &closed_framing(padding), candidates)?;
+    let framing = closed_framing(padding);
+    let wrong = wrong_length(alloc, octets, &framing, candidates)?;
+    let octet = octet_change(alloc, octets, &framing, candidates, wrong)?;
     let change = text_change(alloc, octets, padding)?;
     Ok(Findings {
         wrong,
+        octet,
         change,
         start: next_start(octets, padding),
     })
@@ -117,7 +126,7 @@ fn write_lines<D: Drain>(
 ) -> Result<(), WriteFault>
     requires { IfSome findings.now.start (λ n. n ≤ 64) }
     ensures { Sends (D.state drain.old) (D.state drain.new)
-        (remedy_lines octets.now findings.now.wrong findings.now.change findings.now.start) result }
+        (remedy_lines octets.now findings.now.wrong findings.now.octet findings.now.change findings.now.start) result }
 {
     let mut out = Out::new(drain);
     put_lines(octets, findings, &mut out)?;
@@ -134,23 +143,33 @@ fn put_lines<D: Drain>(
 ) -> Result<(), WriteFault>
     requires { IfSome findings.now.start (λ n. n ≤ 64) }
     ensures { Puts D.state out.old out.new
-        (remedy_lines octets.now findings.now.wrong findings.now.change findings.now.start) result }
+        (remedy_lines octets.now findings.now.wrong findings.now.octet findings.now.change findings.now.start) result }
 {
-    put_changes(findings.wrong, findings.change, out)?;
+    put_changes(findings, out)?;
     put_other_lines(octets, findings.start, out)
 }
 
 /// Puts the lines about what was changed in an input.
 #[tactic(auto, using(tlv_io::proofs::Puts::puts))]
-fn put_changes<D: Drain>(
+fn put_changes<D: Drain>(findings: &Findings, out: &mut Out<'_, D>) -> Result<(), WriteFault>
+    ensures { Puts D.state out.old out.new
+        (changes_lines findings.now.wrong findings.now.octet findings.now.change) result }
+{
+    put_count_lines(findings.wrong, findings.octet, out)?;
+    put_change_line(findings.change, out)
+}
+
+/// Puts the line about a wrong length, or about an octet that is missing or was put in.
+#[tactic(auto, using(tlv_io::proofs::Puts::puts))]
+fn put_count_lines<D: Drain>(
     wrong: Option<WrongLength>,
-    change: Option<TextChange>,
+    octet: Option<OctetChange>,
     out: &mut Out<'_, D>,
 ) -> Result<(), WriteFault>
-    ensures { Puts D.state out.old out.new (changes_lines wrong change) result }
+    ensures { Puts D.state out.old out.new (count_lines wrong octet) result }
 {
     put_length_line(wrong, out)?;
-    put_change_line(change, out)
+    put_octet_line(octet, out)
 }
 
 /// Puts the lines about what else an input may be.
@@ -175,6 +194,16 @@ fn put_length_line<D: Drain>(
     ensures { Puts D.state out.old out.new (length_line wrong) result }
 {
     out.put(length_line(wrong).as_slice())
+}
+
+/// Puts the line about an octet that is missing or was put in.
+fn put_octet_line<D: Drain>(
+    octet: Option<OctetChange>,
+    out: &mut Out<'_, D>,
+) -> Result<(), WriteFault>
+    ensures { Puts D.state out.old out.new (octet_line octet) result }
+{
+    out.put(octet_line(octet).as_slice())
 }
 
 /// Puts the line about what was done to a text.

@@ -1,9 +1,10 @@
 //! The texts of lines that say what may be done with an input that does not parse.
 ghost use Rattle.std.specs.Prelude.{◌≡◌, ◌≤◌, ◌+◌, ◌++◌, IfSome, decimal, length};
 ghost use Rattle.tlv_mend.specs.Remedies.{change_line, kind_line, length_line};
-ghost use Rattle.tlv_mend.specs.Remedies.{octets_word, start_line, start_reason};
+ghost use Rattle.tlv_mend.specs.Remedies.{octet_line, octets_word, start_line, start_reason};
 
 use crate::lengths::WrongLength;
+use crate::octet_changes::OctetChange;
 use crate::text_changes::TextChange;
 use arrayvec::ArrayVec;
 use itoa::Buffer;
@@ -38,6 +39,39 @@ fn octets_word(count: u64) -> &'static [u8]
         1 => b" octet",
         _ => b" octets",
     }
+}
+
+/// The line about an octet that is missing or was put in; empty for `None`.
+pub(crate) fn octet_line(change: Option<OctetChange>) -> Line
+    ensures { result.items ≡ octet_line change }
+{
+    let mut line = Line::new();
+    match change {
+        Some(OctetChange::Missing(offset)) => {
+            add(
+                &mut line,
+                b"If one octet more stood after the header at offset ",
+            );
+            add_number(&mut line, offset as u64);
+            add(
+                &mut line,
+                b", all would parse: an octet of its contents may be missing.\n",
+            );
+        }
+        Some(OctetChange::PutIn(offset)) => {
+            add(
+                &mut line,
+                b"If one octet fewer stood after the header at offset ",
+            );
+            add_number(&mut line, offset as u64);
+            add(
+                &mut line,
+                b", all would parse: an octet may have been put in there.\n",
+            );
+        }
+        None => {}
+    }
+    line
 }
 
 /// The line about what was done to a text; empty for `None`.

@@ -24,8 +24,7 @@ use Rattle.tlv_text.specs.PemBody.{size_of_headers}
 use Rattle.tlv_text.specs.TextRead.{refused_at}
 use Rattle.tlv_text.specs.Tokens.{token_count}
 use Rattle.tlv_text.specs.Private.BlockSteps.{IsRefusedWithin}
-use Rattle.tlv_text.specs.Runs.{HasNoRun, IsFirstRun, Stretch, break_size, no_symbol, stretch_after}
-use Rattle.tlv_text.specs.Runs.{symbol_before}
+use Rattle.tlv_text.specs.Runs.{HasNoRun, IsFirstRun, break_size, leading_symbols, stretch_after, stretch_size}
 use Rattle.tlv_text.specs.declared.base64_text.Alphabet.{Alphabet}
 use Rattle.tlv_text.specs.declared.base64_text.Alphabet.TheVariants.{Standard}
 use Rattle.tlv_text.specs.declared.block.Block.{Block}
@@ -159,17 +158,15 @@ pem-last text part blocks none before =
 
 -- ---- runs
 
--- a stretch has no more symbols than characters
-symbols-few : (n : ℕ) (text : List ℕ) → (stretch_after n text).symbols ≤ (stretch_after n text).size
-symbols-few n [] = omega arith
-symbols-few zero (x ∷ text) =
-    cases (is_symbol Standard x) (stretch_after (break_size text) text) (symbols-few (break_size text) text)
+-- a run has a character
+some-size : (text : List ℕ) → 40 ≤ leading_symbols text → 0 < stretch_size text
+some-size [] long = absurd (omega (arith, long))
+some-size (x ∷ text) long = cases (is_symbol Standard x) long
   where
-    cases : (b : Bool) (more : Stretch) → more.symbols ≤ more.size
-        → (if b then symbol_before more else no_symbol).symbols ≤ (if b then symbol_before more else no_symbol).size
-    cases true more few = omega (arith, few)
-    cases false more few = omega arith
-symbols-few (suc n) (x ∷ text) = omega (arith, symbols-few n text)
+    cases : (b : Bool) → 40 ≤ (if b then 1 + leading_symbols text else 0)
+        → 0 < (if b then 1 + stretch_after (break_size text) text else 0)
+    cases true long = omega arith
+    cases false long = absurd (omega (arith, long))
 
 pub run-fits : (part : List ℕ) (start : ℕ) (run rest : List ℕ) → IsFirstRun part start run rest
     → start + length run + length rest ≤ length part
@@ -180,13 +177,12 @@ run-fits part start run rest first =
       length-drop start part,
       length-append run rest,
       first.size,
-      first.long,
-      symbols-few 0 (drop start part),
+      some-size (drop start part) first.long,
     )
 
 pub run-some : (part : List ℕ) (start : ℕ) (run rest : List ℕ) → IsFirstRun part start run rest → 0 < length run
 run-some part start run rest first =
-    omega (arith, first.size, first.long, symbols-few 0 (drop start part))
+    omega (arith, first.size, some-size (drop start part) first.long)
 
 abbrev pub RunsBefore : List ℕ → List ℕ → List BlockValue → Type 0
 RunsBefore text rest found = (bs : List BlockValue) → AreRunBlocks text rest bs → AreRunBlocks text text (found ++ bs)

@@ -157,7 +157,7 @@ others-after_blanks (x ∷ text) =
 
 -- a short text has few characters
 pub few-in_short : (octets : ℕ) (others rest : List ℕ) → others ≡ after_blanks rest → length others - 2 ≤ octets
-    → has_few_others octets rest ≡ true
+    → has_few_others false octets rest ≡ true
 few-in_short octets others rest e short =
     le-leb _ _ (
     omega (
@@ -169,7 +169,7 @@ few-in_short octets others rest e short =
     )
 
 pub few-counted : (octets count : ℕ) (others rest : List ℕ) → others ≡ after_blanks rest → count ≡ others_count others
-    → nat_le (count - 2) octets ≡ has_few_others octets rest
+    → nat_le (count - 2) octets ≡ has_few_others false octets rest
 few-counted octets count others rest e counted =
     let same : count ≡ others_count rest = counted ∙ ap others_count e ∙ others-after_blanks rest in
     elim (cases_Bool (nat_le (count - 2) octets)) [
@@ -218,35 +218,36 @@ row-read size left gap text first rest digits some few begins f read count last 
 pub row-octets : (size : ℕ) (row : RowRead) (text rest octets : List ℕ) (fits : Bool) → text ≡ before_pairs row.rest
     → begins_pair text ≡ true → pairs_at size (gap_of 2 row.rest) text ≡ record { octets = octets; rest = rest }
     → fits ≡ (not (begins_digit rest || ((length octets == size) && begins_lone_pair (after_few 1 rest)))
-    && ends_line row.offset (length octets) rest)
+    && ends_line (gap_of 2 row.rest).prefixed row.offset (length octets) rest)
     → octets_if fits octets ≡ dump_row_octets size row
 row-octets size row text rest octets fits e begins read f =
     let gap : Gap = gap_of 2 row.rest in
     let one : octets_if fits octets
-    ≡ octets_if (row_fits size row.offset text (record { octets = octets; rest = rest })) octets =
+    ≡ octets_if (row_fits size row.offset gap text (record { octets = octets; rest = rest })) octets =
     rw (begins, f) refl in
     one
-    ∙ ap (λ (r : TextRead). octets_if (row_fits size row.offset text r) r.octets) (sym read)
-    ∙ ap (λ (t : List ℕ). octets_if (row_fits size row.offset t (pairs_at size gap t)) (pairs_at size gap t).octets) e
+    ∙ ap (λ (r : TextRead). octets_if (row_fits size row.offset gap text r) r.octets) (sym read)
+    ∙ ap (λ (t : List ℕ). octets_if (row_fits size row.offset gap t (pairs_at size gap t))
+    (pairs_at size gap t).octets) e
 
 -- ---- a row alone
 
 pub single-octets : (row : RowRead) (gap : Gap) (text rest : List ℕ) (count : ℕ) (fits : Bool)
     → has_single_offset row ≡ true → gap ≡ gap_of 1 row.rest → text ≡ before_pairs row.rest → begins_pair text ≡ true
     → count ≡ length (pairs_at (length text) gap text).octets → rest ≡ (pairs_at (length text) gap text).rest
-    → begins_digit rest ≡ false → fits ≡ ends_line row.offset count rest
+    → begins_digit rest ≡ false → fits ≡ ends_line gap.prefixed row.offset count rest
     → octets_if fits (pairs_at (length text) gap text).octets ≡ single_row_octets row
 single-octets row gap text rest count fits single g e begins counted after no_digit f =
     let read : TextRead = pairs_at (length text) gap text in
-    let ends : fits ≡ ends_line row.offset (length read.octets) read.rest =
-    f ∙ ap (λ (n : ℕ). ends_line row.offset n rest) counted
-    ∙ ap (λ (t : List ℕ). ends_line row.offset (length read.octets) t) after in
+    let ends : fits ≡ ends_line gap.prefixed row.offset (length read.octets) read.rest =
+    f ∙ ap (λ (n : ℕ). ends_line gap.prefixed row.offset n rest) counted
+    ∙ ap (λ (t : List ℕ). ends_line gap.prefixed row.offset (length read.octets) t) after in
     let digit : begins_digit read.rest ≡ false = sym (ap begins_digit after) ∙ no_digit in
     let one : octets_if fits read.octets
-    ≡ octets_if (has_single_offset row && single_row_fits row.offset text read) read.octets =
+    ≡ octets_if (has_single_offset row && single_row_fits row.offset gap text read) read.octets =
     rw (single, begins, digit, ends) refl in
     let found : Gap → List ℕ → Option (List ℕ) = λ h t.
-    octets_if (has_single_offset row && single_row_fits row.offset t (pairs_at (length t) h t))
+    octets_if (has_single_offset row && single_row_fits row.offset h t (pairs_at (length t) h t))
     (pairs_at (length t) h t).octets in
     one ∙ ap (λ (h : Gap). found h text) g ∙ ap (found (gap_of 1 row.rest)) e
 

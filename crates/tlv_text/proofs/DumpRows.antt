@@ -143,6 +143,39 @@ sixteen-row : dump_read (
 unfolding octets more whole
 sixteen-row = refl
 
+-- addresses and pairs as gdb writes them, with a symbol and without
+gdb-row : dump_read (
+    codes "0x7fffffffe000:\t0x30\t0x82\t0x01\t0x22\t0x04\t0x05\t0x06\t0x07\n"
+    ++ codes "0x7fffffffe008:\t0x08\t0x09\t0x0a\t0x0b\t0x0c\t0x0d\t0x0e\t0x0f\n"
+    ++ codes "0x7fffffffe010:\t0x30\t0x31\n"
+    )
+    ≡ whole (octets ++ more)
+unfolding octets more whole
+gdb-row = refl
+
+symbol-row : dump_read (
+    codes "0x404040 <cert>:\t0x30\t0x82\t0x01\t0x22\t0x04\t0x05\t0x06\t0x07\n"
+    ++ codes "0x404048 <cert+8>:\t0x08\t0x09\t0x0a\t0x0b\t0x0c\t0x0d\t0x0e\t0x0f\n"
+    ++ codes "0x404050 <cert+16>:\t0x30\t0x31\n"
+    )
+    ≡ whole (octets ++ more)
+unfolding octets more whole
+symbol-row = refl
+
+single_symbol-row : dump_read (codes "0x404040 <cert>:\t0x30\t0x31\n") ≡ whole more
+unfolding more whole
+single_symbol-row = refl
+
+-- a pair that is none, one without `0x`, and characters behind pairs with `0x`
+prefix_digit-row : dump_read (codes "0x404040:\t0x30\t0xg1\n") ≡ refused_with 20
+prefix_digit-row = refl
+
+prefix_lost-row : dump_read (codes "0x404040:\t0x30\t31\n") ≡ refused_with 18
+prefix_lost-row = refl
+
+prefix_others-row : dump_read (codes "0x404040:\t0x30\t0x31  01\n") ≡ refused_with 24
+prefix_others-row = refl
+
 -- a row alone
 single-row : dump_read (codes "\t0x0040:  3003 0201 05                             0....\n")
     ≡ whole (0x30 ∷ 3 ∷ 2 ∷ 1 ∷ 5 ∷ [])

@@ -21,8 +21,8 @@ comment-row = refl
 word-row : tokens_read (codes "0x30 then a word 0x03") ≡ record { octets = 0x30 ∷ []; rest = codes "then a word 0x03" }
 word-row = refl
 
--- no token is one of these, and none of them begins like one
-other-row : tokens_read (codes "10x30, 0x, 0xg") ≡ nothing_read []
+-- in words there are no tokens, and nothing begins like one
+other-row : tokens_read (codes "10x30, a0xg, a\\x30, a\\xg") ≡ nothing_read []
 other-row = refl
 
 -- what begins like a token and is none: first, last, and behind words
@@ -40,6 +40,14 @@ behind-row : tokens_read (codes "{0x30}; int n = 0X3082;")
     ≡ record { octets = 0x30 ∷ []; rest = codes "0X3082;" }
 behind-row = refl
 
+-- digits are lost, or changed
+digitless-row : tokens_read (codes "{0x30, 0x03, 0x}") ≡ record { octets = 0x30 ∷ 3 ∷ []; rest = codes "0x}" }
+digitless-row = refl
+
+letter-row : tokens_read (codes "\"\\x30\\x03\\xg2\\x01\"")
+    ≡ record { octets = 0x30 ∷ 3 ∷ []; rest = codes "\\xg2\\x01\"" }
+letter-row = refl
+
 -- letters of a string after a token, in Python and in C
 letters-row : tokens_read (codes "b'\\x04\\x05\\x06abc'")
     ≡ record { octets = 4 ∷ 5 ∷ []; rest = codes "\\x06abc'" }
@@ -55,9 +63,16 @@ literal-row = refl
 literal_read-row : tokens_read (codes "b'0\\x82\\x01'") ≡ nothing_read []
 literal_read-row = refl
 
-newline-row : tokens_read (codes "\"\\x30\\n\" \"\\x31\"")
-    ≡ record { octets = 0x30 ∷ []; rest = codes "n\" \"\\x31\"" }
+-- an octet of a string that is written in another way
+newline-row : tokens_read (codes "b'\\x04\\x05\\n'") ≡ record { octets = 4 ∷ []; rest = codes "\\x05\\n'" }
 newline-row = refl
+
+quote-row : tokens_read (codes "\"\\x30\\\"\"") ≡ nothing_read (codes "\\x30\\\"\"")
+quote-row = refl
+
+-- a string of C that goes on in the next line
+continued-row : tokens_read (codes "\"\\x30\\x03\\\n\\x02\"") ≡ record { octets = 0x30 ∷ 3 ∷ 2 ∷ []; rest = [] }
+continued-row = refl
 
 -- two tokens or more
 count-row : token_count (codes "0x30,0x31") ≡ 2

@@ -1,17 +1,20 @@
--- Octets of a hex dump with offsets, as xxd, hexdump -C, od -Ax -tx1, od -tx1, Wireshark, tcpdump -x, Format-Hex and
--- BIO_dump write it. By lines, each with its line feed and perhaps a carriage return before it:
+-- Octets of a hex dump with offsets, as xxd, hexdump -C, od -Ax -tx1, od -tx1, Wireshark, tcpdump -x, Format-Hex,
+-- BIO_dump and gdb (x/xb) write it. By lines, each with its line feed and perhaps a carriage return before it:
 --
 --   dump   = *(other / empty) (single / rows)
---   single = row *empty                        one row alone: its offset is 0 or a colon follows it
+--   single = row *empty                        one row alone: its offset is 0, or a colon or a symbol follows it
 --   rows   = row *(empty / row / repeat) [end] *empty
---   row    = *blank ["0x" / "0X"] 4*16digit (":" / 1*blank [":"]) ["-"] *blank pair *(gap pair) [others]
+--   row    = *blank ["0x" / "0X"] 4*16digit (":" / 1*blank [symbol] [":"]) ["-"] *blank pair *(gap pair) [others]
+--   symbol = "<" *character ">"                gdb writes one after an address
+--   pair   = ["0x" / "0X"] 2digit              each pair of a row has "0x", as gdb writes it, or none has
 --   repeat = *blank "*" *blank                 the octets of the row before, up to the offset of the row after
 --   end    = *blank ["0x" / "0X"] 4*16digit *blank
 --   empty  = *blank
 --   gap    = "-" / 1*2blank                    "-" / blank in a single row; or nothing, if a colon follows the offset
 --                                              at once
 --   others = *(blank / character)              not more characters than the row has octets, and two more: bars; and not
---                                              a colon first, nor the row after it, behind blanks
+--                                              a colon first, nor the row after it, behind blanks. After pairs with "0x"
+--                                              there are blanks alone
 use Rattle.std.specs.Prelude.{◌<◌, ℕ, zero, suc, ◌+◌, ◌-◌, ◌/◌, ◌%◌, ◌==◌, Bool, true, false, ◌&&◌, nat_le, nat_lt}
 use Rattle.std.specs.Prelude.{if◌then◌else◌, List, [], ◌∷◌, ◌++◌, length, Option, Some, None, option_map}
 use Rattle.std.specs.List.{list_all}

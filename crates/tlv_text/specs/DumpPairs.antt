@@ -2,7 +2,7 @@
 use Rattle.std.specs.Prelude.{ℕ, zero, suc, ◌+◌, ◌==◌, Bool, true, false, ◌&&◌, ◌||◌, not, nat_le, if◌then◌else◌}
 use Rattle.std.specs.Prelude.{List, [], ◌∷◌, count_by, drop, length, Option, Some, None}
 use Rattle.hex.specs.Hex.{is_hex_digit}
-use Rattle.tlv_text.specs.DumpLines.{RowRead, after_blanks, begins_colon, is_dump_blank, row_at}
+use Rattle.tlv_text.specs.DumpLines.{RowRead, after_blanks, after_prefix, begins_colon, is_dump_blank, row_at}
 use Rattle.tlv_text.specs.Pairs.{pair_octet}
 use Rattle.tlv_text.specs.TextRead.{TextRead, nothing_read, octets_then}
 use Rattle.tlv_text.specs.declared.dump.lines.Radix.TheVariants.{Hexadecimal, Octal}
@@ -13,9 +13,33 @@ abbrev pub after_one : ℕ → List ℕ → List ℕ
 after_one c [] = []
 after_one c (x ∷ text) = if x == c then text else x ∷ text
 
--- the text after leading blanks, a colon, a hyphen and blanks
+-- the text after this character; empty if it has none
+abbrev pub after_first : ℕ → List ℕ → List ℕ
+after_first c [] = []
+after_first c (x ∷ text) = if x == c then text else after_first c text
+
+-- the text without a symbol between < and >, if it comes first: gdb writes one after an address
+abbrev pub after_symbol : List ℕ → List ℕ
+after_symbol [] = []
+after_symbol (x ∷ text) = if x == 60 then after_first 62 text else x ∷ text
+
+-- a symbol comes first
+abbrev pub begins_symbol_name : List ℕ → Bool
+begins_symbol_name [] = false
+begins_symbol_name (x ∷ text) = x == 60
+
+-- the text after leading blanks, a symbol, a colon, a hyphen and blanks
+abbrev pub after_offset : List ℕ → List ℕ
+after_offset rest = after_blanks (after_one 45 (after_one 58 (after_symbol (after_blanks rest))))
+
+-- `0x` or `0X` comes first
+abbrev pub begins_prefix : List ℕ → Bool
+begins_prefix (x ∷ y ∷ text) = (x == 48) && ((y == 120) || (y == 88))
+begins_prefix text = false
+
+-- the text from the digits of the first pair on: gdb writes `0x` before each pair
 abbrev pub before_pairs : List ℕ → List ℕ
-before_pairs rest = after_blanks (after_one 45 (after_one 58 (after_blanks rest)))
+before_pairs rest = after_prefix (after_offset rest)
 
 -- the text after at most this number of leading blanks
 abbrev pub after_few : ℕ → List ℕ → List ℕ
@@ -25,16 +49,27 @@ after_few (suc n) (x ∷ text) = if is_dump_blank x then after_few n text else x
 
 -- the text after what may be between two pairs: a hyphen, or blanks, or nothing where pairs may be joined; where they
 -- may not, no pair follows a pair at once
-abbrev pub after_gap : Gap → List ℕ → List ℕ
-after_gap gap [] = []
-after_gap gap (x ∷ text) =
+abbrev pub after_separator : Gap → List ℕ → List ℕ
+after_separator gap [] = []
+after_separator gap (x ∷ text) =
     if x == 45 then text
     else (if gap.joined || is_dump_blank x then after_few gap.blanks (x ∷ text) else [])
 
+-- the text without the `0x` that comes first; empty if none does
+abbrev pub without_prefix : List ℕ → List ℕ
+without_prefix text = if begins_prefix text then drop 2 text else []
+
+-- the text from the digits of the next pair on
+abbrev pub after_gap : Gap → List ℕ → List ℕ
+after_gap gap text =
+    if gap.prefixed then without_prefix (after_separator gap text) else after_separator gap text
+
 -- the gap with at most this number of blanks. Pairs may be joined only if a colon follows the offset at once: without
--- one, they are words of 16 or 32 bits, as hexdump and od -tx2 write them, and their octets may be swapped
+-- one, they are words of 16 or 32 bits, as hexdump and od -tx2 write them, and their octets may be swapped. If the
+-- first pair has `0x` before it, each has
 abbrev pub gap_of : ℕ → List ℕ → Gap
-gap_of blanks rest = record { blanks = blanks; joined = begins_colon rest }
+gap_of blanks rest =
+    record { blanks = blanks; joined = begins_colon rest; prefixed = begins_prefix (after_offset rest) }
 
 abbrev pub begins_digit : List ℕ → Bool
 begins_digit [] = false
@@ -87,9 +122,10 @@ abbrev pub others_count : List ℕ → ℕ
 others_count text = count_by (λ x. not (is_dump_blank x || is_further x)) text
 
 -- not more characters come after the pairs of a row than the row has octets, and two more, for bars. If there are more,
--- something else follows the row in its line, such as the next row
-abbrev pub has_few_others : ℕ → List ℕ → Bool
-has_few_others octets rest = nat_le (others_count rest) (octets + 2)
+-- something else follows the row in its line, such as the next row. After pairs with `0x` there are none
+abbrev pub has_few_others : Bool → ℕ → List ℕ → Bool
+has_few_others prefixed octets rest =
+    if prefixed then others_count rest == 0 else nat_le (others_count rest) (octets + 2)
 
 -- a row has this offset
 abbrev pub has_offset : ℕ → Option RowRead → Bool
@@ -104,14 +140,15 @@ begins_row_at offset rest =
 -- the line of a row with this offset and this number of octets holds no more than the row: few other characters come
 -- after the pairs, and the row after it does not begin there. If one does, a line end is lost. A colon at once shows
 -- that the last pairs are the digits of its offset
-abbrev pub ends_line : ℕ → ℕ → List ℕ → Bool
-ends_line offset octets rest =
-    has_few_others octets rest && not (begins_colon rest || begins_row_at (offset + octets) rest)
+abbrev pub ends_line : Bool → ℕ → ℕ → List ℕ → Bool
+ends_line prefixed offset octets rest =
+    has_few_others prefixed octets rest && not (begins_colon rest || begins_row_at (offset + octets) rest)
 
 -- one pair or more, no more digits after them, and no more in the line than the row
-abbrev pub row_fits : ℕ → ℕ → List ℕ → TextRead → Bool
-row_fits size offset text read =
-    begins_pair text && not (has_more_digits size read) && ends_line offset (length read.octets) read.rest
+abbrev pub row_fits : ℕ → ℕ → Gap → List ℕ → TextRead → Bool
+row_fits size offset gap text read =
+    begins_pair text && not (has_more_digits size read)
+    && ends_line gap.prefixed offset (length read.octets) read.rest
 
 abbrev pub octets_if : Bool → List ℕ → Option (List ℕ)
 octets_if fits octets = if fits then Some octets else None
@@ -120,24 +157,27 @@ octets_if fits octets = if fits then Some octets else None
 abbrev pub dump_row_octets : ℕ → RowRead → Option (List ℕ)
 dump_row_octets size r =
     let text : List ℕ = before_pairs r.rest in
-    let read : TextRead = pairs_at size (gap_of 2 r.rest) text in
-    octets_if (row_fits size r.offset text read) read.octets
+    let gap : Gap = gap_of 2 r.rest in
+    let read : TextRead = pairs_at size gap text in
+    octets_if (row_fits size r.offset gap text read) read.octets
 
--- the offset of a single row is 0, or a colon follows it
+-- the offset of a single row is 0, or a colon follows it, or a symbol
 abbrev pub has_single_offset : RowRead → Bool
-has_single_offset r = (r.offset == 0) || begins_colon r.rest
+has_single_offset r = (r.offset == 0) || begins_colon r.rest || begins_symbol_name (after_blanks r.rest)
 
 -- one pair or more, no digit right after them, and no more in the line than the row
-abbrev pub single_row_fits : ℕ → List ℕ → TextRead → Bool
-single_row_fits offset text read =
-    begins_pair text && not (begins_digit read.rest) && ends_line offset (length read.octets) read.rest
+abbrev pub single_row_fits : ℕ → Gap → List ℕ → TextRead → Bool
+single_row_fits offset gap text read =
+    begins_pair text && not (begins_digit read.rest)
+    && ends_line gap.prefixed offset (length read.octets) read.rest
 
 -- the octets of a single row, if it fits
 abbrev pub single_row_octets : RowRead → Option (List ℕ)
 single_row_octets r =
     let text : List ℕ = before_pairs r.rest in
-    let read : TextRead = pairs_at (length text) (gap_of 1 r.rest) text in
-    octets_if (has_single_offset r && single_row_fits r.offset text read) read.octets
+    let gap : Gap = gap_of 1 r.rest in
+    let read : TextRead = pairs_at (length text) gap text in
+    octets_if (has_single_offset r && single_row_fits r.offset gap text read) read.octets
 
 -- a row with a pair; a row without a pair is an end, or, before the first row, another line
 abbrev pub has_pair : RowRead → Bool

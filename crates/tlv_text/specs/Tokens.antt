@@ -3,9 +3,9 @@
 --
 --   text   = *(token / broken / other)
 --   token  = ("0x" / "0X") 1*2digit             not after a letter, a digit or "_", and not before one
---          / "\x" 2digit                        after white space, a quote, a token or at the start; before a backslash, a
---                                               quote, white space or the end
---   broken = ("0x" / "0X" / "\x") digit         where a token may begin, and none does: refused
+--          / "\x" 2digit                        after white space, a quote, a token or at the start; before a quote, white
+--                                               space, the end, "\x", or a backslash at the end of a line or of the text
+--   broken = "0x" / "0X" / "\x"                 where a token may begin, and none does: refused
 use Rattle.std.specs.Prelude.{ℕ, zero, suc, ◌+◌, ◌==◌, Bool, true, false, ◌&&◌, ◌||◌, not, nat_le, if◌then◌else◌}
 use Rattle.std.specs.Prelude.{List, [], ◌∷◌, Option, Some, None}
 use Rattle.hex.specs.Hex.{is_hex_digit}
@@ -24,10 +24,15 @@ abbrev pub begins_word : List ℕ → Bool
 begins_word [] = false
 begins_word (x ∷ text) = is_word x
 
--- the end, a backslash, a quote or white space
+-- an `x`, the end of a line or the end of the text. Before any other character a backslash stands for an octet
+abbrev pub may_follow_backslash : List ℕ → Bool
+may_follow_backslash [] = true
+may_follow_backslash (x ∷ text) = (x == 120) || (x == 10) || (x == 13)
+
+-- the end, white space, a quote, or a backslash that stands for no octet of its own
 abbrev pub ends_escape : List ℕ → Bool
 ends_escape [] = true
-ends_escape (x ∷ text) = (x == 92) || is_quote x || is_white x
+ends_escape (x ∷ text) = if x == 92 then may_follow_backslash text else is_white x || is_quote x
 
 -- a token has an octet, and this number of characters comes after its first
 abbrev pub token_of : ℕ → ℕ → Token
@@ -68,13 +73,11 @@ token_at before (x ∷ y ∷ text) =
     if begins_hex_number before x y then number_token text
     else (if begins_escape before x y then escape_token text else None)
 
--- the start of a token and a hexadecimal digit. Where this is no token, it stands for an octet that would be lost
+-- the first two characters of a token. Where this is no token, it stands for an octet that would be lost
 abbrev pub begins_like_token : ℕ → List ℕ → Bool
 begins_like_token before [] = false
 begins_like_token before (x ∷ []) = false
-begins_like_token before (x ∷ y ∷ []) = false
-begins_like_token before (x ∷ y ∷ z ∷ text) =
-    (begins_hex_number before x y || begins_escape before x y) && is_hex_digit z
+begins_like_token before (x ∷ y ∷ text) = begins_hex_number before x y || begins_escape before x y
 
 -- from the left, a text consists of tokens, each with its octet; starts of tokens that are none; and other
 -- characters. The last two have the text after the character

@@ -3,7 +3,7 @@ ghost use Rattle.std.specs.Prelude.{◌≡◌, ◌<◌, ◌≤◌, IfErr, IfOk, 
 ghost use Rattle.tlv_text.specs.Dump.{IsFault, dump_in, dump_limit, dump_read, goes_further, left_in, read_from};
 ghost use Rattle.tlv_text.specs.Dump.{read_in_order, refused_in, refused_with, rows_read, size_in};
 ghost use Rattle.tlv_text.specs.DumpLines.{dump_lines};
-ghost use Rattle.tlv_text.specs.DumpPairs.{begins_pair, pairs_at, single_row_octets};
+ghost use Rattle.tlv_text.specs.DumpPairs.{begins_pair, has_single_offset, pairs_at, single_row_octets};
 ghost use Rattle.tlv_text.specs.Private.DumpSteps.{IsAdded, IsFirstRow, Reads, dump_place_of, row_seen};
 ghost use Rattle.tlv_text.specs.Private.PairSteps.{AreWholePairs};
 
@@ -18,10 +18,11 @@ use crate::digits::begins_digit;
 use crate::{Decoded, TextFault};
 use ahead::{from_first_row, has_pair, is_octal_first, size_in};
 use arrayvec::ArrayVec;
-use lines::{DumpLine, Radix, RowLine, begins_colon, line_of, split_line};
+use lines::{DumpLine, Radix, RowLine, after_blanks, begins_colon, line_of, split_line};
 use output::{Output, add_octets, no_octets};
 use pairs::{
-    DIGITS, Gap, before_pairs, begins_pair, ends_line, gap_of, row_digits, take_first, take_pairs,
+    DIGITS, Gap, before_pairs, begins_pair, begins_symbol_name, ends_line, gap_of, row_digits,
+    take_first, take_pairs,
 };
 use rows::{LastRow, Phase, take_line};
 use std::alloc::{AllocError, Global};
@@ -225,11 +226,19 @@ fn add_single(alloc: Global, row: RowLine<'_>, output: &mut Output) -> Result<bo
     ensures { IfOk result (λ fits. IsFirstRow (single_row_octets (row_seen row.entry)) fits output.old output.new) }
 {
     let text = before_pairs(row.rest);
-    if !(row.offset == 0 || begins_colon(row.rest)) || !begins_pair(text) {
+    if !has_single_offset(row) || !begins_pair(text) {
         return Ok(false);
     }
-    let (octets, rest) = add_pairs(alloc, gap_of(1, row.rest), text, output)?;
-    Ok(!begins_digit(rest) && ends_line(row.offset, octets, rest))
+    let gap = gap_of(1, row.rest);
+    let (octets, rest) = add_pairs(alloc, gap, text, output)?;
+    Ok(!begins_digit(rest) && ends_line(gap.prefixed, row.offset, octets, rest))
+}
+
+/// Whether the offset of a row is 0, or a colon follows it, or a symbol.
+fn has_single_offset(row: RowLine<'_>) -> bool
+    ensures { result ≡ has_single_offset (row_seen row.entry) }
+{
+    row.offset == 0 || begins_colon(row.rest) || begins_symbol_name(after_blanks(row.rest))
 }
 
 /// Adds the octets of the pairs of a single row. Returns their number, and the rest after them.

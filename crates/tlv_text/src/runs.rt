@@ -1,13 +1,14 @@
 //! Runs of base64 inside another text: in LDIF, mail, XML and JSON.
-ghost use Rattle.std.specs.Prelude.{◌≡◌, ◌≤◌, ◌+◌, length, MatchOption, true};
+ghost use Rattle.std.specs.Prelude.{◌≡◌, ◌<◌, ◌≤◌, ◌+◌, ◌^◌, length, MatchOption, true};
 ghost use Rattle.tlv_text.specs.Base64.{is_symbol};
 ghost use Rattle.tlv_text.specs.Runs.{HasNoRun, IsFirstRun, break_size, ends_symbols, is_run_blank, padding_size};
-ghost use Rattle.tlv_text.specs.Runs.{ends_reference, reaches_line_end, stretch_of, up_to_symbol};
+ghost use Rattle.tlv_text.specs.Runs.{across_line_end, begins_symbol, is_at_line_end, ends_reference, line_end_size};
+ghost use Rattle.tlv_text.specs.Runs.{leading_symbols, reaches_line_end, stretch_size, up_to_symbol};
 ghost use Rattle.tlv_text.specs.declared.base64_text.Alphabet.TheVariants.{Standard};
 
 use crate::{Alphabet, symbols};
 
-/// The minimum number of symbols in a run.
+/// The minimum number of symbols with which a run begins.
 const FEWEST: usize = 40;
 
 /// A run of base64 in a text.
@@ -21,60 +22,65 @@ pub struct Base64Run<'a> {
     pub rest: &'a [u8],
 }
 
-/// A stretch of symbols.
-#[derive(Clone, Copy)]
-struct Stretch {
-    symbols: usize,
-    size: usize,
-}
-
-/// Returns the first run of base64 in a text: at least 40 symbols of the standard alphabet (RFC 4648, section 4),
-/// with no symbol right before them. A line end and blanks after it may stand between two symbols, if the symbols
-/// after them reach to the end of their line: to the end of the text, a line feed, a carriage return, `=`, `<`, `&`,
-/// `)`, a backtick or a quote. One or two `=` may follow. A line end is a line feed, perhaps with a carriage return
-/// before it, which may be written `&#13;` or `&#xD;`; base64 refuses a run with these.
+/// Returns the first run of base64 in a text. It begins with at least 40 symbols of the standard alphabet (RFC 4648,
+/// section 4), with no symbol right before them. A line end with blanks around it may stand between two symbols after
+/// these, if the symbols after it reach to the end of their line: to the end of the text, a line feed or a carriage
+/// return, perhaps after blanks; or to `<`, `&`, `)`, a backtick, a backslash, a quote, or a `=` without a symbol after
+/// it. One or two `=` may follow. A line end is a line feed, perhaps with a carriage return before it, or `\n` or `\r\n`.
+/// The carriage return may be written `&#13;` or `&#xD;`; base64 refuses a run with these.
 pub fn first_run(text: &[u8]) -> Option<Base64Run<'_>>
     ensures { MatchOption result (HasNoRun text.now) (λ r. IsFirstRun text.now r.start r.text.now r.rest.now) }
 {
     let mut start = 0;
     while start < text.len() {
         let here = &text[start..];
-        let stretch = stretch_of(here);
-        if stretch.symbols >= FEWEST {
-            let padding = padding_size(&here[stretch.size..]);
-            let (run, rest) = here.split_at(stretch.size + padding);
+        let symbols = leading_symbols(here);
+        if symbols >= FEWEST {
+            let size = stretch_size(here);
+            let padding = padding_size(&here[size..]);
+            let (run, rest) = here.split_at(size + padding);
             return Some(Base64Run {
                 start,
                 text: run,
                 rest,
             });
         }
-        start += stretch.size.max(1);
+        start += symbols.max(1);
     }
     None
 }
 
-/// The stretch of symbols that a text begins with.
-fn stretch_of(text: &[u8]) -> Stretch
-    ensures symbols { result.symbols ≡ (stretch_of text.now).symbols }
-    ensures size { result.size ≡ (stretch_of text.now).size }
-    ensures within { result.size ≤ length text.now }
+/// The number of symbols that a text begins with.
+fn leading_symbols(text: &[u8]) -> usize
+    ensures count { result ≡ leading_symbols text.now }
+    ensures within { result ≤ length text.now }
 {
     let mut rest = text;
-    let mut symbols = 0;
+    let mut count = 0;
     while let [x, more @ ..] = rest
         && is_symbol(*x)
     {
-        symbols += 1;
-        rest = &more[break_size(more)..];
+        count += 1;
+        rest = more;
     }
-    Stretch {
-        symbols,
-        size: text.len() - rest.len(),
-    }
+    count
 }
 
-/// The size of a break between two symbols: a line end and blanks after it. It is 0 if the text does not begin with
+/// The number of characters of the symbols that a text begins with, and of the breaks between them.
+fn stretch_size(text: &[u8]) -> usize
+    ensures size { result ≡ stretch_size text.now }
+    ensures within { result ≤ length text.now }
+{
+    let mut rest = text;
+    while let [x, more @ ..] = rest
+        && is_symbol(*x)
+    {
+        rest = &more[break_size(more)..];
+    }
+    text.len() - rest.len()
+}
+
+/// The size of a break between two symbols: a line end, and blanks around it. It is 0 if the text does not begin with
 /// such a break and symbols that reach to the end of their line.
 #[inline(always)]
 fn break_size(text: &[u8]) -> usize
@@ -82,9 +88,51 @@ fn break_size(text: &[u8]) -> usize
     ensures within { result ≤ length text.now }
 {
     match text {
-        [x, more @ ..] if *x == b'\n' => up_to_symbol(1, more),
-        [x, y, more @ ..] if *x == b'\r' && *y == b'\n' => up_to_symbol(2, more),
-        [b'&', more @ ..] if ends_reference(more) => up_to_symbol(6, &more[5..]),
+        [x, ..] if is_symbol(*x) => 0,
+        _ => break_from(text),
+    }
+}
+
+/// The same. A function of its own, since most calls of `break_size` find a symbol.
+fn break_from(text: &[u8]) -> usize
+    ensures size { result ≡ break_size text.now }
+    ensures within { result ≤ length text.now }
+{
+    let mut rest = text;
+    let mut blanks = 0;
+    while let [x, more @ ..] = rest
+        && is_blank(*x)
+    {
+        blanks += 1;
+        rest = more;
+    }
+    across_line_end(blanks, rest)
+}
+
+/// The size of `blanks` blanks, the line end with which the text begins, and blanks after it, if symbols follow that
+/// reach to the end of their line; otherwise 0.
+fn across_line_end(blanks: usize, text: &[u8]) -> usize
+    requires { blanks + length text.now < 2 ^ 64 }
+    ensures size { result ≡ across_line_end blanks (line_end_size text.now) text.now }
+    ensures within { result ≤ blanks + length text.now }
+{
+    match line_end_size(text) {
+        0 => 0,
+        size => up_to_symbol(blanks + size, &text[size..]),
+    }
+}
+
+/// The size of the line end with which a text begins, or 0.
+fn line_end_size(text: &[u8]) -> usize
+    ensures size { result ≡ line_end_size text.now }
+    ensures within { result ≤ length text.now }
+{
+    match text {
+        [b'\n', ..] => 1,
+        [b'\r', b'\n', ..] => 2,
+        [b'&', more @ ..] if ends_reference(more) => 6,
+        [b'\\', b'n', ..] => 2,
+        [b'\\', b'r', b'\\', b'n', ..] => 4,
         _ => 0,
     }
 }
@@ -103,7 +151,7 @@ fn ends_reference(text: &[u8]) -> bool
 /// The size of `before` characters and the blanks after them, if symbols follow that reach to the end of their line;
 /// otherwise 0.
 fn up_to_symbol(before: usize, text: &[u8]) -> usize
-    requires { before ≤ 6 }
+    requires { before + length text.now < 2 ^ 64 }
     ensures size { result ≡ up_to_symbol before text.now }
     ensures within { result ≤ before + length text.now }
 {
@@ -128,22 +176,46 @@ fn reaches_line_end(text: &[u8]) -> bool
     let mut rest = text;
     while let [x, more @ ..] = rest {
         if !is_symbol(*x) {
-            return ends_symbols(*x);
+            return ends_symbols(rest);
         }
         rest = more;
     }
     true
 }
 
-/// Whether symbols before this character reach to the end of their line.
-#[inline(always)]
-fn ends_symbols(character: u8) -> bool
-    ensures { result ≡ ends_symbols character }
+/// Whether symbols before this reach to the end of their line.
+fn ends_symbols(text: &[u8]) -> bool
+    ensures { result ≡ ends_symbols text.now }
 {
-    matches!(
-        character,
-        b'\n' | b'\r' | b'=' | b'<' | b'&' | b')' | b'`' | b'"' | b'\''
-    )
+    match text {
+        [b'=', more @ ..] => !begins_symbol(more),
+        [b'<' | b'&' | b')' | b'`' | b'\\' | b'"' | b'\'', ..] => true,
+        _ => is_at_line_end(text),
+    }
+}
+
+/// Whether a line ends here, or after blanks.
+fn is_at_line_end(text: &[u8]) -> bool
+    ensures { result ≡ is_at_line_end text.now }
+{
+    let mut rest = text;
+    while let [x, more @ ..] = rest {
+        if !is_blank(*x) {
+            return matches!(*x, b'\n' | b'\r');
+        }
+        rest = more;
+    }
+    true
+}
+
+/// Whether a text begins with a symbol.
+fn begins_symbol(text: &[u8]) -> bool
+    ensures { result ≡ begins_symbol text.now }
+{
+    match text {
+        [x, ..] => is_symbol(*x),
+        [] => false,
+    }
 }
 
 /// Whether this is a space or a tab.

@@ -5,7 +5,7 @@ ghost use Rattle.tlv_text.specs.Characters.{is_quote, is_white};
 ghost use Rattle.tlv_text.specs.Private.TokenSteps.{IsTokenOrEnd, NoneMarked, token_from};
 ghost use Rattle.tlv_text.specs.TextRead.{refused_at};
 ghost use Rattle.tlv_text.specs.Tokens.{begins_like_token, begins_word, ends_escape, escape_token, is_word};
-ghost use Rattle.tlv_text.specs.Tokens.{number_token, pieces, token_at, token_count, tokens_in, tokens_read};
+ghost use Rattle.tlv_text.specs.Tokens.{may_follow_backslash, number_token, pieces, token_at, token_count, tokens_in, tokens_read};
 
 use crate::Decoded;
 use crate::digits::{digit_value, is_digit};
@@ -24,8 +24,8 @@ pub(crate) struct Token {
 
 /// Decodes a text whose octets are written as tokens: `0x30`, `0x3` or `\x30`. Anything else may stand before the
 /// first token and after the last. Between two tokens there may be no letter, no digit and no `_`: a text is refused
-/// at the first such character. It is also refused, anywhere, at what begins like a token and is none: `0x30u8`, or
-/// `\x03` before `ab`. The time is linear: the search for another token runs at most once.
+/// at the first such character. It is also refused, anywhere, at what begins like a token and is none: `0x30u8`, `\xg2`,
+/// or `\x03` before `ab`. The time is linear: the search for another token runs at most once.
 ///
 /// # Errors
 ///
@@ -149,13 +149,13 @@ fn token_at(before: u8, text: &[u8]) -> Option<Token>
     }
 }
 
-/// Whether a text begins like a token and a hexadecimal digit comes next. `before` is the character before the text.
+/// Whether a text begins with the first two characters of a token. `before` is the character before the text.
 fn begins_like_token(before: u8, text: &[u8]) -> bool
     ensures { result ≡ begins_like_token before text.now }
 {
     match text {
-        [b'0', b'x' | b'X', digit, ..] => !is_word(before) && is_digit(*digit),
-        [b'\\', b'x', digit, ..] => is_white_or_quote(before) && is_digit(*digit),
+        [b'0', b'x' | b'X', ..] => !is_word(before),
+        [b'\\', b'x', ..] => is_white_or_quote(before),
         _ => false,
     }
 }
@@ -206,10 +206,18 @@ fn begins_word(text: &[u8]) -> bool
 fn ends_escape(text: &[u8]) -> bool
     ensures { result ≡ ends_escape text.now }
 {
-    matches!(
-        text,
-        [] | [b'\\' | b'"' | b'\'' | b' ' | b'\t' | b'\n' | b'\r', ..]
-    )
+    match text {
+        [] => true,
+        [b'\\', rest @ ..] => may_follow_backslash(rest),
+        [x, ..] => is_white_or_quote(*x),
+    }
+}
+
+/// Whether a backslash before this stands for no octet of its own.
+fn may_follow_backslash(text: &[u8]) -> bool
+    ensures { result ≡ may_follow_backslash text.now }
+{
+    matches!(text, [] | [b'x' | b'\n' | b'\r', ..])
 }
 
 /// Whether this is a letter, a digit or `_`.

@@ -10,7 +10,7 @@ static OCTETS: &[u8] =
     b"\x30\x82\x01\x22\x04\x05\x06\x07\x08\x09\x0a\x0b\x0c\x0d\x0e\x0f\x30\x31\x32";
 
 /// Dumps of `OCTETS`, as these tools write them.
-static TOOLS: [&[u8]; 10] = [
+static TOOLS: [&[u8]; 12] = [
     // xxd
     b"00000000: 3082 0122 0405 0607 0809 0a0b 0c0d 0e0f  0..\"............\n\
       00000010: 3031 32                                  012\n",
@@ -30,6 +30,14 @@ static TOOLS: [&[u8]; 10] = [
     // tcpdump -X
     b"\t0x0000:  3082 0122 0405 0607 0809 0a0b 0c0d 0e0f  0..\"............\n\
       \t0x0010:  3031 32                                  012\n",
+    // gdb
+    b"0x7fffffffe000:\t0x30\t0x82\t0x01\t0x22\t0x04\t0x05\t0x06\t0x07\n\
+      0x7fffffffe008:\t0x08\t0x09\t0x0a\t0x0b\t0x0c\t0x0d\t0x0e\t0x0f\n\
+      0x7fffffffe010:\t0x30\t0x31\t0x32\n",
+    // gdb, with a symbol
+    b"0x404040 <cert>:\t0x30\t0x82\t0x01\t0x22\t0x04\t0x05\t0x06\t0x07\n\
+      0x404048 <cert+8>:\t0x08\t0x09\t0x0a\t0x0b\t0x0c\t0x0d\t0x0e\t0x0f\n\
+      0x404050 <cert+16>:\t0x30\t0x31\t0x32\n",
     // BIO_dump
     b"0000 - 30 82 01 22 04 05 06 07-08 09 0a 0b 0c 0d 0e 0f   0..\"............\n\
       0010 - 30 31 32                                          012\n",
@@ -42,7 +50,7 @@ static TOOLS: [&[u8]; 10] = [
 ];
 
 /// Short dumps, dumps that are refused, and texts that are no dump.
-static DUMPS: [Row<'static>; 26] = [
+static DUMPS: [Row<'static>; 29] = [
     (
         b"0000  30 03 02 01 05   0....",
         b"\x30\x03\x02\x01\x05",
@@ -53,6 +61,10 @@ static DUMPS: [Row<'static>; 26] = [
         b"\x30\x03\x02\x01\x05",
         None,
     ),
+    // Pairs with `0x`: a single row, one that is no pair, and one without `0x`.
+    (b"0x404040 <cert>:\t0x30\t0X03\n", b"\x30\x03", None),
+    (b"0x404040:\t0x30\t0xg3\n", b"", Some(0)),
+    (b"0x404040:\t0x30\t03\n", b"", Some(0)),
     // The offset of the third row is not the one after the second row.
     (
         b"00000000: 3003\n00000002: 0201\n00000005: 05\n",

@@ -8,7 +8,7 @@ use tlv_text::{PemBody, decode_tokens, first_run, has_tokens, numbers_of, pem_bo
 /// and the number of characters before the one that is refused.
 type TokenRow<'a> = (&'a [u8], bool, &'a [u8], Option<usize>);
 
-static TOKENS: [TokenRow<'static>; 17] = [
+static TOKENS: [TokenRow<'static>; 23] = [
     (b"{0x30, 0x03,\n 0X2}", true, b"\x30\x03\x02", None),
     (
         b"unsigned char a[2] = {0x30, 0x03}; int n = 2;",
@@ -21,7 +21,13 @@ static TOKENS: [TokenRow<'static>; 17] = [
     (b"0x3082, 0x01", false, b"", Some(0)),
     (b"0x30u8, 0x03", false, b"", Some(0)),
     (b"[0x30u8, 0x03, 0x02]", true, b"", Some(1)),
-    (b"0x, 0xg, 10x30", false, b"", None),
+    (b"0x, 0xg, 10x30", false, b"", Some(0)),
+    (b"10x30, a0xg, a\\x30", false, b"", None),
+    (b"{0x30, 0x03, 0x}", true, b"\x30\x03", Some(13)),
+    (b"\"\\x30\\x03\\xg2\\x01\"", true, b"\x30\x03", Some(9)),
+    (b"b'\\x04\\x05\\n'", false, b"\x04", Some(6)),
+    (b"\"\\x30\\x03\\\"\"", false, b"\x30", Some(5)),
+    (b"\"\\x30\\x03\\\n\\x02\"", true, b"\x30\x03\x02", None),
     (
         b"{0x30, 0x03, 0x02u}; int n = 3;",
         true,
@@ -134,9 +140,9 @@ fn bodies_are_taken_apart(rt: HostRuntime) {
 /// A text, and its first run of base64: where it begins, and the text after it.
 type RunRow<'a> = (&'a [u8], Option<(usize, &'a [u8])>);
 
-static RUNS: [RunRow<'static>; 14] = [
+static RUNS: [RunRow<'static>; 22] = [
     (
-        b"<X>AAAAAAAAAAAAAAAAAAAA\n  AAAAAAAAAAAAAAAAAAAA</X>",
+        b"<X>AAAAAAAAAAAAAAAAAAAAAAAAAAAAAAAAAAAAAAAA\n  AAAAAAAAAAAAAAAAAAAA</X>",
         Some((3, b"</X>")),
     ),
     (
@@ -144,7 +150,7 @@ static RUNS: [RunRow<'static>; 14] = [
         Some((7, b"\nsn: x")),
     ),
     (
-        b"jpeg:: AAAAAAAAAAAAAAAAAAAA\n AAAAAAAAAAAAAAAAAAAA\nsn: x",
+        b"jpeg:: AAAAAAAAAAAAAAAAAAAAAAAAAAAAAAAAAAAAAAAA\n AAAAAAAAAAAAAAAAAAAA\nsn: x",
         Some((7, b"\nsn: x")),
     ),
     (
@@ -152,27 +158,27 @@ static RUNS: [RunRow<'static>; 14] = [
         Some((9, b"\r\n  tls.key: AAAA")),
     ),
     (
-        b"x: 'AAAAAAAAAAAAAAAAAAAA\n    AAAAAAAAAAAAAAAAAAAA'",
+        b"x: 'AAAAAAAAAAAAAAAAAAAAAAAAAAAAAAAAAAAAAAAA\n    AAAAAAAAAAAAAAAAAAAA'",
         Some((4, b"'")),
     ),
     (
-        b"see `AAAAAAAAAAAAAAAAAAAA\nAAAAAAAAAAAAAAAAAAAA`, and",
+        b"see `AAAAAAAAAAAAAAAAAAAAAAAAAAAAAAAAAAAAAAAA\nAAAAAAAAAAAAAAAAAAAA`, and",
         Some((5, b"`, and")),
     ),
     (
-        b"(x AAAAAAAAAAAAAAAAAAAA\n   AAAAAAAAAAAAAAAAAAAA)",
+        b"(x AAAAAAAAAAAAAAAAAAAAAAAAAAAAAAAAAAAAAAAA\n   AAAAAAAAAAAAAAAAAAAA)",
         Some((3, b")")),
     ),
     (
-        b"&quot;AAAAAAAAAAAAAAAAAAAA\r\nAAAAAAAAAAAAAAAAAAAA&quot;",
+        b"&quot;AAAAAAAAAAAAAAAAAAAAAAAAAAAAAAAAAAAAAAAA\r\nAAAAAAAAAAAAAAAAAAAA&quot;",
         Some((6, b"&quot;")),
     ),
     (
-        b"<X>AAAAAAAAAAAAAAAAAAAA&#13;\nAAAAAAAAAAAAAAAAAAAA&#13;\n</X>",
+        b"<X>AAAAAAAAAAAAAAAAAAAAAAAAAAAAAAAAAAAAAAAA&#13;\nAAAAAAAAAAAAAAAAAAAA&#13;\n</X>",
         Some((3, b"&#13;\n</X>")),
     ),
     (
-        b"<X>AAAAAAAAAAAAAAAAAAAA&#xD;\n AAAAAAAAAAAAAAAAAAAA=&#xD;\n</X>",
+        b"<X>AAAAAAAAAAAAAAAAAAAAAAAAAAAAAAAAAAAAAAAA&#xD;\n AAAAAAAAAAAAAAAAAAAA=&#xD;\n</X>",
         Some((3, b"&#xD;\n</X>")),
     ),
     (
@@ -184,6 +190,35 @@ static RUNS: [RunRow<'static>; 14] = [
         None,
     ),
     (b"AAAAAAAAAAAAAAAAAAAA AAAAAAAAAAAAAAAAAAAAAAAAA", None),
+    (
+        b"x:: AAAAAAAAAAAAAAAAAAAAAAAAAAAAAAAAAAAAAAAA \n AAAAAAAAAAAAAAAAAAAA= \ny: z",
+        Some((4, b" \ny: z")),
+    ),
+    (
+        b"AAAAAAAAAAAAAAAAAAAAAAAAAAAAAAAAAAAAAAAA\t \r\nAAAAAAAAAAAAAAAAAAAA\t\r\n",
+        Some((0, b"\t\r\n")),
+    ),
+    (
+        b"{\"c\":\"AAAAAAAAAAAAAAAAAAAAAAAAAAAAAAAAAAAAAAAA\\nAAAA\\r\\nAAA=\\n\"}",
+        Some((6, b"\\n\"}")),
+    ),
+    (
+        b"$ base64 a.der\nAAAAAAAAAAAAAAAAAAAAAAAAAAAAAAAAAAAAAAAA\n",
+        Some((15, b"\n")),
+    ),
+    (
+        b"cat <<EOF\nAAAAAAAAAAAAAAAAAAAAAAAAAAAAAAAAAAAAAAAA\nAAA=\nEOF\n",
+        Some((10, b"\nEOF\n")),
+    ),
+    (b"a\\b AAAAAAAAAAAAAAAAAAAAAAAAAAAAAAAAAAAAAAA\nAA\n", None),
+    (
+        b"AAAAAAAAAAAAAAAAAAAAAAAAAAAAAAAAAAAAAAAA\\tAAAA",
+        Some((0, b"\\tAAAA")),
+    ),
+    (
+        b"A=AAAAAAAAAAAAAAAAAAAAAAAAAAAAAAAAAAAAAAAA\nB=AA",
+        Some((2, b"\nB=AA")),
+    ),
     (b"", None),
 ];
 
@@ -199,7 +234,7 @@ fn runs_are_found(rt: HostRuntime) {
     }
 }
 
-/// A run of base64 has at least 40 symbols.
+/// A run of base64 begins with at least 40 symbols.
 #[test]
 fn runs_have_a_least_size(rt: HostRuntime) -> Result<(), Fail> {
     for (count, is_run) in [(39, false), (40, true), (41, true)] {

@@ -2,8 +2,8 @@
 use crate::expect::expect_of;
 use std::test::Fail;
 use tlv_mend::{
-    TextChange, WrongLength, latin1_of_utf8, laws, next_start, text_change, undone_line_ends,
-    undone_utf8, write_remedies, write_wrong_length, wrong_length,
+    OctetChange, TextChange, WrongLength, latin1_of_utf8, laws, next_start, octet_change,
+    text_change, undone_line_ends, undone_utf8, write_remedies, write_wrong_length, wrong_length,
 };
 use tlv_walk::{Framing, Inside, MemDrain};
 
@@ -42,6 +42,33 @@ fn a_wrong_length_is_found(rt: HostRuntime) -> Result<(), Fail> {
         wrong_length(rt.alloc(), TOO_LONG, &closed(), &[])?,
         None,
     );
+    Ok(())
+}
+
+/// A SEQUENCE of 6 octets that holds an INTEGER of 2, which has one, and a NULL.
+const ONE_MISSING: &[u8] = b"\x30\x06\x02\x02\x01\x05\x00";
+
+/// A SEQUENCE of 5 octets that holds an INTEGER of 1, which has two, and a NULL.
+const ONE_PUT_IN: &[u8] = b"\x30\x05\x02\x01\x05\x07\x05\x00";
+
+/// An octet that is missing or was put in is found after the header in front of it, if no other length was found.
+#[test]
+fn an_octet_that_is_missing_or_was_put_in_is_found(rt: HostRuntime) -> Result<(), Fail> {
+    let wrong = WrongLength {
+        offset: 2,
+        said: 2,
+        would: 1,
+    };
+    let missing = octet_change(rt.alloc(), ONE_MISSING, &closed(), &[2, 0], None)?;
+    expect_of(&rt, "missing", missing, Some(OctetChange::Missing(2)));
+    let put_in = octet_change(rt.alloc(), ONE_PUT_IN, &closed(), &[5, 2, 0], None)?;
+    expect_of(&rt, "put in", put_in, Some(OctetChange::PutIn(2)));
+    for candidates in [[0, 0], [6, 6], [7, 8]] {
+        let other = octet_change(rt.alloc(), ONE_MISSING, &closed(), &candidates, None)?;
+        expect_of(&rt, "another header", other, None);
+    }
+    let unneeded = octet_change(rt.alloc(), ONE_MISSING, &closed(), &[2], Some(wrong))?;
+    expect_of(&rt, "with another length", unneeded, None);
     Ok(())
 }
 
@@ -160,8 +187,14 @@ fn remedies_are_written(rt: HostRuntime) -> Result<(), Fail> {
         b"It begins as text in UTF-16 does. Try: iconv -f UTF-16 -t UTF-8 FILE | tlvdump-show\n";
     let gzip = b"It begins as a file of gzip does. Try: gzip -dc FILE | tlvdump-show\n";
     let length = b"If the header at offset 2 said 1 octet and not 2, all would parse.\n";
+    let missing = b"If one octet more stood after the header at offset 2, \
+        all would parse: an octet of its contents may be missing.\n";
+    let put_in = b"If one octet fewer stood after the header at offset 2, \
+        all would parse: an octet may have been put in there.\n";
     for (octets, candidates, want) in [
         (TOO_LONG, [2, 0].as_slice(), length.as_slice()),
+        (ONE_MISSING, &[2, 0], missing),
+        (ONE_PUT_IN, &[5, 2, 0], put_in),
         (b"\x1f\x8b\x08", &[], gzip),
         (b"\xff\xfe", &[], utf16),
         (b"\xfe\xff", &[], utf16),
@@ -192,6 +225,7 @@ fn a_wrong_length_is_written(rt: HostRuntime) -> Result<(), Fail> {
 #[test]
 fn the_laws_may_be_called(_rt: HostRuntime) {
     laws::inputs_have_one_wrong_length();
+    laws::inputs_have_one_octet_change();
     laws::other_lengths_make_headers();
     laws::remedies_are_shown();
 }

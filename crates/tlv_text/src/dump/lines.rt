@@ -204,7 +204,7 @@ fn is_digit_of(radix: Radix, character: u8) -> bool
 }
 
 /// The text after a leading `0x` or `0X`, if it has one.
-fn after_prefix(text: &[u8]) -> &[u8]
+pub(super) fn after_prefix(text: &[u8]) -> &[u8]
     ensures { result.now ≡ after_prefix text.now }
 {
     match text {

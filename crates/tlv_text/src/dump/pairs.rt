@@ -1,14 +1,16 @@
 //! Pairs of digits in a row of a hex dump.
-ghost use Rattle.std.specs.Prelude.{◌≡◌, ◌<◌, ◌≤◌, ◌+◌, ◌||◌, ◌&&◌, [], drop, length, not, option_map, take, true};
-ghost use Rattle.tlv_text.specs.DumpPairs.{after_few, after_gap, after_one, before_pairs, begins_blank, begins_digit};
-ghost use Rattle.tlv_text.specs.DumpPairs.{begins_lone_pair, begins_pair, begins_row_at, dump_row_octets, ends_line};
-ghost use Rattle.tlv_text.specs.DumpPairs.{gap_of, has_few_others, has_offset, is_further, octets_if, others_count};
-ghost use Rattle.tlv_text.specs.DumpPairs.{pairs_after};
+ghost use Rattle.std.specs.Prelude.{◌≡◌, ◌<◌, ◌≤◌, ◌+◌, ◌||◌, ◌&&◌, [], drop, false, length, not, option_map};
+ghost use Rattle.std.specs.Prelude.{take, true};
+ghost use Rattle.tlv_text.specs.DumpPairs.{after_few, after_first, after_gap, after_offset, after_one, after_separator};
+ghost use Rattle.tlv_text.specs.DumpPairs.{after_symbol, before_pairs, begins_blank, begins_digit, begins_lone_pair};
+ghost use Rattle.tlv_text.specs.DumpPairs.{begins_pair, begins_prefix, begins_row_at, begins_symbol_name};
+ghost use Rattle.tlv_text.specs.DumpPairs.{dump_row_octets, ends_line, gap_of, has_few_others, has_offset, is_further};
+ghost use Rattle.tlv_text.specs.DumpPairs.{octets_if, others_count, pairs_after, without_prefix};
 ghost use Rattle.tlv_text.specs.Private.DumpSteps.{row_seen};
 ghost use Rattle.tlv_text.specs.Private.PairSteps.{AreWholePairs, pair_octets};
 ghost use Rattle.tlv_text.specs.TextRead.{nothing_read, octets_then};
 
-use super::lines::{Radix, RowLine, after_blanks, begins_colon, is_blank, row_at};
+use super::lines::{Radix, RowLine, after_blanks, after_prefix, begins_colon, is_blank, row_at};
 use crate::digits::{begins_digit, is_digit};
 use arrayvec::ArrayVec;
 
@@ -22,6 +24,8 @@ pub(crate) struct Gap {
     pub(crate) blanks: usize,
     /// Whether the gap may be empty.
     pub(crate) joined: bool,
+    /// Whether each pair has `0x` before it.
+    pub(crate) prefixed: bool,
 }
 
 /// Takes the digits of a row among others, if it fits; a row has `size` octets, and the last row may have fewer.
@@ -36,19 +40,20 @@ pub(super) fn row_digits(size: usize, row: RowLine<'_>, digits: &mut ArrayVec<u8
     if !begins_pair(after) {
         return false;
     }
+    let gap = gap_of(2, row.rest);
     take_first(&mut after, digits);
-    take_pairs(size - 1, gap_of(2, row.rest), &mut after, digits);
+    take_pairs(size - 1, gap, &mut after, digits);
     let octets = digits.len() / 2;
-    ends_row(row.offset, octets, octets == size, after)
+    ends_row(gap.prefixed, row.offset, octets, octets == size, after)
 }
 
 /// Whether a row with this offset ends after its pairs, which are these many octets: no more digits follow, and its
-/// line holds no more than the row.
-fn ends_row(offset: u64, octets: usize, full: bool, rest: &[u8]) -> bool
+/// line holds no more than the row. `prefixed` says whether its pairs have `0x` before them.
+fn ends_row(prefixed: bool, offset: u64, octets: usize, full: bool, rest: &[u8]) -> bool
     ensures { result ≡ (not (begins_digit rest.now || full && begins_lone_pair (after_few 1 rest.now))
-        && ends_line offset octets rest.now) }
+        && ends_line prefixed offset octets rest.now) }
 {
-    !has_more_digits(full, rest) && ends_line(offset, octets, rest)
+    !has_more_digits(full, rest) && ends_line(prefixed, offset, octets, rest)
 }
 
 /// Whether a digit follows the pairs at once, or, after a full row, a lone pair follows after one blank.
@@ -61,10 +66,11 @@ fn has_more_digits(full: bool, rest: &[u8]) -> bool
 /// Whether the line of a row with this offset holds no more than the row, given what comes after its pairs, which are
 /// `octets` octets: few other characters, and not the row after it. A colon at once shows that the last pairs are the
 /// digits of an offset.
-pub(super) fn ends_line(offset: u64, octets: usize, rest: &[u8]) -> bool
-    ensures { result ≡ ends_line offset octets rest.now }
+pub(super) fn ends_line(prefixed: bool, offset: u64, octets: usize, rest: &[u8]) -> bool
+    ensures { result ≡ ends_line prefixed offset octets rest.now }
 {
-    has_few_others(octets, rest) && !(begins_colon(rest) || begins_next_row(offset, octets, rest))
+    has_few_others(prefixed, octets, rest)
+        && !(begins_colon(rest) || begins_next_row(offset, octets, rest))
 }
 
 /// Whether, behind blanks, the row after one with this offset and this number of octets begins. Its offset may be octal
@@ -87,10 +93,22 @@ fn is_next_row(row: Option<RowLine<'_>>, offset: u64, octets: usize) -> bool
     }
 }
 
+/// Whether not more characters come after the pairs of a row than the row has octets, besides two bars; and none after
+/// pairs with `0x`.
+fn has_few_others(prefixed: bool, octets: usize, rest: &[u8]) -> bool
+    ensures { result ≡ has_few_others prefixed octets rest.now }
+{
+    if prefixed {
+        others_count(rest) == 0
+    } else {
+        is_short_or_few(octets, rest)
+    }
+}
+
 /// Whether not more characters come after the pairs of a row than the row has octets, besides two bars. A usual row is
 /// too short for more of them, so they need not be counted.
-fn has_few_others(octets: usize, rest: &[u8]) -> bool
-    ensures { result ≡ has_few_others octets rest.now }
+fn is_short_or_few(octets: usize, rest: &[u8]) -> bool
+    ensures { result ≡ has_few_others false octets rest.now }
 {
     let others = after_blanks(rest);
     others.len().saturating_sub(2) <= octets || others_count(others).saturating_sub(2) <= octets
@@ -123,6 +141,7 @@ pub(super) fn gap_of(blanks: usize, rest: &[u8]) -> Gap
     Gap {
         blanks,
         joined: begins_colon(rest),
+        prefixed: begins_prefix(after_offset(rest)),
     }
 }
 
@@ -139,11 +158,57 @@ pub(super) fn take_first(rest: &mut &[u8], digits: &mut ArrayVec<u8, DIGITS>)
     *rest = more;
 }
 
-/// The text after leading blanks, a colon, a hyphen and blanks.
+/// The text from the digits of the first pair on, given what comes after the offset.
 pub(super) fn before_pairs(rest: &[u8]) -> &[u8]
     ensures { result.now ≡ before_pairs rest.now }
 {
-    after_blanks(after_one(b'-', after_one(b':', after_blanks(rest))))
+    after_prefix(after_offset(rest))
+}
+
+/// The text after leading blanks, a symbol, a colon, a hyphen and blanks.
+fn after_offset(rest: &[u8]) -> &[u8]
+    ensures { result.now ≡ after_offset rest.now }
+{
+    after_blanks(after_one(b'-', after_one(b':', after_symbol(after_blanks(rest)))))
+}
+
+/// The text without a symbol between `<` and `>`, if it comes first.
+fn after_symbol(text: &[u8]) -> &[u8]
+    ensures { result.now ≡ after_symbol text.now }
+{
+    match text {
+        [b'<', rest @ ..] => after_first(b'>', rest),
+        _ => text,
+    }
+}
+
+/// The text after this character; empty if it has none.
+fn after_first(character: u8, text: &[u8]) -> &[u8]
+    ensures { result.now ≡ after_first character text.now }
+{
+    let mut rest = text;
+    while let [x, more @ ..] = rest {
+        if *x == character {
+            return more;
+        }
+        rest = more;
+    }
+    rest
+}
+
+/// Whether a text begins with a symbol.
+pub(super) fn begins_symbol_name(text: &[u8]) -> bool
+    ensures { result ≡ begins_symbol_name text.now }
+{
+    matches!(text, [b'<', ..])
+}
+
+/// Whether `0x` or `0X` comes first.
+fn begins_prefix(text: &[u8]) -> bool
+    ensures prefix { result ≡ begins_prefix text.now }
+    ensures two { result ≡ true → 2 ≤ length text.now }
+{
+    matches!(text, [b'0', b'x' | b'X', ..])
 }
 
 /// The text without this character, if it comes first.
@@ -185,9 +250,27 @@ pub(super) fn take_pairs(
     left
 }
 
-/// The text after what may be between two pairs; empty if the text does not begin so.
+/// The text from the digits of the next pair on; empty if the text does not begin with a gap.
 fn after_gap(gap: Gap, text: &[u8]) -> &[u8]
     ensures { result.now ≡ after_gap gap text.now }
+{
+    if gap.prefixed {
+        without_prefix(after_separator(gap, text))
+    } else {
+        after_separator(gap, text)
+    }
+}
+
+/// The text without the `0x` that comes first; empty if none does.
+fn without_prefix(text: &[u8]) -> &[u8]
+    ensures { result.now ≡ without_prefix text.now }
+{
+    if begins_prefix(text) { &text[2..] } else { &[] }
+}
+
+/// The text after what may be between two pairs; empty if the text does not begin so.
+fn after_separator(gap: Gap, text: &[u8]) -> &[u8]
+    ensures { result.now ≡ after_separator gap text.now }
 {
     match text {
         [b'-', rest @ ..] => rest,

@@ -11,8 +11,8 @@ returns-then-not-begins_digit c =
     let single : has_single_offset (row_seen c.args.row) ≡ true = search rules in
     subst
     (λ (octets : Option (List ℕ)). IsFirstRow octets c.ends_line.result c.args.output.now c.add_pairs.new.output)
-    (single-octets (row_seen c.args.row) c.gap_of.result c.before_pairs-text.result.now c.in_ok-octets.rest.now
-    c.in_ok-octets.octets c.ends_line.result single c.gap_of.ensures c.before_pairs-text.ensures
+    (single-octets (row_seen c.args.row) c.gap_of-gap.result c.before_pairs-text.result.now c.in_ok-octets.rest.now
+    c.in_ok-octets.octets c.ends_line.result single c.gap_of-gap.ensures c.before_pairs-text.ensures
     (sym c.begins_pair.ensures.pair ∙ c.if-not-begins_pair.false) found.count found.rest
     (sym c.begins_digit.ensures ∙ c.if-not-begins_digit.true) c.ends_line.ensures)
     (first-added c.ends_line.result _ c.args.output.now c.add_pairs.new.output found.octets)

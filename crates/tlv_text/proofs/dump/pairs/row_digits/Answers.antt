@@ -18,8 +18,8 @@ returns-clause-octets c =
     c.before_pairs-after.ensures begins
     (row-read c.args.size c.take_pairs-octets.result (gap_of 2 c.args.row.rest.now) c.before_pairs-after.result.now
     c.take_first.new.digits.items rest digits c.requires.some c.requires.few begins
-    c.take_first.ensures.pair (rw (c.gap_of.ensures, c.take_first.ensures.rest) at t.read) t.count
-    (rw c.gap_of.ensures at t.last))
-    (c.ends_row.ensures
+    c.take_first.ensures.pair (rw (c.gap_of-gap.ensures, c.take_first.ensures.rest) at t.read) t.count
+    (rw c.gap_of-gap.ensures at t.last))
+    (rw c.gap_of-gap.ensures at c.ends_row.ensures
     ∙ ap (λ (n : ℕ). not (begins_digit rest || ((n == c.args.size) && begins_lone_pair (after_few 1 rest)))
-    && ends_line c.args.row.offset n rest) size)
+    && ends_line (gap_of 2 c.args.row.rest.now).prefixed c.args.row.offset n rest) size)

@@ -1,7 +1,7 @@
 use Rattle.std.proofs.Common.{◌∙◌, ap, nat_le, subst, sym, ◌≤◌, ℕ}
 use Rattle.std.proofs.lemmas.Bool.{le-leb}
 use Rattle.tlv_text.proofs.DumpPairLemmas.{few-counted, few-in_short}
-use Rattle.tlv_text.proofs.dump.pairs.has_few_others.Goals as goal
+use Rattle.tlv_text.proofs.dump.pairs.is_short_or_few.Goals as goal
 
 pub returns-then-saturating_sub-octets : goal.returns-then-saturating_sub-octets
 returns-then-saturating_sub-octets c =

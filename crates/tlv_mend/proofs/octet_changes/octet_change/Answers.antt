@@ -1,0 +1,8 @@
+use Rattle.std.proofs.Common.{sym}
+use Rattle.std.specs.Prelude.{None, Option, Some}
+use Rattle.tlv_mend.specs.declared.lengths.WrongLength.{WrongLength}
+use Rattle.tlv_mend.specs.OneOctet.{another_length}
+use Rattle.tlv_mend.proofs.octet_changes.octet_change.Goals as goal
+
+pub returns-in-Some : goal.returns-in-Some
+returns-in-Some c = rw c.in-Some.is (another_length _)
