@@ -23,7 +23,7 @@ HEX, OF_BASE64, CMS = "taken for hexadecimal", "taken for base64", "taken for PE
 NO_END = "its end marker is missing"
 KNOWN = "known are PEM, hex dumps, hexadecimal, decimal numbers and base64"
 NO_PEM, NO_BASE64 = "X2 there is no block of PEM", "X2 there is no base64"
-NO_LIST = "X2 there is no list of decimal numbers, or more than one"
+NO_LIST = "X2 there is no list of decimal numbers"
 FORMS = "--as (octets, pem, dump, hex, numbers, base64 or runs)"
 
 SAME = [
@@ -62,6 +62,7 @@ def t1(text):
 
 
 PAIR, ROW, LIST = "a pair of hexadecimal digits", "a row of a hex dump", "taken for decimal numbers"
+ONE_LIST = "only one list of numbers from -128 to 255"
 BROKEN = b"-----BEGIN A-----\nBQA\n*\n-----END A-----\n"
 SEALED = pem(b"RSA PRIVATE KEY", b"\xd3\x9d\x34\xff", b"Proc-Type: 4,ENCRYPTED\nDEK-Info: AES-256-CBC,00\n\n")
 SLASHES = b'["' + pem(b"CMS", element(4, b"\xff" * 9)).replace(b"/", b"\\/").replace(b"\n", b"\\r\\n") + b'"]'
@@ -103,7 +104,10 @@ RAW = [
     (["--as=base64"], b"BQAF\nB", 2, b"\x05\x00\x05", t2("base64", 2)), (["--as=base64"], b"BQB=", 2, b"", t2("base64", 1)),
     (["--as=base64"], b"BQ=", 2, b"", t2("base64", 1)), (["--as=base64"], b"BQA==", 2, b"", t2("base64", 1)),
     (["--as=numbers"], b"x = [5, 0,]", 0, NULL, LIST), (["--as=numbers"], b"[5, 256]", 2, b"", NO_LIST),
-    (["--as=numbers"], b"[5, 0] [1, 2]", 2, b"", NO_LIST), (["--as=numbers"], b"[-1, -128]", 0, b"\xff\x80", LIST),
+    (["--as=numbers"], b"[5, 0]\n[1, 2]", 2, NULL, t2("decimal numbers", 2, ONE_LIST)),
+    (["--as=numbers"], b"{5, 0,\n300, 1}", 2, NULL, t2("decimal numbers", 2, ONE_LIST)),
+    (["--as=numbers"], b"x = [5, 0, 1", 2, NULL, t2("decimal numbers", 1, ONE_LIST)),
+    ([], b"x = [5, 0, 300]", 2, b"", t1("x = [5, 0, 300]")), (["--as=numbers"], b"[-1, -128]", 0, b"\xff\x80", LIST),
     (["--as=pem"], SOUND, 2, b"", NO_PEM), (["--as=runs"], b"Dear Sir", 2, b"", NO_BASE64),
     (["--as=runs"], b"x:\n" + b"A" * 40 + b"\n", 0, bytes(30), "taken for base64 of line 2"),
     ([], b"see `" + RUN + b"`.\n", 0, TWO_LINES, "taken for base64 of line 1"),

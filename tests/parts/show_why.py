@@ -148,8 +148,14 @@ BODY = element(0x30, b"\x02\x01\x05" * 9 + b"\x04\x02\xe9\x0a")
 REPLACED = ("It has the octets ef bf bd, with which programs replace what is no UTF-8: it was copied as a text. "
             "Try: fetch it anew, in binary.")
 UTF_16 = "It begins as text in UTF-16 does. Try: iconv -f UTF-16 -t UTF-8 FILE | tlvdump-show"
+# A record, and one with a header that is refused inside it.
+RECORD, DAMAGED = element(0x30, b"\x02\x01\x05"), element(0x30, b"\xa0\x04\x04\xff\x05\x00")
+NEXT = "From offset {} on it parses: the next record may begin there. Try: tail -c +{} FILE | tlvdump-show"
 # Hints for a wrong start, a copy as text, and files of other kinds: words that must be written, and the status.
 HINTS = [
+    ("the next record", RECORD + DAMAGED + RECORD, NEXT.format(13, 14), 2),
+    ("the next record, by its first octet", RECORD + b"\x30\x0a\x02\x01\x06" + RECORD, NEXT.format(10, 11), 2),
+    ("the next record that parses", RECORD + DAMAGED + RECORD + DAMAGED + RECORD, NEXT.format(26, 27), 2),
     ("a wrong start", b"\0\0\0" + BODY, "From offset 3 on it parses", 2),
     ("the command for it", b"\0\0\0" + BODY, "Try: tail -c +4 FILE | tlvdump-show", 2),
     ("a header that parses in part", b"\x02\x93" + BODY, "From offset 2 on it parses", 2),
@@ -167,8 +173,8 @@ HINTS = [
     ("UTF-16", b"\xff\xfe\xe9\x00", UTF_16, 2),
     ("UTF-16, high octets first", b"\xfe\xff\x00\x30", UTF_16, 2),
 ]
-# Octets for which no other start may be suggested: those after whole encodings.
-NO_START = [BODY + b"garbage\n", BODY + b"\x41\x82\x13\x04\x30"]
+# Octets for which no other start may be suggested: those after whole encodings, and the last record.
+NO_START = [BODY + b"garbage\n", BODY + b"\x41\x82\x13\x04\x30", BODY + DAMAGED]
 # A header that is named: "the header at offset 2", "the INTEGER at offset 2", "the [1] at offset 2".
 NAMED = re.compile(r"(?:eader|[A-Z][A-Za-z0-9-]*|\]) at offset (\d+)")
 # The number of headers of each encoding that are changed, and the step by which certificates of the machine are taken.
@@ -298,6 +304,19 @@ def real_contents(why):
     part.note(share)
 
 
+def real_records(why):
+    """Of three real encodings, the one in the middle has a header that is refused inside it. The last one is named."""
+    part, rng, count, unnamed = why.part, random.Random(3), 0, []
+    encodings = [octets for _, octets in real_encodings.encodings(part, STEP) if octets[:1] == b"\x30"]
+    for front, octets, back in zip(encodings, encodings[1:], encodings[2:]):
+        it = rng.choice(Reading(octets).elements()[1:])
+        place = it.offset + len(it.identifier)
+        _, lines = why.said(front + octets[:place] + b"\xff" + octets[place + 1 :] + back)
+        offset, count = len(front + octets), count + 1
+        unnamed += [] if NEXT.format(offset, offset + 1) in lines else [f"{offset}: {lines}"]
+    part.expect("real encodings behind a damaged one", count > 20 and not unnamed, str(count), *unnamed)
+
+
 def texts(why):
     """Each block of a text is explained. The status of several FILEs is the highest."""
     part, octets = why.part, element(0x30, b"\x02\x01\x05")
@@ -325,3 +344,4 @@ def test(part):
     if part.has("openssl"):
         real_headers(why)
         real_contents(why)
+        real_records(why)

@@ -140,10 +140,20 @@ def line_of(text, place):
 
 
 def wrong_number(checks, name, form, text, octets):
-    """A number is none, or is too large: there is no list, and nothing is decoded."""
+    """In place of a number stands something else, or one that is too large. The list breaks there; if it is the second
+    number, there is no list.
+    """
     if form != "numbers":
         return
-    place = re.search(rb"[\[{]\s*48, -?1", text).end() - 1
+    start = re.search(rb"[\[{]\s*48, -?1", text)
+    numbers = [*re.compile(rb"-?\d+").finditer(text, start.start())]
+    for at, wrong in itertools.product((2, len(octets) // 2, len(octets) - 1), (b"x", b"999")):
+        place = numbers[at].start()
+        what, changed = f"{name}, {wrong!r} in front of number {at}", text[:place] + wrong + text[place:]
+        got = checks.raw(what, changed)
+        checks.part.expect(f"{what}: no octets", got.status == 2 and not got.out, *got.lines())
+        checks.refused(f"{what}, --as", changed, octets[:at], form, line_of(text, place))
+    place = start.end() - 1
     for wrong in (b"x", b"*", b".", b"9", b","):
         what, changed = f"{name}, {wrong!r} for a digit", text[:place] + wrong + text[place + 1 :]
         got = checks.raw(what, changed)

@@ -22,10 +22,10 @@ BEFORE_BACKSLASH = b" \t\n\r\"'"
 # The beginning of what looks like a token.
 LIKE_TOKEN = re.compile(rb"(?<![A-Za-z0-9_])0[xX]|\\x")
 PAIRS = re.compile(rb"(?:[ \t\n\r:,\-\"']|[0-9a-fA-F]{2})*")
-NUMBER = rb"-?[0-9]{1,3}"
-SPACE = rb"[ \t\n\r]*"
-NUMBERS = SPACE + NUMBER + rb"(?:%s,%s%s)+%s(?:,%s)?" % (SPACE, SPACE, NUMBER, SPACE, SPACE)
-LIST = re.compile(rb"\[(%s)\]|\{(%s)\}" % (NUMBERS, NUMBERS))
+NUMBER, SPACE = re.compile(rb"-?[0-9]{1,3}"), re.compile(rb"[ \t\n\r]*")
+CLOSING = {b"[": b"]", b"{": b"}"}
+# What has to follow a number in a list that is closed by this character.
+AFTER_NUMBER = {close: (b" ", b"\t", b"\n", b"\r", b",", close) for close in CLOSING.values()}
 
 
 def of_base64(text, section=None):
@@ -151,14 +151,37 @@ def like_token(text, tokens):
 
 
 def of_numbers(text):
-    """Returns the octets of the list of decimal numbers, or None unless the text has exactly one such list."""
-    found, at = [], 0
-    while (it := LIST.search(text, at)) and len(found) < 2:
-        numbers = [int(number) for number in re.findall(NUMBER, it[0])]
-        if all(-128 <= number <= 255 for number in numbers):
-            found.append(bytes(number & 0xFF for number in numbers))
-        at = it.start() + 1
-    return found[0] if len(found) == 1 else None
+    """Returns what the list of decimal numbers gives, or None if the text has no list. A text is refused where its list
+    breaks, or where a second list begins.
+    """
+    starts = [it.start() for it in re.finditer(rb"[\[{]", text)]
+    lists = [(start, found) for start in starts if len((found := of_list(text, start)).octets) > 1]
+    if not lists:
+        return None
+    first = lists[0][1]
+    if first.place is None and len(lists) > 1:
+        first.place = lists[1][0]
+    return first
+
+
+def of_list(text, start):
+    """Returns the octets of the numbers after a bracket or a brace, and where the list breaks, or None if it is closed.
+    """
+    close, at, octets = CLOSING[text[start : start + 1]], start + 1, b""
+    while True:
+        at = SPACE.match(text, at).end()
+        if octets and text.startswith(close, at):
+            return Decoded(octets)
+        number = NUMBER.match(text, at)
+        if not number or not -128 <= int(number[0]) <= 255 or text[number.end() : number.end() + 1] not in AFTER_NUMBER[close]:
+            return Decoded(octets, at)
+        octets += bytes([int(number[0]) & 0xFF])
+        at = SPACE.match(text, number.end()).end()
+        if text.startswith(close, at):
+            return Decoded(octets)
+        if not text.startswith(b",", at):
+            return Decoded(octets, at)
+        at += 1
 
 
 @dataclass

@@ -10,9 +10,9 @@ OCTETS = ("octets", "ber", "der", "cer")
 TEXTS = ("pem", "dump", "hex", "numbers", "base64", "runs")
 WORDS = {"dump": "a hex dump", "hex": "hexadecimal", "numbers": "decimal numbers", "base64": "base64"}
 EXPECTED = {"pem": "base64", "base64": "base64", "runs": "base64", "dump": "a row of a hex dump"}
-EXPECTED |= {"hex": "a pair of hexadecimal digits"}
+EXPECTED |= {"hex": "a pair of hexadecimal digits", "numbers": "only one list of numbers from -128 to 255"}
 NO_PEM = "X2 there is no block of PEM"
-NO_LIST = "X2 there is no list of decimal numbers, or more than one"
+NO_LIST = "X2 there is no list of decimal numbers"
 NO_BASE64 = "X2 there is no base64"
 ENCRYPTED, NO_END = "X3 it is encrypted", "its end marker is missing"
 TOO_LONG = f"X4 text of more than {text_dumps.MOST_OCTETS} octets"
@@ -129,7 +129,8 @@ def of_known_form(text, layers):
     if text_forms.of_pem(text):
         return of_form("pem", text)
     blocks = sound("dump", text_dumps.decoded(text)) or sound("hex", text_forms.of_hexadecimal(text), OFFSET)
-    if not blocks and text_forms.of_numbers(text) is not None:
+    numbers = text_forms.of_numbers(text)
+    if not blocks and numbers is not None and numbers.place is None:
         return of_form("numbers", text)
     return blocks or of_counting_base64(text, layers) or of_counting_runs(text, layers)
 
@@ -148,8 +149,8 @@ def of_form(form, text):
     if form == "pem":
         return [of_pem(text, it) for it in text_forms.of_pem(text)] or [Block(None, wrong=NO_PEM)]
     if form == "numbers":
-        octets = text_forms.of_numbers(text)
-        return [Block(None, wrong=NO_LIST) if octets is None else Block(form, octets)]
+        decoded = text_forms.of_numbers(text)
+        return [Block(None, wrong=NO_LIST) if decoded is None else of_decoded(form, text, decoded)]
     if form == "runs":
         return [of_run(text, it) for it in text_forms.of_runs(text)] or [Block(None, wrong=NO_BASE64)]
     decoded = {"dump": text_dumps.decoded, "hex": text_forms.of_hexadecimal, "base64": text_forms.of_base64}[form]

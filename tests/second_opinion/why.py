@@ -66,7 +66,7 @@ def lines_of(octets, padding):
     if stand.fault is None:
         return ()
     first = f"It does not parse: {fault_text(stand.fault)}."
-    return (first, *reasons(stand), *why_search.remedies(octets, padding, stand.candidates()))
+    return (first, *reasons(stand), *why_search.remedies(octets, padding, stand.candidates(), stand.top))
 
 
 @functools.lru_cache(maxsize=16)

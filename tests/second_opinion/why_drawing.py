@@ -103,6 +103,15 @@ def changed(rng, octets):
     return octets[:place] + bytes([new]) + octets[place + 1 :]
 
 
+def among_records(rng, octets):
+    """Puts records in front and behind, which mostly begin with the same octet, and damages the octets."""
+    def record():
+        return show_drawing.whole(octets[0] if rng.random() < 0.8 else 0xA0, show_drawing.small(rng) + nested(rng, 3))
+    front, back = (b"".join(record() for _ in range(rng.choice([0, 1, 2, 3]))) for _ in "fb")
+    damage = rng.choice([changed, changed, other_length, put_in, left_out, cut])
+    return front + damage(rng, octets) + back
+
+
 def as_text(rng, octets):
     """Changes the octets as a copy in text mode does."""
     if rng.random() < 0.5:
@@ -190,7 +199,7 @@ def unended(rng, octets):
 
 
 CHANGES = (other_length, other_length, other_length, cut, put_in, left_out, changed, as_text, front, after, padded, odd_header)
-CHANGES += (other_octet, unended, far)
+CHANGES += (other_octet, unended, far, among_records, among_records)
 
 
 def few(rng):

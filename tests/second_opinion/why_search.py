@@ -1,7 +1,7 @@
 """Looks for changes that would make an input parse: docs/WHY.md from "Another length" on."""
 from second_opinion.reading import Element, Reading
 
-MOST_SEARCHED, MOST_OFF, LAST_START = 1 << 20, 5, 64
+MOST_SEARCHED, MOST_OFF, LAST_START, MOST_TRIED = 1 << 20, 5, 64, 1024
 UTF_16 = "It begins as text in UTF-16 does. Try: iconv -f UTF-16 -t UTF-8 FILE | tlvdump-show"
 MORE = "If one octet more stood after the header at offset {}, all would parse: an octet of its contents may be missing."
 FEWER = "If one octet fewer stood after the header at offset {}, all would parse: an octet may have been put in there."
@@ -22,14 +22,16 @@ REPLACED = ("It has the octets ef bf bd, with which programs replace what is no 
             "Try: fetch it anew, in binary.")
 START = ("From offset {} on it parses: what stands in front may be a header of the file or of the record, or damaged. "
          "Try: tail -c +{} FILE | tlvdump-show")
+RECORD = "From offset {} on it parses: the next record may begin there. Try: tail -c +{} FILE | tlvdump-show"
 
 
-def remedies(octets, padding, candidates):
+def remedies(octets, padding, candidates, top):
     """Returns the lines about changes that would make an input parse.
-    The candidates are elements whose length may be wrong.
+    The candidates are elements whose length may be wrong. `top` is the top end.
     """
     changed = other_length(octets, padding, candidates) or other_count(octets, padding, candidates)
-    return [*changed, *text_change(octets, padding), *other_kind(octets), *other_start(octets, padding)]
+    start = other_start(octets, padding) or next_record(octets, padding, top, changed)
+    return [*changed, *text_change(octets, padding), *other_kind(octets), *start]
 
 
 def parses(octets, padding, inside=()):
@@ -124,6 +126,28 @@ def other_start(octets, padding):
         element = header_at(octets, offset)
         if element and element.constructed and parses(octets[offset:], padding):
             return [START.format(offset, offset + 1)]
+    return []
+
+
+def next_record(octets, padding, top, changed):
+    """Returns the line about the first offset after the top end that is like it, and from which on the input parses.
+    `changed` has the line about another length or about one octet, if there is one.
+    """
+    if not top or len(octets) > MOST_SEARCHED or any(f" header at offset {top} said " in line for line in changed):
+        return []
+    alike = [it for it in range(top + 1, len(octets)) if octets[it] in (octets[top], octets[0])]
+    tried = alike[:MOST_TRIED]
+    damaged = header_at(octets, top)
+    if damaged and damaged.length is not None:
+        end = damaged.start + damaged.length
+        if abs(end - len(octets)) < 2:
+            return []
+        if end < len(octets):
+            tried = [it for it in (end, end - 1, end + 1) if it in alike] + tried
+    for offset in tried:
+        element = header_at(octets, offset)
+        if element and element.constructed and parses(octets[offset:], padding):
+            return [RECORD.format(offset, offset + 1)]
     return []
 
 

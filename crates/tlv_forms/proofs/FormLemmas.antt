@@ -13,7 +13,6 @@ use Rattle.tlv_forms.specs.declared.taken.Taken.{Taken}
 use Rattle.tlv_forms.specs.declared.taken.TakenFor.TheVariants.{Text}
 use Rattle.tlv_text.specs.Blocks.{AreBlocks, ArePemBlocks, BlockValue, IsBase64Alone, IsHexAlone, block_value}
 use Rattle.tlv_text.specs.Blocks.{dump_block, numbers_block}
-use Rattle.tlv_text.specs.Numbers.{numbers_of}
 use Rattle.tlv_text.specs.declared.block.Block.{Block}
 use Rattle.tlv_text.specs.declared.block.Form.{Form}
 use Rattle.tlv_text.specs.declared.block.Form.TheVariants.{Base64, Pem, Dump, Hex, Numbers, Runs}
@@ -181,7 +180,7 @@ module _ (Inner : List ℕ → List TakenValue → Type 0) where
       → AreFirstBlocks Inner text (Numbers ∷ Base64 ∷ Runs ∷ []) ts
   after-numbers text b ts alone first =
       AreFirstBlocks.later AreBlocks.numbers
-      (numbers-count (numbers_block (numbers_of text) ∷ []) [] refl (rw alone.no_list refl)) first
+      (numbers-count (numbers_block text ∷ []) [] refl (rw alone.no_list refl)) first
 
   first-of_form : (text : List ℕ) (form : Form) (forms : List Form) (ts : List Taken) (n : ℕ)
       → OnlyForm text form (map taken_value ts) → n ≡ length ts → (n == 0) ≡ false

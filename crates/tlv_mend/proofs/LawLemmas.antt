@@ -21,7 +21,7 @@ use Rattle.tlv_mend.specs.WrongLength.{other_lengths, with_length}
 use Rattle.tlv_mend.specs.WrongLength as wrong
 
 -- a list has one first number of which something holds, or none
-first-one : {P : ℕ → Type 0} {xs : List ℕ} {a b : Option ℕ} → IsFirstOf P xs a → IsFirstOf P xs b → a ≡ b
+pub first-one : {P : ℕ → Type 0} {xs : List ℕ} {a b : Option ℕ} → IsFirstOf P xs a → IsFirstOf P xs b → a ≡ b
 first-one first.no_more first.no_more = refl
 first-one (first.here p) (first.here q) = refl
 first-one (first.here p) (first.later n g) = absurd (n p)

@@ -1,6 +1,6 @@
 -- Octets that are missing or were put in, after headers that are looked at one after another.
-use Rattle.std.proofs.Common.{◌≡◌, ℕ, ◌+◌, ◌-◌, ◌<◌, ◌≤◌, false, List, [], ◌∷◌, ◌++◌, length, drop, take}
-use Rattle.std.proofs.Common.{◌∙◌, sym, subst, ap, arith, get_or, inl, inr, length-append, length-drop, refl}
+use Rattle.std.proofs.Common.{◌≡◌, ℕ, ◌+◌, ◌-◌, ◌<◌, ◌≤◌, false, List, ◌++◌, length, drop, take}
+use Rattle.std.proofs.Common.{◌∙◌, sym, subst, ap, arith, get_or, length-append, length-drop, refl}
 use Rattle.std.proofs.Common.{take-append-drop}
 use Rattle.std.specs.Prelude.{Option, Some, None, Result, Ok, Err, IfOk}
 use Rattle.std.proofs.lemmas.List.{drop_all, length-take-le, take_rest}
@@ -21,7 +21,6 @@ use Rattle.tlv_mend.specs.OneOctet.{IsChangeAt, IsFirstChange, IsOctetChange, Wo
 use Rattle.tlv_mend.specs.OneOctet.{WouldBeSoundWithoutOctet, another_length, contents_start, here, later, left_over}
 use Rattle.tlv_mend.specs.OneOctet.{missing, neither, no_more, not_searched, put_in, searched, with_octet_at}
 use Rattle.tlv_mend.specs.OneOctet.{without_octet_at}
-use Rattle.tlv_mend.specs.WrongLength.{search_limit}
 
 -- what follows from what holds of a result
 pub if_ok-along : {T E : Type 0} {P Q : T → Type 0} (r : Result T E) → ((t : T) → P t → Q t) → IfOk r P → IfOk r Q
@@ -29,7 +28,7 @@ if_ok-along (Ok t) f p = f t p
 if_ok-along (Err e) f p = tt
 
 -- the contents begin after the octets of the header
-starts-at : (octets : List ℕ) (offset count : ℕ) (fields : HeaderFields)
+pub starts-at : (octets : List ℕ) (offset count : ℕ) (fields : HeaderFields)
     → (b : BeginsWithFields (drop offset octets) offset false fields count)
     → contents_start (new_header fields (take count (drop offset octets))) ≡ offset + count
 starts-at octets offset count fields b =

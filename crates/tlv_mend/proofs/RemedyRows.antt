@@ -5,7 +5,7 @@ use Rattle.std.specs.Fmt.{digits}
 use Rattle.tlv_mend.specs.declared.text_changes.TextChange.TheVariants.{LineEnds, Replaced, Utf8}
 use Rattle.tlv_mend.specs.declared.octet_changes.OctetChange.TheVariants.{Missing, PutIn}
 use Rattle.tlv_mend.specs.Remedies.{change_line, kind_line, length_line, octet_line, remedy_lines}
-use Rattle.tlv_mend.specs.Remedies.{start_line, start_reason}
+use Rattle.tlv_mend.specs.Remedies.{record_line, start_line, start_reason}
 
 length-row : length_line (Some (record { offset = 39; said = 10; would = 9 }))
     ≡ codes "If the header at offset 39 said 9 octets and not 10, all would parse.\n"
@@ -81,12 +81,18 @@ start-row : start_line (Some 9)
 unfolding digits start_reason
 start-row = refl
 
-nothing-row : remedy_lines (0x30 ∷ 5 ∷ []) None None None None ≡ []
+record-row : record_line (Some 120)
+    ≡ codes "From offset 120 on it parses: the next record may begin there. Try: tail -c +121 FILE | tlvdump-show\n"
+unfolding digits
+record-row = refl
+
+nothing-row : remedy_lines (0x30 ∷ 5 ∷ []) None None None None None ≡ []
 nothing-row = refl
 
 -- all that is found is said, the nearest remedy first
-order-row : remedy_lines (0x3c ∷ 0x0a ∷ []) None None (Some LineEnds) None
+order-row : remedy_lines (0x3c ∷ 0x0a ∷ []) None None (Some LineEnds) None (Some 9)
     ≡ codes "It was taken for a text: octets 0d were put in front of 0a. Try: fetch it anew, in binary.\n"
     ++ codes "It begins with the character <, as XML and HTML do.\n"
+    ++ codes "From offset 9 on it parses: the next record may begin there. Try: tail -c +10 FILE | tlvdump-show\n"
 unfolding digits
 order-row = refl

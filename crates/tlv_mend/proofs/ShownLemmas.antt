@@ -13,7 +13,7 @@ use Rattle.tlv_mend.specs.declared.text_changes.TextChange.{TextChange}
 use Rattle.tlv_mend.specs.declared.text_changes.TextChange.TheVariants.{LineEnds, Replaced, Utf8}
 use Rattle.tlv_why.specs.Laws.{AreShown, is_shown_octet}
 use Rattle.tlv_mend.specs.Remedies.{AreRemedies, change_line, changes_lines, count_lines, kind_line, length_line, octet_line}
-use Rattle.tlv_mend.specs.Remedies.{octets_word, other_lines, start_line, start_reason}
+use Rattle.tlv_mend.specs.Remedies.{octets_word, offset_lines, other_lines, record_line, start_line, start_reason}
 
 -- ---- numbers
 
@@ -76,14 +76,20 @@ start_line-shown : (start : Option ℕ) → AreShown (start_line start)
 start_line-shown None = refl
 start_line-shown (Some n) = simp (list_all-append, decimal-shown, reason-shown)
 
-pub remedies-shown : (padding : Bool) (octets candidates lines : List ℕ) → AreRemedies padding octets candidates lines
-    → AreShown lines
-remedies-shown padding octets candidates lines r =
+record_line-shown : (next : Option ℕ) → AreShown (record_line next)
+record_line-shown None = refl
+record_line-shown (Some n) = simp (list_all-append, decimal-shown)
+
+pub remedies-shown : (padding : Bool) (octets candidates : List ℕ) (top : ℕ) (lines : List ℕ)
+    → AreRemedies padding octets candidates top lines → AreShown lines
+remedies-shown padding octets candidates top lines r =
     let counts = both-shown (length_line r.wrong) (octet_line r.octet)
     (length_line-shown r.wrong) (octet_line-shown r.octet) in
     let changes = both-shown (count_lines r.wrong r.octet) (change_line r.change)
     counts (change_line-shown r.change) in
-    let others = both-shown (kind_line octets) (start_line r.start)
-    (kind_line-shown octets) (start_line-shown r.start) in
+    let offsets = both-shown (start_line r.start) (record_line r.next)
+    (start_line-shown r.start) (record_line-shown r.next) in
+    let others = both-shown (kind_line octets) (offset_lines r.start r.next)
+    (kind_line-shown octets) offsets in
     subst AreShown (sym r.lines_are)
-    (both-shown (changes_lines r.wrong r.octet r.change) (other_lines octets r.start) changes others)
+    (both-shown (changes_lines r.wrong r.octet r.change) (other_lines octets r.start r.next) changes others)

@@ -7,6 +7,7 @@ use Rattle.tlv_walk.specs.Reading.{AreOctets}
 use Rattle.tlv_why.specs.Laws.{AreShown}
 use Rattle.tlv_mend.specs.declared.lengths.WrongLength.{WrongLength}
 use Rattle.tlv_mend.specs.declared.octet_changes.OctetChange.{OctetChange}
+use Rattle.tlv_mend.specs.NextRecord.{IsNextRecord}
 use Rattle.tlv_mend.specs.OneOctet.{IsOctetChange}
 use Rattle.tlv_mend.specs.Remedies.{AreRemedies, length_line}
 use Rattle.tlv_mend.specs.WrongLength.{IsWrongLength, length_bound, with_length}
@@ -22,6 +23,12 @@ InputsHaveOneOctetChange = (framing : Framing) (octets candidates : List ℕ) (w
     (a b : Option OctetChange) → IsOctetChange framing octets candidates wrong a
     → IsOctetChange framing octets candidates wrong b → a ≡ b
 
+-- an input, with what was found before, determines the next record, or that there is none
+abbrev pub InputsHaveOneNextRecord : Type 0
+InputsHaveOneNextRecord = (padding : Bool) (octets : List ℕ) (top : ℕ) (wrong : Option WrongLength)
+    (start a b : Option ℕ) → IsNextRecord padding octets top wrong start a
+    → IsNextRecord padding octets top wrong start b → a ≡ b
+
 -- a header with another length that its length octets can state is a header of the same number of octets
 abbrev pub OtherLengthsMakeHeaders : Type 0
 OtherLengthsMakeHeaders =
@@ -31,8 +38,8 @@ OtherLengthsMakeHeaders =
 
 -- the lines that say what may be done with octets are printable ASCII
 abbrev pub RemediesAreShown : Type 0
-RemediesAreShown = (padding : Bool) (octets candidates lines : List ℕ) → AreOctets octets
-    → AreRemedies padding octets candidates lines → AreShown lines
+RemediesAreShown = (padding : Bool) (octets candidates : List ℕ) (top : ℕ) (lines : List ℕ) → AreOctets octets
+    → AreRemedies padding octets candidates top lines → AreShown lines
 
 -- so is the line about another length
 abbrev pub LengthLinesAreShown : Type 0

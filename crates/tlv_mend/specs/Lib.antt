@@ -2,6 +2,7 @@ pub mod FirstOf
 pub mod WrongLength
 pub mod OneOctet
 pub mod NextStart
+pub mod NextRecord
 pub mod TextCopies
 pub mod Remedies
 pub mod Laws

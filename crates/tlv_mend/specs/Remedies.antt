@@ -8,6 +8,7 @@ use Rattle.tlv_mend.specs.declared.octet_changes.OctetChange.{OctetChange}
 use Rattle.tlv_mend.specs.declared.octet_changes.OctetChange.TheVariants.{Missing, PutIn}
 use Rattle.tlv_mend.specs.declared.text_changes.TextChange.{TextChange}
 use Rattle.tlv_mend.specs.declared.text_changes.TextChange.TheVariants.{LineEnds, Replaced, Utf8}
+use Rattle.tlv_mend.specs.NextRecord.{IsNextRecord}
 use Rattle.tlv_mend.specs.NextStart.{IsNextStart}
 use Rattle.tlv_mend.specs.OneOctet.{IsOctetChange}
 use Rattle.tlv_mend.specs.TextCopies.{IsSoundWithLfAlone, IsSoundWithoutUtf8, has_replacement}
@@ -102,6 +103,15 @@ start_line None = []
 start_line (Some offset) =
     codes "From offset " ++ decimal offset ++ start_reason ++ decimal (offset + 1) ++ codes " FILE | tlvdump-show\n"
 
+-- ---- the next record
+
+-- the line about the offset from which the input is sound, behind a damaged record, if there is one
+abbrev pub record_line : Option ℕ → List ℕ
+record_line None = []
+record_line (Some offset) =
+    codes "From offset " ++ decimal offset ++ codes " on it parses: the next record may begin there. Try: tail -c +"
+    ++ decimal (offset + 1) ++ codes " FILE | tlvdump-show\n"
+
 -- ---- all lines
 
 -- the line about another length, or about one octet more or fewer
@@ -112,16 +122,22 @@ count_lines wrong octet = length_line wrong ++ octet_line octet
 abbrev pub changes_lines : Option WrongLength → Option OctetChange → Option TextChange → List ℕ
 changes_lines wrong octet change = count_lines wrong octet ++ change_line change
 
+-- the lines about offsets from which the input is sound
+abbrev pub offset_lines : Option ℕ → Option ℕ → List ℕ
+offset_lines start next = start_line start ++ record_line next
+
 -- the lines about what else an input may be
-abbrev pub other_lines : List ℕ → Option ℕ → List ℕ
-other_lines octets start = kind_line octets ++ start_line start
+abbrev pub other_lines : List ℕ → Option ℕ → Option ℕ → List ℕ
+other_lines octets start next = kind_line octets ++ offset_lines start next
 
 -- the lines, by what was found
-abbrev pub remedy_lines : List ℕ → Option WrongLength → Option OctetChange → Option TextChange → Option ℕ → List ℕ
-remedy_lines octets wrong octet change start = changes_lines wrong octet change ++ other_lines octets start
+abbrev pub remedy_lines
+    : List ℕ → Option WrongLength → Option OctetChange → Option TextChange → Option ℕ → Option ℕ → List ℕ
+remedy_lines octets wrong octet change start next = changes_lines wrong octet change ++ other_lines octets start next
 
--- the lines about an input, with the headers at these offsets as candidates
-pub record AreRemedies (padding : Bool) (octets candidates lines : List ℕ) : Type 0 where
+-- the lines about an input, with the headers at these offsets as candidates; `top` is the offset after its whole
+-- elements at the top level
+pub record AreRemedies (padding : Bool) (octets candidates : List ℕ) (top : ℕ) (lines : List ℕ) : Type 0 where
   pub wrong : Option WrongLength
   pub is_wrong : IsWrongLength (closed_framing padding) octets candidates wrong
   pub octet : Option OctetChange
@@ -130,4 +146,6 @@ pub record AreRemedies (padding : Bool) (octets candidates lines : List ℕ) : T
   pub is_change : IsTextChange padding octets change
   pub start : Option ℕ
   pub is_start : IsNextStart padding octets start
-  pub lines_are : lines ≡ remedy_lines octets wrong octet change start
+  pub next : Option ℕ
+  pub is_next : IsNextRecord padding octets top wrong start next
+  pub lines_are : lines ≡ remedy_lines octets wrong octet change start next

@@ -1,5 +1,6 @@
 //! Laws of the definitions: each is the contract of a function that does nothing.
-ghost use Rattle.tlv_mend.specs.Laws.{InputsHaveOneOctetChange, InputsHaveOneWrongLength, LengthLinesAreShown};
+ghost use Rattle.tlv_mend.specs.Laws.{InputsHaveOneNextRecord, InputsHaveOneOctetChange, InputsHaveOneWrongLength};
+ghost use Rattle.tlv_mend.specs.Laws.{LengthLinesAreShown};
 ghost use Rattle.tlv_mend.specs.Laws.{OtherLengthsMakeHeaders, RemediesAreShown};
 
 /// An input and candidates determine the wrong length, or that there is none.
@@ -10,6 +11,11 @@ pub fn inputs_have_one_wrong_length()
 /// With the wrong length they also determine the octet that is missing or was put in, or that there is none.
 pub fn inputs_have_one_octet_change()
     ensures { InputsHaveOneOctetChange }
+{}
+
+/// An input, with what was found before, determines the next record, or that there is none.
+pub fn inputs_have_one_next_record()
+    ensures { InputsHaveOneNextRecord }
 {}
 
 /// A header with another length that its length octets can state is a header of the same number of octets.

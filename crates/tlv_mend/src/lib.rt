@@ -1,11 +1,12 @@
-//! Which single change would make an input sound (ITU-T X.690): another length, one octet more or fewer, or undoing what
-//! a program did to it as to a text; and the lines that say so.
+//! Which single change would make an input sound (ITU-T X.690): another length, one octet more or fewer, or undoing
+//! what a program did to it as to a text; from which offset on it is sound; and the lines that say so.
 #![tactic(auto)]
 
 pub mod laws;
 mod length_octets;
 mod lengths;
 mod octet_changes;
+mod records;
 mod remedies;
 mod remedy_texts;
 mod silence;
@@ -16,6 +17,7 @@ mod text_copies;
 
 pub use lengths::{SEARCH_LIMIT, WrongLength, wrong_length};
 pub use octet_changes::{OctetChange, octet_change};
+pub use records::next_record;
 pub use remedies::{write_remedies, write_wrong_length};
 pub use start::next_start;
 pub use text_changes::{TextChange, text_change};

@@ -2,16 +2,21 @@
 ghost use Rattle.std.specs.Prelude.{◌≡◌, ◌≤◌, IfOk, IfSome, List, OnErr, Option, length, ℕ};
 ghost use Rattle.tlv_head.specs.Limits.{input_limit};
 ghost use Rattle.tlv_io.specs.Out.{Puts, Sends};
+ghost use Rattle.tlv_mend.specs.NextRecord.{IsNextRecord};
 ghost use Rattle.tlv_mend.specs.NextStart.{IsNextStart};
 ghost use Rattle.tlv_mend.specs.OneOctet.{IsOctetChange};
 ghost use Rattle.tlv_mend.specs.Remedies.{AreRemedies, IsTextChange, change_line, changes_lines, count_lines};
-ghost use Rattle.tlv_mend.specs.Remedies.{kind_line, length_line, octet_line, other_lines, remedy_lines, start_line};
+ghost use Rattle.tlv_mend.specs.Remedies.{kind_line, length_line, octet_line, offset_lines, other_lines, record_line};
+ghost use Rattle.tlv_mend.specs.Remedies.{remedy_lines, start_line};
 ghost use Rattle.tlv_mend.specs.WrongLength.{IsWrongLength};
 ghost use Rattle.tlv_open.specs.Opens.{closed_framing};
 
 use crate::lengths::{WrongLength, wrong_length};
 use crate::octet_changes::{OctetChange, octet_change};
-use crate::remedy_texts::{change_line, kind_line, length_line, octet_line, start_line};
+use crate::records::next_record;
+use crate::remedy_texts::{
+    change_line, kind_line, length_line, octet_line, record_line, start_line,
+};
 use crate::sound::closed_framing;
 use crate::start::next_start;
 use crate::text_changes::{TextChange, text_change};
@@ -29,13 +34,16 @@ struct Findings {
     change: Option<TextChange>,
     /// The offset from which the input is sound.
     start: Option<usize>,
+    /// The offset at which the next record begins.
+    next: Option<usize>,
 }
 
 /// Writes what may be done with an input that does not parse, in lines of ASCII: which single length would make it
 /// sound; otherwise, after which header one octet is missing or was put in; what was done to it as if it were a text;
-/// which other kind of file it is; and from which offset it is sound. Writes a line for each that applies, and nothing if
-/// none applies. `candidates` are the offsets of headers whose
-/// length may be wrong, in the order in which they are tried. With `padding`, octets `00` are allowed at the top level.
+/// which other kind of file it is; and from which offset it is sound, near its start or at the next record. Writes a
+/// line for each that applies, and nothing if none applies. `candidates` are the offsets of headers whose length may be
+/// wrong, in the order in which they are tried. `top` is the offset after the last whole element at the top level, in
+/// octets from the start of the input. With `padding`, octets `00` are allowed at the top level.
 ///
 /// # Errors
 ///
@@ -46,21 +54,22 @@ pub fn write_remedies<D: Drain>(
     octets: &[u8],
     padding: bool,
     candidates: &[usize],
+    top: usize,
     drain: &mut D,
 ) -> Result<Result<(), WriteFault>, AllocError>
     requires { length octets.now ≤ input_limit }
     ensures written { IfOk result (λ sent. (lines : List ℕ)
-        × AreRemedies padding octets.now candidates.now lines
+        × AreRemedies padding octets.now candidates.now top lines
         × Sends (D.state drain.old) (D.state drain.new) lines sent) }
     ensures refused { OnErr result (drain.new ≡ drain.old) }
 {
-    let findings = findings_of(alloc, octets, padding, candidates)?;
+    let findings = findings_of(alloc, octets, padding, candidates, top)?;
     Ok(write_lines(octets, &findings, drain))
 }
 
 /// Writes the line about the single length that would make an input sound, in ASCII; nothing if there is none.
-/// `candidates` are the offsets of headers whose length may be wrong, in the order in which they are tried. `framing` says
-/// how the input is read: which strings hold encodings, and whether octets `00` are allowed at the top level.
+/// `candidates` are the offsets of headers whose length may be wrong, in the order in which they are tried. `framing`
+/// says how the input is read: which strings hold encodings, and whether octets `00` are allowed at the top level.
 ///
 /// # Errors
 ///
@@ -99,21 +108,25 @@ fn findings_of(
     octets: &[u8],
     padding: bool,
     candidates: &[usize],
+    top: usize,
 ) -> Result<Findings, AllocError>
     requires { length octets.now ≤ input_limit }
     ensures { IfOk result (λ f. IsWrongLength (closed_framing padding) octets.now candidates.now f.wrong
         × IsOctetChange (closed_framing padding) octets.now candidates.now f.wrong f.octet
-        × IsTextChange padding octets.now f.change × IsNextStart padding octets.now f.start) }
+        × IsTextChange padding octets.now f.change × IsNextStart padding octets.now f.start
+        × IsNextRecord padding octets.now top f.wrong f.start f.next × IfSome f.next (λ n. n ≤ length octets.now)) }
 {
     let framing = closed_framing(padding);
     let wrong = wrong_length(alloc, octets, &framing, candidates)?;
     let octet = octet_change(alloc, octets, &framing, candidates, wrong)?;
     let change = text_change(alloc, octets, padding)?;
+    let start = next_start(octets, padding);
     Ok(Findings {
         wrong,
         octet,
         change,
-        start: next_start(octets, padding),
+        start,
+        next: next_record(octets, padding, top, wrong, start),
     })
 }
 
@@ -124,9 +137,11 @@ fn write_lines<D: Drain>(
     findings: &Findings,
     drain: &mut D,
 ) -> Result<(), WriteFault>
-    requires { IfSome findings.now.start (λ n. n ≤ 64) }
+    requires start { IfSome findings.now.start (λ n. n ≤ 64) }
+    requires next { IfSome findings.now.next (λ n. n ≤ input_limit) }
     ensures { Sends (D.state drain.old) (D.state drain.new)
-        (remedy_lines octets.now findings.now.wrong findings.now.octet findings.now.change findings.now.start) result }
+        (remedy_lines octets.now findings.now.wrong findings.now.octet findings.now.change findings.now.start
+        findings.now.next) result }
 {
     let mut out = Out::new(drain);
     put_lines(octets, findings, &mut out)?;
@@ -141,12 +156,14 @@ fn put_lines<D: Drain>(
     findings: &Findings,
     out: &mut Out<'_, D>,
 ) -> Result<(), WriteFault>
-    requires { IfSome findings.now.start (λ n. n ≤ 64) }
+    requires start { IfSome findings.now.start (λ n. n ≤ 64) }
+    requires next { IfSome findings.now.next (λ n. n ≤ input_limit) }
     ensures { Puts D.state out.old out.new
-        (remedy_lines octets.now findings.now.wrong findings.now.octet findings.now.change findings.now.start) result }
+        (remedy_lines octets.now findings.now.wrong findings.now.octet findings.now.change findings.now.start
+        findings.now.next) result }
 {
     put_changes(findings, out)?;
-    put_other_lines(octets, findings.start, out)
+    put_other_lines(octets, findings.start, findings.next, out)
 }
 
 /// Puts the lines about what was changed in an input.
@@ -177,13 +194,30 @@ fn put_count_lines<D: Drain>(
 fn put_other_lines<D: Drain>(
     octets: &[u8],
     start: Option<usize>,
+    next: Option<usize>,
     out: &mut Out<'_, D>,
 ) -> Result<(), WriteFault>
-    requires { IfSome start (λ n. n ≤ 64) }
-    ensures { Puts D.state out.old out.new (other_lines octets.now start) result }
+    requires start { IfSome start (λ n. n ≤ 64) }
+    requires next { IfSome next (λ n. n ≤ input_limit) }
+    ensures { Puts D.state out.old out.new (other_lines octets.now start next) result }
 {
     put_kind_line(octets, out)?;
-    put_start_line(start, out)
+    put_offset_lines(start, next, out)
+}
+
+/// Puts the lines about offsets from which an input is sound.
+#[tactic(auto, using(tlv_io::proofs::Puts::puts))]
+fn put_offset_lines<D: Drain>(
+    start: Option<usize>,
+    next: Option<usize>,
+    out: &mut Out<'_, D>,
+) -> Result<(), WriteFault>
+    requires start { IfSome start (λ n. n ≤ 64) }
+    requires next { IfSome next (λ n. n ≤ input_limit) }
+    ensures { Puts D.state out.old out.new (offset_lines start next) result }
+{
+    put_start_line(start, out)?;
+    put_record_line(next, out)
 }
 
 /// Puts the line about a wrong length.
@@ -229,4 +263,12 @@ fn put_start_line<D: Drain>(start: Option<usize>, out: &mut Out<'_, D>) -> Resul
     ensures { Puts D.state out.old out.new (start_line start) result }
 {
     out.put(start_line(start).as_slice())
+}
+
+/// Puts the line about the offset at which the next record begins.
+fn put_record_line<D: Drain>(next: Option<usize>, out: &mut Out<'_, D>) -> Result<(), WriteFault>
+    requires { IfSome next (λ n. n ≤ input_limit) }
+    ensures { Puts D.state out.old out.new (record_line next) result }
+{
+    out.put(record_line(next).as_slice())
 }

@@ -1,7 +1,8 @@
 //! The texts of lines that say what may be done with an input that does not parse.
 ghost use Rattle.std.specs.Prelude.{◌≡◌, ◌≤◌, ◌+◌, ◌++◌, IfSome, decimal, length};
+ghost use Rattle.tlv_head.specs.Limits.{input_limit};
 ghost use Rattle.tlv_mend.specs.Remedies.{change_line, kind_line, length_line};
-ghost use Rattle.tlv_mend.specs.Remedies.{octet_line, octets_word, start_line, start_reason};
+ghost use Rattle.tlv_mend.specs.Remedies.{octet_line, octets_word, record_line, start_line, start_reason};
 
 use crate::lengths::WrongLength;
 use crate::octet_changes::OctetChange;
@@ -127,6 +128,25 @@ pub(crate) fn start_line(start: Option<usize>) -> Line
         add(&mut line, b"From offset ");
         add_number(&mut line, offset as u64);
         add(&mut line, start_reason());
+        add_number(&mut line, (offset + 1) as u64);
+        add(&mut line, b" FILE | tlvdump-show\n");
+    }
+    line
+}
+
+/// The line about the offset at which the next record begins; empty for `None`.
+pub(crate) fn record_line(next: Option<usize>) -> Line
+    requires { IfSome next (λ n. n ≤ input_limit) }
+    ensures { result.items ≡ record_line next }
+{
+    let mut line = Line::new();
+    if let Some(offset) = next {
+        add(&mut line, b"From offset ");
+        add_number(&mut line, offset as u64);
+        add(
+            &mut line,
+            b" on it parses: the next record may begin there. Try: tail -c +",
+        );
         add_number(&mut line, (offset + 1) as u64);
         add(&mut line, b" FILE | tlvdump-show\n");
     }

@@ -1,5 +1,5 @@
 -- Blocks that follow one another, and their places.
-use Rattle.std.proofs.Common.{◌≡◌, ℕ, zero, suc, ◌+◌, ◌-◌, ◌==◌, ◌<◌, ◌≤◌, Bool, true, false, List, [], ◌∷◌, ◌++◌}
+use Rattle.std.proofs.Common.{◌≡◌, ℕ, suc, ◌+◌, ◌-◌, ◌==◌, ◌<◌, ◌≤◌, Bool, true, false, List, [], ◌∷◌, ◌++◌}
 use Rattle.std.proofs.Common.{Option, Some, None, Result, Ok, Err, refl, sym, ap, ◌∙◌, arith, drop, length, lt-ltb}
 use Rattle.std.proofs.Common.{inl, inr, map, nat_le, subst}
 use Rattle.std.specs.List.{list_any}
@@ -17,7 +17,6 @@ use Rattle.tlv_text.proofs.TokenPlaceLemmas.{no-token-in_pairs}
 use Rattle.tlv_text.specs.Blocks.{is_too_long, is_url_symbol, line_at, only_block}
 use Rattle.tlv_text.specs.Blocks.{numbers_block, or_absent, place_in_text, state_at_place, state_with_end}
 use Rattle.tlv_text.specs.Dump.{IsFault, dump_limit, dump_read}
-use Rattle.tlv_text.specs.Numbers.{numbers_of}
 use Rattle.tlv_text.specs.Pem.{HasNoBlock, IsFirstBlock, begin_marker, dashes}
 use Rattle.tlv_text.specs.PemBody.{after_line, base64_part, has_headers, is_encrypted, is_escaped_line_feed}
 use Rattle.tlv_text.specs.PemBody.{size_of_headers}
@@ -302,7 +301,7 @@ pub hex-all : (text : List ℕ) (form : Form) (all : List BlockValue) (b : Block
 hex-all text form all b of one is = rw (of, is, one) AreBlocks.hex
 
 pub numbers-all : (text : List ℕ) (form : Form) (all : List BlockValue) (b : BlockValue) → form ≡ Numbers
-    → b ≡ numbers_block (numbers_of text) → all ≡ b ∷ [] → AreBlocks text form all
+    → b ≡ numbers_block text → all ≡ b ∷ [] → AreBlocks text form all
 numbers-all text form all b of one is = rw (of, is, one) AreBlocks.numbers
 
 pub ruleset block_forms =

@@ -14,7 +14,6 @@ use Rattle.tlv_text.proofs.Base64Rows.{row-of, row-of_unpadded}
 use Rattle.tlv_text.specs.Blocks.{ArePemBlocks, IsBase64Block, IsPemBlock, absent_block, alphabet_of}
 use Rattle.tlv_text.specs.Blocks.{dump_block, hex_block, line_at, numbers_block, only_block}
 use Rattle.tlv_text.specs.Blocks.{state_with_end}
-use Rattle.tlv_text.specs.Numbers.{numbers_of}
 use Rattle.tlv_text.specs.Pem.{BeginsBlock, HasNoBlock, IsFirstBlock, begin_marker, dashes}
 use Rattle.tlv_text.specs.declared.base64_text.Alphabet.TheVariants.{Standard, UrlSafe}
 use Rattle.tlv_text.specs.declared.block.BlockState.TheVariants.{Encrypted, Refused, Unended, Whole}
@@ -61,11 +60,14 @@ row-dump_refused = refl
 row-no_dump : dump_block (codes "no dump\n") ≡ only_block [] (Refused 2)
 row-no_dump = refl
 
-row-numbers : numbers_block (numbers_of (codes "[48, -1]")) ≡ only_block (48 ∷ 255 ∷ []) Whole
+row-numbers : numbers_block (codes "[48, -1]") ≡ only_block (48 ∷ 255 ∷ []) Whole
 row-numbers = refl
 
-row-no_numbers : numbers_block (numbers_of (codes "[1,2] [3,4]")) ≡ absent_block
+row-no_numbers : numbers_block (codes "[1]") ≡ absent_block
 row-no_numbers = refl
+
+row-broken_list : numbers_block (codes "[48,\n3,\n300]") ≡ only_block (48 ∷ 3 ∷ []) (Refused 3)
+row-broken_list = refl
 
 row-plus : alphabet_of (codes "MA+/") ≡ Standard
 row-plus = refl

@@ -1,7 +1,8 @@
 -- Dumps of some tools, and the octets that are read from them.
 use Rattle.std.proofs.Common.{◌≡◌, ℕ, zero, suc, ◌+◌, List, [], ◌∷◌, ◌++◌, refl, Some, None}
 use Rattle.std.specs.Prelude.{codes}
-use Rattle.tlv_text.specs.Dump.{DumpRead, dump_read, refused_in, refused_with, octets_repeated}
+use Rattle.tlv_text.specs.Dump.{dump_read, octets_repeated}
+use Rattle.tlv_text.specs.TextRead.{PartRead, refused_in, refused_with}
 
 -- 16 octets, and two more
 octets : List ℕ
@@ -15,7 +16,7 @@ octets_from : ℕ → ℕ → List ℕ
 octets_from first zero = []
 octets_from first (suc n) = first ∷ octets_from (first + 1) n
 
-whole : List ℕ → DumpRead
+whole : List ℕ → PartRead
 whole read = record { octets = read; left = None }
 
 xxd-row : dump_read (

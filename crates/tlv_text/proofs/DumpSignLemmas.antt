@@ -8,8 +8,8 @@ use Rattle.std.proofs.lemmas.List.Elements.{All-from_get_or}
 use Rattle.std.proofs.lemmas.List.Folds.{list_any_at, list_any_none}
 use Rattle.std.proofs.Math.Seq.{drop-length}
 use Rattle.memchr.specs.Find.{IsFirstByte, is_byte, is_byte3}
-use Rattle.tlv_text.specs.Dump.{DumpRead, dump_in, dump_read, first_at, is_octal_first, lines_read, octal_first_at}
-use Rattle.tlv_text.specs.Dump.{refused_with}
+use Rattle.tlv_text.specs.Dump.{dump_in, dump_read, first_at, is_octal_first, lines_read, octal_first_at}
+use Rattle.tlv_text.specs.TextRead.{PartRead, refused_with}
 use Rattle.tlv_text.specs.DumpLines.{LineKind, OffsetRead, RowRead, TextLine, after_blanks, after_prefix, dump_lines}
 use Rattle.tlv_text.specs.DumpLines.{into_line, is_digit_of, is_dump_blank, kind_from, line_kind, new_text_line}
 use Rattle.tlv_text.specs.DumpLines.{base, offset_read, row_of, row_or_other, without_return}
@@ -185,7 +185,7 @@ line-none line none =
 
 -- ---- what is read of it
 
-first-passed : (kind : LineKind) (left : ℕ) (lines : List TextLine) (more : DumpRead) → starts kind ≡ false
+first-passed : (kind : LineKind) (left : ℕ) (lines : List TextLine) (more : PartRead) → starts kind ≡ false
     → first_at Hexadecimal kind left lines more ≡ more
 first-passed LineKind.blank left lines more e = refl
 first-passed LineKind.repeat left lines more e = cc e

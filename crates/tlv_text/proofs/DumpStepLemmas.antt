@@ -6,7 +6,8 @@ use Rattle.std.specs.Prelude.{if◌then◌else◌}
 use Rattle.std.proofs.lemmas.Bool.{eq-eqb, ne_eqb}
 use Rattle.std.proofs.lemmas.List.{append-nil}
 use Rattle.tlv_text.proofs.DumpOutputLemmas.{added-both}
-use Rattle.tlv_text.specs.Dump.{DumpRead, DumpPlace, Step, first_then, dump_place_after, dump_place_at, refused_with, rows_read}
+use Rattle.tlv_text.specs.Dump.{DumpPlace, Step, first_then, dump_place_after, dump_place_at, rows_read}
+use Rattle.tlv_text.specs.TextRead.{PartRead, refused_with}
 use Rattle.tlv_text.specs.Dump.{dump_line_step, dump_row_step, dump_step_then, is_full, octets_repeated, times_before}
 use Rattle.tlv_text.specs.Dump.{times_in, with_row}
 use Rattle.tlv_text.specs.DumpLines.{LineKind, RowRead, TextLine, is_dump_blank, line_kind, new_text_line}
@@ -20,7 +21,7 @@ use Rattle.tlv_text.specs.declared.dump.rows.LastRow.{LastRow}
 use Rattle.tlv_text.specs.declared.dump.rows.Phase.{Phase}
 
 -- octets are added of what is read, and the others remain
-pub record IsDumpReadSoFar (all others : DumpRead) (old new : Output) : Type 0 where
+pub record IsDumpReadSoFar (all others : PartRead) (old new : Output) : Type 0 where
   pub so_far : List ℕ
   pub added : IsAdded so_far old new
   pub are : all.octets ≡ so_far ++ others.octets
@@ -64,7 +65,7 @@ not-taken (Some s) false row old new e t = absurd t
 not-taken None true row old new e t = absurd t
 not-taken None false row old new e t = (refl, t)
 
-pub line-refused : (all more : DumpRead) (radix : Radix) (size left : ℕ) (last row : LastRow) (line : List ℕ)
+pub line-refused : (all more : PartRead) (radix : Radix) (size left : ℕ) (last row : LastRow) (line : List ℕ)
     (kind : LineKind) (lines : List TextLine) (fits : Bool) (x y z : Output)
     → IsDumpReadSoFar all more x y → more ≡ rows_read radix size (dump_place_of last) (new_text_line line left ∷ lines)
     → kind ≡ line_kind radix line → fits ≡ false
@@ -75,7 +76,7 @@ line-refused all more radix size left last row line kind lines fits x y z i e k 
     sym n.0 ∙ ap (dump_line_step size (dump_place_of last) left) k in
     let same : more ≡ refused_with left = e ∙ line-read radix size left (dump_place_of last) line lines None found in
     subst (λ (out : Output). IsDumpReadSoFar all (refused_with left) x out) n.1
-    (subst (λ (r : DumpRead). IsDumpReadSoFar all r x y) same i)
+    (subst (λ (r : PartRead). IsDumpReadSoFar all r x y) same i)
 
 pub is-taken : (found : Option Step) (fits : Bool) (row : LastRow) (old new : Output) → fits ≡ true
     → IsTaken found fits row old new
@@ -85,7 +86,7 @@ is-taken (Some s) false row old new e t = absurd t
 is-taken None true row old new e t = absurd t
 is-taken None false row old new e t = cc e
 
-pub line-taken : (all more : DumpRead) (radix : Radix) (size left : ℕ) (last row : LastRow) (line : List ℕ)
+pub line-taken : (all more : PartRead) (radix : Radix) (size left : ℕ) (last row : LastRow) (line : List ℕ)
     (kind : LineKind) (lines : List TextLine) (fits : Bool) (x y z : Output)
     → IsDumpReadSoFar all more x y → more ≡ rows_read radix size (dump_place_of last) (new_text_line line left ∷ lines)
     → kind ≡ line_kind radix line → fits ≡ true
@@ -96,15 +97,15 @@ line-taken all more radix size left last row line kind lines fits x y z i e k f 
     let s : Step = n.0 in
     let found : Some s ≡ dump_line_step size (dump_place_of last) left (line_kind radix line) =
     sym n.1 ∙ ap (dump_line_step size (dump_place_of last) left) k in
-    let rest : DumpRead = rows_read radix size (dump_place_of row) lines in
+    let rest : PartRead = rows_read radix size (dump_place_of row) lines in
     let same : more ≡ dump_step_then (Some s) left rest =
     e ∙ line-read radix size left (dump_place_of last) line lines (Some s) found
     ∙ ap (λ (p : DumpPlace). dump_step_then (Some s) left (rows_read radix size p lines)) (sym n.2) in
     record {
       so_far = i.so_far ++ s.octets;
       added = added-both i.so_far s.octets x y z i.added n.3;
-      are = i.are ∙ ap (λ (r : DumpRead). i.so_far ++ r.octets) same ∙ sym (append_assoc i.so_far s.octets rest.octets);
-      left = i.left ∙ ap (λ (r : DumpRead). r.left) same;
+      are = i.are ∙ ap (λ (r : PartRead). i.so_far ++ r.octets) same ∙ sym (append_assoc i.so_far s.octets rest.octets);
+      left = i.left ∙ ap (λ (r : PartRead). r.left) same;
     }
 
 -- a row with pairs
@@ -128,7 +129,7 @@ row-taken size times place r row x y z at_row found pairs full octets first seco
     (at_row, added-both before (pair_octets row.digits.items) x y z first second)
 
 -- what is read of all lines
-pub all-read : (all more : DumpRead) (x y : Output) → IsDumpReadSoFar all more x y → more.octets ≡ []
+pub all-read : (all more : PartRead) (x y : Output) → IsDumpReadSoFar all more x y → more.octets ≡ []
     → IsAdded all.octets x y
 all-read all more x y i none =
     let are : all.octets ≡ i.so_far =
@@ -142,7 +143,7 @@ pub first-added : (fits : Bool) (octets : List ℕ) (old new : Output) → IsAdd
 first-added true octets old new added = added
 first-added false octets old new added = record {}
 
-pub first-refused : (first : Option (List ℕ)) (fits : Bool) (x y : Output) (left : ℕ) (more : DumpRead)
+pub first-refused : (first : Option (List ℕ)) (fits : Bool) (x y : Output) (left : ℕ) (more : PartRead)
     (reading : Reading) → fits ≡ false → IsFirstRow first fits x y → Reads (refused_with left) reading
     → Reads (first_then first left more) reading
 first-refused (Some octets) true x y left more reading e t r = cc e
@@ -150,7 +151,7 @@ first-refused (Some octets) false x y left more reading e t r = absurd t
 first-refused None true x y left more reading e t r = absurd t
 first-refused None false x y left more reading e t r = r
 
-pub first-read : (first : Option (List ℕ)) (fits : Bool) (x y : Output) (left : ℕ) (more : DumpRead)
+pub first-read : (first : Option (List ℕ)) (fits : Bool) (x y : Output) (left : ℕ) (more : PartRead)
     (reading : Reading) → fits ≡ true → IsFirstRow first fits x y → RowHolds x [] → IsAdded more.octets y reading.output
     → reading.left ≡ more.left → Reads (first_then first left more) reading
 first-read (Some octets) true x y left more reading e t h a l =

@@ -4,7 +4,8 @@ use Rattle.std.proofs.lemmas.Bool.{le-ltb, lt-ltb}
 use Rattle.base64.specs.Rfc4648.{unpadded_len}
 use Rattle.tlv_text.specs.Base64.{ReadsBase64}
 use Rattle.tlv_text.specs.Blocks.{HasNoLoneBase64, HasNoLoneHex, IsBase64Alone, IsHexAlone, only_block}
-use Rattle.tlv_text.specs.Dump.{dump_limit, dump_read, refused_with}
+use Rattle.tlv_text.specs.Dump.{dump_limit, dump_read}
+use Rattle.tlv_text.specs.TextRead.{refused_with}
 use Rattle.tlv_text.specs.Pem.{HasNoBlock}
 use Rattle.tlv_text.specs.Plain.{IsLonePairs, IsPlainBase64, are_lines_of_digits, are_lone_pairs}
 use Rattle.tlv_text.specs.Separated.{are_separated}

@@ -1,28 +1,31 @@
 -- Steps of reading a list of numbers, one after another.
 use Rattle.std.proofs.Common.{◌≡◌, ℕ, zero, suc, ◌+◌, ◌==◌, ◌<◌, ◌≤◌, Bool, true, false, ◌||◌, List, [], ◌∷◌, ◌++◌}
 use Rattle.std.proofs.Common.{length, drop, refl, ap, sym, ◌∙◌, append_assoc, arith, slice_index, Option, Some, None}
+use Rattle.std.specs.Option.{option_or}
 use Rattle.std.specs.Prelude.{is_some, option_map}
 use Rattle.std.proofs.lemmas.Bool.{false_from_ne_true}
 use Rattle.std.proofs.lemmas.List.{drop_all}
 use Rattle.std.proofs.Math.Seq.{drop-drop}
 use Rattle.memchr.specs.Find.{IsFirstByte, is_byte2}
 use Rattle.tlv_text.proofs.Slices.{from-on, slice_from}
-use Rattle.tlv_text.specs.Numbers.{after_opening, first_list, in_list_after, items_read, list_at, list_place_after}
-use Rattle.tlv_text.specs.Numbers.{list_step_then, step_at}
+use Rattle.tlv_text.specs.Numbers.{from_list, in_list_after, items_read, list_at, list_place_after, list_step_then}
+use Rattle.tlv_text.specs.Numbers.{alone_before, numbers_read, step_at}
+use Rattle.tlv_text.specs.TextRead.{PartRead}
 use Rattle.tlv_text.specs.declared.numbers.Number.{Number}
 use Rattle.tlv_text.specs.declared.numbers.Place.{Place}
 use Rattle.tlv_text.specs.declared.numbers.Place.TheVariants.{AfterNumber}
 use Rattle.tlv_text.specs.declared.numbers.Step.{Step}
 use Rattle.tlv_text.specs.declared.numbers.Step.TheVariants.{Reads}
 
--- octets before others, if these are there
-abbrev pub octets_before : List ℕ → Option (List ℕ) → Option (List ℕ)
-octets_before front more = option_map (λ (octets : List ℕ). front ++ octets) more
+-- octets before what is read after them
+abbrev pub part_before : List ℕ → PartRead → PartRead
+part_before front more = record more { octets = front ++ more.octets }
 
-one-more : (front : List ℕ) (n : Number) (more : Option (List ℕ))
-    → octets_before front (list_step_then (Reads n) more) ≡ octets_before (front ++ n.octet ∷ []) more
-one-more front n None = refl
-one-more front n (Some octets) = ap Some (sym (append_assoc front (n.octet ∷ []) octets))
+one-more : (front : List ℕ) (n : Number) (left : ℕ) (more : PartRead)
+    → part_before front (list_step_then (Reads n) left more) ≡ part_before (front ++ n.octet ∷ []) more
+one-more front n left more =
+    ap (λ (octets : List ℕ). record { octets = octets; left = more.left })
+    (sym (append_assoc front (n.octet ∷ []) more.octets))
 
 -- what belongs to a number is no step of its own
 inside-skipped : (close n : ℕ) (place : Place) (text : List ℕ)
@@ -37,26 +40,28 @@ after-one x text = from-on 1 (x ∷ text)
 -- a step, and what is read after it
 step-first : (close : ℕ) (place : Place) (text : List ℕ) (step : Step) → 1 ≤ length text
     → step ≡ step_at close place text
-    → items_read close 0 place text ≡ list_step_then step
+    → items_read close 0 place text ≡ list_step_then step (length text)
     (items_read close 0 (list_place_after step) (drop (in_list_after step) (slice_from 1 text)))
 step-first close place [] step one e = absurd (omega arith)
 step-first close place (x ∷ text) step one e =
-    ap (λ (s : Step). list_step_then s (items_read close (in_list_after s) (list_place_after s) text)) (sym e)
-    ∙ ap (list_step_then step) (inside-skipped close (in_list_after step) (list_place_after step) text
+    ap (λ (s : Step). list_step_then s (length (x ∷ text))
+    (items_read close (in_list_after s) (list_place_after s) text)) (sym e)
+    ∙ ap (list_step_then step (length (x ∷ text)))
+    (inside-skipped close (in_list_after step) (list_place_after step) text
     ∙ ap (λ (rest : List ℕ). items_read close 0 (list_place_after step) (drop (in_list_after step) rest))
     (sym (after-one x text)))
 
 -- a number is read after others
-pub number-read : (all : Option (List ℕ)) (close : ℕ) (place : Place) (octets text : List ℕ) (n : Number)
+pub number-read : (all : PartRead) (close : ℕ) (place : Place) (octets text : List ℕ) (n : Number)
     → 1 ≤ length text → Reads n ≡ step_at close place text
-    → all ≡ octets_before octets (items_read close 0 place text)
-    → all ≡ octets_before (octets ++ n.octet ∷ [])
+    → all ≡ part_before octets (items_read close 0 place text)
+    → all ≡ part_before (octets ++ n.octet ∷ [])
     (items_read close 0 AfterNumber (slice_from n.more (slice_from 1 text)))
 number-read all close place octets text n one e i =
     i
-    ∙ ap (octets_before octets) (step-first close place text (Reads n) one e)
-    ∙ one-more octets n (items_read close 0 AfterNumber (drop n.more (slice_from 1 text)))
-    ∙ ap (λ (rest : List ℕ). octets_before (octets ++ n.octet ∷ []) (items_read close 0 AfterNumber rest))
+    ∙ ap (part_before octets) (step-first close place text (Reads n) one e)
+    ∙ one-more octets n (length text) (items_read close 0 AfterNumber (drop n.more (slice_from 1 text)))
+    ∙ ap (λ (rest : List ℕ). part_before (octets ++ n.octet ∷ []) (items_read close 0 AfterNumber rest))
     (sym (from-on n.more (slice_from 1 text)))
 
 -- ---- where no list begins
@@ -73,36 +78,65 @@ or-parts : (a b : Bool) → (a || b) ≡ false → (a ≡ false) × (b ≡ false
 or-parts true b e = absurd (cc)
 or-parts false b e = (refl, e)
 
--- the lists of two texts are the same
-record AreSame (text other : List ℕ) : Type 0 where
-  pub first : first_list text ≡ first_list other
-  pub after : after_opening text ≡ after_opening other
-
-same-lists : (text : List ℕ) → AreSame text text
-same-lists text = record { first = refl; after = refl }
-
-one-passed : (x : ℕ) (text other : List ℕ) → is_byte2 91 123 x ≡ false → AreSame text other
-    → AreSame (x ∷ text) other
+one-passed : (x : ℕ) (text other : List ℕ) → is_byte2 91 123 x ≡ false → from_list text ≡ from_list other
+    → from_list (x ∷ text) ≡ from_list other
 one-passed x text other e same =
-    let parts = or-parts (x == 91) (x == 123) e in
-    record { first = rw (parts.0, parts.1) same.first; after = rw (parts.0, parts.1) same.after }
+    let parts = or-parts (x == 91) (x == 123) e in rw (parts.0, parts.1) same
 
-openings-passed : (n : ℕ) (text : List ℕ) → NoOpening text n → AreSame text (drop n text)
-openings-passed zero text none = same-lists text
-openings-passed (suc n) [] none = same-lists []
+openings-passed : (n : ℕ) (text : List ℕ) → NoOpening text n → from_list text ≡ from_list (drop n text)
+openings-passed zero text none = refl
+openings-passed (suc n) [] none = refl
 openings-passed (suc n) (x ∷ text) none =
     one-passed x text (drop n text) (none 0 (omega arith))
     (openings-passed n text (λ k less. none (suc k) (omega (arith, less))))
 
 -- the list with which a text begins is its first one, or is passed over
-list-first : (text : List ℕ) → is_some (list_at text) ≡ true
-    → (first_list text ≡ list_at text) × (after_opening text ≡ drop 1 text)
-list-first [] e = absurd (cc)
-list-first (x ∷ text) e = (rw e refl, rw e refl)
+list-first : (text : List ℕ) → is_some (list_at text) ≡ true → from_list text ≡ text
+list-first [] e = refl
+list-first (x ∷ text) e = rw e refl
 
-list-passed : (text : List ℕ) → is_some (list_at text) ≡ false → AreSame text (drop 1 text)
-list-passed [] e = same-lists []
-list-passed (x ∷ text) e = record { first = rw e refl; after = rw e refl }
+list-passed : (text : List ℕ) → is_some (list_at text) ≡ false → from_list text ≡ from_list (drop 1 text)
+list-passed [] e = refl
+list-passed (x ∷ text) e = rw e refl
+
+-- a text begins with a list, or has none, from its first list on
+list-there : (text : List ℕ) → is_some (list_at (from_list text)) ≡ false → from_list text ≡ []
+list-there [] e = refl
+list-there (x ∷ text) e = by (is_some (list_at (x ∷ text))) refl (list-there text)
+  where
+    by : (b : Bool) → is_some (list_at (x ∷ text)) ≡ b
+        → (is_some (list_at (from_list text)) ≡ false → from_list text ≡ []) → from_list (x ∷ text) ≡ []
+    by true is more = let same = list-first (x ∷ text) is in absurd (cc (rw same at e, is))
+    by false is more = let same = list-passed (x ∷ text) is in same ∙ more (rw same at e)
+
+-- ---- the only list of a text
+
+pub one-list : (text next : List ℕ) (list : PartRead) (second : Option PartRead) → Some list ≡ list_at (from_list text)
+    → next ≡ drop 1 (from_list text) → second ≡ list_at (from_list next) → is_some second ≡ false
+    → Some list ≡ numbers_read text
+one-list text next list second first rest e none =
+    let nothing : from_list next ≡ [] = list-there next (ap is_some (sym e) ∙ none) in
+    ap (λ (t : List ℕ). Some (alone_before t list)) (sym nothing)
+    ∙ ap (option_map (alone_before (from_list next))) first
+    ∙ ap (λ (t : List ℕ). option_map (alone_before (from_list t)) (list_at (from_list text))) rest
+
+-- a second list begins with its opening, and the rest of the text comes after it
+second-size : (text rest : List ℕ) → is_some (list_at text) ≡ true → rest ≡ drop 1 text → (list : PartRead)
+    → alone_before text list
+    ≡ record list { left = option_or list.left (Some (length rest + 1)) }
+second-size [] rest some e list = absurd (cc)
+second-size (x ∷ text) rest some e list =
+    let size : suc (length text) ≡ length rest + 1 = omega (arith, ap length e) in
+    ap (λ (n : ℕ). record { octets = list.octets; left = option_or list.left (Some n) }) size
+
+pub two-lists : (text next rest : List ℕ) (list : PartRead) (second : Option PartRead)
+    → Some list ≡ list_at (from_list text) → next ≡ drop 1 (from_list text) → second ≡ list_at (from_list next)
+    → is_some second ≡ true → rest ≡ drop 1 (from_list next)
+    → Some (record { octets = list.octets; left = option_or list.left (Some (length rest + 1)) }) ≡ numbers_read text
+two-lists text next rest list second first e is some f =
+    ap Some (sym (second-size (from_list next) rest (ap is_some (sym is) ∙ some) f list))
+    ∙ ap (option_map (alone_before (from_list next))) first
+    ∙ ap (λ (t : List ℕ). option_map (alone_before (from_list t)) (list_at (from_list text))) e
 
 -- ---- the first character that opens a list
 
@@ -113,33 +147,26 @@ none-before text n f k less =
 next-on : (n : ℕ) (text : List ℕ) → drop 1 (drop n text) ≡ slice_from (n + 1) text
 next-on n text = drop-drop 1 n text ∙ sym (from-on (n + 1) text)
 
-pub no-list : (text : List ℕ) → IsFirstByte (is_byte2 91 123) text None
-    → (first_list text ≡ None) × (after_opening text ≡ [])
+pub no-list : (text : List ℕ) → IsFirstByte (is_byte2 91 123) text None → from_list text ≡ []
 no-list text f =
-    let same = openings-passed (length text) text
-    (λ k less. false_from_ne_true (is_byte2 91 123 (slice_index text k)) (f k (omega arith) less)) in
-    let nothing = drop_all (length text) text (omega arith) in
-    (same.first ∙ ap first_list nothing, same.after ∙ ap after_opening nothing)
+    openings-passed (length text) text
+    (λ k less. false_from_ne_true (is_byte2 91 123 (slice_index text k)) (f k (omega arith) less))
+    ∙ ap from_list (drop_all (length text) text (omega arith))
 
-pub list-found : (text : List ℕ) (n : ℕ) (list : Option (List ℕ)) → IsFirstByte (is_byte2 91 123) text (Some n)
+pub list-found : (text : List ℕ) (n : ℕ) (list : Option PartRead) → IsFirstByte (is_byte2 91 123) text (Some n)
     → list ≡ list_at (slice_from n text) → is_some list ≡ true
-    → (list ≡ first_list text) × (slice_from (n + 1) text ≡ after_opening text)
+    → (list ≡ list_at (from_list text)) × (slice_from (n + 1) text ≡ drop 1 (from_list text))
 list-found text n list f e some =
-    let same = openings-passed n text (none-before text n f) in
     let here : list ≡ list_at (drop n text) = e ∙ ap list_at (from-on n text) in
-    let both = list-first (drop n text) (ap is_some (sym here) ∙ some) in (
-      here ∙ sym (same.first ∙ both.0),
-      sym (next-on n text) ∙ sym (same.after ∙ both.1),
-    )
+    let same : from_list text ≡ drop n text =
+    openings-passed n text (none-before text n f) ∙ list-first (drop n text) (ap is_some (sym here) ∙ some) in
+    (here ∙ ap list_at (sym same), sym (next-on n text) ∙ ap (drop 1) (sym same))
 
-pub list-not_there : (text : List ℕ) (n : ℕ) (list : Option (List ℕ)) → IsFirstByte (is_byte2 91 123) text (Some n)
+pub list-not_there : (text : List ℕ) (n : ℕ) (list : Option PartRead) → IsFirstByte (is_byte2 91 123) text (Some n)
     → list ≡ list_at (slice_from n text) → is_some list ≡ false
-    → (first_list text ≡ first_list (slice_from (n + 1) text))
-    × (after_opening text ≡ after_opening (slice_from (n + 1) text))
+    → from_list text ≡ from_list (slice_from (n + 1) text)
 list-not_there text n list f e none =
-    let same = openings-passed n text (none-before text n f) in
     let here : list ≡ list_at (drop n text) = e ∙ ap list_at (from-on n text) in
-    let next = list-passed (drop n text) (ap is_some (sym here) ∙ none) in (
-      same.first ∙ next.first ∙ ap first_list (next-on n text),
-      same.after ∙ next.after ∙ ap after_opening (next-on n text),
-    )
+    openings-passed n text (none-before text n f)
+    ∙ list-passed (drop n text) (ap is_some (sym here) ∙ none)
+    ∙ ap from_list (next-on n text)

@@ -1,7 +1,7 @@
 -- A text of symbols, padding and line ends has no block of PEM, no row of a dump and no list of numbers.
 use Rattle.std.proofs.Common.{◌≡◌, ◌≢◌, ℕ, ◌==◌, Bool, true, false, ◌||◌, List, [], ◌∷◌, ◌++◌}
 use Rattle.std.proofs.Common.{drop, refl, sym, ap, ◌∙◌, arith, rules, Option, None, inl, inr}
-use Rattle.std.specs.Prelude.{if◌then◌else◌, is_some}
+use Rattle.std.specs.Prelude.{is_some}
 use Rattle.std.specs.List.{list_all, list_any}
 use Rattle.std.proofs.lemmas.Bool.{and_parts, cases_Bool, eqb-true}
 use Rattle.std.proofs.lemmas.List.Elements.{All-drop}
@@ -9,8 +9,9 @@ use Rattle.std.proofs.lemmas.List.Sums.{AllPass-from_list_all, list_all-from_All
 use Rattle.tlv_text.specs.Base64.{ReadsBase64, SymbolsRead, is_left_out, is_symbol, no_symbols}
 use Rattle.tlv_text.specs.Base64.{padding_of, symbols_read}
 use Rattle.tlv_text.specs.Blocks.{alphabet_of, is_url_symbol}
-use Rattle.tlv_text.specs.Dump.{dump_read, refused_with}
-use Rattle.tlv_text.specs.Numbers.{after_opening, first_list, list_at, numbers_of}
+use Rattle.tlv_text.specs.Dump.{dump_read}
+use Rattle.tlv_text.specs.TextRead.{refused_with}
+use Rattle.tlv_text.specs.Numbers.{from_list, list_at, numbers_read, only_list}
 use Rattle.tlv_text.specs.Pem.{HasNoBlock, begin_marker, dashes}
 use Rattle.tlv_text.specs.Plain.{IsNotPlainBase64, IsPlainBase64, are_lines_of_digits, is_digit_or_end, is_line_end}
 use Rattle.tlv_text.specs.Plain.{is_padding_or_end, is_plain, is_plain_text}
@@ -64,16 +65,12 @@ plain-no_row text e = no-row_read text (no-sign text e)
 list-none : (x : ℕ) (text : List ℕ) → IsPlainSymbol x → list_at (x ∷ text) ≡ None
 list-none x text plain = rw (not-plain 91 x refl plain, not-plain 123 x refl plain) refl
 
-first-none : (text : List ℕ) → is_plain_text Standard text ≡ true → first_list text ≡ None
-first-none [] e = refl
-first-none (x ∷ text) e = rw (list-none x text (first-plain x text e)) (first-none text (rest-plain x text e))
+no-first : (text : List ℕ) → is_plain_text Standard text ≡ true → from_list text ≡ []
+no-first [] e = refl
+no-first (x ∷ text) e = rw (list-none x text (first-plain x text e)) (no-first text (rest-plain x text e))
 
-pub plain-no_list : (text : List ℕ) → is_plain_text Standard text ≡ true → numbers_of text ≡ None
-plain-no_list text e = either (is_some (first_list (after_opening text))) (first_list text) (first-none text e)
-  where
-    either : (b : Bool) (list : Option (List ℕ)) → list ≡ None → (if b then None else list) ≡ None
-    either true list none = refl
-    either false list none = none
+pub plain-no_list : (text : List ℕ) → is_plain_text Standard text ≡ true → numbers_read text ≡ None
+plain-no_list text e = ap only_list (no-first text e)
 
 -- ---- its alphabet
 

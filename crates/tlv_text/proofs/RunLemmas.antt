@@ -1,9 +1,9 @@
 -- Stretches of symbols, and where a run begins.
-use Rattle.std.proofs.Common.{◌≡◌, ℕ, zero, suc, ◌+◌, ◌-◌, ◌==◌, ◌<◌, ◌≤◌, Bool, true, false, ◌&&◌, List, [], ◌∷◌}
+use Rattle.std.proofs.Common.{◌≡◌, ℕ, zero, suc, ◌+◌, ◌-◌, ◌==◌, ◌<◌, ◌≤◌, Bool, true, false, List, [], ◌∷◌}
 use Rattle.std.proofs.Common.{length, take, drop, slice_index, refl, ap, sym}
 use Rattle.std.proofs.Common.{◌∙◌, ◌⊎◌, inl, inr, arith, subst}
-use Rattle.std.specs.Prelude.{if◌then◌else◌, max}
-use Rattle.std.proofs.lemmas.Bool.{and_parts, cases_order, eqb-true, or_cases}
+use Rattle.std.specs.Prelude.{max}
+use Rattle.std.proofs.lemmas.Bool.{cases_order, eqb-true, or_cases}
 use Rattle.std.proofs.lemmas.List.{drop-drop, drop_all, length-drop, length-take-le, take-append-drop}
 use Rattle.tlv_text.proofs.Slices.{from-on, slice_from}
 use Rattle.tlv_text.specs.Base64.{is_symbol}

@@ -7,7 +7,8 @@ use Rattle.std.proofs.lemmas.Bool.{and_parts, cases_Bool}
 use Rattle.std.proofs.lemmas.List.Elements.{All-cons, All-drop, All-nil}
 use Rattle.std.proofs.lemmas.List.Sums.{list_all-from_AllPass}
 use Rattle.hex.specs.Hex.{is_hex_digit}
-use Rattle.tlv_text.specs.Dump.{dump_read, refused_with}
+use Rattle.tlv_text.specs.Dump.{dump_read}
+use Rattle.tlv_text.specs.TextRead.{refused_with}
 use Rattle.tlv_text.specs.DumpLines.{TextLine, after_blanks, dump_lines, into_line, is_dump_blank, kind_from, line_kind}
 use Rattle.tlv_text.specs.DumpLines.{OffsetRead, new_text_line, offset_read, row_of, row_or_other, without_return}
 use Rattle.tlv_text.specs.DumpPairs.{begins_digit}

@@ -3,14 +3,14 @@ use Rattle.std.specs.Prelude.{◌≡◌, ℕ, ◌+◌, ◌-◌, ◌==◌, Bool, 
 use Rattle.std.specs.Prelude.{List, [], ◌∷◌, length, take, Option, Some, None}
 use Rattle.std.specs.List.{list_any}
 use Rattle.tlv_text.specs.Base64.{IsBase64, ReadsBase64}
-use Rattle.tlv_text.specs.Dump.{dump_limit, dump_read, refused_in, refused_with}
-use Rattle.tlv_text.specs.Numbers.{numbers_of}
+use Rattle.tlv_text.specs.Dump.{dump_limit, dump_read}
+use Rattle.tlv_text.specs.Numbers.{numbers_read}
 use Rattle.tlv_text.specs.Pairs.{pairs_read}
 use Rattle.tlv_text.specs.Pem.{HasNoBlock, IsFirstBlock}
 use Rattle.tlv_text.specs.PemBody.{base64_part, is_encrypted}
 use Rattle.tlv_text.specs.Plain.{are_lone_pairs, is_plain_text}
 use Rattle.tlv_text.specs.Runs.{HasNoRun, IsFirstRun}
-use Rattle.tlv_text.specs.TextRead.{TextRead, refused_at}
+use Rattle.tlv_text.specs.TextRead.{PartRead, TextRead, refused_at, refused_in, refused_with}
 use Rattle.tlv_text.specs.Tokens.{token_count, tokens_read}
 use Rattle.tlv_text.specs.declared.base64_text.Alphabet.{Alphabet}
 use Rattle.tlv_text.specs.declared.base64_text.Alphabet.TheVariants.{Standard, UrlSafe}
@@ -76,9 +76,12 @@ hex_block text = only_block (hex_read text).octets (state_at_place text 0 (refus
 abbrev pub dump_block : List ℕ → BlockValue
 dump_block text = only_block (dump_read text).octets (state_at_place text 0 (refused_in text (dump_read text).left))
 
-abbrev pub numbers_block : Option (List ℕ) → BlockValue
-numbers_block (Some octets) = only_block octets Whole
-numbers_block None = absent_block
+abbrev pub list_block : List ℕ → Option PartRead → BlockValue
+list_block text (Some list) = only_block list.octets (state_at_place text 0 (refused_in text list.left))
+list_block text None = absent_block
+
+abbrev pub numbers_block : List ℕ → BlockValue
+numbers_block text = list_block text (numbers_read text)
 
 -- `-` or `_`
 abbrev pub is_url_symbol : ℕ → Bool
@@ -145,7 +148,7 @@ pub data AreBlocks (text : List ℕ) : Form → List BlockValue → Type 0 where
   pem : {bs : List BlockValue} → ArePemBlocks text text bs → AreBlocks text Pem (or_absent bs)
   dump : AreBlocks text Dump (dump_block text ∷ [])
   hex : AreBlocks text Hex (hex_block text ∷ [])
-  numbers : AreBlocks text Numbers (numbers_block (numbers_of text) ∷ [])
+  numbers : AreBlocks text Numbers (numbers_block text ∷ [])
   base64 : {b : BlockValue} → IsBase64Block text b → AreBlocks text Base64 (b ∷ [])
   runs : {bs : List BlockValue} → AreRunBlocks text text bs → AreBlocks text Runs (or_absent bs)
 
@@ -176,7 +179,7 @@ HasNoLoneHex text = are_lone_pairs text ≡ true → (pairs_read text).rest ≡ 
 pub record IsBase64Alone (text : List ℕ) (b : BlockValue) : Type 0 where
   pub no_pem : HasNoBlock text
   pub no_row : dump_read text ≡ refused_with 0
-  pub no_list : numbers_of text ≡ None
+  pub no_list : numbers_read text ≡ None
   pub base64 : IsBase64Block text b
   pub whole : b.state ≡ Whole
   pub fits : is_too_long b ≡ false

@@ -16,26 +16,19 @@
 --                                              a colon first, nor the row after it, behind blanks. After pairs with "0x"
 --                                              there are blanks alone
 use Rattle.std.specs.Prelude.{◌<◌, ℕ, zero, suc, ◌+◌, ◌-◌, ◌/◌, ◌%◌, ◌==◌, Bool, true, false, ◌&&◌, nat_le, nat_lt}
-use Rattle.std.specs.Prelude.{if◌then◌else◌, List, [], ◌∷◌, ◌++◌, length, Option, Some, None, option_map}
+use Rattle.std.specs.Prelude.{if◌then◌else◌, List, [], ◌∷◌, ◌++◌, length, Option, Some, None}
 use Rattle.std.specs.List.{list_all}
 use Rattle.tlv_text.specs.declared.text_fault.TextFault.{TextFault}
 use Rattle.tlv_text.specs.declared.text_fault.TextFault.TheVariants.{Memory, TooLong}
 use Rattle.tlv_text.specs.DumpLines.{LineKind, RowRead, TextLine, dump_lines, has_od_offset, is_dump_blank, line_kind}
 use Rattle.tlv_text.specs.DumpPairs.{dump_row_octets, has_pair, single_row_octets}
 use Rattle.tlv_text.specs.DumpWords.{has_other_octets}
+use Rattle.tlv_text.specs.TextRead.{PartRead, refused_with}
 use Rattle.tlv_text.specs.declared.dump.lines.Radix.{Radix}
 use Rattle.tlv_text.specs.declared.dump.lines.Radix.TheVariants.{Hexadecimal, Octal}
 use Rattle.tlv_text.specs.declared.dump.rows.Phase.{Phase}
 
 -- ---- rows
-
--- octets, and, if the text is refused, the number of characters from that place on
-pub record DumpRead : Type 0 where
-  pub octets : List ℕ
-  pub left : Option ℕ
-
-abbrev pub refused_with : ℕ → DumpRead
-refused_with left = record { octets = []; left = Some left }
 
 abbrev pub octets_repeated : ℕ → List ℕ → List ℕ
 octets_repeated zero octets = []
@@ -102,7 +95,7 @@ abbrev pub dump_place_after : Option Step → DumpPlace → DumpPlace
 dump_place_after (Some s) place = s.place
 dump_place_after None place = place
 
-abbrev pub dump_step_then : Option Step → ℕ → DumpRead → DumpRead
+abbrev pub dump_step_then : Option Step → ℕ → PartRead → PartRead
 dump_step_then (Some s) left more = record more { octets = s.octets ++ more.octets }
 dump_step_then None left more = refused_with left
 
@@ -113,7 +106,7 @@ left_in (Phase.Repeat left) = Some left
 left_in Phase.End = None
 
 -- what is read of the lines after the first row, up to the first that does not fit
-abbrev pub rows_read : Radix → ℕ → DumpPlace → List TextLine → DumpRead
+abbrev pub rows_read : Radix → ℕ → DumpPlace → List TextLine → PartRead
 rows_read radix size place [] = record { octets = []; left = left_in place.phase }
 rows_read radix size place (line ∷ lines) =
     let next : Option Step = dump_line_step size place line.left (line_kind radix line.characters) in
@@ -138,7 +131,7 @@ size_in radix first [] = None
 size_in radix first (line ∷ lines) = size_at first (line_kind radix line.characters) (size_in radix first lines)
 
 -- the first row, and what is read of the lines after it
-abbrev pub first_then : Option (List ℕ) → ℕ → DumpRead → DumpRead
+abbrev pub first_then : Option (List ℕ) → ℕ → PartRead → PartRead
 first_then (Some octets) left more = record more { octets = octets ++ more.octets }
 first_then None left more = refused_with left
 
@@ -150,7 +143,7 @@ abbrev pub dump_place_at : Phase → ℕ → List ℕ → DumpPlace
 dump_place_at phase offset octets = record { phase = phase; offset = offset; octets = octets }
 
 -- what is read from the first row on, given the number of octets in a row
-abbrev pub read_from : Radix → RowRead → ℕ → List TextLine → Option ℕ → DumpRead
+abbrev pub read_from : Radix → RowRead → ℕ → List TextLine → Option ℕ → PartRead
 read_from radix r left lines None =
     first_then (single_row_octets r) left (rows_read radix 16 (dump_place_at Phase.End r.offset []) lines)
 read_from radix r left lines (Some size) =
@@ -158,25 +151,25 @@ read_from radix r left lines (Some size) =
     (rows_read radix size (dump_place_at Phase.Row r.offset (octets_or_none (dump_row_octets size r))) lines)
 
 -- what is read from the first row on, which is refused if its octets are others than its pairs
-abbrev pub read_in_order : Radix → RowRead → ℕ → List TextLine → DumpRead
+abbrev pub read_in_order : Radix → RowRead → ℕ → List TextLine → PartRead
 read_in_order radix r left lines =
     if has_other_octets r then refused_with left
     else read_from radix r left lines (size_in radix r.offset lines)
 
 -- other lines before the first row are passed over; a text without a row is refused at its end
-abbrev pub first_at : Radix → LineKind → ℕ → List TextLine → DumpRead → DumpRead
+abbrev pub first_at : Radix → LineKind → ℕ → List TextLine → PartRead → PartRead
 first_at radix LineKind.blank left lines more = more
 first_at radix LineKind.repeat left lines more = refused_with left
 first_at radix (LineKind.row r) left lines more =
     if has_pair r then read_in_order radix r left lines else more
 first_at radix LineKind.other left lines more = more
 
-abbrev pub lines_read : Radix → List TextLine → DumpRead
+abbrev pub lines_read : Radix → List TextLine → PartRead
 lines_read radix [] = refused_with 0
 lines_read radix (line ∷ lines) =
     first_at radix (line_kind radix line.characters) line.left lines (lines_read radix lines)
 
-abbrev pub dump_in : Radix → List ℕ → DumpRead
+abbrev pub dump_in : Radix → List ℕ → PartRead
 dump_in radix text = lines_read radix (dump_lines text)
 
 -- whether the offset of the first row has seven octal digits and no colon after it, as od writes it, given what each
@@ -201,15 +194,11 @@ goes_further (Some left) (Some other) = nat_lt left other
 
 -- offsets are octal if they look like the offsets of od, and the text read so is not refused, or is refused further on
 -- than with hexadecimal offsets. Otherwise they are hexadecimal
-abbrev pub dump_read : List ℕ → DumpRead
+abbrev pub dump_read : List ℕ → PartRead
 dump_read text =
     if is_octal_first (dump_lines text) && goes_further (dump_in Octal text).left (dump_in Hexadecimal text).left then
     dump_in Octal text
     else dump_in Hexadecimal text
-
--- the number of characters before the place where a text is refused, if it is refused
-abbrev pub refused_in : List ℕ → Option ℕ → Option ℕ
-refused_in text left = option_map (λ n. length text - n) left
 
 -- the maximum number of octets in a dump
 abbrev pub dump_limit : ℕ

@@ -1,13 +1,17 @@
 -- Octets as decimal numbers from -128 to 255 in brackets or braces, as JSON, Go and Java write them.
 --
---   text   = *character list *character         with one list alone
+--   text   = *character list *character         with one list alone: it is refused where the list breaks, or where
+--                                               a second list begins
 --   list   = "[" items "]" / "{" items "}"      of two numbers or more
 --   items  = item *("," item) ["," *white]
 --   item   = *white number *white
---   number = ["-"] 1*3digit                     from -128 to 255
-use Rattle.std.specs.Prelude.{ℕ, zero, suc, ◌+◌, ◌-◌, ◌*◌, ◌%◌, ◌==◌, Bool, true, false, ◌&&◌, nat_le, if◌then◌else◌}
-use Rattle.std.specs.Prelude.{List, [], ◌∷◌, Option, Some, None, is_some, length, option_map}
+--   number = ["-"] 1*3digit                     from -128 to 255; white space, a comma or the end of the list follows
+use Rattle.std.specs.Prelude.{ℕ, zero, suc, ◌+◌, ◌-◌, ◌*◌, ◌%◌, ◌==◌, Bool, true, false, ◌&&◌, ◌||◌, nat_le}
+use Rattle.std.specs.Prelude.{if◌then◌else◌}
+use Rattle.std.specs.Prelude.{List, [], ◌∷◌, Option, Some, None, drop, is_some, length, option_map}
+use Rattle.std.specs.Option.{option_or}
 use Rattle.tlv_text.specs.Characters.{is_white}
+use Rattle.tlv_text.specs.TextRead.{PartRead, refused_with}
 use Rattle.tlv_text.specs.declared.numbers.Digits.{Digits}
 use Rattle.tlv_text.specs.declared.numbers.Number.{Number}
 use Rattle.tlv_text.specs.declared.numbers.Place.{Place}
@@ -24,22 +28,29 @@ is_decimal x = nat_le 48 x && nat_le x 57
 abbrev pub digits_of : ℕ → ℕ → Digits
 digits_of value more = record { value = value; more = more }
 
-abbrev pub number_of_one : ℕ → Option Digits
-number_of_one x = if is_decimal x then Some (digits_of (x - 48) 0) else None
+-- what has to follow a number: white space, a comma, or this character, which closes the list
+abbrev pub may_follow_number : ℕ → List ℕ → Bool
+may_follow_number close [] = false
+may_follow_number close (x ∷ text) = is_white x || (x == 44) || (x == close)
 
-abbrev pub number_of_two : ℕ → ℕ → Option Digits
-number_of_two x y =
-    if is_decimal x && is_decimal y then Some (digits_of ((x - 48) * 10 + (y - 48)) 1) else number_of_one x
+-- one digit x, or two digits x and y, before the rest of a text
+abbrev pub one_decimal : ℕ → ℕ → List ℕ → Option Digits
+one_decimal close x text = if is_decimal x && may_follow_number close text then Some (digits_of (x - 48) 0) else None
 
--- the digits that a text begins with, at most three
-abbrev pub digits_at : List ℕ → Option Digits
-digits_at [] = None
-digits_at (x ∷ []) = number_of_one x
-digits_at (x ∷ y ∷ []) = number_of_two x y
-digits_at (x ∷ y ∷ z ∷ text) =
-    if is_decimal x && is_decimal y && is_decimal z
+abbrev pub two_decimals : ℕ → ℕ → ℕ → List ℕ → Option Digits
+two_decimals close x y text =
+    if is_decimal x && is_decimal y && may_follow_number close text then Some (digits_of ((x - 48) * 10 + (y - 48)) 1)
+    else one_decimal close x (y ∷ text)
+
+-- the digits that a text begins with, one to three, if the end of a number follows them
+abbrev pub digits_at : ℕ → List ℕ → Option Digits
+digits_at close [] = None
+digits_at close (x ∷ []) = one_decimal close x []
+digits_at close (x ∷ y ∷ []) = two_decimals close x y []
+digits_at close (x ∷ y ∷ z ∷ text) =
+    if is_decimal x && is_decimal y && is_decimal z && may_follow_number close text
     then Some (digits_of ((x - 48) * 100 + (y - 48) * 10 + (z - 48)) 2)
-    else number_of_two x y
+    else two_decimals close x y (z ∷ text)
 
 -- a number has an octet, and this number of characters comes after its first
 abbrev pub number_of : ℕ → ℕ → Number
@@ -57,10 +68,10 @@ negative_number (Some d) =
     if nat_le d.value 128 then Some (number_of ((256 - d.value) % 256) (1 + d.more)) else None
 
 -- the number that a text begins with
-abbrev pub number_at : List ℕ → Option Number
-number_at [] = None
-number_at (x ∷ text) =
-    if x == 45 then negative_number (digits_at text) else plain_number (digits_at (x ∷ text))
+abbrev pub number_at : ℕ → List ℕ → Option Number
+number_at close [] = None
+number_at close (x ∷ text) =
+    if x == 45 then negative_number (digits_at close text) else plain_number (digits_at close (x ∷ text))
 
 -- ---- a list of numbers
 
@@ -73,7 +84,7 @@ number_step (Some n) = Reads n
 abbrev pub before_number : Place → Bool → ℕ → List ℕ → Step
 before_number place may_close close (x ∷ text) =
     if is_white x then Passes place
-    else (if may_close && (x == close) then Closes else number_step (number_at (x ∷ text)))
+    else (if may_close && (x == close) then Closes else number_step (number_at close (x ∷ text)))
 before_number place may_close close [] = Fails
 
 -- white space and a comma are passed over, or a list closes
@@ -102,29 +113,28 @@ in_list_after (Passes place) = 0
 in_list_after Closes = 0
 in_list_after Fails = 0
 
--- the octets from a step on, given the octets after it
-abbrev pub list_step_then : Step → Option (List ℕ) → Option (List ℕ)
-list_step_then (Passes place) more = more
-list_step_then (Reads n) more = option_map (λ octets. n.octet ∷ octets) more
-list_step_then Closes more = Some []
-list_step_then Fails more = None
+-- what is read from a step on, given what is read after it; `left` is the number of characters from the step on
+abbrev pub list_step_then : Step → ℕ → PartRead → PartRead
+list_step_then (Passes place) left more = more
+list_step_then (Reads n) left more = record more { octets = n.octet ∷ more.octets }
+list_step_then Closes left more = record { octets = []; left = None }
+list_step_then Fails left more = refused_with left
 
--- the octets of a list from a place on, if it is closed; the second argument is the number of characters of the text
--- that belong to a number that began before
-abbrev pub items_read : ℕ → ℕ → Place → List ℕ → Option (List ℕ)
-items_read close inside place [] = None
+-- what is read of a list from a place on, up to its end or to where it breaks; the second argument is the number of
+-- characters of the text that belong to a number that began before
+abbrev pub items_read : ℕ → ℕ → Place → List ℕ → PartRead
+items_read close inside place [] = refused_with 0
 items_read close (suc n) place (x ∷ text) = items_read close n place text
 items_read close zero place (x ∷ text) =
     let step : Step = step_at close place (x ∷ text) in
-    list_step_then step (items_read close (in_list_after step) (list_place_after step) text)
+    list_step_then step (length (x ∷ text)) (items_read close (in_list_after step) (list_place_after step) text)
 
 -- one number alone is no list: it may be a size, as in `[5]byte{48, 3, 2, 1, 5}`
-abbrev pub two_or_more : Option (List ℕ) → Option (List ℕ)
-two_or_more None = None
-two_or_more (Some octets) = if nat_le 2 (length octets) then Some octets else None
+abbrev pub two_or_more : PartRead → Option PartRead
+two_or_more list = if nat_le 2 (length list.octets) then Some list else None
 
--- the octets of the list that a text begins with: 91 and 93 are brackets, 123 and 125 braces
-abbrev pub list_at : List ℕ → Option (List ℕ)
+-- what is read of the list that a text begins with: 91 and 93 are brackets, 123 and 125 braces
+abbrev pub list_at : List ℕ → Option PartRead
 list_at [] = None
 list_at (x ∷ text) =
     if x == 91 then two_or_more (items_read 93 0 AtStart text)
@@ -132,16 +142,20 @@ list_at (x ∷ text) =
 
 -- ---- the lists of a text
 
--- the octets of the first list of a text
-abbrev pub first_list : List ℕ → Option (List ℕ)
-first_list [] = None
-first_list (x ∷ text) = if is_some (list_at (x ∷ text)) then list_at (x ∷ text) else first_list text
+-- a text from its first list on; nothing, if it has none
+abbrev pub from_list : List ℕ → List ℕ
+from_list [] = []
+from_list (x ∷ text) = if is_some (list_at (x ∷ text)) then x ∷ text else from_list text
 
--- what comes after the opening of the first list
-abbrev pub after_opening : List ℕ → List ℕ
-after_opening [] = []
-after_opening (x ∷ text) = if is_some (list_at (x ∷ text)) then text else after_opening text
+-- a list that does not break is refused where another one begins
+abbrev pub alone_before : List ℕ → PartRead → PartRead
+alone_before [] list = list
+alone_before (x ∷ other) list = record list { left = option_or list.left (Some (length (x ∷ other))) }
 
--- the octets of the only list of a text
-abbrev pub numbers_of : List ℕ → Option (List ℕ)
-numbers_of text = if is_some (first_list (after_opening text)) then None else first_list text
+-- what is read of a text that begins with its first list
+abbrev pub only_list : List ℕ → Option PartRead
+only_list text = option_map (alone_before (from_list (drop 1 text))) (list_at text)
+
+-- what is read of the list of a text, if it has one
+abbrev pub numbers_read : List ℕ → Option PartRead
+numbers_read text = only_list (from_list text)

@@ -24,12 +24,14 @@ abbrev pub begins_word : List ℕ → Bool
 begins_word [] = false
 begins_word (x ∷ text) = is_word x
 
--- an `x`, the end of a line or the end of the text. Before any other character a backslash stands for an octet
+-- an `x`, the end of a line or the end of the text. After a token, a backslash before any other character is an escape
+-- of another kind, whose octet would be lost
 abbrev pub may_follow_backslash : List ℕ → Bool
 may_follow_backslash [] = true
 may_follow_backslash (x ∷ text) = (x == 120) || (x == 10) || (x == 13)
 
--- the end, white space, a quote, or a backslash that stands for no octet of its own
+-- what may come after the digits of a token: the end, white space, a quote, or the backslash of the next token or of
+-- the end of a line
 abbrev pub ends_escape : List ℕ → Bool
 ends_escape [] = true
 ends_escape (x ∷ text) = if x == 92 then may_follow_backslash text else is_white x || is_quote x

@@ -1,6 +1,6 @@
 //! What is decoded from a text.
 ghost use Rattle.std.specs.Prelude.{◌≡◌, ◌≤◌, length};
-ghost use Rattle.tlv_text.specs.TextRead.{refused_at};
+ghost use Rattle.tlv_text.specs.TextRead.{refused_at, refused_in};
 
 use std::alloc::{Allocator, Global};
 
@@ -22,5 +22,16 @@ pub(crate) fn refused_at(text: &[u8], rest: &[u8]) -> Option<usize>
         None
     } else {
         Some(text.len() - rest.len())
+    }
+}
+
+/// The number of characters before the place where a text is refused, given the number of characters from there to the
+/// end of the text; `None` if it is not refused.
+pub(crate) fn refused_in(text: &[u8], left: Option<usize>) -> Option<usize>
+    ensures { result ≡ refused_in text.now left }
+{
+    match left {
+        Some(left) => Some(text.len().saturating_sub(left)),
+        None => None,
     }
 }

@@ -1,11 +1,12 @@
 //! Octets of a hex dump with offsets.
 ghost use Rattle.std.specs.Prelude.{◌≡◌, ◌<◌, ◌≤◌, IfErr, IfOk, OnOk, Some, None, length, true};
 ghost use Rattle.tlv_text.specs.Dump.{IsFault, dump_in, dump_limit, dump_read, goes_further, left_in, read_from};
-ghost use Rattle.tlv_text.specs.Dump.{read_in_order, refused_in, refused_with, rows_read, size_in};
+ghost use Rattle.tlv_text.specs.Dump.{read_in_order, rows_read, size_in};
 ghost use Rattle.tlv_text.specs.DumpLines.{dump_lines};
 ghost use Rattle.tlv_text.specs.DumpPairs.{begins_pair, has_single_offset, pairs_at, single_row_octets};
 ghost use Rattle.tlv_text.specs.Private.DumpSteps.{IsAdded, IsFirstRow, Reads, dump_place_of, row_seen};
 ghost use Rattle.tlv_text.specs.Private.PairSteps.{AreWholePairs};
+ghost use Rattle.tlv_text.specs.TextRead.{refused_in, refused_with};
 
 mod ahead;
 mod lines;
@@ -14,6 +15,7 @@ mod pairs;
 mod rows;
 mod words;
 
+use crate::decoded::refused_in;
 use crate::digits::begins_digit;
 use crate::{Decoded, TextFault};
 use ahead::{from_first_row, has_pair, is_octal_first, size_in};
@@ -37,12 +39,12 @@ pub(crate) struct Reading {
     pub(crate) left: Option<usize>,
 }
 
-/// Decodes a hex dump with offsets, as xxd, hexdump, od, Wireshark, tcpdump, Format-Hex and OpenSSL write it. A text
-/// is refused at the first line that does not fit. A row does not fit if its line holds more than the row, as it does if
-/// line ends are lost. There are two signs of that: after the pairs come more characters than the row has octets, besides
-/// two bars; or the next row begins there. Offsets are hexadecimal. They are octal if two things hold: the offset of the
-/// first row has seven octal digits and no colon after it, as od writes it; and with octal offsets the text is not
-/// refused, or is refused further on than with hexadecimal ones.
+/// Decodes a hex dump with offsets, as xxd, hexdump, od, Wireshark, tcpdump, Format-Hex, OpenSSL and gdb write it. A
+/// text is refused at the first line that does not fit. A row does not fit if its line holds more than the row, as it
+/// does if line ends are lost. There are two signs of that: after the pairs come more characters than the row has
+/// octets, besides two bars; or the next row begins there. Offsets are hexadecimal. They are octal if two things hold:
+/// the offset of the first row has seven octal digits and no colon after it, as od writes it; and with octal offsets
+/// the text is not refused, or is refused further on than with hexadecimal ones.
 ///
 /// # Errors
 ///
@@ -63,16 +65,6 @@ pub fn decode_dump(alloc: Global, text: &[u8]) -> Result<Decoded, TextFault>
         octets: reading.output.octets,
         refused: refused_in(text, reading.left),
     })
-}
-
-/// The number of characters before the place where a text is refused, if it is refused.
-fn refused_in(text: &[u8], left: Option<usize>) -> Option<usize>
-    ensures { result ≡ refused_in text.now left }
-{
-    match left {
-        Some(left) => Some(text.len().saturating_sub(left)),
-        None => None,
-    }
 }
 
 /// Reads a dump, with hexadecimal offsets or octal ones.

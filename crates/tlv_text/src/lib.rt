@@ -26,7 +26,7 @@ pub use body::{PemBody, pem_body};
 pub use decoded::Decoded;
 pub use dump::decode_dump;
 pub use marks::{after_mark, ascii_of_utf16};
-pub use numbers::numbers_of;
+pub use numbers::decode_numbers;
 pub use pairs::decode_pairs;
 pub use pem::{PemBlock, first_block};
 pub use runs::{Base64Run, first_run};

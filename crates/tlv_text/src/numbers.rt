@@ -1,11 +1,14 @@
 //! Octets as decimal numbers.
-ghost use Rattle.std.specs.Prelude.{◌≡◌, ◌≤◌, ◌+◌, ◌-◌, IfOk, MatchOption, length, option_map, true};
+ghost use Rattle.std.specs.Prelude.{◌≡◌, ◌≤◌, ◌+◌, ◌-◌, IfOk, MatchOption, None, Some, drop, length, option_map, true};
 ghost use Rattle.tlv_text.specs.Characters.{is_white};
-ghost use Rattle.tlv_text.specs.Numbers.{after_number, after_opening, before_number, digits_at, first_list, is_decimal};
-ghost use Rattle.tlv_text.specs.Numbers.{items_read, list_at, number_at, numbers_of, step_at, two_or_more};
-ghost use Rattle.tlv_text.specs.Private.NumberSteps.{IsWithinText};
+ghost use Rattle.tlv_text.specs.Numbers.{after_number, before_number, digits_at, from_list, is_decimal, items_read};
+ghost use Rattle.tlv_text.specs.Numbers.{list_at, may_follow_number, number_at, numbers_read, step_at, two_or_more};
+ghost use Rattle.tlv_text.specs.Private.NumberSteps.{IsWithinText, list_value};
+ghost use Rattle.tlv_text.specs.TextRead.{PartRead, refused_in};
 ghost use Rattle.tlv_text.specs.declared.numbers.Place.TheVariants.{AtStart};
 
+use crate::Decoded;
+use crate::decoded::refused_in;
 use memchr::memchr2;
 use std::alloc::{AllocError, Global};
 
@@ -51,28 +54,60 @@ pub(crate) enum Step {
     Fails,
 }
 
-/// Returns the octets of the only list in a text: two or more decimal numbers from -128 to 255, in brackets or in
-/// braces, with commas between them and perhaps one after the last. `None` if the text has no such list, or more than
-/// one. Anything may stand around the list. The time is linear, since no list has a second opening in it.
+/// A list of numbers, as far as it is read.
+#[derive(Debug, Drop)]
+pub(crate) struct ListRead {
+    /// The octets of its numbers.
+    pub(crate) octets: Vec<u8>,
+    /// If the text is refused, because the list breaks or a second one begins, the number of characters from there to
+    /// its end.
+    pub(crate) left: Option<usize>,
+}
+
+/// Decodes the only list in a text: two or more decimal numbers from -128 to 255, in brackets or in braces, with commas
+/// between them and perhaps one after the last. Anything may stand around the list. A text with such numbers is refused
+/// where their list breaks, or where a second list begins. Returns `None` for a text without a list. The time is
+/// linear, since no list has a second opening in it.
 ///
 /// # Errors
 ///
 /// `AllocError` if memory for the octets is refused.
-pub fn numbers_of(alloc: Global, text: &[u8]) -> Result<Option<Vec<u8>>, AllocError>
-    ensures { IfOk result (λ r. option_map (λ octets. octets.items) r ≡ numbers_of text.now) }
+pub fn decode_numbers(alloc: Global, text: &[u8]) -> Result<Option<Decoded>, AllocError>
+    ensures { IfOk result (λ decoded. MatchOption decoded (numbers_read text.now ≡ None)
+        (λ d. (list : PartRead) × (numbers_read text.now ≡ Some list) × (d.octets.items ≡ list.octets)
+        × (d.refused ≡ refused_in text.now list.left))) }
 {
-    let mut rest = text;
-    let octets = first_list(alloc, &mut rest)?;
-    if first_list(alloc, &mut rest)?.is_some() {
+    let Some(list) = read_numbers(alloc, text)? else {
         return Ok(None);
-    }
-    Ok(octets)
+    };
+    Ok(Some(Decoded {
+        refused: refused_in(text, list.left),
+        octets: list.octets,
+    }))
 }
 
-/// The octets of the first list of a text. Leaves what comes after its opening, or nothing if there is no list.
-fn first_list(alloc: Global, text: &mut &[u8]) -> Result<Option<Vec<u8>>, AllocError>
-    ensures octets { IfOk result (λ r. option_map (λ octets. octets.items) r ≡ first_list text.old.now) }
-    ensures rest { IfOk result (λ r. text.new.now ≡ after_opening text.old.now) }
+/// Reads the first list of a text. It is refused where the next list begins, if it does not break before.
+fn read_numbers(alloc: Global, text: &[u8]) -> Result<Option<ListRead>, AllocError>
+    ensures { IfOk result (λ list. option_map list_value list ≡ numbers_read text.now) }
+{
+    let mut rest = text;
+    let Some(list) = first_list(alloc, &mut rest)? else {
+        return Ok(None);
+    };
+    if first_list(alloc, &mut rest)?.is_none() {
+        return Ok(Some(list));
+    }
+    Ok(Some(ListRead {
+        left: list.left.or(Some(rest.len() + 1)),
+        octets: list.octets,
+    }))
+}
+
+/// Reads the first list of a text. Leaves what comes after its opening, or nothing if there is no list.
+fn first_list(alloc: Global, text: &mut &[u8]) -> Result<Option<ListRead>, AllocError>
+    ensures list { IfOk result (λ list. option_map list_value list ≡ list_at (from_list text.old.now)) }
+    ensures rest { IfOk result (λ list. text.new.now ≡ drop 1 (from_list text.old.now)) }
+    ensures shorter { IfOk result (λ list. length text.new.now ≤ length text.old.now - 1) }
 {
     while let Some(place) = memchr2(b'[', b'{', text) {
         let list = list_at(alloc, &text[place..])?;
@@ -85,9 +120,9 @@ fn first_list(alloc: Global, text: &mut &[u8]) -> Result<Option<Vec<u8>>, AllocE
     Ok(None)
 }
 
-/// The octets of the list that a text begins with.
-fn list_at(alloc: Global, text: &[u8]) -> Result<Option<Vec<u8>>, AllocError>
-    ensures { IfOk result (λ r. option_map (λ octets. octets.items) r ≡ list_at text.now) }
+/// Reads the list that a text begins with.
+fn list_at(alloc: Global, text: &[u8]) -> Result<Option<ListRead>, AllocError>
+    ensures { IfOk result (λ list. option_map list_value list ≡ list_at text.now) }
 {
     match text {
         [b'[', rest @ ..] => Ok(two_or_more(read_items(alloc, b']', rest)?)),
@@ -96,19 +131,20 @@ fn list_at(alloc: Global, text: &[u8]) -> Result<Option<Vec<u8>>, AllocError>
     }
 }
 
-/// The octets of a list, unless it is one number alone: that may be a size, as in `[5]byte{48, 3, 2, 1, 5}`.
-fn two_or_more(octets: Option<Vec<u8>>) -> Option<Vec<u8>>
-    ensures { option_map (λ list. list.items) result ≡ two_or_more (option_map (λ list. list.items) octets) }
+/// A list, unless it is one number alone: that may be a size, as in `[5]byte{48, 3, 2, 1, 5}`.
+fn two_or_more(list: ListRead) -> Option<ListRead>
+    ensures { option_map list_value result ≡ two_or_more (list_value list) }
 {
-    match octets {
-        Some(list) if list.len() >= 2 => Some(list),
-        _ => None,
+    if list.octets.len() >= 2 {
+        Some(list)
+    } else {
+        None
     }
 }
 
-/// The octets of a list after its opening, if it is closed by this character.
-fn read_items(alloc: Global, close: u8, text: &[u8]) -> Result<Option<Vec<u8>>, AllocError>
-    ensures { IfOk result (λ r. option_map (λ octets. octets.items) r ≡ items_read close 0 AtStart text.now) }
+/// Reads a list after its opening, up to this character, which closes it, or to where it breaks.
+fn read_items(alloc: Global, close: u8, text: &[u8]) -> Result<ListRead, AllocError>
+    ensures { IfOk result (λ list. list_value list ≡ items_read close 0 AtStart text.now) }
 {
     let mut octets = Vec::new(alloc);
     let mut place = Place::AtStart;
@@ -124,11 +160,14 @@ fn read_items(alloc: Global, close: u8, text: &[u8]) -> Result<Option<Vec<u8>>, 
                 place = Place::AfterNumber;
                 rest = &more[number.more..];
             }
-            Step::Closes => return Ok(Some(octets)),
-            Step::Fails => return Ok(None),
+            Step::Closes => return Ok(ListRead { octets, left: None }),
+            Step::Fails => break,
         }
     }
-    Ok(None)
+    Ok(ListRead {
+        octets,
+        left: Some(rest.len()),
+    })
 }
 
 /// What the first characters of a text are at a place of a list that this character closes.
@@ -151,7 +190,7 @@ fn before_number(place: Place, may_close: bool, close: u8, text: &[u8]) -> Step
     match text {
         [x, ..] if is_white(*x) => Step::Passes(place),
         [x, ..] if may_close && *x == close => Step::Closes,
-        _ => match number_at(text) {
+        _ => match number_at(close, text) {
             Some(number) => Step::Reads(number),
             None => Step::Fails,
         },
@@ -172,13 +211,13 @@ fn after_number(close: u8, text: &[u8]) -> Step
 }
 
 /// The number that a text begins with.
-fn number_at(text: &[u8]) -> Option<Number>
-    ensures number { result ≡ number_at text.now }
+fn number_at(close: u8, text: &[u8]) -> Option<Number>
+    ensures number { result ≡ number_at close text.now }
     ensures within { MatchOption result Unit (λ n. 1 + n.more ≤ length text.now) }
 {
     match text {
         [b'-', rest @ ..] => {
-            let digits = digits_at(rest)?;
+            let digits = digits_at(close, rest)?;
             if digits.value > 128 {
                 return None;
             }
@@ -188,7 +227,7 @@ fn number_at(text: &[u8]) -> Option<Number>
             })
         }
         _ => {
-            let digits = digits_at(text)?;
+            let digits = digits_at(close, text)?;
             if digits.value > 255 {
                 return None;
             }
@@ -200,25 +239,44 @@ fn number_at(text: &[u8]) -> Option<Number>
     }
 }
 
-/// The digits that a text begins with, at most three.
-fn digits_at(text: &[u8]) -> Option<Digits>
-    ensures digits { result ≡ digits_at text.now }
+/// The digits that a text begins with, one to three, if the end of a number follows them.
+fn digits_at(close: u8, text: &[u8]) -> Option<Digits>
+    ensures digits { result ≡ digits_at close text.now }
     ensures within { MatchOption result Unit (λ d. 1 + d.more ≤ length text.now) }
 {
     match text {
-        [x, y, z, ..] if is_decimal(*x) && is_decimal(*y) && is_decimal(*z) => Some(Digits {
-            value: digit_value(*x) * 100 + digit_value(*y) * 10 + digit_value(*z),
-            more: 2,
-        }),
-        [x, y, ..] if is_decimal(*x) && is_decimal(*y) => Some(Digits {
-            value: digit_value(*x) * 10 + digit_value(*y),
-            more: 1,
-        }),
-        [x, ..] if is_decimal(*x) => Some(Digits {
+        [x, y, z, rest @ ..]
+            if is_decimal(*x)
+                && is_decimal(*y)
+                && is_decimal(*z)
+                && may_follow_number(close, rest) => {
+            Some(Digits {
+                value: digit_value(*x) * 100 + digit_value(*y) * 10 + digit_value(*z),
+                more: 2,
+            })
+        }
+        [x, y, rest @ ..] if is_decimal(*x) && is_decimal(*y) && may_follow_number(close, rest) => {
+            Some(Digits {
+                value: digit_value(*x) * 10 + digit_value(*y),
+                more: 1,
+            })
+        }
+        [x, rest @ ..] if is_decimal(*x) && may_follow_number(close, rest) => Some(Digits {
             value: digit_value(*x),
             more: 0,
         }),
         _ => None,
+    }
+}
+
+/// Whether this may follow a number: white space, a comma, or the character that closes the list.
+#[inline(always)]
+fn may_follow_number(close: u8, text: &[u8]) -> bool
+    ensures { result ≡ may_follow_number close text.now }
+{
+    match text {
+        [x, ..] => is_white(*x) || *x == b',' || *x == close,
+        [] => false,
     }
 }
 

@@ -22,10 +22,10 @@ pub(crate) struct Token {
     pub(crate) more: usize,
 }
 
-/// Decodes a text whose octets are written as tokens: `0x30`, `0x3` or `\x30`. Anything else may stand before the
-/// first token and after the last. Between two tokens there may be no letter, no digit and no `_`: a text is refused
-/// at the first such character. It is also refused, anywhere, at what begins like a token and is none: `0x30u8`, `\xg2`,
-/// or `\x03` before `ab`. The time is linear: the search for another token runs at most once.
+/// Decodes a text whose octets are written as tokens: `0x30`, `0x3` or `\x30`. Anything else may stand before the first
+/// token and after the last. Between two tokens there may be no letter, no digit and no `_`: a text is refused at the
+/// first such character. It is also refused, anywhere, at what begins like a token and is none: `0x30u8`, `\xg2`, or
+/// `\x03` before `ab`. The time is linear: the search for another token runs at most once.
 ///
 /// # Errors
 ///
@@ -213,7 +213,7 @@ fn ends_escape(text: &[u8]) -> bool
     }
 }
 
-/// Whether a backslash before this stands for no octet of its own.
+/// Whether this may follow a backslash after the digits of a token.
 fn may_follow_backslash(text: &[u8]) -> bool
     ensures { result ≡ may_follow_backslash text.now }
 {

@@ -2,7 +2,7 @@
 use crate::rows::expect_of;
 use std::process::Abort;
 use std::test::Fail;
-use tlv_text::{PemBody, decode_tokens, first_run, has_tokens, numbers_of, pem_body};
+use tlv_text::{PemBody, decode_numbers, decode_tokens, first_run, has_tokens, pem_body};
 
 /// A text, whether it has at least two tokens, the octets decoded,
 /// and the number of characters before the one that is refused.
@@ -70,41 +70,55 @@ fn tokens_are_decoded(rt: HostRuntime) -> Result<(), Fail> {
     Ok(())
 }
 
-/// A text, and the octets of its list of numbers, if it has one.
-type NumberRow<'a> = (&'a [u8], Option<&'a [u8]>);
+/// A text, the octets of its list of numbers, and the number of characters before the place where it is refused, if it
+/// is.
+type NumberRow<'a> = (&'a [u8], &'a [u8], Option<usize>);
 
 static NUMBERS: [NumberRow<'static>; 16] = [
-    (b"[48, 130, -1]", Some(b"\x30\x82\xff")),
-    (b"[]byte{48,130,}", Some(b"\x30\x82")),
-    (b"new byte[]{48, -126}", Some(b"\x30\x82")),
+    (b"[48, 130, -1]", b"\x30\x82\xff", None),
+    (b"[]byte{48,130,}", b"\x30\x82", None),
+    (b"new byte[]{48, -126}", b"\x30\x82", None),
     (
         b"{\"type\":\"Buffer\",\"data\":[48,130,1]}",
-        Some(b"\x30\x82\x01"),
+        b"\x30\x82\x01",
+        None,
     ),
-    (b"[-128, 255]", Some(b"\x80\xff")),
-    (b"[256]", None),
-    (b"[-129]", None),
-    (b"[1,,2]", None),
-    (b"[]", None),
-    (b"[1, 2", None),
-    (b"[1, 2}", None),
-    (b"[1, 2] [3, 4]", None),
-    (b"[5]byte{48, 3, 2, 1, 5}", Some(b"\x30\x03\x02\x01\x05")),
-    (b"int a[2] = {5, 0};", Some(b"\x05\x00")),
-    (b"[48]", None),
-    (b"[1] [2]", None),
+    (b"[-128, 255]", b"\x80\xff", None),
+    (b"[5]byte{48, 3, 2, 1, 5}", b"\x30\x03\x02\x01\x05", None),
+    (b"int a[2] = {5, 0};", b"\x05\x00", None),
+    (b"[1, 2, 300]", b"\x01\x02", Some(7)),
+    (b"[1, 2, -129]", b"\x01\x02", Some(7)),
+    (b"[1, 2, 1x0]", b"\x01\x02", Some(7)),
+    (b"[1, 2, 1300]", b"\x01\x02", Some(7)),
+    (b"[1, 2,,3]", b"\x01\x02", Some(6)),
+    (b"[1, 2, 3", b"\x01\x02", Some(7)),
+    (b"[1, 2, }", b"\x01\x02", Some(7)),
+    (b"[1, 2] [3, 4]", b"\x01\x02", Some(7)),
+    (b"[1, 2, [3, 4]]", b"\x01\x02", Some(7)),
 ];
+
+/// Texts without a list of numbers.
+static NO_NUMBERS: [&[u8]; 9] = [
+    b"[256]", b"[-129]", b"[1,,2]", b"[]", b"[1 2]", b"[48]", b"[48,]", b"[1] [2]", b"[1, 2}",
+];
+
+/// What is decoded of a list of numbers is as wanted.
+fn expect_numbers(rt: &HostRuntime, row: &NumberRow<'_>, octets: &[u8], refused: Option<usize>) {
+    let (text, want, place) = *row;
+    expect_of(rt, text, octets, want);
+    expect_of(rt, text, refused, place);
+}
 
 #[test]
 fn numbers_are_decoded(rt: HostRuntime) -> Result<(), Fail> {
     for row in NUMBERS.as_slice() {
-        let (text, octets) = *row;
-        let found = numbers_of(rt.alloc(), text)?;
-        let got = match &found {
-            Some(list) => Some(list.as_slice()),
-            None => None,
-        };
-        expect_of(&rt, text, got, octets);
+        match decode_numbers(rt.alloc(), row.0)? {
+            Some(list) => expect_numbers(&rt, row, list.octets.as_slice(), list.refused),
+            None => expect_of(&rt, row.0, "no list", "a list"),
+        }
+    }
+    for &text in NO_NUMBERS.as_slice() {
+        expect_of(&rt, text, decode_numbers(rt.alloc(), text)?.is_none(), true);
     }
     Ok(())
 }

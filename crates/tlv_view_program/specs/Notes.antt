@@ -44,7 +44,7 @@ layer_words (Some line) = codes ", in base64 of line " ++ decimal line
 abbrev pub expected_words : Form → List ℕ
 expected_words Dump = codes "a row of a hex dump"
 expected_words Hex = codes "a pair of hexadecimal digits"
-expected_words Numbers = codes "a number from -128 to 255"
+expected_words Numbers = codes "only one list of numbers from -128 to 255"
 expected_words form = codes "base64"
 
 -- what is wrong with the text of a block
@@ -61,7 +61,7 @@ abbrev pub absent_words : Form → List ℕ
 absent_words Pem = codes "X2 there is no block of PEM"
 absent_words Dump = codes "X2 there is no hex dump"
 absent_words Hex = codes "X2 there is no hexadecimal"
-absent_words Numbers = codes "X2 there is no list of decimal numbers, or more than one"
+absent_words Numbers = codes "X2 there is no list of decimal numbers"
 absent_words form = codes "X2 there is no base64"
 
 -- ---- notes

@@ -31,8 +31,8 @@ offset_there (Some e) = e.offset ∷ []
 abbrev pub element_offset : Element → ℕ
 element_offset e = e.offset
 
--- the offsets of headers whose length may be wrong, the nearest to the fault first: the refused header, and the headers
--- of the elements before and of open elements
+-- the offsets of headers whose length may be wrong, in the order in which they are tried: the refused header; the
+-- headers of the elements before, the nearest first; the headers of open elements, outermost first
 abbrev pub suspect_offsets : Facts → List ℕ
 suspect_offsets facts =
     (offset_there facts.there ++ facts.nearest.items) ++ map element_offset facts.holders.items
@@ -99,7 +99,7 @@ pub data ExplainsFirst (padding : Bool) (octets : List ℕ) (old new : DrainStat
 abbrev pub ExplainsOctets
     : Bool → List ℕ → Facts → List ℕ → DrainState → DrainState → Outcome → Type 0
 ExplainsOctets padding octets facts lines old new outcome =
-    SendsThen lines (AreRemedies padding octets (suspect_offsets facts)) old new outcome
+    SendsThen lines (AreRemedies padding octets (suspect_offsets facts) facts.top) old new outcome
 
 -- ---- after messages
 

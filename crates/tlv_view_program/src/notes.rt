@@ -172,12 +172,12 @@ fn state_words(form: Form, state: BlockState) -> ArrayVec<u8, 128>
 /// The words for what is expected where a text is refused.
 fn expected_words(form: Form) -> &'static [u8]
     ensures words { result.now ≡ expected_words form }
-    ensures few { length result.now ≤ 28 }
+    ensures few { length result.now ≤ 41 }
 {
     match form {
         Form::Dump => b"a row of a hex dump",
         Form::Hex => b"a pair of hexadecimal digits",
-        Form::Numbers => b"a number from -128 to 255",
+        Form::Numbers => b"only one list of numbers from -128 to 255",
         Form::Pem | Form::Base64 | Form::Runs => b"base64",
     }
 }
@@ -190,7 +190,7 @@ fn absent_words(form: Form) -> &'static [u8]
         Form::Pem => b"X2 there is no block of PEM",
         Form::Dump => b"X2 there is no hex dump",
         Form::Hex => b"X2 there is no hexadecimal",
-        Form::Numbers => b"X2 there is no list of decimal numbers, or more than one",
+        Form::Numbers => b"X2 there is no list of decimal numbers",
         Form::Base64 | Form::Runs => b"X2 there is no base64",
     }
 }

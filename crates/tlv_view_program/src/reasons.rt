@@ -90,6 +90,7 @@ fn write_fault_reasons<D: Drain>(
             octets,
             padding,
             suspect_offsets(&facts).as_slice(),
+            facts.top as usize,
             drain,
         ),
         Err(fault) => Ok(Err(fault)),
@@ -126,6 +127,7 @@ pub(crate) fn explain_octets<D: Drain>(
             octets,
             padding,
             suspect_offsets(facts).as_slice(),
+            facts.top as usize,
             drain,
         ),
         Err(fault) => Ok(Err(fault)),
@@ -267,7 +269,7 @@ fn offsets_up_to(alloc: Global, offset: u64, opened: &[u64]) -> Result<Vec<u64>,
     Ok(named)
 }
 
-/// The offsets of headers whose length may be wrong, the nearest to the fault first.
+/// The offsets of headers whose length may be wrong, in the order in which they are tried.
 fn suspect_offsets(facts: &Facts) -> ArrayVec<usize, SUSPECTS>
     ensures { result.items ≡ suspect_offsets facts.now }
 {

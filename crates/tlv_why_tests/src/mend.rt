@@ -1,9 +1,11 @@
 //! Tests of the single changes that would make an input parse.
 use crate::expect::expect_of;
+use std::alloc::{AllocError, Global};
 use std::test::Fail;
 use tlv_mend::{
-    OctetChange, TextChange, WrongLength, latin1_of_utf8, laws, next_start, octet_change,
-    text_change, undone_line_ends, undone_utf8, write_remedies, write_wrong_length, wrong_length,
+    OctetChange, TextChange, WrongLength, latin1_of_utf8, laws, next_record, next_start,
+    octet_change, text_change, undone_line_ends, undone_utf8, write_remedies, write_wrong_length,
+    wrong_length,
 };
 use tlv_walk::{Framing, Inside, MemDrain};
 
@@ -181,6 +183,85 @@ fn another_start_is_found(rt: HostRuntime) {
     expect_of(&rt, "whole", next_start(b"\x05\x00", false), None);
 }
 
+/// Three records. In the second a header is refused, and a constructed element follows that header.
+const RECORDS: &[u8] = b"\x30\x03\x02\x01\x05\x30\x06\xa0\x04\x04\xff\x30\x00\x30\x03\x02\x01\x07";
+/// The same records. In the second an octet is missing, one was put in, or three are missing.
+const ONE_OFF: [&[u8]; 3] = [
+    b"\x30\x03\x02\x01\x05\x30\x07\xa0\x04\x04\xff\x30\x00\x30\x03\x02\x01\x07",
+    b"\x30\x03\x02\x01\x05\x30\x05\xa0\x04\x04\xff\x30\x00\x30\x03\x02\x01\x07",
+    b"\x30\x03\x02\x01\x05\x30\x09\xa0\x04\x04\xff\x30\x00\x30\x03\x02\x01\x07",
+];
+/// Three records. The second has a length that is too great by 7.
+const LONG_RECORD: &[u8] = b"\x30\x03\x02\x01\x05\x30\x0a\x02\x01\x06\x30\x03\x02\x01\x07";
+/// Three records. The second is damaged, and begins like the last, but not like the first.
+const OTHER_KIND: &[u8] = b"\x05\x00\xa0\x02\x04\xff\xa0\x00\xa1\x00";
+
+/// The next record after a damaged one at offset 5.
+fn next(octets: &[u8]) -> Option<usize> {
+    next_record(octets, false, 5, None, None)
+}
+
+#[test]
+fn the_next_record_is_found(rt: HostRuntime) {
+    expect_of(&rt, "at the end", next(RECORDS), Some(13));
+    expect_of(&rt, "before the end", next(ONE_OFF[0]), Some(13));
+    expect_of(&rt, "after the end", next(ONE_OFF[1]), Some(13));
+    expect_of(&rt, "inside", next(ONE_OFF[2]), Some(11));
+    expect_of(&rt, "by its octet", next(LONG_RECORD), Some(10));
+    let other = next_record(OTHER_KIND, false, 2, None, None);
+    expect_of(&rt, "of another kind", other, Some(6));
+}
+
+#[test]
+fn no_next_record_is_found(rt: HostRuntime) {
+    let start = next_record(RECORDS, false, 5, None, Some(1));
+    expect_of(&rt, "another start", start, None);
+    let first = next_record(RECORDS, false, 0, None, None);
+    expect_of(&rt, "none in front", first, None);
+    // The damaged record ends with the input, or one octet before its end or after it.
+    for last in [&RECORDS[..13], &ONE_OFF[0][..13], &ONE_OFF[1][..13]] {
+        expect_of(&rt, last, next(last), None);
+    }
+    let length = Some(WrongLength {
+        offset: 5,
+        said: 10,
+        would: 8,
+    });
+    let mended = next_record(LONG_RECORD, false, 5, length, None);
+    expect_of(&rt, "another length", mended, None);
+}
+
+/// A record, a damaged one of indefinite length, so many octets `30`, and a record.
+fn many_octets(alloc: Global, count: usize) -> Result<Vec<u8>, AllocError> {
+    let mut octets = Vec::new(alloc);
+    octets.extend_from_slice(b"\x30\x03\x02\x01\x05\xa0\x80\x04\xff")?;
+    for _ in 0..count {
+        octets.push(0x30)?;
+    }
+    octets.extend_from_slice(b"\x30\x03\x02\x01\x07")?;
+    Ok(octets)
+}
+
+/// The next record in such an input.
+fn next_of_many(alloc: Global, count: usize) -> Result<Option<usize>, AllocError> {
+    let octets = many_octets(alloc, count)?;
+    Ok(next(octets.as_slice()))
+}
+
+#[test]
+fn the_next_record_is_tried_1024_times(rt: HostRuntime) -> Result<(), Fail> {
+    expect_of(&rt, "the last", next_of_many(rt.alloc(), 1023)?, Some(1032));
+    expect_of(&rt, "one more", next_of_many(rt.alloc(), 1024)?, None);
+    Ok(())
+}
+
+#[test]
+fn padding_may_stand_in_front_of_records(rt: HostRuntime) {
+    let octets = b"\x30\x03\x02\x01\x05\x00\x00\x30\x04\x02\x05\x01\x02\x30\x03\x02\x01\x07";
+    let found = next_record(octets, true, 5, None, None);
+    expect_of(&rt, "padding", found, Some(13));
+}
+
 #[test]
 fn remedies_are_written(rt: HostRuntime) -> Result<(), Fail> {
     let utf16 =
@@ -191,18 +272,21 @@ fn remedies_are_written(rt: HostRuntime) -> Result<(), Fail> {
         all would parse: an octet of its contents may be missing.\n";
     let put_in = b"If one octet fewer stood after the header at offset 2, \
         all would parse: an octet may have been put in there.\n";
-    for (octets, candidates, want) in [
-        (TOO_LONG, [2, 0].as_slice(), length.as_slice()),
-        (ONE_MISSING, &[2, 0], missing),
-        (ONE_PUT_IN, &[5, 2, 0], put_in),
-        (b"\x1f\x8b\x08", &[], gzip),
-        (b"\xff\xfe", &[], utf16),
-        (b"\xfe\xff", &[], utf16),
-        (b"\x04\x05\x01", &[], b""),
+    let record = b"From offset 13 on it parses: the next record may begin there. \
+        Try: tail -c +14 FILE | tlvdump-show\n";
+    for (octets, candidates, top, want) in [
+        (TOO_LONG, [2, 0].as_slice(), 0, length.as_slice()),
+        (ONE_MISSING, &[2, 0], 0, missing),
+        (ONE_PUT_IN, &[5, 2, 0], 0, put_in),
+        (b"\x1f\x8b\x08", &[], 0, gzip),
+        (b"\xff\xfe", &[], 0, utf16),
+        (b"\xfe\xff", &[], 0, utf16),
+        (RECORDS, &[], 5, record),
+        (b"\x04\x05\x01", &[], 0, b""),
     ] {
         let mut room = [0; 256];
         let mut drain = MemDrain::new(&mut room, 5);
-        let sent = write_remedies(rt.alloc(), octets, false, candidates, &mut drain)?;
+        let sent = write_remedies(rt.alloc(), octets, false, candidates, top, &mut drain)?;
         expect_of(&rt, octets, sent, Ok(()));
         expect_of(&rt, octets, drain.written(), want);
     }
@@ -226,6 +310,7 @@ fn a_wrong_length_is_written(rt: HostRuntime) -> Result<(), Fail> {
 fn the_laws_may_be_called(_rt: HostRuntime) {
     laws::inputs_have_one_wrong_length();
     laws::inputs_have_one_octet_change();
+    laws::inputs_have_one_next_record();
     laws::other_lengths_make_headers();
     laws::remedies_are_shown();
 }

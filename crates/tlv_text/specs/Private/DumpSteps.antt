@@ -1,7 +1,8 @@
 -- What the values in the code of dumps stand for.
 use Rattle.std.specs.Prelude.{◌≡◌, ◌<◌, ◌≤◌, ℕ, Bool, true, false, ◌&&◌, ◌||◌, ◌==◌, nat_le, List, ◌++◌, length}
 use Rattle.std.specs.Prelude.{Option, Some, None}
-use Rattle.tlv_text.specs.Dump.{DumpRead, DumpPlace, Step, dump_limit}
+use Rattle.tlv_text.specs.Dump.{DumpPlace, Step, dump_limit}
+use Rattle.tlv_text.specs.TextRead.{PartRead}
 use Rattle.tlv_text.specs.DumpLines.{LineKind, OffsetRead, RowRead, ends_offset, is_dump_blank, offset_read}
 use Rattle.tlv_text.specs.Private.PairSteps.{pair_octets}
 use Rattle.tlv_text.specs.declared.dump.Reading.{Reading}
@@ -62,6 +63,6 @@ IsFirstRow None true old new = ⊥
 IsFirstRow None false old new = Unit {0}
 
 -- a reading has what is read
-pub record Reads (read : DumpRead) (reading : Reading) : Type 0 where
+pub record Reads (read : PartRead) (reading : Reading) : Type 0 where
   pub output : RowHolds reading.output read.octets
   pub left : reading.left ≡ read.left

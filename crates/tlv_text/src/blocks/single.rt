@@ -3,14 +3,13 @@ ghost use Rattle.std.specs.Prelude.{◌≡◌, IfErr, IfOk, length};
 ghost use Rattle.tlv_text.specs.Blocks.{IsBase64Block, absent_block, alphabet_of, block_value, dump_block, hex_block};
 ghost use Rattle.tlv_text.specs.Blocks.{hex_read, numbers_block, only_block, state_at_place};
 ghost use Rattle.tlv_text.specs.Dump.{IsFault};
-ghost use Rattle.tlv_text.specs.Numbers.{numbers_of};
 ghost use Rattle.tlv_text.specs.Private.BlockSteps.{IsRefusedWithin};
 ghost use Rattle.tlv_text.specs.TextRead.{refused_at};
 
 use super::lines::{TEXT_START, state_at_place};
 use crate::{
-    Alphabet, Block, BlockState, Decoded, TextFault, decode_base64, decode_dump, decode_pairs,
-    decode_tokens, has_tokens, numbers_of,
+    Alphabet, Block, BlockState, Decoded, TextFault, decode_base64, decode_dump, decode_numbers,
+    decode_pairs, decode_tokens, has_tokens,
 };
 use arrayvec::ArrayVec;
 use memchr::memchr2;
@@ -50,10 +49,10 @@ fn decode_hex(alloc: Global, text: &[u8]) -> Result<Decoded, AllocError>
 
 /// The block of decimal numbers.
 pub(super) fn numbers_block(alloc: Global, text: &[u8]) -> Result<Block, AllocError>
-    ensures { IfOk result (λ b. block_value b ≡ numbers_block (numbers_of text.now)) }
+    ensures { IfOk result (λ b. block_value b ≡ numbers_block text.now) }
 {
-    match numbers_of(alloc, text)? {
-        Some(octets) => Ok(only_block(octets, BlockState::Whole)),
+    match decode_numbers(alloc, text)? {
+        Some(decoded) => Ok(decoded_block(text, decoded)),
         None => Ok(absent_block(alloc)),
     }
 }

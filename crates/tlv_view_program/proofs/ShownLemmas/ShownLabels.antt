@@ -7,8 +7,9 @@ use Rattle.std.proofs.lemmas.List.Elements.{All-cons, All-nil}
 use Rattle.std.proofs.lemmas.List.Folds.{list_all-append}
 use Rattle.tlv_value.specs.Units.{is_printable}
 use Rattle.tlv_text.specs.Blocks.{AreBlocks, ArePemBlocks, AreRunBlocks, BlockValue, IsBase64Block, IsPemBlock}
-use Rattle.tlv_text.specs.Blocks.{numbers_block, or_absent}
-use Rattle.tlv_text.specs.Numbers.{numbers_of}
+use Rattle.tlv_text.specs.Blocks.{list_block, or_absent}
+use Rattle.tlv_text.specs.Numbers.{numbers_read}
+use Rattle.tlv_text.specs.TextRead.{PartRead}
 use Rattle.tlv_text.specs.Pem.{is_label, is_label_character}
 use Rattle.tlv_text.specs.declared.block.Form.{Form}
 use Rattle.tlv_forms.specs.Taken.{first_words, shown_character}
@@ -86,9 +87,9 @@ or_absent-shown : (bs : List BlockValue) → All HasShownLabel bs → All HasSho
 or_absent-shown [] all = one-shown _ refl
 or_absent-shown (b ∷ bs) all = all
 
-numbers-shown : (octets : Option (List ℕ)) → HasShownLabel (numbers_block octets)
-numbers-shown (Some octets) = refl
-numbers-shown None = refl
+list-shown : (text : List ℕ) (list : Option PartRead) → HasShownLabel (list_block text list)
+list-shown text (Some list) = refl
+list-shown text None = refl
 
 base64-shown : (text : List ℕ) (b : BlockValue) → IsBase64Block text b → HasShownLabel b
 base64-shown text _ (IsBase64Block.base64 octets refused reads) = refl
@@ -97,6 +98,6 @@ pub blocks-shown : (text : List ℕ) (form : Form) (bs : List BlockValue) → Ar
 blocks-shown text _ _ (AreBlocks.pem {bs} are) = or_absent-shown bs (pem_blocks-shown text text bs are)
 blocks-shown text _ _ AreBlocks.dump = one-shown _ refl
 blocks-shown text _ _ AreBlocks.hex = one-shown _ refl
-blocks-shown text _ _ AreBlocks.numbers = one-shown _ (numbers-shown (numbers_of text))
+blocks-shown text _ _ AreBlocks.numbers = one-shown _ (list-shown text (numbers_read text))
 blocks-shown text _ _ (AreBlocks.base64 {b} is) = one-shown b (base64-shown text b is)
 blocks-shown text _ _ (AreBlocks.runs {bs} are) = or_absent-shown bs (run_blocks-shown text text bs are)

@@ -82,8 +82,8 @@ module _ (padding : Bool) (octets : List ℕ) where
   octets-shown : (facts : Facts) (lines : List ℕ) (a b : DrainState) (outcome : Outcome) → AreShown lines
       → ExplainsOctets padding octets facts lines a b outcome → TakesShown a b
   octets-shown facts lines a b outcome shown sends =
-      then-shown lines (AreRemedies padding octets (suspect_offsets facts)) a b outcome shown
-      (remedies-shown padding octets (suspect_offsets facts)) sends
+      then-shown lines (AreRemedies padding octets (suspect_offsets facts) facts.top) a b outcome shown
+      (remedies-shown padding octets (suspect_offsets facts) facts.top) sends
 
   length-shown : (framing : Framing) (candidates lines : List ℕ) → IsLengthLine framing octets candidates lines
       → AreShown lines

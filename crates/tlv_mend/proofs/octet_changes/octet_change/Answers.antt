@@ -1,6 +1,3 @@
-use Rattle.std.proofs.Common.{sym}
-use Rattle.std.specs.Prelude.{None, Option, Some}
-use Rattle.tlv_mend.specs.declared.lengths.WrongLength.{WrongLength}
 use Rattle.tlv_mend.specs.OneOctet.{another_length}
 use Rattle.tlv_mend.proofs.octet_changes.octet_change.Goals as goal
 
