@@ -154,7 +154,7 @@ NEXT = "From offset {} on it parses: the next record may begin there. Try: tail 
 # Hints for a wrong start, a copy as text, and files of other kinds: words that must be written, and the status.
 HINTS = [
     ("the next record", RECORD + DAMAGED + RECORD, NEXT.format(13, 14), 2),
-    ("the next record, by its first octet", RECORD + b"\x30\x0a\x02\x01\x06" + RECORD, NEXT.format(10, 11), 2),
+    ("the next record, by its first octet", RECORD + b"\x30\x30\x02\x01\x06" + RECORD, NEXT.format(10, 11), 2),
     ("the next record that parses", RECORD + DAMAGED + RECORD + DAMAGED + RECORD, NEXT.format(26, 27), 2),
     ("a wrong start", b"\0\0\0" + BODY, "From offset 3 on it parses", 2),
     ("the command for it", b"\0\0\0" + BODY, "Try: tail -c +4 FILE | tlvdump-show", 2),
@@ -304,10 +304,16 @@ def real_contents(why):
     part.note(share)
 
 
+def is_sequence(octets):
+    """Returns whether these octets are one SEQUENCE."""
+    first = Reading(octets).items[0]
+    return octets[:1] == b"\x30" and first.end == len(octets)
+
+
 def real_records(why):
     """Of three real encodings, the one in the middle has a header that is refused inside it. The last one is named."""
     part, rng, count, unnamed = why.part, random.Random(3), 0, []
-    encodings = [octets for _, octets in real_encodings.encodings(part, STEP) if octets[:1] == b"\x30"]
+    encodings = [octets for _, octets in real_encodings.encodings(part, STEP) if is_sequence(octets)]
     for front, octets, back in zip(encodings, encodings[1:], encodings[2:]):
         it = rng.choice(Reading(octets).elements()[1:])
         place = it.offset + len(it.identifier)
