@@ -7,13 +7,13 @@ use Rattle.std.proofs.lemmas.Str.{IsUtf8-from_is_utf8, is_utf8-from_IsUtf8}
 use Rattle.std.specs.List.{list_any}
 use Rattle.std.specs.Prelude.{IsUtf8}
 use Rattle.std.specs.Str.{is_utf8}
-use Rattle.tlv_forms.specs.Taken.{has_controls, is_control, is_other_text, is_seen}
+use Rattle.tlv_forms.specs.Taken.{has_controls, is_other_text, is_seen}
 
--- the characters that are looked at for control characters
-pub first-controls : (text : List ℕ) (n : ℕ) → n ≡ min 4096 (length text)
-    → list_any is_control (take n text) ≡ has_controls text
-first-controls text n least =
-    ap (λ (k : ℕ). list_any is_control (take k text)) least ∙ ap (list_any is_control) (take_min 4096 text)
+-- the characters that are looked at
+pub first-characters : (p : ℕ → Bool) (text : List ℕ) (n : ℕ) → n ≡ min 4096 (length text)
+    → list_any p (take n text) ≡ list_any p (take 4096 text)
+first-characters p text n least =
+    ap (λ (k : ℕ). list_any p (take k text)) least ∙ ap (list_any p) (take_min 4096 text)
 
 -- what is UTF-8 and has no control character is a text if it has a character that is seen
 pub utf8-text : (text : List ℕ) → IsUtf8 text → has_controls text ≡ false → list_any is_seen text ≡ is_other_text text

@@ -4,7 +4,8 @@ use Rattle.std.proofs.Common.{subst, sym, unwrap_or, ◌∙◌}
 use Rattle.std.proofs.lemmas.Bool.{eqb-true}
 use Rattle.std.proofs.lemmas.List.{nil_from_length}
 use Rattle.tlv_forms.specs.Private.Counting.{or_octets}
-use Rattle.tlv_forms.specs.Taken.{AreEncodings, AreFirstBlocks, HasBlocks, IsTakenFor, TakenValue, TextBlocks}
+use Rattle.tlv_forms.specs.Taken.{AreEncodings, AreFirstBlocks, AreSurelyEncodings, HasBlocks, IsTakenFor, TakenValue}
+use Rattle.tlv_forms.specs.Taken.{TextBlocks}
 use Rattle.tlv_forms.specs.Taken.{all_forms, has_controls, is_other_text, taken_other_text, taken_value, text_of}
 use Rattle.tlv_forms.specs.declared.taken.Taken.{Taken}
 use Rattle.tlv_text.specs.Marks.{after_mark, ascii_of_utf16}
@@ -58,13 +59,19 @@ module _ (octets text : List ℕ) (is : text ≡ text_of octets) where
         subst (λ (us : List Taken). IsTakenFor octets (or_octets octets (map taken_value us))) (sym none)
         (IsTakenFor.no_text (none-counts none) (rw is at other))
 
+-- sound encodings are taken for octets, also if a text of a form is in them
+pub surely-taken : (octets : List ℕ) (ts : List Taken) → ts ≡ [] → AreSurelyEncodings octets
+    → IsTakenFor octets (or_octets octets (map taken_value ts))
+surely-taken octets ts none surely = rw none (IsTakenFor.surely_sound surely)
+
 -- a block counts
-pub text-taken : (octets text : List ℕ) → text ≡ text_of octets → has_controls text ≡ false → (ts : List Taken)
+pub text-taken : (octets text : List ℕ) → text ≡ text_of octets → has_controls text ≡ false
+    → (AreSurelyEncodings octets → ⊥) → (ts : List Taken)
     → AreFirstBlocks (TextBlocks 3) text all_forms (map taken_value ts) → (n : ℕ) → n ≡ length ts → (n == 0) ≡ false
     → IsTakenFor octets (or_octets octets (map taken_value ts))
-text-taken octets text is no_control [] first n size some = absurd (cc (ap (λ (k : ℕ). k == 0) size, some))
-text-taken octets text is no_control (t ∷ ts) first n size some =
-    IsTakenFor.text
+text-taken octets text is no_control unsure [] first n size some = absurd (cc (ap (λ (k : ℕ). k == 0) size, some))
+text-taken octets text is no_control unsure (t ∷ ts) first n size some =
+    IsTakenFor.text unsure
     (HasBlocks.text (rw is at no_control)
     (subst (λ (characters : List ℕ). AreFirstBlocks (TextBlocks 3) characters all_forms (map taken_value (t ∷ ts))) is
     first))

@@ -34,6 +34,14 @@ is_control x = (nat_lt x 0x20 && not (nat_le 9 x && nat_le x 13) && not (x == 0x
 abbrev pub has_controls : List ℕ → Bool
 has_controls text = list_any is_control (take 4096 text)
 
+-- a character that is rarely typed: neither printable ASCII, nor a tab, a line feed or a carriage return
+abbrev pub is_rare : ℕ → Bool
+is_rare x = not (is_printable x || (x == 9) || (x == 10) || (x == 13))
+
+-- such a character is among the first 4096
+abbrev pub has_rare : List ℕ → Bool
+has_rare text = list_any is_rare (take 4096 text)
+
 -- a visible character
 abbrev pub is_seen : ℕ → Bool
 is_seen x = not (is_white x)
@@ -192,10 +200,18 @@ pub record AreEncodings (octets : List ℕ) : Type 0 where
   pub no_utf16 : ascii_of_utf16 octets ≡ None
   pub sound : IsSoundInput octets
 
+-- sound encodings with a character that is rarely typed: no base64 or hexadecimal that is sound by chance
+pub record AreSurelyEncodings (octets : List ℕ) : Type 0 where
+  pub rare : has_rare (text_of octets) ≡ true
+  pub encodings : AreEncodings octets
+
 -- what an input is taken for: a line for each case. A text may be in three layers of base64
 pub data IsTakenFor (octets : List ℕ) : List TakenValue → Type 0 where
+  -- also if a text of a form is in them
+  surely_sound : AreSurelyEncodings octets → IsTakenFor octets (taken_octets octets ∷ [])
   -- a text of a form, which has no control character
-  text : {t : TakenValue} {ts : List TakenValue} → TextBlocks 4 octets (t ∷ ts) → IsTakenFor octets (t ∷ ts)
+  text : {t : TakenValue} {ts : List TakenValue} → (AreSurelyEncodings octets → ⊥) → TextBlocks 4 octets (t ∷ ts)
+      → IsTakenFor octets (t ∷ ts)
   -- nearly every encoding has a control character, and texts have none
   control : has_controls (text_of octets) ≡ true → IsTakenFor octets (taken_octets octets ∷ [])
   sound : TextBlocks 4 octets [] → AreEncodings octets → IsTakenFor octets (taken_octets octets ∷ [])

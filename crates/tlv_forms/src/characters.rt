@@ -1,14 +1,15 @@
 //! The characters of an input.
 ghost use Rattle.std.specs.List.{list_any};
 ghost use Rattle.std.specs.Prelude.{◌≡◌, false, option_map, unwrap_or};
-ghost use Rattle.tlv_forms.specs.Taken.{first_words, has_controls, is_control, is_other_text, is_seen, shown_character};
+ghost use Rattle.tlv_forms.specs.Taken.{first_words, has_controls, has_rare, is_control, is_other_text, is_rare};
+ghost use Rattle.tlv_forms.specs.Taken.{is_seen, shown_character};
 ghost use Rattle.tlv_text.specs.Characters.{is_white};
 ghost use Rattle.tlv_text.specs.Marks.{after_mark};
 
 use arrayvec::ArrayVec;
 use tlv_text::after_mark;
 
-/// The number of characters of a text that are checked for control characters.
+/// The number of characters of a text that are checked for control characters and for rare ones.
 const LOOKED_AT: usize = 4096;
 
 /// The number of characters of a text that are shown.
@@ -47,6 +48,25 @@ fn is_control(character: u8) -> bool
         0..=0x1f | 0x7f => true,
         _ => false,
     }
+}
+
+/// Whether the first characters of a text include one that is rarely typed. Stops at the first one.
+pub(crate) fn has_rare(text: &[u8]) -> bool
+    ensures { result ≡ has_rare text.now }
+{
+    for character in &text[..text.len().min(LOOKED_AT)] {
+        if is_rare(*character) {
+            return true;
+        }
+    }
+    false
+}
+
+/// Whether this character is rarely typed.
+fn is_rare(character: u8) -> bool
+    ensures { result ≡ is_rare character }
+{
+    !matches!(character, b' '..=b'~' | b'\t' | b'\n' | b'\r')
 }
 
 /// Whether these characters, none of them a control character, are a text.

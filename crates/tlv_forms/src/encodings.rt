@@ -1,9 +1,11 @@
 //! Which octets are taken for encodings.
 ghost use Rattle.std.specs.Prelude.{◌≡◌, ◌≤◌, ◌↔◌, IsTrue, length, option_map};
-ghost use Rattle.tlv_forms.specs.Taken.{AreEncodings, AreTakenAsEncodings, IsSoundInput, begins_as_sequence};
+ghost use Rattle.tlv_forms.specs.Taken.{AreEncodings, AreSurelyEncodings, AreTakenAsEncodings, IsSoundInput};
+ghost use Rattle.tlv_forms.specs.Taken.{begins_as_sequence, text_of};
 ghost use Rattle.tlv_head.specs.Limits.{input_limit};
 ghost use Rattle.tlv_text.specs.Marks.{ascii_of_utf16};
 
+use crate::characters::has_rare;
 use tlv_open::ending_of;
 use tlv_walk::Ending;
 
@@ -29,6 +31,17 @@ pub(crate) fn are_encodings(ascii: &Option<Vec<u8>>, octets: &[u8]) -> bool
     ensures { IsTrue result ↔ AreEncodings octets.now }
 {
     ascii.is_none() && are_sound(octets)
+}
+
+/// Whether the octets of an input are sound encodings, and its text has a character that is rarely typed. So they are not
+/// base64 or hexadecimal that is sound by chance.
+pub(crate) fn are_surely_encodings(ascii: &Option<Vec<u8>>, octets: &[u8], text: &[u8]) -> bool
+    requires size { length octets.now ≤ input_limit }
+    requires ascii { option_map (λ text. text.items) ascii.now ≡ ascii_of_utf16 octets.now }
+    requires text { text.now ≡ text_of octets.now }
+    ensures { IsTrue result ↔ AreSurelyEncodings octets.now }
+{
+    has_rare(text) && are_encodings(ascii, octets)
 }
 
 /// Whether octets are sound encodings. Padding is allowed.

@@ -8,7 +8,7 @@ ghost use Rattle.tlv_text.specs.declared.text_fault.TextFault.TheVariants.{Memor
 use crate::Taken;
 use crate::characters::{has_controls, is_other_text, text_in};
 use crate::counting::first_blocks;
-use crate::encodings::are_encodings;
+use crate::encodings::{are_encodings, are_surely_encodings};
 use crate::values::{all_taken_as, one_taken, taken_octets, taken_other_text};
 use std::alloc::Global;
 use tlv_text::{Form, TextFault, ascii_of_utf16, blocks_of};
@@ -17,7 +17,8 @@ use tlv_text::{Form, TextFault, ascii_of_utf16, blocks_of};
 const LAYERS: u8 = 3;
 
 /// Returns the blocks of an input, as its octets decide: octets as they stand, or the blocks of a text. A text has no
-/// control character among its first 4096 characters. Its form is the first in which a block counts, in this order:
+/// control character among its first 4096 characters. It is not sound encodings with a character among these that is
+/// neither printable ASCII nor a tab, a line feed or a carriage return. Its form is the first in which a block counts, in this order:
 /// PEM, dumps, hexadecimal, numbers, base64, runs of base64. If there is no such form, the input is octets if it is
 /// sound encodings or not a text; otherwise it is a text of no form. There is at least one block.
 ///
@@ -49,6 +50,9 @@ fn taken_from_text(alloc: Global, octets: &[u8]) -> Result<Vec<Taken>, TextFault
     let ascii = ascii_of_utf16(alloc, octets)?;
     let text = text_in(&ascii, octets);
     if has_controls(text) {
+        return Ok(Vec::new(alloc));
+    }
+    if are_surely_encodings(&ascii, octets, text) {
         return Ok(Vec::new(alloc));
     }
     let taken = first_blocks(alloc, LAYERS, text)?;

@@ -4,9 +4,9 @@ use std::test::Fail;
 use tlv_forms::{TakenFor, take_octets};
 use tlv_text::BlockState;
 
-/// Inputs that are taken as octets: encodings, one of which contains a block of PEM, an encoding without control
+/// Inputs that are taken as octets: encodings, two of which contain a block of PEM, an encoding without control
 /// characters in its contents, and octets that are no text.
-static OCTETS: [Row<'static>; 8] = [
+static OCTETS: [Row<'static>; 9] = [
     (
         b"",
         &[(TakenFor::Octets, &[], 1, b"", b"", BlockState::Whole)],
@@ -30,6 +30,18 @@ static OCTETS: [Row<'static>; 8] = [
             1,
             b"",
             b"\x04+-----BEGIN X-----\nMAMCAQU=\n-----END X-----\n",
+            BlockState::Whole,
+        )],
+    ),
+    // No character here is a control character that texts do not have.
+    (
+        b"\x0c+-----BEGIN X-----\nMAMCAQU=\n-----END X-----\n",
+        &[(
+            TakenFor::Octets,
+            &[],
+            1,
+            b"",
+            b"\x0c+-----BEGIN X-----\nMAMCAQU=\n-----END X-----\n",
             BlockState::Whole,
         )],
     ),

@@ -91,7 +91,8 @@ text_blocks-shown (suc layers) octets ts has =
 -- ---- inputs
 
 taken_for-shown : (octets : List ℕ) (ts : List TakenValue) → IsTakenFor octets ts → All IsShownTaken ts
-taken_for-shown octets _ (IsTakenFor.text {t} {ts} blocks) = text_blocks-shown 4 octets (t ∷ ts) blocks
+taken_for-shown octets _ (IsTakenFor.surely_sound are) = one-shown _ refl
+taken_for-shown octets _ (IsTakenFor.text {t} {ts} unsure blocks) = text_blocks-shown 4 octets (t ∷ ts) blocks
 taken_for-shown octets _ (IsTakenFor.control has) = one-shown _ refl
 taken_for-shown octets _ (IsTakenFor.sound none are) = one-shown _ refl
 taken_for-shown octets _ (IsTakenFor.other_text none not is) = one-shown _ (first_words-shown (text_of octets))

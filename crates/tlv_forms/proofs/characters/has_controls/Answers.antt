@@ -3,7 +3,7 @@ use Rattle.std.specs.List.{list_any}
 use Rattle.std.proofs.lemmas.List.{drop_all}
 use Rattle.std.proofs.lemmas.List.Folds.{list_any_at}
 use Rattle.tlv_forms.specs.Taken.{is_control}
-use Rattle.tlv_forms.proofs.CharacterLemmas.{first-controls}
+use Rattle.tlv_forms.proofs.CharacterLemmas.{first-characters}
 use Rattle.tlv_forms.proofs.characters.has_controls.Goals as goal
 
 pub returns-then-is_control : goal.returns-then-is_control
@@ -12,7 +12,7 @@ returns-then-is_control c =
     sym
     (list_any_at is_control (take c.min.result text) c.loop-character.character-index _ c.loop-character-test.true
     (sym c.is_control.ensures ∙ c.if-is_control.true))
-    ∙ first-controls text c.min.result (omega (arith, c.min.ensures))
+    ∙ first-characters is_control text c.min.result (omega (arith, c.min.ensures))
 
 pub returns : goal.returns
 returns c =
@@ -21,4 +21,4 @@ returns c =
     (c.loop-character.invariant
     ∙ ap (list_any is_control)
     (drop_all c.loop-character.character-index (take c.min.result text) c.loop-character-test.false))
-    ∙ first-controls text c.min.result (omega (arith, c.min.ensures))
+    ∙ first-characters is_control text c.min.result (omega (arith, c.min.ensures))

@@ -1,7 +1,7 @@
 use Rattle.std.proofs.Common.{◌∙◌, sym}
 use Rattle.tlv_forms.proofs.CountingLemmas.{memory-is_fault, returned-fault}
 use Rattle.tlv_forms.proofs.InputLemmas.{control-taken, no_text-taken, none-taken, other-taken, sound-taken, text-is}
-use Rattle.tlv_forms.proofs.InputLemmas.{text-taken}
+use Rattle.tlv_forms.proofs.InputLemmas.{surely-taken, text-taken}
 use Rattle.tlv_text.specs.declared.text_fault.TextFault.TheVariants.{Memory}
 use Rattle.tlv_forms.proofs.take_call.taken_from_text.Goals as goal
 
@@ -14,6 +14,15 @@ returns-then-has_controls-clause-taken c =
     control-taken c.args.octets.now _
     (text-is c.args.octets.now _ _ c.text_in-text.ensures c.in_ok-ascii.ensures)
     _ c.new.ensures.items (sym c.has_controls.ensures ∙ c.if-has_controls.true)
+
+pub are_surely_encodings-requires-clause-text : goal.are_surely_encodings-requires-clause-text
+are_surely_encodings-requires-clause-text c =
+    text-is c.args.octets.now _ _ c.text_in-text.ensures c.in_ok-ascii.ensures
+
+pub returns-then-are_surely_encodings-clause-taken : goal.returns-then-are_surely_encodings-clause-taken
+returns-then-are_surely_encodings-clause-taken c =
+    surely-taken c.args.octets.now _ c.new-then-are_surely_encodings.ensures.items
+    (c.are_surely_encodings.ensures.0 c.if-are_surely_encodings.true)
 
 pub returns-in_err-one_taken-clause-fault : goal.returns-in_err-one_taken-clause-fault
 returns-in_err-one_taken-clause-fault c =
@@ -44,6 +53,8 @@ returns-clause-taken c =
           (none-taken _ taken.items taken.ok.0 (sym c.is_empty.ensures ∙ w.if-is_empty.true))
           (sym w.is_other_text.ensures ∙ w.if-is_other_text.false)
       | goal.else-is_empty-via-else-is_empty w ↦
-          text-taken c.args.octets.now _ is no_control taken.items c.in_ok-taken.ensures.taken
+          text-taken c.args.octets.now _ is no_control
+          (λ surely. absurd (cc (c.are_surely_encodings.ensures.1 surely, c.if-are_surely_encodings.false)))
+          taken.items c.in_ok-taken.ensures.taken
           _ taken.ok.0 (sym c.is_empty.ensures ∙ w.if-is_empty.false)
     ]
