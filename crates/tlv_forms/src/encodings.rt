@@ -33,8 +33,8 @@ pub(crate) fn are_encodings(ascii: &Option<Vec<u8>>, octets: &[u8]) -> bool
     ascii.is_none() && are_sound(octets)
 }
 
-/// Whether the octets of an input are sound encodings, and its text has a character that is rarely typed. So they are not
-/// base64 or hexadecimal that is sound by chance.
+/// Whether the octets of an input are sound encodings, and its text has a character that is rarely typed. So they are
+/// not base64 or hexadecimal that is sound by chance.
 pub(crate) fn are_surely_encodings(ascii: &Option<Vec<u8>>, octets: &[u8], text: &[u8]) -> bool
     requires size { length octets.now ≤ input_limit }
     requires ascii { option_map (λ text. text.items) ascii.now ≡ ascii_of_utf16 octets.now }
