@@ -20,6 +20,7 @@ KNOWN = "known are PEM, hex dumps, hexadecimal, decimal numbers and base64"
 MARK = b"\xef\xbb\xbf"
 WHITE_SPACE = b" \t\n\r"
 CONTROLS = re.compile(rb"[\x00-\x08\x0e-\x19\x1c-\x1f\x7f]")
+RARE = re.compile(rb"[^\x20-\x7e\t\n\r]")
 MOST_LAYERS, MOST_SHOWN, MOST_LOOKED_AT = 3, 32, 4096
 BEGINNINGS = (b"\x30", b"\x31")
 # The first octets of a dump that is refused, if its offsets are read as pairs of digits.
@@ -94,12 +95,12 @@ def text_of(octets):
 def of_any(octets):
     """Returns the blocks of an input without --as."""
     text = text_of(octets)
-    blocks = None if has_control(text) else of_known_form(text, 0)
+    if has_control(text) or has_rare(text) and is_encoding(octets, text):
+        return [Block("octets", octets)]
+    blocks = of_known_form(text, 0)
     if blocks:
         return blocks
-    # An input with a byte order mark is no encoding, though it may
-    # parse: in UTF-16 each character is an element without contents.
-    if has_control(text) or octets is text and is_whole(octets) or not is_utf8(text) or not text.strip(WHITE_SPACE):
+    if is_encoding(octets, text) or not is_utf8(text) or not text.strip(WHITE_SPACE):
         return [Block("octets", octets)]
     first = "".join(chr(it) if 0x20 <= it <= 0x7E else "?" for it in text[:MOST_SHOWN])
     return [Block(None, wrong=f'X1 text of no form that is known: "{first}"; {KNOWN}')]
@@ -108,6 +109,18 @@ def of_any(octets):
 def has_control(text):
     """Returns whether one of the first characters cannot occur in a text."""
     return bool(CONTROLS.search(text[:MOST_LOOKED_AT]))
+
+
+def has_rare(text):
+    """Returns whether one of the first characters is rarely typed."""
+    return bool(RARE.search(text[:MOST_LOOKED_AT]))
+
+
+def is_encoding(octets, text):
+    """Returns whether an input with this text is whole encodings. With a byte order mark it is none, though it may parse:
+    in UTF-16 each character is an element without contents.
+    """
+    return octets is text and is_whole(octets)
 
 
 def is_whole(octets):

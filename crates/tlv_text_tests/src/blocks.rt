@@ -53,7 +53,7 @@ static PEM: [OneRow<'static>; 7] = [
     (Form::Pem, b"", (1, b"", b"", BlockState::Absent)),
 ];
 
-static OTHERS: [OneRow<'static>; 17] = [
+static OTHERS: [OneRow<'static>; 18] = [
     (
         Form::Dump,
         b"00000000: 3003 0201 05  0....\n",
@@ -98,9 +98,10 @@ static OTHERS: [OneRow<'static>; 17] = [
     ),
     (
         Form::Numbers,
-        b"[1, 2] [3, 4]",
-        (1, b"", b"", BlockState::Absent),
+        b"[1, 2]\n[3, 4]",
+        (1, b"", b"\x01\x02", BlockState::Refused(2)),
     ),
+    (Form::Numbers, b"[1] [2]", (1, b"", b"", BlockState::Absent)),
     (
         Form::Base64,
         b"MAMC\nAQU=\n",

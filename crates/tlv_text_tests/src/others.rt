@@ -103,7 +103,7 @@ static NO_NUMBERS: [&[u8]; 9] = [
 ];
 
 /// What is decoded of a list of numbers is as wanted.
-fn expect_numbers(rt: &HostRuntime, row: &NumberRow<'_>, octets: &[u8], refused: Option<usize>) {
+fn expect_numbers(rt: &impl Abort, row: &NumberRow<'_>, octets: &[u8], refused: Option<usize>) {
     let (text, want, place) = *row;
     expect_of(rt, text, octets, want);
     expect_of(rt, text, refused, place);
