@@ -6,6 +6,10 @@ use Rattle.tlv_head.specs.declared.kind.Kind.TheVariants.{Octets, Boolean, Integ
 use Rattle.tlv_head.specs.declared.kind.Kind.TheVariants.{Text, Utf8, Ucs2, Ucs4}
 use Rattle.tlv_head.specs.declared.type_table.Encodings.{Encodings}
 use Rattle.tlv_head.specs.declared.type_table.Encodings.TheVariants.{Primitive, Constructed, Segmented, Unjudged}
+use Rattle.tlv_head.specs.declared.type_table.Rule.{Rule}
+use Rattle.tlv_head.specs.declared.type_table.Rule.TheVariants.{Any, OneOctet, Shortest, UnusedBits, NoOctets}
+use Rattle.tlv_head.specs.declared.type_table.Rule.TheVariants.{Subidentifiers, RealForm, Characters, TimeForm}
+use Rattle.tlv_head.specs.declared.type_table.Rule.TheVariants.{DateForm, IriForm}
 
 -- a row: a type
 pub record TypeRow : Type 0 where
@@ -17,9 +21,17 @@ pub record TypeRow : Type 0 where
   pub encodings : Encodings
   -- how the contents of a primitive are shown
   pub kind : Kind
+  -- the rule for the contents of a primitive whose breach is a finding. `Any`: there is none
+  pub rule : Rule
 
-abbrev pub row : ℕ → List ℕ → Encodings → Kind → TypeRow
-row number name encodings kind = record { number = number; name = name; encodings = encodings; kind = kind }
+abbrev pub row : ℕ → List ℕ → Encodings → Kind → Rule → TypeRow
+row number name encodings kind rule = record {
+  number = number;
+  name = name;
+  encodings = encodings;
+  kind = kind;
+  rule = rule;
+}
 
 -- in the order of the numbers. The clauses are 8.2 to 8.7 for BOOLEAN, INTEGER, ENUMERATED, REAL, BIT STRING and OCTET
 -- STRING, 8.8 for NULL, 8.9 to 8.12 for SEQUENCE and SET, 8.17 for EMBEDDED PDV, 8.18 for EXTERNAL, 8.19 and 8.20 for
@@ -28,41 +40,41 @@ row number name encodings kind = record { number = number; name = name; encoding
 -- times
 abbrev pub type_table : List TypeRow
 type_table =
-    row 1 (codes "BOOLEAN") Primitive Boolean
-    ∷ row 2 (codes "INTEGER") Primitive Integer
-    ∷ row 3 (codes "BIT STRING") Segmented Bits
-    ∷ row 4 (codes "OCTET STRING") Segmented Octets
-    ∷ row 5 (codes "NULL") Primitive Octets
-    ∷ row 6 (codes "OBJECT IDENTIFIER") Primitive Object
-    ∷ row 7 (codes "ObjectDescriptor") Segmented Text
-    ∷ row 8 (codes "EXTERNAL") Constructed Octets
-    ∷ row 9 (codes "REAL") Primitive Octets
-    ∷ row 10 (codes "ENUMERATED") Primitive Integer
-    ∷ row 11 (codes "EMBEDDED PDV") Constructed Octets
-    ∷ row 12 (codes "UTF8String") Segmented Utf8
-    ∷ row 13 (codes "RELATIVE-OID") Primitive Relative
-    ∷ row 14 (codes "TIME") Unjudged Octets
-    ∷ row 16 (codes "SEQUENCE") Constructed Octets
-    ∷ row 17 (codes "SET") Constructed Octets
-    ∷ row 18 (codes "NumericString") Segmented Text
-    ∷ row 19 (codes "PrintableString") Segmented Text
-    ∷ row 20 (codes "TeletexString") Segmented Text
-    ∷ row 21 (codes "VideotexString") Segmented Text
-    ∷ row 22 (codes "IA5String") Segmented Text
-    ∷ row 23 (codes "UTCTime") Segmented Text
-    ∷ row 24 (codes "GeneralizedTime") Segmented Text
-    ∷ row 25 (codes "GraphicString") Segmented Text
-    ∷ row 26 (codes "VisibleString") Segmented Text
-    ∷ row 27 (codes "GeneralString") Segmented Text
-    ∷ row 28 (codes "UniversalString") Segmented Ucs4
-    ∷ row 29 (codes "CHARACTER STRING") Constructed Octets
-    ∷ row 30 (codes "BMPString") Segmented Ucs2
-    ∷ row 31 (codes "DATE") Unjudged Octets
-    ∷ row 32 (codes "TIME-OF-DAY") Unjudged Octets
-    ∷ row 33 (codes "DATE-TIME") Unjudged Octets
-    ∷ row 34 (codes "DURATION") Unjudged Octets
-    ∷ row 35 (codes "OID-IRI") Unjudged Octets
-    ∷ row 36 (codes "RELATIVE-OID-IRI") Unjudged Octets
+    row 1 (codes "BOOLEAN") Primitive Boolean OneOctet
+    ∷ row 2 (codes "INTEGER") Primitive Integer Shortest
+    ∷ row 3 (codes "BIT STRING") Segmented Bits UnusedBits
+    ∷ row 4 (codes "OCTET STRING") Segmented Octets Any
+    ∷ row 5 (codes "NULL") Primitive Octets NoOctets
+    ∷ row 6 (codes "OBJECT IDENTIFIER") Primitive Object Subidentifiers
+    ∷ row 7 (codes "ObjectDescriptor") Segmented Text Any
+    ∷ row 8 (codes "EXTERNAL") Constructed Octets Any
+    ∷ row 9 (codes "REAL") Primitive Octets RealForm
+    ∷ row 10 (codes "ENUMERATED") Primitive Integer Shortest
+    ∷ row 11 (codes "EMBEDDED PDV") Constructed Octets Any
+    ∷ row 12 (codes "UTF8String") Segmented Utf8 Characters
+    ∷ row 13 (codes "RELATIVE-OID") Primitive Relative Subidentifiers
+    ∷ row 14 (codes "TIME") Unjudged Octets Any
+    ∷ row 16 (codes "SEQUENCE") Constructed Octets Any
+    ∷ row 17 (codes "SET") Constructed Octets Any
+    ∷ row 18 (codes "NumericString") Segmented Text Characters
+    ∷ row 19 (codes "PrintableString") Segmented Text Characters
+    ∷ row 20 (codes "TeletexString") Segmented Text Any
+    ∷ row 21 (codes "VideotexString") Segmented Text Any
+    ∷ row 22 (codes "IA5String") Segmented Text Characters
+    ∷ row 23 (codes "UTCTime") Segmented Text TimeForm
+    ∷ row 24 (codes "GeneralizedTime") Segmented Text TimeForm
+    ∷ row 25 (codes "GraphicString") Segmented Text Any
+    ∷ row 26 (codes "VisibleString") Segmented Text Characters
+    ∷ row 27 (codes "GeneralString") Segmented Text Any
+    ∷ row 28 (codes "UniversalString") Segmented Ucs4 Characters
+    ∷ row 29 (codes "CHARACTER STRING") Constructed Octets Any
+    ∷ row 30 (codes "BMPString") Segmented Ucs2 Characters
+    ∷ row 31 (codes "DATE") Unjudged Octets DateForm
+    ∷ row 32 (codes "TIME-OF-DAY") Unjudged Octets DateForm
+    ∷ row 33 (codes "DATE-TIME") Unjudged Octets DateForm
+    ∷ row 34 (codes "DURATION") Unjudged Octets Any
+    ∷ row 35 (codes "OID-IRI") Unjudged Octets IriForm
+    ∷ row 36 (codes "RELATIVE-OID-IRI") Unjudged Octets IriForm
     ∷ []
 
 -- the row with this number, if any
@@ -76,3 +88,18 @@ are_same_encodings Constructed Constructed = true
 are_same_encodings Segmented Segmented = true
 are_same_encodings Unjudged Unjudged = true
 are_same_encodings _ _ = false
+
+-- the same of rules
+abbrev pub are_same_rules : Rule → Rule → Bool
+are_same_rules Any Any = true
+are_same_rules OneOctet OneOctet = true
+are_same_rules Shortest Shortest = true
+are_same_rules UnusedBits UnusedBits = true
+are_same_rules NoOctets NoOctets = true
+are_same_rules Subidentifiers Subidentifiers = true
+are_same_rules RealForm RealForm = true
+are_same_rules Characters Characters = true
+are_same_rules TimeForm TimeForm = true
+are_same_rules DateForm DateForm = true
+are_same_rules IriForm IriForm = true
+are_same_rules _ _ = false

@@ -13,9 +13,6 @@ bit_string = 3
 abbrev pub octet_string : ℕ
 octet_string = 4
 
-abbrev pub null : ℕ
-null = 5
-
 abbrev pub object_identifier : ℕ
 object_identifier = 6
 
@@ -76,11 +73,5 @@ date = 31
 abbrev pub time_of_day : ℕ
 time_of_day = 32
 
-abbrev pub date_time : ℕ
-date_time = 33
-
 abbrev pub oid_iri : ℕ
 oid_iri = 35
-
-abbrev pub relative_oid_iri : ℕ
-relative_oid_iri = 36

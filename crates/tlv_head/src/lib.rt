@@ -19,4 +19,4 @@ pub use header::{Class, Header, HeaderFields, Size, spell_indefinite};
 pub use header_at_once::{read_header, read_short};
 pub use kind::{Kind, kind_of};
 pub use tag::{tag_text, type_name, type_name_block};
-pub use type_table::{Encodings, UniversalType, encodings_of, type_at};
+pub use type_table::{Encodings, Rule, UniversalType, encodings_of, type_at};

@@ -19,6 +19,34 @@ pub enum Encodings {
     Unjudged,
 }
 
+/// The rule for the contents of a primitive of a type: what a finding says that they break. The findings of DER and
+/// CER ask for more. How the contents of one type or another keep the rule is beside the findings, in tlv_value.
+#[derive(Clone, Copy, Debug, PartialEq, Eq)]
+pub enum Rule {
+    /// Any contents: no rule is checked.
+    Any,
+    /// One octet (8.2.1).
+    OneOctet,
+    /// A number in the fewest octets, which are one or more (8.3, 8.4).
+    Shortest,
+    /// The number of unused bits, and then the bits (8.6.2).
+    UnusedBits,
+    /// No octets (8.8.2).
+    NoOctets,
+    /// Subidentifiers, one or more, each in the fewest octets (8.19, 8.20).
+    Subidentifiers,
+    /// A form of a REAL (8.5).
+    RealForm,
+    /// Characters that the type allows (8.23, X.680 41).
+    Characters,
+    /// A time by the grammar of its type (8.25, X.680 46 and 47).
+    TimeForm,
+    /// A date, a time of day, or both (8.26).
+    DateForm,
+    /// UTF-8 that begins as the type says (8.21, 8.22).
+    IriForm,
+}
+
 /// What the table says about a universal type, besides its name.
 #[derive(Clone, Copy, Debug, PartialEq, Eq)]
 pub struct UniversalType {
@@ -26,6 +54,8 @@ pub struct UniversalType {
     pub encodings: Encodings,
     /// How the contents of a primitive are shown.
     pub kind: Kind,
+    /// The rule for the contents of a primitive.
+    pub rule: Rule,
 }
 
 /// The universal type with this number (X.680, table 1). `None` if no type has the number.
@@ -33,45 +63,50 @@ pub struct UniversalType {
 pub fn type_at(number: u64) -> Option<UniversalType>
     ensures encodings { option_map (λ t. t.encodings) result ≡ option_map (λ row. row.encodings) (type_at number) }
     ensures kind { option_map (λ t. t.kind) result ≡ option_map (λ row. row.kind) (type_at number) }
+    ensures rule { option_map (λ t. t.rule) result ≡ option_map (λ row. row.rule) (type_at number) }
 {
     use Encodings::{Constructed, Primitive, Segmented, Unjudged};
     use Kind::{Bits, Boolean, Integer, Object, Octets, Relative, Text, Ucs2, Ucs4, Utf8};
+    use Rule::{
+        Any, Characters, DateForm, IriForm, NoOctets, OneOctet, RealForm, Shortest, Subidentifiers,
+        TimeForm, UnusedBits,
+    };
     Some(match number {
-        universal::BOOLEAN => row(Primitive, Boolean),
-        universal::INTEGER => row(Primitive, Integer),
-        universal::BIT_STRING => row(Segmented, Bits),
-        universal::OCTET_STRING => row(Segmented, Octets),
-        universal::NULL => row(Primitive, Octets),
-        universal::OBJECT_IDENTIFIER => row(Primitive, Object),
-        universal::OBJECT_DESCRIPTOR => row(Segmented, Text),
-        universal::EXTERNAL => row(Constructed, Octets),
-        universal::REAL => row(Primitive, Octets),
-        universal::ENUMERATED => row(Primitive, Integer),
-        universal::EMBEDDED_PDV => row(Constructed, Octets),
-        universal::UTF8_STRING => row(Segmented, Utf8),
-        universal::RELATIVE_OID => row(Primitive, Relative),
-        universal::TIME => row(Unjudged, Octets),
-        universal::SEQUENCE => row(Constructed, Octets),
-        universal::SET => row(Constructed, Octets),
-        universal::NUMERIC_STRING => row(Segmented, Text),
-        universal::PRINTABLE_STRING => row(Segmented, Text),
-        universal::TELETEX_STRING => row(Segmented, Text),
-        universal::VIDEOTEX_STRING => row(Segmented, Text),
-        universal::IA5_STRING => row(Segmented, Text),
-        universal::UTC_TIME => row(Segmented, Text),
-        universal::GENERALIZED_TIME => row(Segmented, Text),
-        universal::GRAPHIC_STRING => row(Segmented, Text),
-        universal::VISIBLE_STRING => row(Segmented, Text),
-        universal::GENERAL_STRING => row(Segmented, Text),
-        universal::UNIVERSAL_STRING => row(Segmented, Ucs4),
-        universal::CHARACTER_STRING => row(Constructed, Octets),
-        universal::BMP_STRING => row(Segmented, Ucs2),
-        universal::DATE => row(Unjudged, Octets),
-        universal::TIME_OF_DAY => row(Unjudged, Octets),
-        universal::DATE_TIME => row(Unjudged, Octets),
-        universal::DURATION => row(Unjudged, Octets),
-        universal::OID_IRI => row(Unjudged, Octets),
-        universal::RELATIVE_OID_IRI => row(Unjudged, Octets),
+        universal::BOOLEAN => row(Primitive, Boolean, OneOctet),
+        universal::INTEGER => row(Primitive, Integer, Shortest),
+        universal::BIT_STRING => row(Segmented, Bits, UnusedBits),
+        universal::OCTET_STRING => row(Segmented, Octets, Any),
+        universal::NULL => row(Primitive, Octets, NoOctets),
+        universal::OBJECT_IDENTIFIER => row(Primitive, Object, Subidentifiers),
+        universal::OBJECT_DESCRIPTOR => row(Segmented, Text, Any),
+        universal::EXTERNAL => row(Constructed, Octets, Any),
+        universal::REAL => row(Primitive, Octets, RealForm),
+        universal::ENUMERATED => row(Primitive, Integer, Shortest),
+        universal::EMBEDDED_PDV => row(Constructed, Octets, Any),
+        universal::UTF8_STRING => row(Segmented, Utf8, Characters),
+        universal::RELATIVE_OID => row(Primitive, Relative, Subidentifiers),
+        universal::TIME => row(Unjudged, Octets, Any),
+        universal::SEQUENCE => row(Constructed, Octets, Any),
+        universal::SET => row(Constructed, Octets, Any),
+        universal::NUMERIC_STRING => row(Segmented, Text, Characters),
+        universal::PRINTABLE_STRING => row(Segmented, Text, Characters),
+        universal::TELETEX_STRING => row(Segmented, Text, Any),
+        universal::VIDEOTEX_STRING => row(Segmented, Text, Any),
+        universal::IA5_STRING => row(Segmented, Text, Characters),
+        universal::UTC_TIME => row(Segmented, Text, TimeForm),
+        universal::GENERALIZED_TIME => row(Segmented, Text, TimeForm),
+        universal::GRAPHIC_STRING => row(Segmented, Text, Any),
+        universal::VISIBLE_STRING => row(Segmented, Text, Characters),
+        universal::GENERAL_STRING => row(Segmented, Text, Any),
+        universal::UNIVERSAL_STRING => row(Segmented, Ucs4, Characters),
+        universal::CHARACTER_STRING => row(Constructed, Octets, Any),
+        universal::BMP_STRING => row(Segmented, Ucs2, Characters),
+        universal::DATE => row(Unjudged, Octets, DateForm),
+        universal::TIME_OF_DAY => row(Unjudged, Octets, DateForm),
+        universal::DATE_TIME => row(Unjudged, Octets, DateForm),
+        universal::DURATION => row(Unjudged, Octets, Any),
+        universal::OID_IRI => row(Unjudged, Octets, IriForm),
+        universal::RELATIVE_OID_IRI => row(Unjudged, Octets, IriForm),
         _ => return None,
     })
 }
@@ -87,8 +122,12 @@ pub fn encodings_of(number: u64) -> Option<Encodings>
 
 /// A row of the table.
 #[inline(always)]
-fn row(encodings: Encodings, kind: Kind) -> UniversalType
-    ensures { result ≡ record { encodings = encodings; kind = kind } }
+fn row(encodings: Encodings, kind: Kind, rule: Rule) -> UniversalType
+    ensures { result ≡ record { encodings = encodings; kind = kind; rule = rule } }
 {
-    UniversalType { encodings, kind }
+    UniversalType {
+        encodings,
+        kind,
+        rule,
+    }
 }

@@ -1,6 +1,6 @@
 //! Reads that a test follows one by one.
 ghost use Rattle.std.specs.Prelude.{◌≤◌};
-ghost use Rattle.tlv_walk.specs.WalkerReads.{IsReady};
+ghost use Rattle.tlv_walk.specs.Walker.{IsReady};
 ghost use Rattle.tlv_walk.specs.OneTurn.{CanTurn};
 
 use crate::expect::expect_eq;

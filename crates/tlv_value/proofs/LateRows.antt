@@ -20,7 +20,8 @@ year-2000 = refl
 hour-24 : type_findings universal.time_of_day (codes "240000") ≡ B21 ∷ []
 hour-24 = refl
 
-last-second : type_findings universal.date_time (codes "20241231235959") ≡ []
+-- a DATE-TIME
+last-second : type_findings 33 (codes "20241231235959") ≡ []
 last-second = refl
 
 empty-relative : type_findings universal.relative_oid [] ≡ B24 ∷ []

@@ -1,6 +1,7 @@
 pub mod NamesRows
 pub mod ContentsRows
 pub mod LateRows
+pub mod RuleRows
 pub mod PairRows
 pub mod CheckLemmas
 pub mod RealLemmas

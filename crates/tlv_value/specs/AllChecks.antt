@@ -10,8 +10,10 @@ use Rattle.tlv_value.specs.Checks.{begins_with, findings_by, is_short_time, list
 use Rattle.tlv_value.specs.Checks.{listed_strict_type_conditions, time_form}
 use Rattle.tlv_value.specs.Dates.{is_date_or_time, month_has_day, month_has_day_in_some_century}
 use Rattle.tlv_value.specs.Real.{is_canonical_real, is_real_form}
-use Rattle.tlv_value.specs.Types.{date_types, iri_types, wide_string_types}
+use Rattle.tlv_value.specs.Types.{wide_string_types}
+use Rattle.tlv_head.specs.declared.type_table.Rule.TheVariants as rules
 use Rattle.tlv_head.specs.Lists.{is_among}
+use Rattle.tlv_value.specs.Types.{has_rule}
 
 -- X.680 46, 47: the month of the time has its day. The century of a UTCTime is not known
 abbrev pub time_has_day : ℕ → List ℕ → Bool
@@ -32,11 +34,11 @@ is_iri number contents =
 abbrev pub later_basic_type_conditions : ℕ → List ℕ → List (Finding × Bool)
 later_basic_type_conditions number contents =
     -- 8.5: a REAL is of a form, as `Real` has it
-    (B20, number == universal.real && not (is_real_form contents))
+    (B20, has_rule rules.RealForm number && not (is_real_form contents))
     -- 8.26: a DATE, TIME-OF-DAY or DATE-TIME is one, as `Dates` has it
-    ∷ (B21, is_among number date_types && not (is_date_or_time number contents))
+    ∷ (B21, has_rule rules.DateForm number && not (is_date_or_time number contents))
     -- 8.21: an OID-IRI is UTF-8 and begins with /. 8.22: a RELATIVE-OID-IRI is UTF-8, and is not empty
-    ∷ (B23, is_among number iri_types && not (is_iri number contents))
+    ∷ (B23, has_rule rules.IriForm number && not (is_iri number contents))
     -- 8.20.2: a RELATIVE-OID has one subidentifier or more
     ∷ (B24, number == universal.relative_oid && length contents == 0)
     -- 8.23: each whole unit of a BMPString or UniversalString is a character, as `Characters` has it
@@ -53,7 +55,7 @@ later_basic_type_conditions number contents =
 abbrev pub later_strict_type_conditions : ℕ → List ℕ → List (Finding × Bool)
 later_strict_type_conditions number contents =
     -- 11.3: a REAL of a form is canonical, as `Real` has it
-    (S06, number == universal.real && is_real_form contents && not (is_canonical_real contents))
+    (S06, has_rule rules.RealForm number && is_real_form contents && not (is_canonical_real contents))
     ∷ []
 
 -- all findings on these contents, listed or not, beside their conditions, in the order of the codes

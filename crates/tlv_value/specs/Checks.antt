@@ -15,8 +15,8 @@ use Rattle.tlv_value.specs.declared.finding.Finding.TheVariants.{B15, B18, B19, 
 use Rattle.tlv_value.specs.Arcs.{parts_of}
 pub use Rattle.tlv_value.specs.ContentsOctets.{first_octet, is_padded_integer, last_octet}
 use Rattle.tlv_value.specs.Times as times
-use Rattle.tlv_value.specs.Types.{integer_types, object_types, time_types}
-use Rattle.tlv_head.specs.Lists.{is_among}
+use Rattle.tlv_head.specs.declared.type_table.Rule.TheVariants as rules
+use Rattle.tlv_value.specs.Types.{has_rule}
 use Rattle.tlv_value.specs.Units.{is_printable}
 
 -- the first octet is this one
@@ -52,7 +52,7 @@ allows number contents = list_all (λ row. not (number == row.0) || row.1 conten
 
 -- 8.25: a UTCTime or GeneralizedTime of at most 64 octets; the form of a longer one is not checked
 abbrev pub is_short_time : ℕ → List ℕ → Bool
-is_short_time number contents = is_among number time_types && nat_le (length contents) 64
+is_short_time number contents = has_rule rules.TimeForm number && nat_le (length contents) 64
 
 abbrev pub time_form : ℕ → times.Form
 time_form number = if number == universal.utc_time then times.utc_time_form else times.generalized_time_form
@@ -72,27 +72,27 @@ findings_by rows = flat_map (λ row. if row.1 then row.0 ∷ [] else []) rows
 abbrev pub listed_basic_type_conditions : ℕ → List ℕ → List (Finding × Bool)
 listed_basic_type_conditions number contents =
     -- B06, 8.2.1: a BOOLEAN has one octet
-    (B06, number == universal.boolean && not (length contents == 1))
+    (B06, has_rule rules.OneOctet number && not (length contents == 1))
     -- B07, 8.3.1, 8.4: an INTEGER or ENUMERATED has one octet or more
-    ∷ (B07, is_among number integer_types && length contents == 0)
+    ∷ (B07, has_rule rules.Shortest number && length contents == 0)
     -- B08, 8.3.2, 8.4: its first nine bits are not all equal
-    ∷ (B08, is_among number integer_types && is_padded_integer contents)
+    ∷ (B08, has_rule rules.Shortest number && is_padded_integer contents)
     -- B09, 8.8.2: a NULL has no octets
-    ∷ (B09, number == universal.null && not (length contents == 0))
+    ∷ (B09, has_rule rules.NoOctets number && not (length contents == 0))
     -- B10, 8.19.2, 8.19.3: an OBJECT IDENTIFIER has two arcs or more, so one subidentifier or more
     ∷ (B10, number == universal.object_identifier && length contents == 0)
     -- B11, 8.19.2, 8.20.2: no subidentifier begins with 80
-    ∷ (B11, is_among number object_types && list_any (begins_with 0x80) (parts_of contents))
+    ∷ (B11, has_rule rules.Subidentifiers number && list_any (begins_with 0x80) (parts_of contents))
     -- B12, 8.19.2, 8.20.2: bit 8 is clear in the last octet of a subidentifier
-    ∷ (B12, is_among number object_types && nat_le 128 (last_octet contents))
+    ∷ (B12, has_rule rules.Subidentifiers number && nat_le 128 (last_octet contents))
     -- B13, 8.6.2: a BIT STRING has a first octet, the number of unused bits
-    ∷ (B13, number == universal.bit_string && length contents == 0)
+    ∷ (B13, has_rule rules.UnusedBits number && length contents == 0)
     -- B14, 8.6.2.2: the number of unused bits is at most 7
-    ∷ (B14, number == universal.bit_string && nat_lt 7 (first_octet contents))
+    ∷ (B14, has_rule rules.UnusedBits number && nat_lt 7 (first_octet contents))
     -- B15, 8.6.2.3: the number of unused bits is 0 if no other octet follows. For a number above 7 there is only B14
     ∷ (
       B15,
-      number == universal.bit_string && length contents == 1
+      has_rule rules.UnusedBits number && length contents == 1
           && nat_le 1 (first_octet contents) && nat_le (first_octet contents) 7,
     )
     -- B18, X.680 41: a string of characters has only characters that its type allows. Of a BMPString and a
@@ -109,13 +109,13 @@ listed_strict_type_conditions number contents =
     -- S02, 11.1: TRUE is ff
     (
       S02,
-      number == universal.boolean && length contents == 1
+      has_rule rules.OneOctet number && length contents == 1
           && not (first_octet contents == 0 || first_octet contents == 0xff),
     )
     -- S03, 11.2.1: unused bits, the last bits of the last octet, are 0
     ∷ (
       S03,
-      number == universal.bit_string && nat_le 2 (length contents) && nat_le (first_octet contents) 7
+      has_rule rules.UnusedBits number && nat_le 2 (length contents) && nat_le (first_octet contents) 7
           && not (last_octet contents % 2 ^ first_octet contents == 0),
     )
     -- S04, 11.7, 11.8: a time of at most 64 octets that follows the grammar of its type is in the canonical form, as

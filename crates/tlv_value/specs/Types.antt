@@ -1,9 +1,11 @@
 -- What a tag says of an element, by the table of the universal types.
-use Rattle.std.specs.Prelude.{ℕ, Bool, false, ◌&&◌, ◌||◌, not, ◌==◌, List, [], ◌∷◌, ◌++◌}
+use Rattle.std.specs.Prelude.{ℕ, Bool, false, ◌&&◌, ◌||◌, not, ◌==◌, if◌then◌else◌, List, [], ◌∷◌, flat_map}
 use Rattle.std.specs.Option.{is_none, option_map_or}
 use Rattle.tlv_head.specs.UniversalTypes as universal
 use Rattle.tlv_head.specs.Header.{HeaderValue, is_universal}
-use Rattle.tlv_head.specs.TypeTable.{are_same_encodings, type_at}
+use Rattle.tlv_head.specs.TypeTable.{are_same_encodings, are_same_rules, type_at, type_table}
+use Rattle.tlv_head.specs.Lists.{is_among}
+use Rattle.tlv_head.specs.declared.type_table.Rule.{Rule}
 use Rattle.tlv_head.specs.declared.type_table.Encodings.{Encodings}
 use Rattle.tlv_head.specs.declared.type_table.Encodings.TheVariants.{Constructed, Segmented}
 
@@ -11,13 +13,13 @@ use Rattle.tlv_head.specs.declared.type_table.Encodings.TheVariants.{Constructed
 abbrev pub is_a : ℕ → HeaderValue → Bool
 is_a number h = is_universal h.class && h.number == number
 
--- 8.3, 8.4
-abbrev pub integer_types : List ℕ
-integer_types = universal.integer ∷ universal.enumerated ∷ []
+-- the numbers of the types with this rule for the contents of a primitive
+abbrev pub types_with : Rule → List ℕ
+types_with rule = flat_map (λ row. if are_same_rules rule row.rule then row.number ∷ [] else []) type_table
 
--- 8.19, 8.20
-abbrev pub object_types : List ℕ
-object_types = universal.object_identifier ∷ universal.relative_oid ∷ []
+-- the number is that of a type with this rule
+abbrev pub has_rule : Rule → ℕ → Bool
+has_rule rule number = is_among number (types_with rule)
 
 -- X.680 41: strings whose octets are checked one by one: `allowed_contents` of `Checks` says how
 abbrev pub tested_string_types : List ℕ
@@ -27,23 +29,6 @@ tested_string_types =
     ∷ universal.ia5_string
     ∷ universal.visible_string
     ∷ []
-
--- X.680 41: strings whose characters are checked
-abbrev pub character_types : List ℕ
-character_types =
-    universal.utf8_string ∷ tested_string_types ++ universal.universal_string ∷ universal.bmp_string ∷ []
-
--- 8.25
-abbrev pub time_types : List ℕ
-time_types = universal.utc_time ∷ universal.generalized_time ∷ []
-
--- 8.26
-abbrev pub date_types : List ℕ
-date_types = universal.date ∷ universal.time_of_day ∷ universal.date_time ∷ []
-
--- 8.21, 8.22
-abbrev pub iri_types : List ℕ
-iri_types = universal.oid_iri ∷ universal.relative_oid_iri ∷ []
 
 -- 8.23: strings whose characters have two octets or four
 abbrev pub wide_string_types : List ℕ

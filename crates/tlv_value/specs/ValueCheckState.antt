@@ -18,9 +18,9 @@ use Rattle.tlv_value.specs.Dates.{is_date_or_time}
 use Rattle.tlv_value.specs.RealState.{is_canonical, is_of_form, new_real_check, real_check_after}
 use Rattle.tlv_value.specs.declared.real.RealCheck.{RealCheck}
 use Rattle.tlv_value.specs.RowsSoFar.{full_rows, open_row}
-use Rattle.tlv_value.specs.Types.{character_types, date_types, integer_types, iri_types}
+use Rattle.tlv_head.specs.declared.type_table.Rule.TheVariants as rules
 use Rattle.tlv_head.specs.Lists.{is_among}
-use Rattle.tlv_value.specs.Types.{object_types, tested_string_types, time_types, wide_string_types}
+use Rattle.tlv_value.specs.Types.{has_rule, tested_string_types, types_with, wide_string_types}
 use Rattle.tlv_value.specs.UnitsSoFar.{are_characters_after, character_size, open_unit}
 
 -- what contracts see of a `ValueCheck`
@@ -90,7 +90,7 @@ notes_each number =
 
 -- the first octets are kept: the two times, and DATE, TIME-OF-DAY, DATE-TIME
 abbrev pub notes_time : ℕ → Bool
-notes_time number = is_among number (time_types ++ date_types)
+notes_time number = is_among number (types_with rules.TimeForm ++ types_with rules.DateForm)
 
 -- each unit is checked: BMPString, UniversalString
 abbrev pub notes_units : ℕ → Bool
@@ -98,7 +98,7 @@ notes_units number = is_among number wide_string_types
 
 -- the first octet and each row are checked: OID-IRI, RELATIVE-OID-IRI
 abbrev pub notes_iri : ℕ → Bool
-notes_iri number = is_among number iri_types
+notes_iri number = has_rule rules.IriForm number
 
 -- a REAL
 abbrev pub notes_real : ℕ → Bool
@@ -130,7 +130,7 @@ with_first_noted s octets = record s {
 abbrev pub with_each_noted : ValueCheckState → List ℕ → ValueCheckState
 with_each_noted s octets = record s {
   are_octets_allowed = s.are_octets_allowed && list_all (allows_octet s.number) octets;
-  is_padded = if is_among s.number object_types then is_padded_with s.is_padded s.last octets else s.is_padded;
+  is_padded = if has_rule rules.Subidentifiers s.number then is_padded_with s.is_padded s.last octets else s.is_padded;
   are_full_rows_utf8 =
       if s.number == universal.utf8_string
       then s.are_full_rows_utf8 && list_all is_utf8 (full_rows Utf8 s.row octets)
@@ -207,31 +207,31 @@ is_kept_iri number s =
 
 -- a UTCTime or GeneralizedTime, all of which is kept
 abbrev pub is_kept_time : ℕ → ValueCheckState → Bool
-is_kept_time number s = is_among number time_types && nat_le s.size 64
+is_kept_time number s = has_rule rules.TimeForm number && nat_le s.size 64
 
 -- the conditions of `type_conditions` (AllChecks.antt), said of what is kept of the contents. The law `FindingsEnd`
 -- says that the same is found
 abbrev pub kept_conditions : ℕ → ValueCheckState → List (Finding × Bool)
 kept_conditions number s =
-    (B06, number == universal.boolean && not (s.size == 1))
-    ∷ (B07, is_among number integer_types && s.size == 0)
-    ∷ (B08, is_among number integer_types && is_padded_integer s.first_octets)
-    ∷ (B09, number == universal.null && not (s.size == 0))
+    (B06, has_rule rules.OneOctet number && not (s.size == 1))
+    ∷ (B07, has_rule rules.Shortest number && s.size == 0)
+    ∷ (B08, has_rule rules.Shortest number && is_padded_integer s.first_octets)
+    ∷ (B09, has_rule rules.NoOctets number && not (s.size == 0))
     ∷ (B10, number == universal.object_identifier && s.size == 0)
-    ∷ (B11, is_among number object_types && s.is_padded)
-    ∷ (B12, is_among number object_types && nat_le 128 s.last)
-    ∷ (B13, number == universal.bit_string && s.size == 0)
-    ∷ (B14, number == universal.bit_string && nat_lt 7 (first_octet s.first_octets))
+    ∷ (B11, has_rule rules.Subidentifiers number && s.is_padded)
+    ∷ (B12, has_rule rules.Subidentifiers number && nat_le 128 s.last)
+    ∷ (B13, has_rule rules.UnusedBits number && s.size == 0)
+    ∷ (B14, has_rule rules.UnusedBits number && nat_lt 7 (first_octet s.first_octets))
     ∷ (
       B15,
-      number == universal.bit_string && s.size == 1
+      has_rule rules.UnusedBits number && s.size == 1
           && nat_le 1 (first_octet s.first_octets) && nat_le (first_octet s.first_octets) 7,
     )
-    ∷ (B18, is_among number character_types && not (is_allowed s))
+    ∷ (B18, has_rule rules.Characters number && not (is_allowed s))
     ∷ (B19, is_kept_time number s && not (time_form number s.time))
-    ∷ (B20, number == universal.real && not (is_of_form s.real))
-    ∷ (B21, is_among number date_types && not (is_kept_date number s))
-    ∷ (B23, is_among number iri_types && not (is_kept_iri number s))
+    ∷ (B20, has_rule rules.RealForm number && not (is_of_form s.real))
+    ∷ (B21, has_rule rules.DateForm number && not (is_kept_date number s))
+    ∷ (B23, has_rule rules.IriForm number && not (is_kept_iri number s))
     ∷ (B24, number == universal.relative_oid && s.size == 0)
     ∷ (B25, is_among number wide_string_types && not s.are_characters)
     ∷ (
@@ -240,12 +240,12 @@ kept_conditions number s =
     )
     ∷ (
       S02,
-      number == universal.boolean && s.size == 1
+      has_rule rules.OneOctet number && s.size == 1
           && not (first_octet s.first_octets == 0 || first_octet s.first_octets == 0xff),
     )
     ∷ (
       S03,
-      number == universal.bit_string && nat_le 2 s.size && nat_le (first_octet s.first_octets) 7
+      has_rule rules.UnusedBits number && nat_le 2 s.size && nat_le (first_octet s.first_octets) 7
           && not (s.last % 2 ^ first_octet s.first_octets == 0),
     )
     ∷ (
@@ -253,7 +253,7 @@ kept_conditions number s =
       is_kept_time number s && time_form number s.time
           && not (canonical_form number s.time),
     )
-    ∷ (S06, number == universal.real && is_of_form s.real && not (is_canonical s.real))
+    ∷ (S06, has_rule rules.RealForm number && is_of_form s.real && not (is_canonical s.real))
     ∷ []
 
 -- the findings on the contents, at their end

@@ -1,6 +1,5 @@
 //! Dates: which days a month has, and DATE, TIME-OF-DAY and DATE-TIME (8.26).
 ghost use Rattle.std.specs.Prelude.{◌≡◌, ◌<◌, option_copied};
-ghost use Rattle.tlv_head.specs.UniversalTypes.{date, date_time, time_of_day};
 ghost use Rattle.tlv_value.specs.Dates.{date_form, date_time_form, has_thirty_days, is_date_or_time, is_leap_year};
 ghost use Rattle.tlv_value.specs.Dates.{last_day, month_has_day, month_has_day_in_some_century, time_of_day_form};
 ghost use Rattle.tlv_value.specs.Private.TimeParts.{LeavesRest};

@@ -3,7 +3,8 @@ use super::octets::OFFSET;
 use crate::expect::expect_eq;
 use std::process::Abort;
 use tlv_head::{
-    Class, Encodings, Fault, FaultCode, Kind, encodings_of, kind_of, tag_text, type_at, type_name,
+    Class, Encodings, Fault, FaultCode, Kind, Rule, encodings_of, kind_of, tag_text, type_at,
+    type_name,
 };
 
 /// The texts of the universal tags, by tag number.
@@ -56,6 +57,13 @@ static ENCODINGS: [u8; 38] = *b"-ppssppscppcspu-ccssssssssssscsuuuuuu-";
 /// identifier, `r` relative object identifier, `t` text, `8` UTF-8, `2` and `4` text of characters of two and four
 /// octets, `h` hexadecimal.
 static KINDS: [u8; 38] = *b"hbinhhothhih8rhhhhtttttttttt4h2hhhhhhh";
+
+/// The rules for the contents of primitives, by tag number: `o` one octet (8.2.1), `s` a number in the fewest octets
+/// (8.3, 8.4), `u` the number of unused bits first (8.6.2), `e` no octets (8.8.2), `i` subidentifiers (8.19, 8.20),
+/// `r` a form of a REAL (8.5), `c` characters that the type allows (X.680 41), `t` the grammar of a time (X.680 46,
+/// 47), `d` a date, a time of day, or both (8.26), `w` UTF-8 of an OID-IRI or RELATIVE-OID-IRI (8.21, 8.22), `a` any
+/// contents, `-` no type.
+static RULES: [u8; 38] = *b"-osuaeiaarsacia-aaccaacttacacacdddaww-";
 
 /// Tags by class and number, with their texts.
 static TAGS: [(Class, u64, &str); 6] = [
@@ -214,6 +222,34 @@ fn types_have_kinds(rt: HostRuntime) {
     }
 }
 
+/// Returns the letter that stands for this rule in `RULES`.
+fn letter_of_rule(rule: Rule) -> u8 {
+    match rule {
+        Rule::Any => b'a',
+        Rule::OneOctet => b'o',
+        Rule::Shortest => b's',
+        Rule::UnusedBits => b'u',
+        Rule::NoOctets => b'e',
+        Rule::Subidentifiers => b'i',
+        Rule::RealForm => b'r',
+        Rule::Characters => b'c',
+        Rule::TimeForm => b't',
+        Rule::DateForm => b'd',
+        Rule::IriForm => b'w',
+    }
+}
+
+#[test]
+fn types_have_rules(rt: HostRuntime) {
+    for number in 0..RULES.len() {
+        let letter = match type_at(number as u64) {
+            Some(found) => letter_of_rule(found.rule),
+            None => b'-',
+        };
+        expect_eq(&rt, letter, RULES[number]);
+    }
+}
+
 #[test]
 fn types_have_rows(rt: HostRuntime) {
     let found = type_at(12);
@@ -221,6 +257,7 @@ fn types_have_rows(rt: HostRuntime) {
     if let Some(found) = found {
         expect_eq(&rt, letter_of(Some(found.encodings)), b's');
         expect_eq(&rt, letter_of_kind(found.kind), b'8');
+        expect_eq(&rt, letter_of_rule(found.rule), b'c');
     }
     expect_eq(&rt, type_at(15).is_none(), true);
 }

@@ -15,8 +15,8 @@ use Rattle.tlv_value.specs.ValueCheckState.{with_each_noted, with_first_noted, w
 use Rattle.tlv_value.specs.ValueCheckState.{with_real_noted, with_time_noted, with_units_noted}
 use Rattle.tlv_value.specs.UnitsSoFar.{are_characters_after, character_size, open_unit}
 use Rattle.tlv_value.specs.Checks.{findings_by}
-use Rattle.tlv_value.specs.Types.{object_types}
-use Rattle.tlv_head.specs.Lists.{is_among}
+use Rattle.tlv_head.specs.declared.type_table.Rule.TheVariants as rules
+use Rattle.tlv_value.specs.Types.{has_rule}
 use Rattle.tlv_value.specs.RowsSoFar.{full_rows, open_row}
 use Rattle.tlv_value.proofs.CheckLemmas.NotedContents.{class-same, noted-same}
 use Rattle.tlv_value.proofs.CheckLemmas.UnitsNoted.{characters-join, open_unit-join}
@@ -161,7 +161,7 @@ join-by false true t u i r s x y =
     l refl (last-join s.last x y)
     (and-assoc s.are_octets_allowed (list_all (allows_octet s.number) x) (list_all (allows_octet s.number) y)
     ∙ ap (λ (b : Bool). s.are_octets_allowed && b) (sym (list_all-append (allows_octet s.number) x y)))
-    (padded-at (is_among s.number object_types) s.is_padded s.last x y)
+    (padded-at (has_rule rules.Subidentifiers s.number) s.is_padded s.last x y)
     (formed-at (eqb s.number 12) s.are_full_rows_utf8 s.row x y) (row-at (eqb s.number 12) s.row x y) refl
 join-by false false true u i r s x y =
     let l : s.left - length x - length y ≡ s.left - length (x ++ y) = omega (arith, length-append x y) in
@@ -241,9 +241,9 @@ none-by : (f e t u i r : Bool) (n size : ℕ)
 none-by true e t u i r n size = ap (λ (l : ℕ). record (new_value_check_of n size) { left = l }) (omega arith)
 none-by false true t u i r n size =
     state_with-eq (new_value_check_of n size) (size - 0) size [] [] 0 0 true true
-    (if is_among n object_types then false else false) false (if eqb n 12 then true else true) true
+    (if has_rule rules.Subidentifiers n then false else false) false (if eqb n 12 then true else true) true
     (if eqb n 12 then [] else []) [] [] []
-    (omega arith) refl refl refl (same-in-both (is_among n object_types) false) (same-in-both (eqb n 12) true)
+    (omega arith) refl refl refl (same-in-both (has_rule rules.Subidentifiers n) false) (same-in-both (eqb n 12) true)
     (same-in-both (eqb n 12) []) refl
 none-by false false true u i r n size = ap (λ (l : ℕ). record (new_value_check_of n size) { left = l }) (omega arith)
 none-by false false false true i r n size = ap (λ (l : ℕ). record (new_value_check_of n size) { left = l }) (omega arith)

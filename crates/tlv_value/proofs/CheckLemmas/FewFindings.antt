@@ -14,9 +14,9 @@ use Rattle.tlv_value.specs.Checks.{allows, begins_with, canonical_form, findings
 use Rattle.tlv_value.specs.Checks.{is_short_time, last_octet, time_form}
 use Rattle.tlv_value.specs.Dates.{is_date_or_time}
 use Rattle.tlv_value.specs.Real.{is_canonical_real, is_real_form}
-use Rattle.tlv_value.specs.Types.{date_types, integer_types, iri_types, object_types}
+use Rattle.tlv_head.specs.declared.type_table.Rule.TheVariants as rules
 use Rattle.tlv_head.specs.Lists.{is_among}
-use Rattle.tlv_value.specs.Types.{wide_string_types}
+use Rattle.tlv_value.specs.Types.{has_rule, wide_string_types}
 
 -- 1, if the condition holds
 abbrev one_if : Bool → ℕ
@@ -62,53 +62,53 @@ integer-by n c true b e f h = rw (eqb-true n 2 e) refl
 integer-by n c false true e f h = rw (eqb-true n 10 f) refl
 integer-by n c false false e f h = absurd cc
 
-integer-allowed : (n : ℕ) (c : List ℕ) → is_among n integer_types ≡ true → not (allows n c) ≡ false
+integer-allowed : (n : ℕ) (c : List ℕ) → has_rule rules.Shortest n ≡ true → not (allows n c) ≡ false
 integer-allowed n c h = integer-by n c (eqb n 2) (eqb n 10) refl refl h
 
-real-no_iri : (n : ℕ) → (n == universal.real) ≡ true → is_among n iri_types ≡ false
+real-no_iri : (n : ℕ) → has_rule rules.RealForm n ≡ true → has_rule rules.IriForm n ≡ false
 real-no_iri n e = grind (arith, nat_tests)
 
 type-few : (n : ℕ) (c : List ℕ) → length (findings_by (type_conditions n c)) ≤ 15
 type-few n c =
     let l = found-few (type_conditions n c) in
     let boolean-null =
-    either-few (n == universal.boolean) (n == universal.null) (not (length c == 1)) (not (length c == 0))
+    either-few (has_rule rules.OneOctet n) (has_rule rules.NoOctets n) (not (length c == 1)) (not (length c == 0))
     (λ e. grind (arith, nat_tests, e)) in
     let boolean-integer =
-    either-few (n == universal.boolean) (is_among n integer_types) (length c == 1) (length c == 0)
+    either-few (has_rule rules.OneOctet n) (has_rule rules.Shortest n) (length c == 1) (length c == 0)
     (λ e. grind (arith, nat_tests, e)) in
     let boolean =
-    fewer (n == universal.boolean && length c == 1) (not (first_octet c == 0 || first_octet c == 0xff)) in
+    fewer (has_rule rules.OneOctet n && length c == 1) (not (first_octet c == 0 || first_octet c == 0xff)) in
     let integer-characters =
-    either-fewer (is_among n integer_types) (is_padded_integer c) (not (allows n c)) (integer-allowed n c) in
+    either-fewer (has_rule rules.Shortest n) (is_padded_integer c) (not (allows n c)) (integer-allowed n c) in
     let object-bits =
-    either-few (n == universal.object_identifier) (n == universal.bit_string) (length c == 0) (length c == 0)
+    either-few (n == universal.object_identifier) (has_rule rules.UnusedBits n) (length c == 0) (length c == 0)
     (λ e. grind (arith, nat_tests, e)) in
     let padded-bits =
-    either-few (is_among n object_types) (n == universal.bit_string)
+    either-few (has_rule rules.Subidentifiers n) (has_rule rules.UnusedBits n)
     (list_any (begins_with 0x80) (parts_of c)) (nat_lt 7 (first_octet c))
     (λ e. grind (arith, nat_tests, e)) in
     let last-bits =
-    either-few (is_among n object_types) (n == universal.bit_string) (nat_le 128 (last_octet c))
+    either-few (has_rule rules.Subidentifiers n) (has_rule rules.UnusedBits n) (nat_le 128 (last_octet c))
     (length c == 1) (λ e. grind (arith, nat_tests, e)) in
-    let unused = fewer (n == universal.bit_string && length c == 1) (nat_le 1 (first_octet c)) in
+    let unused = fewer (has_rule rules.UnusedBits n && length c == 1) (nat_le 1 (first_octet c)) in
     let unused-most =
-    fewer (n == universal.bit_string && length c == 1 && nat_le 1 (first_octet c)) (nat_le (first_octet c) 7) in
+    fewer (has_rule rules.UnusedBits n && length c == 1 && nat_le 1 (first_octet c)) (nat_le (first_octet c) 7) in
     let relative-bits =
-    either-few (n == universal.relative_oid) (n == universal.bit_string) (length c == 0)
+    either-few (n == universal.relative_oid) (has_rule rules.UnusedBits n) (length c == 0)
     (nat_le 2 (length c)) (λ e. grind (arith, nat_tests, e)) in
-    let bits = fewer (n == universal.bit_string && nat_le 2 (length c)) (nat_le (first_octet c) 7) in
+    let bits = fewer (has_rule rules.UnusedBits n && nat_le 2 (length c)) (nat_le (first_octet c) 7) in
     let bits-set =
-    fewer (n == universal.bit_string && nat_le 2 (length c) && nat_le (first_octet c) 7)
+    fewer (has_rule rules.UnusedBits n && nat_le 2 (length c) && nat_le (first_octet c) 7)
     (not (last_octet c % 2 ^ first_octet c == 0)) in
     let b19 = one-few (is_short_time n c && not (time_form n c)) in
     let real-date =
-    either-few (n == universal.real) (is_among n date_types) (not (is_real_form c)) (not (is_date_or_time n c))
+    either-few (has_rule rules.RealForm n) (has_rule rules.DateForm n) (not (is_real_form c)) (not (is_date_or_time n c))
     (λ e. grind (arith, nat_tests, e)) in
     let real-iri =
-    either-few (n == universal.real && is_real_form c) (is_among n iri_types) (not (is_canonical_real c))
+    either-few (has_rule rules.RealForm n && is_real_form c) (has_rule rules.IriForm n) (not (is_canonical_real c))
     (not (is_iri n c))
-    (λ e. real-no_iri n ((and_parts (n == universal.real) (is_real_form c) e).0)) in
+    (λ e. real-no_iri n ((and_parts (has_rule rules.RealForm n) (is_real_form c) e).0)) in
     let b25 = one-few (is_among n wide_string_types && has_wrong_unit n c) in
     let b26 = one-few (is_short_time n c && time_form n c && not (time_has_day n c)) in
     let s04 = one-few (is_short_time n c && time_form n c && not (canonical_form n c)) in

@@ -6,8 +6,9 @@ use Rattle.tlv_value.specs.declared.finding.Finding.TheVariants.{B18, B21, B23}
 use Rattle.tlv_value.specs.Checks.{findings_by}
 use Rattle.tlv_value.specs.AllChecks.{type_findings}
 use Rattle.tlv_value.specs.Dates.{is_date_or_time}
-use Rattle.tlv_value.specs.Types.{character_types, date_types, iri_types, tested_string_types}
+use Rattle.tlv_head.specs.declared.type_table.Rule.TheVariants as rules
 use Rattle.tlv_head.specs.Lists.{is_among}
+use Rattle.tlv_value.specs.Types.{has_rule, tested_string_types}
 use Rattle.tlv_value.specs.ValueCheckState.{finding_if, is_allowed, is_kept_date, is_kept_iri}
 use Rattle.tlv_value.specs.ValueCheckState.{kept_conditions, ValueCheckState}
 use Rattle.tlv_value.proofs.CheckLemmas.NotedContents.{IsOther, other-by}
@@ -21,7 +22,7 @@ date-at n s false false true e f g h = rw (eqb-true n 33 g) (append-nil (finding
 date-at n s false false false e f g h = absurd cc
 
 -- DATE, TIME-OF-DAY, DATE-TIME
-pub date-found : (n : ℕ) (s : ValueCheckState) → is_among n date_types ≡ true
+pub date-found : (n : ℕ) (s : ValueCheckState) → has_rule rules.DateForm n ≡ true
     → findings_by (kept_conditions n s) ≡ finding_if (not (is_kept_date n s)) B21
 date-found n s h = date-at n s (eqb n 31) (eqb n 32) (eqb n 33) refl refl refl h
 
@@ -32,7 +33,7 @@ iri-at n s false true e f h = rw (eqb-true n 36 f) (append-nil (finding_if (not 
 iri-at n s false false e f h = absurd cc
 
 -- OID-IRI, RELATIVE-OID-IRI
-pub iri-found : (n : ℕ) (s : ValueCheckState) → is_among n iri_types ≡ true
+pub iri-found : (n : ℕ) (s : ValueCheckState) → has_rule rules.IriForm n ≡ true
     → findings_by (kept_conditions n s) ≡ finding_if (not (is_kept_iri n s)) B23
 iri-found n s h = iri-at n s (eqb n 35) (eqb n 36) refl refl h
 
@@ -53,7 +54,7 @@ date-clear_by n c false false true e f g h k =
 date-clear_by n c false false false e f g h k = absurd cc
 
 -- nothing is found on a DATE, TIME-OF-DAY or DATE-TIME that is one
-pub date-clear : (n : ℕ) (c : List ℕ) → is_among n date_types ≡ true → is_date_or_time n c ≡ true
+pub date-clear : (n : ℕ) (c : List ℕ) → has_rule rules.DateForm n ≡ true → is_date_or_time n c ≡ true
     → type_findings n c ≡ []
 date-clear n c h k = date-clear_by n c (eqb n 31) (eqb n 32) (eqb n 33) refl refl refl h k
 
@@ -61,5 +62,5 @@ date-clear n c h k = date-clear_by n c (eqb n 31) (eqb n 32) (eqb n 33) refl ref
 pub none-found : (n : ℕ) (s : ValueCheckState) → IsOther n → is_among n (12 ∷ tested_string_types) ≡ false
     → findings_by (kept_conditions n s) ≡ []
 none-found n s o e =
-    let none : is_among n character_types ≡ false = rw (o.e28, o.e30) e in
+    let none : has_rule rules.Characters n ≡ false = rw (o.e28, o.e30) e in
     (other-by n [] s o).1 ∙ ap (λ (k : Bool). finding_if (k && not (is_allowed s)) B18 ++ []) none

@@ -15,8 +15,8 @@ use Rattle.tlv_value.specs.UnitsSoFar.{are_characters_after}
 use Rattle.tlv_value.specs.AllChecks.{all_contents_findings, type_conditions, type_findings}
 use Rattle.tlv_value.specs.Checks.{allows, begins_with}
 use Rattle.tlv_value.specs.Checks.{findings_by, is_padded_integer}
-use Rattle.tlv_value.specs.Types.{character_types}
-use Rattle.tlv_head.specs.Lists.{is_among}
+use Rattle.tlv_head.specs.declared.type_table.Rule.TheVariants as rules
+use Rattle.tlv_value.specs.Types.{has_rule}
 use Rattle.tlv_value.specs.ValueCheckState.{finding_if, is_allowed}
 use Rattle.tlv_value.specs.ValueCheckState.{kept_conditions, new_value_check_of, ValueCheckState}
 use Rattle.tlv_value.specs.ValueCheckState.{notes_each, type_number, with_each_noted, with_octets_noted}
@@ -208,7 +208,7 @@ other-allowed n c o = ap is_allowed (other-noted n c o) ∙ by (notes_each n) re
 
 -- the table of types says the same
 abbrev AllowsSame : ℕ → List ℕ → Type 0
-AllowsSame n c = not (allows n c) ≡ (is_among n character_types && not (allows-noted n c))
+AllowsSame n c = not (allows n c) ≡ (has_rule rules.Characters n && not (allows-noted n c))
 
 allows-by : (n k : ℕ) (c : List ℕ) (test : Bool) → eqb n k ≡ test → AllowsSame k c
     → (eqb n k ≡ false → AllowsSame n c) → AllowsSame n c
@@ -226,7 +226,7 @@ allows-same n c o =
     rw (e12, e18, e19, e22, e26, o.e28, o.e30) refl)))))
 
 abbrev pub on_characters : ℕ → Bool → List Finding
-on_characters n allowed = finding_if (is_among n character_types && not allowed) B18 ++ []
+on_characters n allowed = finding_if (has_rule rules.Characters n && not allowed) B18 ++ []
 
 pub other-by : (n : ℕ) (c : List ℕ) (s : ValueCheckState) → IsOther n
     → (type_findings n c ≡ finding_if (not (allows n c)) B18 ++ [])
