@@ -120,7 +120,9 @@ impl Stack {
         let wrapper = self.is_in_wrapper();
         match self.outer.pop() {
             Some(frame) => {
-                self.innermost = frame;
+                // Field by field: to assign the whole frame is to write its padding too.
+                self.innermost.bound = frame.bound;
+                self.innermost.kind = frame.kind;
                 Some(wrapper)
             }
             None => None,

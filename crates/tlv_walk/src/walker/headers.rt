@@ -3,7 +3,8 @@ ghost use Rattle.std.specs.Prelude.{◌≡◌, ◌≢◌, ◌+◌, ◌^◌, ◌<
 ghost use Rattle.tlv_head.specs.Limits.{depth_limit, input_limit};
 ghost use Rattle.tlv_head.specs.HeaderFields.{IsHeaderSized, new_header};
 ghost use Rattle.tlv_head.specs.Header.{announced_length, holds, octets_of};
-ghost use Rattle.tlv_walk.specs.Walker.{Between, IsWithinInputLimit};
+ghost use Rattle.tlv_walk.specs.WalkerState.{Between};
+ghost use Rattle.tlv_walk.specs.Walker.{IsWithinInputLimit};
 ghost use Rattle.tlv_walk.specs.Events.{IsNoEmptyPart, event_value_of};
 ghost use Rattle.tlv_walk.specs.Private.WalkerCalls.{CanTakeHeader, CanRead, CanReadOn, CountsStep};
 ghost use Rattle.tlv_walk.specs.Private.WalkerCalls.{TakesHeader, CountsAt};
@@ -161,7 +162,7 @@ impl Walker<'_> {
         ensures fits { IsTrue result → IsWithin (bound_of self.now.stack)
             (fields.now.offset + length octets.now + announced_length fields.now.size) }
     {
-        if self.stack.len() == 128 && (fields.constructed || fields.wraps()) {
+        if self.stack.len() >= 128 && (fields.constructed || fields.wraps()) {
             return false;
         }
         self.stack.is_within(self.offset + octets.len() as u64 + fields.size.announced_length())

@@ -43,9 +43,11 @@ impl Walker<'_> {
         let [first, ..] = octets else {
             return None;
         };
+        // An octet 00 is padding or ends an element (8.1.5). To ask for it last takes the fewest instructions.
         if *first & 0x20 != 0
             || !matches!(self.phase, Phase::Between)
             || self.cursor.may_be_at(self.inside, self.offset)
+            || *first == 0
         {
             return None;
         }
