@@ -8,7 +8,7 @@ use Rattle.tlv_walk.specs.Events.{Close, End, EventValue, Leave, events}
 use Rattle.tlv_walk.specs.Follow.{Effect, effect_of, effect_with, go_of}
 use Rattle.tlv_walk.specs.Forest.{Forest, end_octets, is_whole, spelling}
 use Rattle.tlv_walk.specs.Reading.{IsPrefixOf, IsReading}
-use Rattle.tlv_walk.specs.LongerInputs.{ForLongerInputs}
+use Rattle.tlv_walk.specs.Laws.{ForLongerInputs}
 use Rattle.tlv_cut.specs.Extract.{element_at, extract_text}
 use Rattle.tlv_cut.specs.ExtractStep.{ExtractState, extract_step, has_found, new_extract}
 use Rattle.tlv_walk.specs.declared.ending.Ending.TheVariants.{Done}

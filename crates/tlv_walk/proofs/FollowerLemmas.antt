@@ -7,6 +7,7 @@ pub mod Jobs
 pub mod MadeAll
 pub mod OneEvent
 pub mod Prefixes
+pub mod WholeResults
 pub mod Pauses
 pub mod WalkSoFar
 pub mod TurnEnds

@@ -104,13 +104,15 @@ module _ {S D : Type 0} (state_of : D → DrainState) (made : Effect S) (old new
     pub has : HasEffect after result
     pub goes : IfOk result (λ go. go ≡ made.goes)
 
-  -- a call returns whether it has this effect. If so, the follower wants more; if not, no octet is put and the state
-  -- stays the same. If a write fails, a prefix of the octets of the effect was put, and the state is unspecified
-  abbrev pub HasEffectOrNone : S → S → Result Bool WriteFault → Type 0
-  HasEffectOrNone before after (Ok true) = HasEffect {T = Bool} after (Ok true) × (made.goes ≡ go.On)
-  HasEffectOrNone before after (Ok false) =
-      Puts {T = Bool} {E = WriteFault} state_of old new [] (Ok false) × (after ≡ before)
-  HasEffectOrNone before after (Err e) = HasEffect {T = Bool} after (Err e)
+  -- a call followed a primitive, with this effect, and the follower wants more
+  pub record FollowsWhole (after : S) : Type 0 where
+    pub has : HasEffect {T = Bool} after (Ok true)
+    pub goes_on : made.goes ≡ go.On
+
+-- a call left a primitive to other calls: no octet was put, and the state is the same
+pub record LeavesWhole {S D : Type 0} (state_of : D → DrainState) (old new : Out D) (before after : S) : Type 0 where
+  pub puts : Puts {T = Bool} {E = WriteFault} state_of old new [] (Ok false)
+  pub state : after ≡ before
 
 module _ {S : Type 0} (next : S → EventValue → Effect S) where
   -- a follower followed these events: its state after them, and whether it wants more. If it had enough, then only at

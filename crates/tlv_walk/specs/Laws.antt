@@ -8,7 +8,6 @@ use Rattle.tlv_walk.specs.declared.framing.Framing.{Framing}
 use Rattle.tlv_walk.specs.Follow.{Effect, effect_of}
 use Rattle.tlv_walk.specs.Forest.{Forest, is_whole, spelling}
 use Rattle.tlv_walk.specs.Place.{ObeysGrammar, Place, top_place}
-use Rattle.tlv_walk.specs.LongerInputs.{ForLongerInputs}
 use Rattle.tlv_walk.specs.Reading.{AreOctets, CannotBecomeSound, IsPrefixOf, IsReading, IsSound, IsSoundList}
 use Rattle.tlv_walk.specs.Events.{AreEqualJoined, EventValue, events, single_octets}
 use Rattle.tlv_walk.specs.Ending.{IsEnding, fault_ending}
@@ -50,6 +49,11 @@ FaultsAreRight = (framing : Framing) (b : List ℕ) (code : FaultCode) (offset :
 -- the inputs whose ending is `Done` are the sound lists
 abbrev pub DoneIsSound : Type 0
 DoneIsSound = (framing : Framing) (b : List ℕ) → IsEnding framing b Done ↔ IsSoundList framing b
+
+-- this relation holds between the reading of an input and the reading of any longer input that begins with it
+abbrev pub ForLongerInputs : (Forest → Forest → Type 0) → Type 0
+ForLongerInputs P = (framing : Framing) (b c : List ℕ) (f g : Forest)
+    → IsReading framing b f → IsReading framing (b ++ c) g → P f g
 
 -- the events of a longer input are, joined, the events of the shorter input followed by others
 abbrev pub EventsGoOn : Type 0

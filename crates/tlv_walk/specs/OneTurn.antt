@@ -16,10 +16,10 @@ use Rattle.tlv_walk.specs.Ending.{IsEnding, IsFinalEnding}
 use Rattle.tlv_walk.specs.Events.{EventValue, octets_of_events}
 use Rattle.tlv_walk.specs.Follow.{Effect, effect_of, FollowsEvents}
 use Rattle.tlv_walk.specs.Job.{DeviceStates, device_states, drain_result, source_result}
-use Rattle.tlv_walk.specs.Walker.{WalkerState}
+use Rattle.tlv_walk.specs.WalkerState.{WalkerState}
+use Rattle.tlv_walk.specs.Walker.{StandsAtEnd, IsReady, HasEvents, IfStands, IsIdle, Stands}
 use Rattle.tlv_io.specs.Out.{Sends}
 use Rattle.tlv_walk.specs.Reading.{AreOctets, IsPrefixOf}
-use Rattle.tlv_walk.specs.WalkerReads.{StandsAtEnd, IsReady, HasEvents, IfStands, IsIdle, Stands}
 
 -- the octets that the last read gave, as the array holds them after the read
 abbrev pub last_octets : LastReadValue → List ℕ → List ℕ
@@ -95,8 +95,8 @@ module _ {S : Type 0} (next : S → EventValue → Effect S) (old new : TurnStat
 
   -- here `octets` are the followed octets (`octets_followed`), and `yielded` are the events yielded before the turn
 
-  -- all events of the octets were followed, the walker stands for them, and no event waits
-  pub record StandsAfter (octets : List ℕ) (yielded : List EventValue) : Type 0 where
+  -- a walk so far: the walker stands for these octets, all their events were followed, and no event waits
+  pub record HasWalked (octets : List ℕ) (yielded : List EventValue) : Type 0 where
     pub all : List EventValue
     pub follows : FollowsMore yielded all go.On
     pub stands : Stands new.walker octets all
@@ -134,7 +134,7 @@ module _ {S : Type 0} (next : S → EventValue → Effect S) (old new : TurnStat
   pub data TurnsTo (limit : ℕ) (taken : List ℕ) (yielded : List EventValue) (given : List ℕ)
       : Result Turn DeviceFault → Type 0 where
     -- the octets are within the limit, and others may follow them
-    again : given ≢ [] → length (taken ++ given) ≤ limit → StandsAfter (taken ++ given) yielded
+    again : given ≢ [] → length (taken ++ given) ≤ limit → HasWalked (taken ++ given) yielded
         → TurnsTo limit taken yielded given (Ok Again)
     -- the follower had enough
     at_enough : (run : Run) → HasEnoughIn (octets_followed limit taken given) yielded run
@@ -151,7 +151,7 @@ module _ {S : Type 0} (next : S → EventValue → Effect S) (old new : TurnStat
     write_failed : WriteFailsIn (octets_followed limit taken given) yielded
         → TurnsTo limit taken yielded given (Err WriteFailed)
     -- there are more octets than the limit
-    too_long : limit < length (taken ++ given) → StandsAfter (octets_followed limit taken given) yielded
+    too_long : limit < length (taken ++ given) → HasWalked (octets_followed limit taken given) yielded
         → TurnsTo limit taken yielded given (Err InputTooLong)
 
   -- the walker took octets, in all at most the limit, and is ready for the next one

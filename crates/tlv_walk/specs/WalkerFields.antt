@@ -1,7 +1,7 @@
 -- The meaning of the fields of a `Walker`.
 use Rattle.tlv_head.specs.HeadReader.{HeadReaderState}
-use Rattle.tlv_walk.specs.Walker.{WalkerState, PhaseValue, Between, InHeader, InPrimitive, InBitString, InEndOctets}
-use Rattle.tlv_walk.specs.Walker.{Refused}
+use Rattle.tlv_walk.specs.WalkerState.{WalkerState, PhaseValue, Between, InHeader, InPrimitive, InBitString}
+use Rattle.tlv_walk.specs.WalkerState.{InEndOctets, Refused}
 use Rattle.tlv_walk.specs.declared.walker.Phase.{Phase}
 use Rattle.tlv_walk.specs.declared.walker.Phase.TheVariants as kept
 use Rattle.tlv_walk.specs.declared.walker.Walker.TheInside.{Inside}

@@ -1,9 +1,9 @@
 //! Followers of a walk.
-ghost use Rattle.std.specs.Prelude.{◌≡◌, true};
+ghost use Rattle.std.specs.Prelude.{◌≡◌, IsErr, Ok, false, true};
 ghost use Rattle.tlv_head.specs.HeaderFields.{IsHeaderSized, new_header};
 ghost use Rattle.tlv_walk.specs.Events.{Bytes, Enter, EventValue, Open, Pad, event_value_of};
-ghost use Rattle.tlv_walk.specs.Follow.{Effect, GoesOn, IgnoresEmpty, IsWholeElement, Joins, whole_effect};
-ghost use Rattle.tlv_walk.specs.Follow.{HasEffectOrNone, ReturnsEffect};
+ghost use Rattle.tlv_walk.specs.Follow.{Effect, FollowsWhole, GoesOn, HasEffect, IgnoresEmpty, IsWholeElement, Joins};
+ghost use Rattle.tlv_walk.specs.Follow.{LeavesWhole, ReturnsEffect, whole_effect};
 
 use crate::{Drain, Event, Out, WriteFault};
 use tlv_head::{Header, HeaderFields};
@@ -51,8 +51,11 @@ pub trait Follow {
         out: &mut Out<'_, D>,
     ) -> Result<bool, WriteFault>
         requires whole { IsWholeElement header.now octets.now }
-        ensures { HasEffectOrNone D.state (whole_effect next self.old header.now octets.now)
-            out.old out.new self.old self.new result }
+        ensures followed { result ≡ Ok true → FollowsWhole D.state
+            (whole_effect next self.old header.now octets.now) out.old out.new self.new }
+        ensures left { result ≡ Ok false → LeavesWhole D.state out.old out.new self.old self.new }
+        ensures failed { IsErr result → HasEffect D.state
+            (whole_effect next self.old header.now octets.now) out.old out.new self.new result }
     {
         Ok(false)
     }

@@ -30,7 +30,7 @@ impl<'a> Model for Inside<'a> {
 
     ghost use Rattle.std.specs.Prelude.{◌≡◌, true};
     ghost use Rattle.tlv_walk.specs.Inside.{are_rising};
-    ghost use Rattle.tlv_walk.specs.InsideFields.{offsets_in};
+    ghost use Rattle.tlv_walk.specs.Inside.{offsets_in};
 
     ghost view = { λ i. offsets_in i.offsets };
 

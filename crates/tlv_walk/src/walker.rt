@@ -36,8 +36,8 @@ enum Phase {
 /// holds a frame for each open element that holds others, and no contents.
 #[derive(Drop)]
 pub struct Walker<'f> {
-    stack: Stack,
     phase: Phase,
+    stack: Stack,
     /// Used only in an unfinished header. It is large, so it is not part of the phase, which changes with each event.
     reader: HeadReader,
     offset: u64,
@@ -56,13 +56,12 @@ pub struct Walker<'f> {
 }
 
 impl<'f> Model for Walker<'f> {
-    ghost use Rattle.tlv_walk.specs.Walker.{WalkerState};
+    ghost use Rattle.tlv_walk.specs.WalkerState.{IsWalkerState, WalkerState};
 
     ghost Value = { WalkerState };
 
     ghost use Rattle.tlv_walk.specs.Private.Cursor.{IsCursorAt};
     ghost use Rattle.tlv_walk.specs.WalkerFields.{walker_state_of};
-    ghost use Rattle.tlv_walk.specs.Walker.{IsWalkerState};
 
     ghost view = { walker_state_of };
 
@@ -71,10 +70,10 @@ impl<'f> Model for Walker<'f> {
 
 impl<'f> Walker<'f> {
     ghost use Rattle.std.specs.Prelude.{[], false};
-    ghost use Rattle.tlv_walk.specs.Walker.{Between, Refused, IfRefused, IsWithinInputLimit, new_walker, unused_offset};
+    ghost use Rattle.tlv_walk.specs.WalkerState.{Between, Refused, new_walker};
+    ghost use Rattle.tlv_walk.specs.Walker.{IfRead, IfRefused, IfStands, IsIdle, IsReady, IsWithinInputLimit};
+    ghost use Rattle.tlv_walk.specs.Walker.{RefusesAgain, Stands, StepsTo, depth_of, unused_offset};
     ghost use Rattle.tlv_walk.specs.Ending.{HasEnding, fault_at};
-    ghost use Rattle.tlv_walk.specs.WalkerReads.{depth_of, IsReady, IsIdle, Stands, RefusesAgain, StepsTo, IfAtEnd};
-    ghost use Rattle.tlv_walk.specs.WalkerReads.{IfRead};
     ghost use Rattle.tlv_walk.specs.Wrappers.{first_without_wrapper};
     ghost use Rattle.tlv_walk.specs.Private.Yields.{Steps};
     ghost use Rattle.tlv_head.specs.Limits.{input_limit};
@@ -87,8 +86,8 @@ impl<'f> Walker<'f> {
     {
         let inside = framing.inside.as_slice();
         Walker {
-            stack: Stack::new(),
             phase: Phase::Between,
+            stack: Stack::new(),
             reader: HeadReader::new(0, false),
             offset: 0,
             cursor: Cursor::new(inside),
@@ -154,7 +153,7 @@ impl<'f> Walker<'f> {
     /// octets taken and the refused octet is a sound list. Requires that no event waits ([`Walker::waiting`]).
     pub fn finish(&self) -> Ending
         requires { IsIdle self.now }
-        ensures ending { IfAtEnd self.now (λ octets. HasEnding self.now.framing octets result) }
+        ensures ending { IfStands self.now (λ octets yielded. HasEnding self.now.framing octets result) }
         ensures refused { IfRefused self.now (λ fault. result ≡ Ending.Fault fault) }
     {
         if let Phase::Refused(fault) = &self.phase {

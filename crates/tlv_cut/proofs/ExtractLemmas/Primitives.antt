@@ -8,7 +8,8 @@ use Rattle.tlv_walk.specs.declared.follow.Go.TheVariants.{On}
 use Rattle.tlv_io.specs.declared.out.Out.{Out}
 use Rattle.tlv_io.specs.Device.{DrainState}
 use Rattle.tlv_walk.specs.Events.{Begin, Bytes, End}
-use Rattle.tlv_walk.specs.Follow.{Effect, contents_in, effect_with, no_effect, whole_events, HasEffectOrNone}
+use Rattle.tlv_walk.specs.Follow.{Effect, contents_in, effect_with, no_effect, whole_events}
+use Rattle.tlv_walk.proofs.FollowerLemmas.WholeResults.{HasEffectOrNone}
 use Rattle.tlv_io.specs.Out.{Puts}
 use Rattle.tlv_walk.proofs.FollowerLemmas.FollowedEvents.{followed-one}
 use Rattle.tlv_io.proofs.Puts.{HasPut, puts_as, puts_failed_last, puts_nothing, puts_text}

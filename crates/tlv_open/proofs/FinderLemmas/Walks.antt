@@ -11,9 +11,9 @@ use Rattle.tlv_walk.specs.declared.framing.Framing.{Framing}
 use Rattle.tlv_walk.specs.Ending.{IsEnding, IsEndingOf, empty, short, done, refused}
 use Rattle.tlv_walk.specs.Events.{EventValue, event_value_of}
 use Rattle.tlv_walk.specs.Forest.{Forest, spelling}
-use Rattle.tlv_walk.specs.WalkerReads.{StandsAtEnd, refused_one, took_all, IsIdle, Stands, RefusesNext, StepsTo}
-use Rattle.tlv_walk.specs.WalkerReads.{UsesUpPiece, YieldsNext}
-use Rattle.tlv_walk.specs.Walker.{Refused, WalkerState}
+use Rattle.tlv_walk.specs.WalkerState.{Refused, WalkerState}
+use Rattle.tlv_walk.specs.Walker.{StandsAtEnd, refused_one, took_all, IsIdle, Stands, RefusesNext, StepsTo, UsesUpPiece}
+use Rattle.tlv_walk.specs.Walker.{YieldsNext}
 use Rattle.tlv_walk.specs.Reading.{IsReading}
 use Rattle.tlv_walk.proofs.GrammarLemmas.Readings.{reading-unique}
 use Rattle.tlv_walk.proofs.WalkerLemmas.HasRead.{never_refused}

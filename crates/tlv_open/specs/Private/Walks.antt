@@ -2,8 +2,8 @@
 use Rattle.std.specs.Prelude.{◌≡◌, ℕ, List, ◌++◌}
 use Rattle.tlv_walk.specs.declared.framing.Framing.{Framing}
 use Rattle.tlv_walk.specs.Events.{EventValue}
-use Rattle.tlv_walk.specs.WalkerReads.{StandsAtEnd, IsIdle}
-use Rattle.tlv_walk.specs.Walker.{WalkerState}
+use Rattle.tlv_walk.specs.WalkerState.{WalkerState}
+use Rattle.tlv_walk.specs.Walker.{StandsAtEnd, IsIdle}
 
 -- the walker has walked over the octets to their end, or to one that it refused
 pub record HasWalkedOver (framing : Framing) (octets : List ℕ) (w : WalkerState) : Type 0 where

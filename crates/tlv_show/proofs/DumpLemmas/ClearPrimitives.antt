@@ -13,7 +13,8 @@ use Rattle.tlv_walk.specs.declared.follow.Go.TheVariants as go
 use Rattle.tlv_io.specs.declared.out.Out.{Out}
 use Rattle.tlv_io.specs.Device.{DrainState}
 use Rattle.tlv_walk.specs.Events.{Bytes, End}
-use Rattle.tlv_walk.specs.Follow.{Effect, contents_in, effect_if_more, effect_of, no_effect, HasEffectOrNone}
+use Rattle.tlv_walk.specs.Follow.{Effect, contents_in, effect_if_more, effect_of, no_effect}
+use Rattle.tlv_walk.proofs.FollowerLemmas.WholeResults.{HasEffectOrNone}
 use Rattle.tlv_walk.specs.Follow.{whole_events}
 use Rattle.tlv_walk.proofs.FollowerLemmas.FollowedEvents.{followed-one}
 use Rattle.tlv_io.proofs.Puts.{puts_nothing, puts_text}

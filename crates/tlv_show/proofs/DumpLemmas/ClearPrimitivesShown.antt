@@ -10,7 +10,8 @@ use Rattle.tlv_io.specs.declared.drain.WriteFault.{WriteFault}
 use Rattle.tlv_io.specs.declared.out.Out.{Out}
 use Rattle.tlv_io.specs.Device.{DrainState}
 use Rattle.tlv_walk.specs.Events.{Begin, Bytes, End}
-use Rattle.tlv_walk.specs.Follow.{Effect, IsWholeElement, contents_in, effect_of, effect_with, HasEffectOrNone}
+use Rattle.tlv_walk.specs.Follow.{Effect, IsWholeElement, contents_in, effect_of, effect_with}
+use Rattle.tlv_walk.proofs.FollowerLemmas.WholeResults.{HasEffectOrNone}
 use Rattle.tlv_walk.specs.Follow.{whole_events}
 use Rattle.tlv_io.specs.Out.{Puts}
 use Rattle.tlv_io.proofs.Puts.{HasPut, puts_as, puts_failed_last, puts_text}

@@ -6,15 +6,16 @@ use Rattle.std.specs.Prelude.{Option, Some, None, slice_get}
 use Rattle.std.specs.Option.{option_map_or}
 use Rattle.tlv_walk.specs.Stack.{FrameValue}
 use Rattle.tlv_walk.specs.declared.framing.Framing.{Framing}
-use Rattle.tlv_walk.specs.Walker.{Between, InBitString, InEndOctets, InHeader, InPrimitive, PhaseValue, Refused}
-use Rattle.tlv_walk.specs.Walker.{WalkerState, unused_offset}
+use Rattle.tlv_walk.specs.WalkerState.{Between, InBitString, InEndOctets, InHeader, InPrimitive, PhaseValue, Refused}
+use Rattle.tlv_walk.specs.WalkerState.{WalkerState}
+use Rattle.tlv_walk.specs.Walker.{unused_offset, Stands, filled_end_events, is_end_at, waiting_events}
+use Rattle.tlv_walk.specs.Walker.{waiting_events_in}
 use Rattle.tlv_walk.specs.Events.{AreEqualJoined, EventValue, events}
 use Rattle.tlv_walk.specs.Forest.{Forest}
 use Rattle.tlv_walk.specs.Inside.{are_rising}
 use Rattle.tlv_head.specs.Lists.{is_among}
 use Rattle.tlv_walk.specs.Private.WrapperCount.{next_wrapper_count, wrapper_count_after}
 use Rattle.tlv_walk.specs.Place.{ObeysGrammar, top_place}
-use Rattle.tlv_walk.specs.WalkerReads.{Stands, filled_end_events, is_end_at, waiting_events, waiting_events_in}
 use Rattle.tlv_walk.specs.DriveJob.{first_not_among}
 use Rattle.tlv_walk.specs.Wrappers.{first_without_wrapper, entered_offsets, wrapper_offsets}
 use Rattle.tlv_walk.proofs.EventLemmas.JoinedEvents.{apart-from_joined}

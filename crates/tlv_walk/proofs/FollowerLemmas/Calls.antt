@@ -14,8 +14,8 @@ use Rattle.tlv_io.specs.Device.{LastReadValue, never, gave, failed, failures_aft
 use Rattle.tlv_walk.specs.Events.{EventValue}
 use Rattle.tlv_walk.specs.Follow.{Effect}
 use Rattle.tlv_walk.specs.Job.{drain_result, source_result}
-use Rattle.tlv_walk.specs.WalkerReads.{IsReady}
-use Rattle.tlv_walk.specs.Walker.{WalkerState}
+use Rattle.tlv_walk.specs.WalkerState.{WalkerState}
+use Rattle.tlv_walk.specs.Walker.{IsReady}
 use Rattle.tlv_walk.specs.Private.FollowsPiece.{Pauses, FollowStates, follow_states}
 use Rattle.tlv_walk.specs.Private.ResultOfPause.{IsResultOfPause}
 use Rattle.tlv_walk.specs.OneTurn.{CallsDevices, CanGoOn, LastReadWas, TurnStates, last_octets}

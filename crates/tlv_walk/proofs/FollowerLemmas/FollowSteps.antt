@@ -17,10 +17,10 @@ use Rattle.tlv_walk.specs.Private.FollowsPiece.{Follows, FollowsPiece, BeginEven
 use Rattle.tlv_walk.specs.Private.FollowsPiece.{WalksToFault}
 use Rattle.tlv_walk.specs.Private.FollowsPiece.{follow_states}
 use Rattle.tlv_walk.specs.Forest.{Forest}
-use Rattle.tlv_walk.specs.Walker.{IsAfterEvent, WalkerState}
+use Rattle.tlv_walk.specs.WalkerState.{WalkerState}
+use Rattle.tlv_walk.specs.Walker.{IsAfterEvent, Stands, waiting_events, StepsTo, StandsRefused}
 use Rattle.tlv_io.specs.Out.{Puts}
 use Rattle.tlv_walk.specs.Reading.{IsReading}
-use Rattle.tlv_walk.specs.WalkerReads.{Stands, waiting_events, StepsTo, StandsRefused}
 use Rattle.tlv_walk.proofs.FollowerLemmas.FollowedEvents.{events_more, events_one, followed-more, followed-one}
 use Rattle.tlv_walk.proofs.EventLemmas.JoinedEvents.{apart-before, apart-from_joined, joined-from_apart}
 use Rattle.tlv_walk.proofs.EventLemmas.LongerInputs.{events-prefix}

@@ -8,7 +8,7 @@ use Rattle.tlv_walk.specs.declared.follow.Go.{Go}
 use Rattle.tlv_walk.specs.declared.follow.Go.TheVariants as go
 use Rattle.tlv_walk.specs.Events.{EventValue, event_value_of}
 use Rattle.tlv_walk.specs.Follow.{Effect, ReturnsEffect}
-use Rattle.tlv_walk.specs.Walker.{WalkerState}
+use Rattle.tlv_walk.specs.WalkerState.{WalkerState}
 use Rattle.tlv_walk.specs.Private.FollowsPiece.{FollowsIfTaken, FollowsOneOrNone, FollowsPiece, FollowStates}
 use Rattle.tlv_walk.specs.Private.WalkerCalls.{CountsOne}
 use Rattle.tlv_walk.specs.Private.Yields.{StepsAtOnce}

@@ -14,8 +14,8 @@ use Rattle.tlv_walk.specs.Private.FollowsPiece.{BeginEventsOf}
 use Rattle.tlv_walk.specs.Private.FollowsPiece.{Pauses, FollowStates, WalksToFault, follow_states}
 use Rattle.tlv_walk.specs.Forest.{Forest, spelling}
 use Rattle.tlv_walk.specs.declared.framing.Framing.{Framing}
-use Rattle.tlv_walk.specs.WalkerReads.{IsRefusedAfter, Stands, waiting_events}
-use Rattle.tlv_walk.specs.Walker.{WalkerState, unused_offset}
+use Rattle.tlv_walk.specs.WalkerState.{WalkerState}
+use Rattle.tlv_walk.specs.Walker.{IsRefusedAfter, Stands, waiting_events, unused_offset}
 use Rattle.tlv_walk.specs.Wrappers.{first_without_wrapper}
 use Rattle.tlv_io.specs.Out.{Puts, held_octets, drain_of}
 use Rattle.tlv_walk.specs.Place.{top_place}

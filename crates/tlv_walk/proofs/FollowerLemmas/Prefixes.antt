@@ -14,8 +14,8 @@ use Rattle.tlv_walk.specs.declared.walker.short_way.WholePrimitive.{WholePrimiti
 use Rattle.tlv_io.specs.Device.{DrainState}
 use Rattle.tlv_walk.specs.Events.{EventValue}
 use Rattle.tlv_walk.specs.Follow.{Effect, effect_of, followed_events, events_if_more, effect_if_more, whole_effect}
-use Rattle.tlv_walk.specs.Follow.{whole_events, FollowsEvents, HasEffect, HasEffectOrNone}
-use Rattle.tlv_walk.specs.Walker.{WalkerState}
+use Rattle.tlv_walk.specs.Follow.{whole_events, FollowsEvents, FollowsWhole, HasEffect}
+use Rattle.tlv_walk.specs.WalkerState.{WalkerState}
 use Rattle.tlv_io.specs.Out.{Puts}
 use Rattle.tlv_walk.specs.Private.FollowsPiece.{FollowsPrefix, FollowsPiece, BeginEventsOf, TakesNone, TakesPrefix}
 use Rattle.tlv_walk.specs.Private.FollowsPiece.{TakesPrefixOrNone, FollowStates, WalksOver}
@@ -78,36 +78,20 @@ module _ {S : Type 0} (next : S → EventValue → Effect S) where
           refl;
     }
 
-    -- the effect of a call that followed its events
-    effect_some : (made : Effect S) (a b : Out D) (before after : S) (r : Bool) → r ≡ true
-        → HasEffectOrNone state_of made a b before after (Ok r)
-        → HasEffect state_of made a b after (Ok true) × (made.goes ≡ go.On)
-    effect_some made a b before after true e x = x
-    effect_some made a b before after false e x = absurd (true≢false (sym e))
-
-    -- that of a call that left them to others
-    effect_none : (made : Effect S) (a b : Out D) (before after : S) (r : Bool) → r ≡ false
-        → HasEffectOrNone state_of made a b before after (Ok r)
-        → Puts {T = Bool} {E = WriteFault} state_of a b [] (Ok false) × (after ≡ before)
-    effect_none made a b before after false e x = x
-    effect_none made a b before after true e x = absurd (true≢false e)
-
     -- a primitive, all of it, with which a piece begins was followed
-    pub prefix_whole : (x y : FollowStates S D) (piece rest : List ℕ) (p : WholePrimitive) (h : HeaderValue) (r : Bool)
-        → h ≡ header_at p piece → r ≡ true
-        → HasEffectOrNone state_of (whole_effect next x.follower h (take p.octet_count piece))
-        x.out y.out x.follower y.follower (Ok r)
+    pub prefix_whole : (x y : FollowStates S D) (piece rest : List ℕ) (p : WholePrimitive) (h : HeaderValue)
+        → h ≡ header_at p piece
+        → FollowsWhole state_of (whole_effect next x.follower h (take p.octet_count piece)) x.out y.out y.follower
         → YieldsEvents x.walker y.walker piece rest (whole_events (header_at p piece) (take p.octet_count piece))
         → Passes x.walker y.walker piece rest
         → FollowsPrefix next state_of x y piece rest (Ok true)
-    prefix_whole x y piece rest p h r same followed effect yields passes =
+    prefix_whole x y piece rest p h same followed yields passes =
         let all : List EventValue = whole_events h (take p.octet_count piece) in
-        let some = effect_some (effect_of next x.follower all) x.out y.out x.follower y.follower r followed effect in
         record {
           more = all;
           takes = record {
             follows = record {
-              made = follows_all_events x.follower y.follower all some.0.state some.1;
+              made = follows_all_events x.follower y.follower all followed.has.state followed.goes_on;
               walked =
                   stands_all x.walker y.walker piece rest all
                   (subst
@@ -117,28 +101,15 @@ module _ {S : Type 0} (next : S → EventValue → Effect S) where
             };
             passes = passes;
           };
-          puts = some.0.puts;
-        }
-
-    -- the follower left it to others
-    pub prefix_left : (x y : FollowStates S D) (piece : List ℕ) (made : Effect S) (r : Bool)
-        → r ≡ false → y.walker ≡ x.walker
-        → HasEffectOrNone state_of made x.out y.out x.follower y.follower (Ok r)
-        → FollowsPrefix next state_of x y piece piece (Ok false)
-    prefix_left x y piece made r left same effect =
-        let none = effect_none made x.out y.out x.follower y.follower r left effect in
-        record {
-          more = [];
-          takes = record { walker = same; follower = none.1; all_left = refl; no_event = refl };
-          puts = none.0;
+          puts = followed.has.puts;
         }
 
     -- the drain failed at it
     pub prefix_fails : (x y : FollowStates S D) (piece rest : List ℕ) (p : WholePrimitive)
         (h : HeaderValue) (e f : WriteFault)
         → CanPass x.walker piece p → h ≡ header_at p piece
-        → HasEffectOrNone state_of (whole_effect next x.follower h (take p.octet_count piece))
-        x.out y.out x.follower y.follower (Err e)
+        → HasEffect state_of (whole_effect next x.follower h (take p.octet_count piece)) x.out y.out {T = Bool}
+        y.follower (Err e)
         → FollowsPrefix next state_of x y piece rest (Err f)
     prefix_fails x y piece rest p h e f can same effect = record {
       more = whole_events h (take p.octet_count piece);

@@ -17,11 +17,11 @@ use Rattle.tlv_walk.specs.Private.ResultOfPause.{run_of}
 use Rattle.tlv_walk.specs.Private.FollowsPiece.{FollowsToFault, FollowsToEnough, FollowsAll, FollowStates, WalksOver}
 use Rattle.tlv_walk.specs.Private.FollowsPiece.{WalksToFault, follow_states}
 use Rattle.tlv_walk.specs.Forest.{Forest, spelling}
-use Rattle.tlv_walk.specs.Walker.{WalkerState, unused_offset}
+use Rattle.tlv_walk.specs.WalkerState.{WalkerState}
+use Rattle.tlv_walk.specs.Walker.{unused_offset, Stands, refused_one, took_all}
 use Rattle.tlv_io.specs.Out.{Sends}
 use Rattle.tlv_walk.specs.Reading.{IsReading}
-use Rattle.tlv_walk.specs.WalkerReads.{Stands, refused_one, took_all}
-use Rattle.tlv_walk.specs.OneTurn.{EndsIn, HasEnoughIn, StandsAfter, TurnStates}
+use Rattle.tlv_walk.specs.OneTurn.{EndsIn, HasEnoughIn, HasWalked, TurnStates}
 use Rattle.tlv_walk.specs.DriveJob.{first_not_among}
 use Rattle.tlv_walk.specs.Wrappers.{first_without_wrapper, entered_offsets}
 use Rattle.tlv_walk.proofs.FollowerLemmas.FollowSteps.{walked_goes_on}
@@ -57,7 +57,7 @@ module _ {S D : Type 0} (next : S → EventValue → Effect S) (old new : TurnSt
   y = follow_states new.walker new.follower to
 
   -- the piece is used up
-  pub used_up_on : FollowsAll next x y piece more → StandsAfter next old new (b ++ piece) yielded
+  pub used_up_on : FollowsAll next x y piece more → HasWalked next old new (b ++ piece) yielded
   used_up_on k = record {
     all = yielded ++ more;
     follows = record {
@@ -136,7 +136,7 @@ module _ {S D : Type 0} (next : S → EventValue → Effect S) (old new : TurnSt
 -- the input has ended
 pub used_up_ends : {S : Type 0} (next : S → EventValue → Effect S) (old new : TurnStates S) (o : List ℕ)
     (yielded : List EventValue) (run : Run) (e : Ending)
-    → StandsAfter next old new o yielded → run ≡ run_of new.walker e false → IsEnding new.walker.framing o e
+    → HasWalked next old new o yielded → run ≡ run_of new.walker e false → IsEnding new.walker.framing o e
     → EndsIn next old new o yielded run
 used_up_ends next old new o yielded run e x is ends =
     let w : WalkerState = old.walker in

@@ -9,7 +9,7 @@ use Rattle.tlv_walk.specs.declared.run.Turn.TheVariants.{Again, Ended}
 use Rattle.tlv_walk.specs.Ending.{IsFinalEnding}
 use Rattle.tlv_walk.specs.Events.{EventValue}
 use Rattle.tlv_walk.specs.Follow.{Effect}
-use Rattle.tlv_walk.specs.OneTurn.{EndsIn, HasEnoughIn, HasNotMoved, SendsMade, StandsAfter, TurnStates, TurnsTo, again}
+use Rattle.tlv_walk.specs.OneTurn.{EndsIn, HasEnoughIn, HasNotMoved, SendsMade, HasWalked, TurnStates, TurnsTo, again}
 use Rattle.tlv_walk.specs.OneTurn.{WriteFailsIn, at_enough, at_fault, at_input_end, octets_followed, read_failed}
 use Rattle.tlv_walk.specs.OneTurn.{too_long, write_failed}
 
@@ -18,7 +18,7 @@ module _ {S : Type 0} (next : S → EventValue → Effect S) (old new : TurnStat
   pub record WalksOn : Type 0 where
     pub some : given ≢ []
     pub within : length (taken ++ given) ≤ limit
-    pub stands : StandsAfter next old new (taken ++ given) yielded
+    pub walked : HasWalked next old new (taken ++ given) yielded
 
   pub data WalkEnds (run : Run) : Type 0 where
     ends_at_enough : HasEnoughIn next old new (octets_followed limit taken given) yielded run → WalkEnds run
@@ -32,7 +32,7 @@ module _ {S : Type 0} (next : S → EventValue → Effect S) (old new : TurnStat
 
   pub record ExceedsLimit : Type 0 where
     pub beyond : limit < length (taken ++ given)
-    pub stands : StandsAfter next old new (octets_followed limit taken given) yielded
+    pub walked : HasWalked next old new (octets_followed limit taken given) yielded
 
   abbrev pub Turned : Result Turn DeviceFault → Type 0
   Turned (Ok Again) = WalksOn
@@ -43,10 +43,10 @@ module _ {S : Type 0} (next : S → EventValue → Effect S) (old new : TurnStat
 
   pub turned-by : (result : Result Turn DeviceFault) → TurnsTo next old new limit taken yielded given result
       → Turned result
-  turned-by _ (again some within stands) = record { some = some; within = within; stands = stands }
+  turned-by _ (again some within walked) = record { some = some; within = within; walked = walked }
   turned-by _ (at_enough run x) = ends_at_enough x
   turned-by _ (at_fault run x final) = ends_at_fault x final
   turned-by _ (at_input_end run x none) = ends_at_input_end x none
   turned-by _ (read_failed same put) = record { same = same; put = put }
   turned-by _ (write_failed x) = x
-  turned-by _ (too_long beyond stands) = record { beyond = beyond; stands = stands }
+  turned-by _ (too_long beyond walked) = record { beyond = beyond; walked = walked }

@@ -26,8 +26,8 @@ use Rattle.tlv_walk.specs.Private.FollowsPiece.{FollowsAndFlushes, Pauses, Walks
 use Rattle.tlv_walk.specs.Forest.{Forest}
 use Rattle.tlv_io.specs.Out.{Sends, drain_of}
 use Rattle.tlv_walk.specs.Reading.{AreOctets, IsReading}
-use Rattle.tlv_walk.specs.WalkerReads.{Stands, IfAtEnd, took_all}
-use Rattle.tlv_walk.specs.OneTurn.{EndsIn, HasEnoughIn, StandsAfter, TurnStates, TurnsTo, again, at_enough, at_fault}
+use Rattle.tlv_walk.specs.Walker.{Stands, IfStands}
+use Rattle.tlv_walk.specs.OneTurn.{EndsIn, HasEnoughIn, HasWalked, TurnStates, TurnsTo, again, at_enough, at_fault}
 use Rattle.tlv_walk.specs.OneTurn.{at_input_end, too_long, write_failed}
 use Rattle.tlv_walk.proofs.GrammarLemmas.FinalFaults.{refused-final}
 use Rattle.tlv_walk.proofs.FollowerLemmas.FollowedEvents.{followed-prefix}
@@ -95,7 +95,7 @@ module _ {S D : Type 0} (next : S → EventValue → Effect S) (old new : TurnSt
         more (Ok paused)
     put : Sent (Ok why) more
 
-  used_up-stands : (why : Pause) → Followed why pause.UsedUp → StandsAfter next old new (b ++ piece) yielded
+  used_up-stands : (why : Pause) → Followed why pause.UsedUp → HasWalked next old new (b ++ piece) yielded
   used_up-stands why x =
       used_up_on next old new from to b piece yielded x.more (sent-of_turn why x.more x.put) st x.pauses
 
@@ -104,14 +104,14 @@ module _ {S D : Type 0} (next : S → EventValue → Effect S) (old new : TurnSt
   turns_again why x fits some' =
       again (λ e. some' (sym given-length ∙ ap length e))
       (omega (arith, length-append b r, given-length, st.private_state.has_zipper.offset, fits, below, is_m))
-      (subst (λ (o : List ℕ). StandsAfter next old new (b ++ o) yielded) (all_within fits) (used_up-stands why x))
+      (subst (λ (o : List ℕ). HasWalked next old new (b ++ o) yielded) (all_within fits) (used_up-stands why x))
 
   turns_long : (why : Pause) → Followed why pause.UsedUp → m < n
       → TurnsTo next old new limit b yielded r (Err InputTooLong)
   turns_long why x more =
       too_long
       (omega (arith, length-append b r, given-length, st.private_state.has_zipper.offset, more, below, is_m))
-      (subst (λ (o : List ℕ). StandsAfter next old new o yielded) reached (used_up-stands why x))
+      (subst (λ (o : List ℕ). HasWalked next old new o yielded) reached (used_up-stands why x))
 
   ends_in : (run : Run) → EndsIn next old new (b ++ piece) yielded run
       → EndsIn next old new (take limit (b ++ r)) yielded run
@@ -119,14 +119,13 @@ module _ {S D : Type 0} (next : S → EventValue → Effect S) (old new : TurnSt
 
   turns_end : (run : Run) (e : Ending) (why : Pause) → Followed why pause.UsedUp → (n ≡ 0)
       → run ≡ run_of new.walker e false
-      → IfAtEnd new.walker (λ octets. IsEnding new.walker.framing octets e)
+      → IfStands new.walker (λ octets yielded. IsEnding new.walker.framing octets e)
       → TurnsTo next old new limit b yielded r (Ok (Ended run))
   turns_end run e why x none is ends =
       let on = used_up-stands why x in
       at_input_end run
       (ends_in run
-      (used_up_ends next old new (b ++ piece) yielded run e on is (ends (b ++ piece) on.all
-      (took_all on.stands on.idle))))
+      (used_up_ends next old new (b ++ piece) yielded run e on is (ends (b ++ piece) on.all on.stands)))
       (is_r ∙ ap (λ (k : ℕ). take k p) none)
 
   turns_fault : (run : Run) (e : Fault) (why : Pause) → Followed why (pause.Fault e)

@@ -1,6 +1,6 @@
 -- A walk so far: what its reads gave, and what was yielded and kept of these.
 use Rattle.std.proofs.Common.{◌≡◌, inl, ℕ, ◌-◌, ◌≤◌, ◌<◌, List, [], ◌∷◌, ◌++◌, length, take, flat_map, refl, sym, ap}
-use Rattle.std.proofs.Common.{◌∙◌, arith}
+use Rattle.std.proofs.Common.{◌∙◌, arith, subst}
 use Rattle.std.proofs.lemmas.List.{length-take}
 use Rattle.std.proofs.lemmas.List.Elements.{All-nil, All-take}
 use Rattle.std.proofs.Math.Seq.{take-append-add}
@@ -13,10 +13,10 @@ use Rattle.tlv_io.specs.Device.{DrainState, GaveLast, LastReadValue, SourceState
 use Rattle.tlv_walk.specs.Events.{Begin, Bytes, Close, End, Enter, EventValue, Leave, Open, Pad, Unused}
 use Rattle.tlv_walk.specs.Follow.{Effect, effect_of, FollowsEvents}
 use Rattle.tlv_walk.specs.Reading.{AreOctets}
-use Rattle.tlv_walk.specs.Walker.{new_walker}
+use Rattle.tlv_walk.specs.WalkerState.{new_walker}
+use Rattle.tlv_walk.specs.Walker.{Stands}
 use Rattle.tlv_io.specs.Out.{Sends}
-use Rattle.tlv_walk.specs.WalkerReads.{IsIdle, Stands}
-use Rattle.tlv_walk.specs.OneTurn.{LastReadGaveUpTo, TurnStates, last_octets, turn_states}
+use Rattle.tlv_walk.specs.OneTurn.{HasWalked, LastReadGaveUpTo, TurnStates, last_octets, turn_states}
 use Rattle.tlv_walk.specs.Wrappers.{entered_offsets}
 use Rattle.tlv_walk.proofs.FollowerLemmas.FollowSteps.{made_none}
 use Rattle.tlv_io.proofs.Pieces.{PiecesSoFar, no_pieces_so_far}
@@ -68,18 +68,34 @@ enters_each (Leave ∷ es) = enters_each es
 enters_each (Pad c ∷ es) = enters_each es
 
 module _ {S : Type 0} (next : S → EventValue → Effect S) where
-  -- the walk so far: the octets given, the events yielded of them, and what was made of these
-  pub record Walking (framing : Framing) (s : S) (old : SourceState) (from : DrainState) (now : TurnStates S) : Type
-      0 where
-    pub gathered : PiecesSoFar old now.devices.source
-    pub are_octets : AreOctets (concat gathered.pieces)
-    pub failures : now.devices.source.failures ≡ old.failures
-    pub yielded : List EventValue
-    pub made : FollowsEvents next s now.follower yielded go.On
-    pub sends : Sends {T = ⊤} {E = DeviceFault} from now.devices.drain (effect_of next s yielded).put (Ok tt)
-    pub same : now.walker.framing ≡ framing
-    pub stands : Stands now.walker (concat gathered.pieces) yielded
-    pub idle : IsIdle now.walker
+  module _ (framing : Framing) (s : S) (old : SourceState) (from : DrainState) (now : TurnStates S) where
+    -- before the first turn: the walker is new
+    abbrev start : TurnStates S
+    start = turn_states (new_walker framing) s old from
+
+    -- the walk so far: what the reads gave, and what was made of these octets
+    pub record Walking : Type 0 where
+      pub gathered : PiecesSoFar old now.devices.source
+      pub are_octets : AreOctets (concat gathered.pieces)
+      pub failures : now.devices.source.failures ≡ old.failures
+      pub walked : HasWalked next start now (concat gathered.pieces) []
+
+    -- all events so far
+    abbrev pub yielded : Walking → List EventValue
+    yielded x = x.walked.all
+
+    pub made : (x : Walking) → FollowsEvents next s now.follower (yielded x) go.On
+    made x =
+        subst (λ (es : List EventValue). FollowsEvents next s now.follower es go.On) x.walked.follows.all_is
+        x.walked.follows.made
+
+    pub sends : (x : Walking)
+        → Sends {T = ⊤} {E = DeviceFault} from now.devices.drain (effect_of next s (yielded x)).put (Ok tt)
+    sends x =
+        subst
+        (λ (es : List EventValue). Sends {T = ⊤} {E = DeviceFault} from now.devices.drain (effect_of next s es).put
+        (Ok tt))
+        x.walked.follows.all_is x.walked.follows.put
 
   pub walking_none : (framing : Framing) (s : S) (old : SourceState) (from : DrainState)
       → Stands (new_walker framing) [] []
@@ -88,10 +104,16 @@ module _ {S : Type 0} (next : S → EventValue → Effect S) where
     gathered = no_pieces_so_far old;
     are_octets = All-nil (λ x. x < 256);
     failures = refl;
-    yielded = [];
-    made = made_none next s;
-    sends = sends_nothing from tt;
-    same = refl;
-    stands = st;
-    idle = refl;
+    walked = record {
+      all = [];
+      follows = record {
+        more = [];
+        all_is = refl;
+        made = made_none next s;
+        put = sends_nothing from tt;
+        framing = refl;
+      };
+      stands = st;
+      idle = refl;
+    };
   }

@@ -12,7 +12,7 @@ use Rattle.tlv_walk.specs.Place.{Fits, ObeysGrammar, Place, place_after, place_o
 use Rattle.tlv_walk.specs.Private.Stack.{bound_in}
 use Rattle.tlv_walk.specs.Private.Stack.{IsFilled}
 use Rattle.tlv_walk.specs.Private.Zipper.{AreLayers, AreWhole, Layer, frames_of, place_in, spelling_of_layers}
-use Rattle.tlv_walk.specs.WalkerReads.{is_end_at}
+use Rattle.tlv_walk.specs.Walker.{is_end_at}
 use Rattle.tlv_walk.proofs.GrammarLemmas.Bounds.{IsDefiniteLength, fits-inside, has_length, length-full}
 use Rattle.tlv_walk.proofs.GrammarLemmas.PushSteps.{Spells, is_filled_by}
 use Rattle.tlv_walk.proofs.GrammarLemmas.OpenElements.{holder-spells, spelling-fits, unfilled-lacks}

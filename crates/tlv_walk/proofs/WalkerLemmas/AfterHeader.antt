@@ -5,7 +5,7 @@ use Rattle.tlv_head.specs.declared.header.Size.TheVariants.{Definite}
 use Rattle.tlv_head.specs.Header.{HeaderValue, IsHeader, announced_length, holds, octets_of}
 use Rattle.tlv_head.specs.HeadReader.{HeadReaderState}
 use Rattle.tlv_head.specs.Refusal.{IsHeaderPrefix}
-use Rattle.tlv_walk.specs.Walker.{Between, InBitString, InHeader, InPrimitive, WalkerState}
+use Rattle.tlv_walk.specs.WalkerState.{Between, InBitString, InHeader, InPrimitive, WalkerState}
 use Rattle.tlv_walk.specs.Events.{AreEqualJoined, Begin, Bytes, Enter, EventValue, Open, Unused, events, opening_events}
 use Rattle.tlv_walk.specs.Events.{opening_event, single_octets}
 use Rattle.tlv_walk.specs.Forest.{Forest, NoMore, OpenBitString, lead, opening, spelling}

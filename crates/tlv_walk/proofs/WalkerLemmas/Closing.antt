@@ -7,7 +7,8 @@ use Rattle.tlv_head.specs.declared.header.Size.{Size}
 use Rattle.tlv_head.specs.declared.header.Size.TheVariants.{Definite, Indefinite}
 use Rattle.tlv_head.specs.Header.{HeaderValue, announced_length, octets_of}
 use Rattle.tlv_head.specs.HeaderSoFar.{AllowsSize}
-use Rattle.tlv_walk.specs.Walker.{Between, InEndOctets, WalkerState}
+use Rattle.tlv_walk.specs.WalkerState.{Between, InEndOctets, WalkerState}
+use Rattle.tlv_walk.specs.Walker.{filled_end_event}
 use Rattle.tlv_walk.specs.Events.{AreEqualJoined, Close, EventValue, Leave, closing_event, events}
 use Rattle.tlv_walk.proofs.GrammarLemmas.Leads.{end_offset}
 use Rattle.tlv_walk.specs.Events.{opening_events, single_octets}
@@ -27,7 +28,6 @@ use Rattle.tlv_walk.specs.Private.Yields.{Continues}
 use Rattle.tlv_walk.specs.Private.Zipper.{AreWhole, NoTail, HasZipper, EndOctetsTail, Layer, Tail, Zipper}
 use Rattle.tlv_walk.specs.Private.Zipper.{events_of_layers, events_of_tail, frame_at, frames_of, place_in, place_of}
 use Rattle.tlv_walk.specs.Private.Zipper.{spelling_of_layers, spelling_of_tail}
-use Rattle.tlv_walk.specs.WalkerReads.{filled_end_event}
 use Rattle.tlv_walk.proofs.WalkerLemmas.ZipperGrowth.{element-began, between_tail, closed_here, continues_both}
 use Rattle.tlv_walk.proofs.WalkerLemmas.ZipperGrowth.{lone_tail}
 use Rattle.tlv_walk.proofs.WalkerLemmas.ZipperGrowth.{phase_at, tail_state, yielded_more, with_layers, with_tail}

@@ -8,8 +8,9 @@ use Rattle.tlv_head.specs.declared.header.Size.TheVariants.{Definite, Indefinite
 use Rattle.tlv_head.specs.Header.{HeaderValue, octets_of}
 use Rattle.tlv_head.specs.HeaderSoFar.{AllowsSize}
 use Rattle.tlv_walk.specs.declared.framing.Framing.{Framing}
-use Rattle.tlv_walk.specs.Walker.{IsAfterEvent, PhaseValue, Between, InBitString, InEndOctets, InHeader, InPrimitive}
-use Rattle.tlv_walk.specs.Walker.{WalkerState}
+use Rattle.tlv_walk.specs.WalkerState.{PhaseValue, Between, InBitString, InEndOctets, InHeader, InPrimitive}
+use Rattle.tlv_walk.specs.WalkerState.{WalkerState}
+use Rattle.tlv_walk.specs.Walker.{IsAfterEvent, Stands}
 use Rattle.tlv_walk.specs.Events.{AreEqualJoined, Begin, Bytes, Close, End, Enter, EventValue, Leave, Open, Pad, Unused}
 use Rattle.tlv_walk.specs.Events.{closing_event, event_octets, events, opening_events, single_octets}
 use Rattle.tlv_walk.proofs.GrammarLemmas.Leads.{end_offset}
@@ -20,7 +21,6 @@ use Rattle.tlv_walk.specs.Place.{IsHeaderAt, ObeysGrammar, Place, place_after, p
 use Rattle.tlv_walk.specs.Private.Zipper.{AreLayers, BitStringTail, NoTail, HasZipper, PrimitiveTail, EndOctetsTail}
 use Rattle.tlv_walk.specs.Private.Zipper.{HeaderTail, IsPhaseOf, Layer, Tail, Zipper, events_of_layers, events_of_tail}
 use Rattle.tlv_walk.specs.Private.Zipper.{events_of_zipper, place_in, place_of, spelling_of_layers, spelling_of_tail}
-use Rattle.tlv_walk.specs.WalkerReads.{Stands}
 use Rattle.tlv_walk.proofs.EventLemmas.JoinedEvents.{apart-from_joined}
 
 -- ---- however they are cut into pieces

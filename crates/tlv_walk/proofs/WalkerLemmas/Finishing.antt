@@ -2,11 +2,11 @@
 use Rattle.std.proofs.Common.{◌≡◌, ℕ, true, false, List, [], sym, subst}
 use Rattle.tlv_head.specs.declared.fault.FaultCode.TheVariants.{Empty, Short}
 use Rattle.tlv_walk.specs.declared.ending.Ending.TheVariants as ending
-use Rattle.tlv_walk.specs.Walker.{Between, WalkerState}
+use Rattle.tlv_walk.specs.WalkerState.{Between, WalkerState}
+use Rattle.tlv_walk.specs.Walker.{Stands}
 use Rattle.tlv_walk.specs.Ending.{IsEnding, fault_at, fault_ending}
 use Rattle.tlv_walk.specs.Events.{EventValue}
 use Rattle.tlv_walk.proofs.WalkerLemmas.Waiting.{EventWaits}
-use Rattle.tlv_walk.specs.WalkerReads.{Stands}
 use Rattle.tlv_walk.proofs.WalkerLemmas.ZipperEndings.{state-done, state-empty, state-short}
 
 pub finish_done : (w : WalkerState) (b : List ℕ) (yielded : List EventValue) → Stands w b yielded

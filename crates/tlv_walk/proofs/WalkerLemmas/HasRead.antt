@@ -3,12 +3,13 @@ use Rattle.std.proofs.Common.{◌≡◌, ℕ, List, ◌++◌, ◌∷◌, length,
 use Rattle.tlv_head.specs.declared.fault.Fault.{Fault}
 use Rattle.tlv_walk.specs.declared.ending.Ending.{Ending}
 use Rattle.tlv_walk.specs.declared.ending.Ending.TheVariants as ending
+use Rattle.tlv_walk.specs.declared.framing.Framing.{Framing}
 use Rattle.tlv_walk.specs.Ending.{HasEnding, IsEnding}
 use Rattle.tlv_walk.specs.Events.{EventValue}
 use Rattle.tlv_walk.specs.Forest.{Forest}
-use Rattle.tlv_walk.specs.Walker.{WalkerState, unused_offset, PhaseValue, Refused}
-use Rattle.tlv_walk.specs.WalkerReads.{depth_of, IsIdle, Stands, HasRead, StandsAtEnd, refused_one, refused, took}
-use Rattle.tlv_walk.specs.WalkerReads.{took_all}
+use Rattle.tlv_walk.specs.WalkerState.{WalkerState, PhaseValue, Refused}
+use Rattle.tlv_walk.specs.Walker.{unused_offset, depth_of, IsIdle, Stands, HasRead, StandsAtEnd, refused_one, refused}
+use Rattle.tlv_walk.specs.Walker.{took, took_all, IfRefused, IfStands}
 use Rattle.tlv_walk.specs.Place.{Place}
 use Rattle.tlv_walk.specs.Private.Zipper.{IsPhaseOf, Tail, place_of}
 use Rattle.tlv_walk.specs.Wrappers.{first_without_wrapper}
@@ -49,6 +50,11 @@ never_refused w b yielded f st e =
     no_phase : (t : Tail) (p : Place) → IsPhaseOf (Refused f) t p → ⊥
     no_phase t p h = h
 
+-- an ending shows whether the input is sound
+pub shown_ending : (framing : Framing) (o : List ℕ) (result : Ending) → IsEnding framing o result
+    → HasEnding framing o result
+shown_ending framing o result e = record { is_ending = e; soundness = shows-soundness framing o result e }
+
 -- at the end of the input, also if an octet was refused
 ends_by : (w : WalkerState) (o : List ℕ) (yielded : List EventValue) (result : Ending)
     → ((b : List ℕ) (yielded : List EventValue) → Stands w b yielded → IsEnding w.framing b result)
@@ -60,11 +66,11 @@ ends_by w o yielded result stands failed (refused_one f at) =
     (subst (λ (k : Ending). IsEnding w.framing (at.taken ++ at.octet ∷ at.others) k) (sym (failed f at.stands.phase))
     (at.stands.refused.ends at.others))
 
--- and it shows whether the input is sound
+-- what a walker returns at the end of an input is the ending of that input, also if an octet was refused
 pub has_ending : (w : WalkerState) (o : List ℕ) (yielded : List EventValue) (result : Ending)
-    → ((b : List ℕ) (yielded : List EventValue) → Stands w b yielded → IsEnding w.framing b result)
-    → ((f : Fault) → w.phase ≡ Refused f → result ≡ ending.Fault f) → StandsAtEnd w o yielded
+    → IfStands w (λ b yielded. HasEnding w.framing b result)
+    → IfRefused w (λ f. result ≡ ending.Fault f) → StandsAtEnd w o yielded
     → HasEnding w.framing o result
 has_ending w o yielded result stands failed at =
-    let e : IsEnding w.framing o result = ends_by w o yielded result stands failed at in
-    record { is_ending = e; soundness = shows-soundness w.framing o result e }
+    shown_ending w.framing o result
+    (ends_by w o yielded result (λ b yielded st. (stands b yielded st).is_ending) failed at)

@@ -10,7 +10,7 @@ use Rattle.tlv_head.specs.Header.{HeaderValue, announced_length, holds, octets_o
 use Rattle.tlv_head.specs.HeadReader.{HeadReaderState}
 use Rattle.tlv_walk.specs.declared.walker.headers.HeaderKind.{HeaderKind}
 use Rattle.tlv_walk.specs.declared.walker.headers.HeaderKind.TheVariants as kind
-use Rattle.tlv_walk.specs.Walker.{Between, InBitString, InPrimitive, PhaseValue, WalkerState}
+use Rattle.tlv_walk.specs.WalkerState.{Between, InBitString, InPrimitive, PhaseValue, WalkerState}
 use Rattle.tlv_walk.specs.Events.{Begin, Enter, EventValue, Open}
 use Rattle.tlv_walk.specs.Forest.{NoMore, lead}
 use Rattle.tlv_walk.proofs.GrammarLemmas.Leads.{lead_by}

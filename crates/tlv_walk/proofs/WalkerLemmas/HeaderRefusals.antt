@@ -12,7 +12,7 @@ use Rattle.tlv_head.specs.Refusal.{length_too_large}
 use Rattle.tlv_head.specs.HeadReader.{ContentsFit, HeadReaderState, Completes, IsRefusedPush}
 use Rattle.tlv_head.specs.HeadReader as push
 use Rattle.tlv_head.proofs.ReaderLemmas.Prefix.{header-two}
-use Rattle.tlv_walk.specs.Walker.{InHeader, WalkerState}
+use Rattle.tlv_walk.specs.WalkerState.{InHeader, WalkerState}
 use Rattle.tlv_walk.specs.Ending.{IsEnding, IsRefusedAt, fault_ending, no_room, open_end, overrun, refused_octet}
 use Rattle.tlv_walk.specs.Ending.{too_deep}
 use Rattle.tlv_walk.specs.Forest.{OpenHeader}

@@ -13,7 +13,7 @@ use Rattle.tlv_head.specs.HeadReader.{ContentsFit, HeadReaderState, with_octet, 
 use Rattle.tlv_head.specs.Refusal.{IsHeaderPrefix}
 use Rattle.tlv_walk.specs.declared.walker.headers.HeaderKind.{HeaderKind}
 use Rattle.tlv_walk.specs.declared.walker.headers.HeaderKind.TheVariants as kind
-use Rattle.tlv_walk.specs.Walker.{Between, InHeader, PhaseValue, WalkerState}
+use Rattle.tlv_walk.specs.WalkerState.{Between, InHeader, PhaseValue, WalkerState}
 use Rattle.tlv_walk.specs.Events.{EventValue}
 use Rattle.tlv_walk.specs.declared.framing.Framing.{Framing}
 use Rattle.tlv_walk.specs.Private.WalkerCalls.{CanTakeHeader, TakesHeader}

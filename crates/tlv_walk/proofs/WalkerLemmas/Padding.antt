@@ -3,7 +3,7 @@ use Rattle.std.proofs.Common.{◌≡◌, ℕ, ◌+◌, Bool, true, false, ◌||�
 use Rattle.std.proofs.Common.{sym, ap, ◌∙◌, subst, arith, append-nil, length-append}
 use Rattle.std.proofs.lemmas.List.Elements.{All-head, All-tail}
 use Rattle.std.proofs.Math.Bool.{or-false}
-use Rattle.tlv_walk.specs.Walker.{Between, PhaseValue, WalkerState}
+use Rattle.tlv_walk.specs.WalkerState.{Between, PhaseValue, WalkerState}
 use Rattle.tlv_walk.specs.Events.{EventValue, Pad, events, single_octets}
 use Rattle.tlv_walk.specs.Forest.{Forest, NoMore, PaddingOctet, has_element, is_whole, spelling}
 use Rattle.tlv_walk.specs.Place.{ObeysGrammar, Place, place_after}

@@ -12,7 +12,7 @@ use Rattle.tlv_walk.specs.declared.walker.headers.HeaderKind.TheVariants as kind
 use Rattle.tlv_walk.specs.declared.walker.short_way.WholePrimitive.{WholePrimitive}
 use Rattle.tlv_walk.specs.Events.{Begin, Bytes, End}
 use Rattle.tlv_walk.specs.Follow.{IsWholeElement, contents_in, whole_events}
-use Rattle.tlv_walk.specs.Walker.{WalkerState, Between, InPrimitive, PhaseValue}
+use Rattle.tlv_walk.specs.WalkerState.{WalkerState, Between, InPrimitive, PhaseValue}
 use Rattle.tlv_walk.specs.Private.WalkerCalls.{CanPass, after_header, header_at}
 use Rattle.tlv_walk.specs.Private.Yields.{Continues}
 use Rattle.tlv_walk.specs.Stack.{bound_of}

@@ -9,8 +9,10 @@ use Rattle.tlv_walk.specs.declared.event.Step.TheVariants as step
 use Rattle.tlv_walk.specs.declared.framing.Framing.{Framing}
 use Rattle.tlv_walk.specs.Events.{AreEqualJoined, EventValue, IsNoEmptyPart, event_value_of, events}
 use Rattle.tlv_walk.specs.Inside.{are_rising}
-use Rattle.tlv_walk.specs.Walker.{HasNotRefused, WalkerState, PhaseValue, Between, InHeader, InPrimitive, InBitString}
-use Rattle.tlv_walk.specs.Walker.{InEndOctets, Refused}
+use Rattle.tlv_walk.specs.WalkerState.{WalkerState, PhaseValue, Between, InHeader, InPrimitive, InBitString}
+use Rattle.tlv_walk.specs.WalkerState.{InEndOctets, Refused}
+use Rattle.tlv_walk.specs.Walker.{HasNotRefused, Stands, waiting_events, RefusesAgain, RefusesNext, StepsTo}
+use Rattle.tlv_walk.specs.Walker.{UsesUpPiece, YieldsNext, IsRefusedAfter, StandsRefused}
 use Rattle.tlv_walk.specs.Private.WalkerCalls.{Refuses, TakesAll, CountsOne}
 use Rattle.tlv_walk.specs.Private.WrapperCount.{wrapper_count_after}
 use Rattle.tlv_walk.specs.Wrappers.{entered_offsets}
@@ -20,8 +22,6 @@ use Rattle.tlv_walk.specs.declared.ending.Ending.TheVariants as ending
 use Rattle.tlv_walk.specs.Ending.{IsEnding}
 use Rattle.tlv_walk.specs.Reading.{CannotBecomeSound, IsReading}
 use Rattle.tlv_walk.specs.Place.{ObeysGrammar, top_place}
-use Rattle.tlv_walk.specs.WalkerReads.{Stands, waiting_events, RefusesAgain, RefusesNext, StepsTo, UsesUpPiece}
-use Rattle.tlv_walk.specs.WalkerReads.{YieldsNext, IsRefusedAfter, StandsRefused}
 use Rattle.tlv_walk.specs.Private.FollowsPiece.{WalksOver}
 use Rattle.tlv_walk.specs.Private.Yields.{Continues, RefusesOctet, Steps, YieldsEvent, YieldsEvents, YieldsFault}
 use Rattle.std.specs.Prelude.{slice_get}

@@ -1,13 +1,13 @@
 -- Whether an event waits, by the code's tests and by the list of those that do.
 use Rattle.std.proofs.Common.{◌≡◌, ℕ, Bool, true, false, eqb, if◌then◌else◌, List, [], ◌∷◌, Option, Some, None, refl}
 use Rattle.std.proofs.Common.{ap, ◌∙◌, ne_eqb, eq-eqb, IsTrue, ◌↔◌}
-use Rattle.tlv_walk.specs.Walker.{Between, InBitString, InEndOctets, InHeader, InPrimitive, PhaseValue, Refused}
-use Rattle.tlv_walk.specs.Walker.{WalkerState}
+use Rattle.tlv_walk.specs.WalkerState.{Between, InBitString, InEndOctets, InHeader, InPrimitive, PhaseValue, Refused}
+use Rattle.tlv_walk.specs.WalkerState.{WalkerState}
+use Rattle.tlv_walk.specs.Walker.{IsIdle, filled_end_event, filled_end_events, is_end_at, waiting_events}
+use Rattle.tlv_walk.specs.Walker.{waiting_events_in}
 use Rattle.tlv_walk.specs.Events.{End, EventValue}
 use Rattle.tlv_walk.specs.Private.Stack.{IsFilled}
 use Rattle.tlv_walk.specs.Stack.{FrameValue}
-use Rattle.tlv_walk.specs.WalkerReads.{IsIdle, filled_end_event, filled_end_events, is_end_at, waiting_events}
-use Rattle.tlv_walk.specs.WalkerReads.{waiting_events_in}
 
 -- an event is to come that needs no further octet: not `IsIdle`, by phase
 abbrev pub EventWaitsIn : PhaseValue → List FrameValue → ℕ → Type 0

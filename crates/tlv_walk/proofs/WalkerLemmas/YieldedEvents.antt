@@ -4,7 +4,7 @@ use Rattle.std.proofs.Common.{append_assoc, append-nil, length-append}
 use Rattle.std.proofs.lemmas.List.{map-append}
 use Rattle.tlv_head.specs.declared.header.Size.TheVariants.{Definite, Indefinite}
 use Rattle.tlv_head.specs.Header.{HeaderValue, octets_of}
-use Rattle.tlv_walk.specs.Walker.{Between, InEndOctets, InPrimitive, WalkerState}
+use Rattle.tlv_walk.specs.WalkerState.{Between, InEndOctets, InPrimitive, WalkerState}
 use Rattle.tlv_walk.specs.Events.{Begin, Bytes, End, EventValue, single_octets}
 use Rattle.tlv_walk.specs.Forest.{NoMore, Primitive, spelling}
 use Rattle.tlv_walk.specs.Place.{Fits, Place, is_indefinite, place_after}

@@ -12,7 +12,7 @@ use Rattle.tlv_walk.specs.Events.{opening_events}
 use Rattle.tlv_walk.specs.Forest.{Forest, Holder, NoMore, OpenBitString, OpenEndOctets, OpenHeader, OpenHolder}
 use Rattle.tlv_walk.specs.Forest.{OpenPrimitive, PaddingOctet, Primitive, contents_length, end_octets, is_whole}
 use Rattle.tlv_walk.specs.Forest.{spelling}
-use Rattle.tlv_walk.specs.WalkerReads.{filled_end_event, filled_end_events}
+use Rattle.tlv_walk.specs.Walker.{filled_end_event, filled_end_events}
 use Rattle.tlv_walk.specs.Private.Zipper.{AreLayers, AreWhole, Layer, events_of_layers, frame_at, frames_of, place_in}
 use Rattle.tlv_walk.specs.Place.{Place, place_after}
 use Rattle.tlv_walk.proofs.GrammarLemmas.Bounds.{IsDefiniteLength}

@@ -6,15 +6,15 @@ use Rattle.tlv_head.specs.declared.header.Size.TheVariants.{Definite}
 use Rattle.tlv_head.specs.Header.{HeaderValue, announced_length, octets_of}
 use Rattle.tlv_walk.specs.Stack.{FrameValue}
 use Rattle.tlv_walk.specs.declared.framing.Framing.{Framing}
-use Rattle.tlv_walk.specs.Walker.{Between, InBitString, InEndOctets, InHeader, InPrimitive, PhaseValue, WalkerState}
-use Rattle.tlv_walk.specs.Walker.{new_walker}
+use Rattle.tlv_walk.specs.WalkerState.{Between, InBitString, InEndOctets, InHeader, InPrimitive, PhaseValue}
+use Rattle.tlv_walk.specs.WalkerState.{WalkerState, new_walker}
+use Rattle.tlv_walk.specs.Walker.{Stands, filled_end_events, waiting_events, waiting_events_in}
 use Rattle.tlv_walk.specs.Events.{AreEqualJoined, Begin, Bytes, End, EventValue, events, single_octets}
 use Rattle.tlv_walk.specs.Forest.{Forest, NoMore, Primitive, OpenPrimitive, OpenBitString, OpenHeader, OpenEndOctets}
 use Rattle.tlv_walk.specs.Forest.{is_whole, spelling}
 use Rattle.tlv_walk.specs.Private.WrapperCount.{wrapper_count_after}
 use Rattle.tlv_walk.specs.Place.{ObeysGrammar, Place, place_after, top_place}
 use Rattle.tlv_walk.specs.Reading.{IsReading}
-use Rattle.tlv_walk.specs.WalkerReads.{Stands, filled_end_events, waiting_events, waiting_events_in}
 use Rattle.tlv_walk.specs.Private.Zipper.{AreLayers, AreWhole, BitStringTail, NoTail, HasZipper, PrimitiveTail}
 use Rattle.tlv_walk.specs.Private.Zipper.{EndOctetsTail, HeaderTail, IsContents, IsPhaseOf, Layer, Tail, Zipper}
 use Rattle.tlv_walk.specs.Private.Zipper.{events_of_layers, events_of_tail, events_of_zipper, frames_of, place_in}

@@ -15,11 +15,11 @@ use Rattle.tlv_walk.specs.declared.one_turn.Pause.TheVariants as pause
 use Rattle.tlv_walk.specs.Events.{AreEqualJoined, EventValue, event_value_of, events}
 use Rattle.tlv_walk.specs.Follow.{Effect, effect_of, ReturnsEffect, FollowsEvents}
 use Rattle.tlv_walk.specs.Forest.{Forest}
-use Rattle.tlv_walk.specs.Walker.{IsAfterEvent, WalkerState}
+use Rattle.tlv_walk.specs.WalkerState.{WalkerState}
+use Rattle.tlv_walk.specs.Walker.{IsAfterEvent, IfStands, IsReady, StandsForMore, StandsRefused}
 use Rattle.tlv_walk.specs.Private.WalkerCalls.{Passes}
 use Rattle.tlv_walk.specs.Private.Yields.{StepsAtOnce}
 use Rattle.tlv_walk.specs.Reading.{AreOctets, IsReading}
-use Rattle.tlv_walk.specs.WalkerReads.{IfStands, IsReady, StandsForMore, StandsRefused}
 
 -- what was walked over: a prefix of a piece, and the events yielded for it
 pub record WalksOver (old new : WalkerState) (piece rest : List ℕ) (more : List EventValue) : Type 0 where

@@ -3,7 +3,7 @@ use Rattle.std.specs.Prelude.{◌≡◌, ◌⊎◌, ℕ, true, List, [], ◌∷�
 use Rattle.tlv_head.specs.Header.{HeaderValue}
 use Rattle.tlv_head.specs.HeadReader.{HeadReaderState, Completes}
 use Rattle.tlv_walk.specs.declared.event.Step.{Step}
-use Rattle.tlv_walk.specs.Walker.{Between, InHeader, WalkerState}
+use Rattle.tlv_walk.specs.WalkerState.{Between, InHeader, WalkerState}
 use Rattle.tlv_walk.specs.Events.{EventValue}
 use Rattle.tlv_head.specs.Lists.{is_among}
 use Rattle.tlv_walk.specs.Private.Yields.{Continues, YieldsStep}

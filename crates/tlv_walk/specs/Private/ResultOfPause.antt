@@ -10,8 +10,8 @@ use Rattle.tlv_walk.specs.declared.run.Turn.TheVariants.{Again, Ended}
 use Rattle.tlv_walk.specs.declared.one_turn.Pause.{Pause}
 use Rattle.tlv_walk.specs.declared.one_turn.Pause.TheVariants as pause
 use Rattle.tlv_walk.specs.Ending.{IsEnding}
-use Rattle.tlv_walk.specs.Walker.{WalkerState, unused_offset}
-use Rattle.tlv_walk.specs.WalkerReads.{IfAtEnd}
+use Rattle.tlv_walk.specs.WalkerState.{WalkerState}
+use Rattle.tlv_walk.specs.Walker.{unused_offset, IfStands}
 
 -- the run of a walker, with this ending
 abbrev pub run_of : WalkerState → Ending → Bool → Run
@@ -21,7 +21,7 @@ run_of w e enough =
 -- the run of a walker that is after the last octet of the input, with the ending of that input
 abbrev pub IsRunAtEnd : Run → WalkerState → Type 0
 IsRunAtEnd run w =
-    (e : Ending) × (run ≡ run_of w e false) × IfAtEnd w (λ octets. IsEnding w.framing octets e)
+    (e : Ending) × (run ≡ run_of w e false) × IfStands w (λ octets yielded. IsEnding w.framing octets e)
 
 -- what a turn returns after this pause of a walker, given the number of octets read and the number of octets followed
 abbrev pub IsResultOfPause : ℕ → ℕ → WalkerState → Pause → Result Turn DeviceFault → Type 0

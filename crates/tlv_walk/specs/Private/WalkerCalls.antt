@@ -22,13 +22,13 @@ use Rattle.tlv_walk.specs.declared.walker.short_way.HolderEnd.{HolderEnd}
 use Rattle.tlv_walk.specs.declared.walker.short_way.HolderEnd.TheVariants as end
 use Rattle.tlv_walk.specs.declared.walker.short_way.WholePrimitive.{WholePrimitive}
 use Rattle.tlv_head.specs.Lists.{is_among}
-use Rattle.tlv_walk.specs.Walker.{Between, InBitString, InEndOctets, InHeader, InPrimitive, PhaseValue, Refused}
-use Rattle.tlv_walk.specs.Walker.{HasYieldedEvent, WalkerState, least_octets}
+use Rattle.tlv_walk.specs.WalkerState.{Between, InBitString, InEndOctets, InHeader, InPrimitive, PhaseValue, Refused}
+use Rattle.tlv_walk.specs.WalkerState.{WalkerState, least_octets}
+use Rattle.tlv_walk.specs.Walker.{HasYieldedEvent, IsReady}
 use Rattle.tlv_walk.specs.Stack.{FrameValue, bound_of}
 use Rattle.tlv_walk.specs.Stack.{IsWithin}
 use Rattle.tlv_walk.specs.Private.Stack.{frame_with, room_in}
 use Rattle.tlv_walk.specs.Private.WrapperCount.{next_wrapper_count}
-use Rattle.tlv_walk.specs.WalkerReads.{IsReady}
 use Rattle.tlv_walk.specs.Events.{IsNoEmptyPart}
 
 -- an event was yielded, and the walker is at this offset

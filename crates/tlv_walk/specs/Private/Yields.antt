@@ -7,12 +7,12 @@ use Rattle.tlv_walk.specs.declared.event.Step.{Step}
 use Rattle.tlv_walk.specs.declared.event.Step.TheVariants as step
 use Rattle.tlv_walk.specs.Ending.{IsEnding}
 use Rattle.tlv_walk.specs.Events.{EventValue, IsNoEmptyPart, event_value_of}
-use Rattle.tlv_walk.specs.Walker.{WalkerState}
+use Rattle.tlv_walk.specs.WalkerState.{WalkerState}
+use Rattle.tlv_walk.specs.Walker.{IsIdle, RefusesAgain}
 use Rattle.tlv_walk.specs.Private.WalkerCalls.{CountsAt, CountsAtOnce, CountsStep}
 use Rattle.tlv_walk.specs.Private.WrapperCount.{wrapper_count_after}
 use Rattle.tlv_walk.specs.Private.Zipper.{HasZipper, Zipper}
 use Rattle.tlv_walk.specs.Wrappers.{entered_offsets}
-use Rattle.tlv_walk.specs.WalkerReads.{IsIdle, RefusesAgain}
 
 -- whatever zipper the walker had, it now has one with these additional octets and events
 pub record Continues (old new : WalkerState) (taken : List ℕ) (more : List EventValue) : Type 0 where

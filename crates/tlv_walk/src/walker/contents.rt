@@ -1,7 +1,8 @@
 //! How a walker takes the contents of primitives, and padding.
 ghost use Rattle.std.specs.Prelude.{◌≡◌, ◌≢◌, ◌<◌, ◌≤◌, [], All, Some, length, slice_get, take, true};
 ghost use Rattle.tlv_walk.specs.declared.event.Step.TheVariants as step;
-ghost use Rattle.tlv_walk.specs.Walker.{Between, InBitString, InPrimitive, IsWithinInputLimit};
+ghost use Rattle.tlv_walk.specs.WalkerState.{Between, InBitString, InPrimitive};
+ghost use Rattle.tlv_walk.specs.Walker.{IsWithinInputLimit};
 ghost use Rattle.tlv_walk.specs.Private.Yields.{EndsElement, Steps};
 
 use super::{Phase, Walker};

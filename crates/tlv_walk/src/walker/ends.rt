@@ -1,6 +1,7 @@
 //! How a walker takes what is between elements, and the ends of elements that hold others.
 ghost use Rattle.std.specs.Prelude.{◌≡◌};
-ghost use Rattle.tlv_walk.specs.Walker.{Between, InEndOctets, IsWithinInputLimit};
+ghost use Rattle.tlv_walk.specs.WalkerState.{Between, InEndOctets};
+ghost use Rattle.tlv_walk.specs.Walker.{IsWithinInputLimit};
 ghost use Rattle.tlv_walk.specs.Private.Stack.{IsFilled};
 ghost use Rattle.tlv_walk.specs.Private.WalkerCalls.{end_event_if_taken};
 ghost use Rattle.tlv_walk.specs.Private.Yields.{EndsElement, Steps, StepsAtOnce};

@@ -12,10 +12,10 @@ use Rattle.tlv_walk.specs.Ending.{IsEnding, IsEndingOf, done, empty, open_end, r
 use Rattle.tlv_walk.specs.Events.{AreEqualJoined, EventValue, events}
 use Rattle.tlv_walk.specs.Forest.{Forest, Holder, NoMore, OpenBitString, OpenEndOctets, OpenHeader, OpenHolder}
 use Rattle.tlv_walk.specs.Forest.{OpenPrimitive, PaddingOctet, Primitive, spelling}
-use Rattle.tlv_walk.specs.WalkerReads.{StandsAtEnd, refused_one, took_all}
+use Rattle.tlv_walk.specs.WalkerState.{WalkerState}
+use Rattle.tlv_walk.specs.Walker.{StandsAtEnd, refused_one, took_all}
 use Rattle.tlv_walk.specs.Place.{ObeysGrammar, Place, top_place}
 use Rattle.tlv_walk.specs.Reading.{IsReading}
-use Rattle.tlv_walk.specs.Walker.{WalkerState}
 use Rattle.tlv_walk.proofs.GrammarLemmas.Readings.{reading-unique}
 use Rattle.tlv_why.specs.declared.facts.Facts.{Facts}
 use Rattle.tlv_why.specs.declared.tracker.Tracker.{Tracker}

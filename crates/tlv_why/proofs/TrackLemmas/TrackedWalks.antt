@@ -12,9 +12,9 @@ use Rattle.tlv_walk.specs.declared.event.Step.TheVariants as step
 use Rattle.tlv_walk.specs.declared.framing.Framing.{Framing}
 use Rattle.tlv_walk.specs.Events.{Begin, Bytes, Close, End, Enter, EventValue, Leave, Open, Pad, Unused, event_octets}
 use Rattle.tlv_walk.specs.Events.{event_value_of}
-use Rattle.tlv_walk.specs.WalkerReads.{refused_one, took_all, IsIdle, Stands, RefusesNext, StepsTo, UsesUpPiece}
-use Rattle.tlv_walk.specs.WalkerReads.{YieldsNext}
-use Rattle.tlv_walk.specs.Walker.{IsAfterEvent, Refused, WalkerState}
+use Rattle.tlv_walk.specs.WalkerState.{Refused, WalkerState}
+use Rattle.tlv_walk.specs.Walker.{refused_one, took_all, IsIdle, Stands, RefusesNext, StepsTo, UsesUpPiece, YieldsNext}
+use Rattle.tlv_walk.specs.Walker.{IsAfterEvent}
 use Rattle.tlv_walk.proofs.WalkerLemmas.EventOctets.{stands-yielded_octets}
 use Rattle.tlv_walk.proofs.WalkerLemmas.HasRead.{never_refused}
 use Rattle.tlv_why.specs.declared.element.Element.{Element}

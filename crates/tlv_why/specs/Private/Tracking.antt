@@ -5,8 +5,8 @@ use Rattle.std.specs.Option.{option_map_or}
 use Rattle.tlv_head.specs.declared.fault.Fault.{Fault}
 use Rattle.tlv_head.specs.UniversalTypes as universal
 use Rattle.tlv_walk.specs.Events.{Begin, Bytes, Close, End, Enter, EventValue, Leave, Open, Pad, Unused, event_octets}
-use Rattle.tlv_walk.specs.WalkerReads.{StandsAtEnd, IsIdle, Stands}
-use Rattle.tlv_walk.specs.Walker.{Between, WalkerState}
+use Rattle.tlv_walk.specs.WalkerState.{Between, WalkerState}
+use Rattle.tlv_walk.specs.Walker.{StandsAtEnd, IsIdle, Stands}
 use Rattle.tlv_walk.specs.declared.ending.Ending.{Ending}
 use Rattle.tlv_walk.specs.declared.framing.Framing.{Framing}
 use Rattle.tlv_why.specs.declared.element.Element.{Element}

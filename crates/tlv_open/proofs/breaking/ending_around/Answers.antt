@@ -1,5 +1,6 @@
 use Rattle.std.proofs.Common.{◌≡◌, List, ℕ, ◌++◌, [], ◌∷◌, arith, subst, append_assoc, ap, ◌∙◌}
 use Rattle.tlv_walk.specs.Ending.{IsEnding}
+use Rattle.tlv_walk.proofs.WalkerLemmas.HasRead.{has_ending}
 use Rattle.tlv_open.specs.Breaks.{octets_around, sequence_starts}
 use Rattle.tlv_open.specs.Private.Walks.{HasWalkedOver}
 use Rattle.tlv_open.proofs.BreakLemmas.Around.{around-length, starts-next}
@@ -49,7 +50,9 @@ returns c =
     let starts = sequence_starts c.loop.counter in
     let second = c.walk_on-2.ensures.walks framing starts c.loop.invariant.walked in
     let walked = c.walk_on-3.ensures.walks framing (starts ++ c.args.string.now) second in
-    let ends = c.finish.ensures.ending ((starts ++ c.args.string.now) ++ 5 ∷ 0 ∷ []) walked.yielded walked.at_end in
+    let ends =
+    has_ending _ ((starts ++ c.args.string.now) ++ 5 ∷ 0 ∷ []) walked.yielded _ c.finish.ensures.ending
+    c.finish.ensures.refused walked.at_end in
     let counter : c.loop.counter ≡ c.args.depth = omega (arith, c.loop-test.false, c.loop.auto.counter-end) in
     let same : (starts ++ c.args.string.now) ++ 5 ∷ 0 ∷ [] ≡ octets_around c.args.depth c.args.string.now =
     append_assoc starts c.args.string.now (5 ∷ 0 ∷ [])

@@ -1,5 +1,6 @@
 use Rattle.tlv_open.specs.Opens.{closed_framing}
 use Rattle.tlv_walk.proofs.GrammarLemmas.Endings.{sound-done}
+use Rattle.tlv_walk.proofs.WalkerLemmas.HasRead.{has_ending}
 use Rattle.tlv_open.proofs.reading.ending_of.Goals as goal
 
 pub finish-requires : goal.finish-requires
@@ -8,7 +9,9 @@ finish-requires c = c.walk_over.ensures.idle
 pub returns : goal.returns
 returns c =
     let w = c.walk_over.ensures in
-    rw (w.framing_is, c.none.ensures) at (c.finish.ensures.ending c.args.octets.now w.yielded w.at_end).is_ending
+    let ends =
+    has_ending _ c.args.octets.now w.yielded _ c.finish.ensures.ending c.finish.ensures.refused w.at_end in
+    rw (w.framing_is, c.none.ensures) at ends.is_ending
 
 pub returns-then-are_sound_elements : goal.returns-then-are_sound_elements
 returns-then-are_sound_elements c =

@@ -1,5 +1,5 @@
 use Rattle.std.proofs.Common.{◌≡◌, ◌-◌, ◌≤◌, [], length}
-use Rattle.tlv_walk.specs.WalkerReads.{IsReady}
+use Rattle.tlv_walk.specs.Walker.{IsReady}
 use Rattle.tlv_io.specs.Out.{held_octets, drain_of}
 use Rattle.tlv_walk.specs.OneTurn.{turn_states}
 use Rattle.tlv_walk.proofs.FollowerLemmas.WalkSoFar.{Walking}

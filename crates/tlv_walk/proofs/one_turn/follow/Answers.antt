@@ -5,7 +5,7 @@ use Rattle.tlv_walk.specs.declared.follow.Go.TheVariants as go
 use Rattle.tlv_walk.specs.declared.walker.short_way.HolderEnd.{HolderEnd}
 use Rattle.tlv_walk.specs.declared.walker.short_way.HolderEnd.TheVariants as end
 use Rattle.tlv_walk.specs.Events.{EventValue, event_value_of}
-use Rattle.tlv_walk.specs.Walker.{WalkerState}
+use Rattle.tlv_walk.specs.WalkerState.{WalkerState}
 use Rattle.tlv_walk.specs.Private.FollowsPiece.{WalksOver}
 use Rattle.tlv_walk.specs.Private.WalkerCalls.{end_event}
 use Rattle.tlv_walk.proofs.FollowerLemmas.FollowSteps.{fails_event, follows_event, follows_none, pauses_enough}

@@ -2,10 +2,10 @@ use Rattle.std.proofs.Common.{rules, refl}
 use Rattle.std.proofs.lemmas.Result.{err_from_is_err_and}
 use Rattle.tlv_cut.proofs.indef_follower.IndefFollow.whole.Goals as goal
 
-pub returns-in_err-put : goal.returns-in_err-put
-returns-in_err-put g c =
+pub returns-in_err-put-clause-failed : goal.returns-in_err-put-clause-failed
+returns-in_err-put-clause-failed g c =
     let p = err_from_is_err_and c.from_residual.result c.from_residual.ensures.1 in rw p.1
-    (record { puts = search rules; state = search rules })
+    (λ fails. record { puts = search rules; state = search rules })
 
-pub returns : goal.returns
-returns g c = (record { puts = search rules; state = refl }, refl)
+pub returns-clause-followed : goal.returns-clause-followed
+returns-clause-followed g c = λ is. record { has = record { puts = search rules; state = refl }; goes_on = refl }

@@ -1,6 +1,6 @@
 use Rattle.std.proofs.Common.{rules, arith, length, ap}
 use Rattle.std.proofs.lemmas.List.{nil_from_length}
-use Rattle.tlv_walk.specs.Walker.{WalkerState}
+use Rattle.tlv_walk.specs.WalkerState.{WalkerState}
 use Rattle.tlv_walk.proofs.WalkerLemmas.YieldedEvents.{yields_contents}
 use Rattle.tlv_walk.proofs.walker.Walker.contents.Goals as goal
 

@@ -1,5 +1,5 @@
 use Rattle.std.proofs.Common.{rules, take, sym, subst}
-use Rattle.tlv_walk.specs.Walker.{WalkerState}
+use Rattle.tlv_walk.specs.WalkerState.{WalkerState}
 use Rattle.tlv_walk.specs.Private.WalkerCalls.{CanPass}
 use Rattle.tlv_walk.proofs.WalkerLemmas.Passing.{yields_primitive}
 use Rattle.tlv_walk.proofs.walker.Walker.pass.Goals as goal

@@ -1,7 +1,7 @@
 use Rattle.std.proofs.Common.{◌≡◌, inl, ℕ, ◌+◌, ◌≤◌, get_or, [], ◌∷◌, length, length-append, Option, sym, ap, ◌∙◌}
 use Rattle.std.proofs.Common.{subst, arith, rules}
 use Rattle.tlv_head.specs.HeadReader.{HeadReaderState, FitsThere, IsRefusedPush, more, refused, whole}
-use Rattle.tlv_walk.specs.Walker.{WalkerState}
+use Rattle.tlv_walk.specs.WalkerState.{WalkerState}
 use Rattle.tlv_walk.specs.Private.HandsOver.{HandsOver}
 use Rattle.tlv_walk.specs.Stack.{bound_of}
 use Rattle.tlv_walk.specs.Stack.{IsWithin}
