@@ -21,7 +21,8 @@ pub record TypeRow : Type 0 where
   pub encodings : Encodings
   -- how the contents of a primitive are shown
   pub kind : Kind
-  -- the rule for the contents of a primitive whose breach is a finding. `Any`: there is none
+  -- what the contents of a primitive must be; if they are not, there is a finding. `Any`: nothing is checked. What a
+  -- rule asks of each type is defined beside the findings, in tlv_value
   pub rule : Rule
 
 abbrev pub row : ℕ → List ℕ → Encodings → Kind → Rule → TypeRow

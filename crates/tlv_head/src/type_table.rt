@@ -19,11 +19,11 @@ pub enum Encodings {
     Unjudged,
 }
 
-/// The rule for the contents of a primitive of a type: what a finding says that they break. The findings of DER and
-/// CER ask for more. How the contents of one type or another keep the rule is beside the findings, in tlv_value.
+/// What the contents of a primitive must be; if they are not, there is a finding. What a rule asks of each type is
+/// defined beside the findings, in tlv_value. DER and CER ask for more.
 #[derive(Clone, Copy, Debug, PartialEq, Eq)]
 pub enum Rule {
-    /// Any contents: no rule is checked.
+    /// Anything: nothing is checked.
     Any,
     /// One octet (8.2.1).
     OneOctet,

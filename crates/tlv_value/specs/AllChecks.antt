@@ -20,8 +20,8 @@ abbrev pub time_has_day : ℕ → List ℕ → Bool
 time_has_day number contents =
     if number == universal.utc_time then month_has_day_in_some_century contents else month_has_day contents
 
--- 8.21, 8.22: the contents of an OID-IRI or RELATIVE-OID-IRI, the type with this number, are UTF-8 that begins as it
--- has to: 2f is /
+-- 8.21, 8.22: the contents of an OID-IRI or RELATIVE-OID-IRI, the type with this number, are UTF-8. An OID-IRI begins
+-- with / (2f), a RELATIVE-OID-IRI is not empty
 abbrev pub is_iri : ℕ → List ℕ → Bool
 is_iri number contents =
     is_utf8 contents
@@ -29,8 +29,8 @@ is_iri number contents =
 
 -- ---- The findings
 
--- the findings on these contents of a primitive of the type with this number that are not listed, beside their
--- conditions: by the rules of all encodings
+-- the findings that are not listed, beside their conditions, for the contents of a primitive: `number` is that of its
+-- universal type. These are by the rules of all encodings
 abbrev pub later_basic_type_conditions : ℕ → List ℕ → List (Finding × Bool)
 later_basic_type_conditions number contents =
     -- 8.5: a REAL is of a form, as `Real` has it
@@ -71,8 +71,7 @@ type_conditions number contents =
 abbrev pub contents_conditions : HeaderValue → List ℕ → List (Finding × Bool)
 contents_conditions h contents = if is_universal h.class then type_conditions h.number contents else []
 
--- the findings on these contents of a primitive of the type with this number, by the rules of BER, CER or DER, in
--- order
+-- the findings on these contents of a primitive of the type with this number, whatever the rules, in order
 abbrev pub type_findings : ℕ → List ℕ → List Finding
 type_findings number contents = findings_by (type_conditions number contents)
 

@@ -33,8 +33,8 @@ abbrev pub is_printable_string_octet : ℕ → Bool
 is_printable_string_octet x =
     is_digit_or_space x || is_ascii_alphabetic x || list_any (λ y. x == y) (codes "'()+,-./:=?")
 
--- X.680 41: the contents that a type of characters allows, a row for each type that is looked at. A BMPString has two
--- octets for each character, a UniversalString four
+-- X.680 41: the contents that a type of characters allows, a row for each type that is looked at: those whose rule is
+-- `Characters`. A BMPString has two octets for each character, a UniversalString four
 abbrev pub allowed_contents : List (ℕ × (List ℕ → Bool))
 allowed_contents =
     (universal.utf8_string, is_utf8)

@@ -21,7 +21,7 @@ types_with rule = flat_map (λ row. if are_same_rules rule row.rule then row.num
 abbrev pub has_rule : Rule → ℕ → Bool
 has_rule rule number = is_among number (types_with rule)
 
--- X.680 41: strings whose octets are checked one by one: `allowed_contents` of `Checks` says how
+-- X.680 41: strings whose octets are checked one by one, as `allowed_contents` of `Checks` says
 abbrev pub tested_string_types : List ℕ
 tested_string_types =
     universal.numeric_string

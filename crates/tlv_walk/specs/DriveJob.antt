@@ -39,12 +39,12 @@ pub record DriveStates (S : Type 0) : Type 0 where
   pub follower : S
   pub devices : DeviceStates
 
--- a walk with these states
+-- the states of a walk, put together
 abbrev pub drive_states : {S : Type 0} → S → SourceState → DrainState → DriveStates S
 drive_states follower source drain = record { follower = follower; devices = device_states source drain }
 
 module _ {S : Type 0} (next : S → EventValue → Effect S) where
-  -- the effect of all events of a forest on the follower
+  -- the effect of the events of a forest on the follower, up to the first event that is enough
   abbrev pub forest_effect : S → Forest → Effect S
   forest_effect s f = effect_of next s (events f)
 

@@ -79,11 +79,11 @@ abbrev pub Joins : {S : Type 0} → (S → EventValue → Effect S) → (List �
 Joins {S} next part = (s : S) (x y : List ℕ)
     → next s (part (x ++ y)) ≡ and_then (next s (part x)) (λ u. next u (part y))
 
--- a part without octets has no effect
+-- an event of this kind without octets has no effect
 abbrev pub IgnoresEmpty : {S : Type 0} → (S → EventValue → Effect S) → (List ℕ → EventValue) → Type 0
 IgnoresEmpty {S} next part = (s : S) → next s (part []) ≡ no_effect s
 
--- octets of contents and of padding are never enough
+-- an event of this kind is never enough
 abbrev pub GoesOn : {S : Type 0} → (S → EventValue → Effect S) → (List ℕ → EventValue) → Type 0
 GoesOn {S} next part = (s : S) (x : List ℕ) → (next s (part x)).goes ≡ go.On
 
@@ -94,7 +94,8 @@ each_octet one s (x ∷ xs) = and_then (one s x) (λ u. each_octet one u xs)
 
 module _ {S D : Type 0} (state_of : D → DrainState) (made : Effect S) (old new : Out D) where
   -- a call has this effect: it puts the octets of the effect, and if no write fails, leaves the state of the effect.
-  -- `result` says whether a write failed
+  -- `result` says whether a write failed. If one did, a prefix of these octets was put, and nothing is said of the
+  -- state
   pub record HasEffect {T : Type 0} (after : S) (result : Result T WriteFault) : Type 0 where
     pub puts : Puts state_of old new made.put result
     pub state : OnOk result (after ≡ made.state)

@@ -1,4 +1,4 @@
--- The offsets that a user may name.
+-- The offsets that a user may name, and those in an `Inside`.
 use Rattle.std.specs.Prelude.{ℕ, ◌+◌, Bool, true, ◌&&◌, nat_le, List, [], ◌∷◌, length}
 use Rattle.tlv_head.specs.Limits.{input_limit}
 use Rattle.tlv_walk.specs.declared.framing.Offsets.{Offsets}
@@ -13,7 +13,7 @@ are_rising least (n ∷ ns) = nat_le least n && (nat_le n input_limit && are_ris
 abbrev pub can_name : List ℕ → Bool
 can_name offsets = nat_le (length offsets) 16 && are_rising 0 offsets
 
--- the meaning of the fields of an `Inside`: the offsets, wherever they are stored
+-- the offsets in an `Inside`, kept in it or lent
 abbrev pub offsets_in : Offsets → List ℕ
 offsets_in (Kept kept) = kept.items
 offsets_in (Lent lent) = lent.now

@@ -27,7 +27,7 @@ last_octets never room = []
 last_octets (gave n) room = take n room
 last_octets failed room = []
 
--- the last read gave at most this number of octets, none at the end
+-- the last read gave at most this number of octets
 abbrev pub LastReadGaveUpTo : ℕ → LastReadValue → Type 0
 LastReadGaveUpTo most never = ⊥
 LastReadGaveUpTo most (gave n) = n ≤ most
@@ -55,7 +55,7 @@ pub record TurnStates (S : Type 0) : Type 0 where
   pub follower : S
   pub devices : DeviceStates
 
--- a turn with these states
+-- the states of a turn, put together
 abbrev pub turn_states : {S : Type 0} → WalkerState → S → SourceState → DrainState → TurnStates S
 turn_states walker follower source drain =
     record { walker = walker; follower = follower; devices = device_states source drain }
@@ -66,7 +66,7 @@ abbrev pub octets_followed : ℕ → List ℕ → List ℕ → List ℕ
 octets_followed limit taken given = take limit (taken ++ given)
 
 module _ {S : Type 0} (next : S → EventValue → Effect S) (old new : TurnStates S) where
-  -- one read, which leaves the array like this, and writes
+  -- what the devices did: one read, after which the array holds `room`, and writes
   pub record CallsDevices (room : List ℕ) (result : Result Turn DeviceFault) : Type 0 where
     pub octets : Consumes old.devices.source.left new.devices.source.left (last_octets new.devices.source.last room)
     pub reads : new.devices.source.reads ≡ next_count old.devices.source.reads
@@ -84,8 +84,8 @@ module _ {S : Type 0} (next : S → EventValue → Effect S) (old new : TurnStat
   abbrev pub SendsMade : List EventValue → Result ⊤ DeviceFault → Type 0
   SendsMade more result = Sends old.devices.drain new.devices.drain (effect_of next old.follower more).put result
 
-  -- more events were followed, which makes these all the yielded events, and the octets that the follower puts for
-  -- them were handed to the drain. The framing stays the same
+  -- more events were followed; with them, all yielded events are `all`. The octets that the follower puts for them were
+  -- handed to the drain. The framing stays the same
   pub record FollowsMore (yielded all : List EventValue) (goes : Go) : Type 0 where
     pub more : List EventValue
     pub all_is : yielded ++ more ≡ all
@@ -93,7 +93,7 @@ module _ {S : Type 0} (next : S → EventValue → Effect S) (old new : TurnStat
     pub put : SendsMade more (Ok tt)
     pub framing : new.walker.framing ≡ old.walker.framing
 
-  -- here `octets` are the followed octets (`octets_followed`), and `yielded` are the events yielded before the turn
+  -- here `octets` are the followed octets (`octets_followed`), and `yielded` are the events yielded before, at `old`
 
   -- a walk so far: the walker stands for these octets, all their events were followed, and no event waits
   pub record HasWalked (octets : List ℕ) (yielded : List EventValue) : Type 0 where
@@ -122,7 +122,7 @@ module _ {S : Type 0} (next : S → EventValue → Effect S) (old new : TurnStat
     pub stands : Stands new.walker (octets_of_events all) all
     pub run_is : run ≡ enough_run old.walker.framing all
 
-  -- the drain took a prefix of what the follower puts for all events of the octets, and failed
+  -- the drain took a prefix of what the follower puts for the other events of the octets, and failed
   pub record WriteFailsIn (octets : List ℕ) (yielded : List EventValue) : Type 0 where
     pub more : List EventValue
     pub put : SendsMade more (Err WriteFailed)

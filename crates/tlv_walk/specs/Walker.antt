@@ -50,8 +50,7 @@ IfRefused w P = (f : Fault) → w.phase ≡ Refused f → P f
 abbrev pub unused_offset : WalkerState → Option ℕ
 unused_offset w = slice_get w.framing.inside w.wrapper_count
 
--- 8.1.4: the number of open holders, including a wrapping BIT STRING before its first
--- contents octet
+-- the number of open holders, including a wrapping BIT STRING before its first contents octet
 abbrev pub depth_of : Forest → ℕ
 depth_of NoMore = 0
 depth_of (PaddingOctet rest) = depth_of rest
@@ -63,7 +62,8 @@ depth_of (OpenBitString h) = 1
 depth_of (OpenHeader octets) = 0
 depth_of OpenEndOctets = 0
 
--- 8.1.5: the event with which a definite element ends once it is filled, by its frame
+-- the event with which a definite element ends once it is filled, by its frame. 8.1.5 asks for no end-of-contents
+-- octets
 abbrev pub filled_end_event : FrameValue → EventValue
 filled_end_event f = if f.wrapper then Leave else Close None
 
@@ -117,12 +117,13 @@ pub record Stands (w : WalkerState) (b : List ℕ) (yielded : List EventValue) :
 abbrev pub IfStands : WalkerState → (List ℕ → List EventValue → Type 0) → Type 0
 IfStands w P = (b : List ℕ) (yielded : List EventValue) → Stands w b yielded → P b yielded
 
--- whatever the walker stood for before, it now also stands for these octets and these events
+-- whatever the walker stood for, it now stands for that with these octets and these events after it
 abbrev pub StandsForMore : WalkerState → WalkerState → List ℕ → List EventValue → Type 0
 StandsForMore old new octets more = IfStands old (λ b yielded. Stands new (b ++ octets) (yielded ++ more))
 
--- the octet after p is refused: the yielded events are the events of the reading, which spells p, and the reading and
--- the ending are the same whatever follows that octet. No false alarm: no input that begins so is a sound list
+-- the octet after p is refused, with this fault. The reading spells p, and the yielded events are its events. Whatever
+-- follows that octet, this is the reading, and the fault is the ending. No false alarm: no input that begins so is a
+-- sound list
 pub record IsRefusedAfter (framing : Framing) (p : List ℕ) (octet : ℕ) (yielded : List EventValue) (f : Fault)
     : Type 0 where
   pub reading : Forest
@@ -169,7 +170,8 @@ pub data StandsAtEnd (w : WalkerState) (octets : List ℕ) (yielded : List Event
   took_all : Stands w octets yielded → IsIdle w → StandsAtEnd w octets yielded
   refused_one : (f : Fault) → RefusesAt w octets yielded f → StandsAtEnd w octets yielded
 
--- a walker that had refused no octet took octets from the start of a piece, or none, and yielded these events
+-- a walker that had refused no octet took octets from the start of a piece, or none, and yielded as many events as
+-- these
 pub record TakesOctets (old new : WalkerState) (piece rest : List ℕ) (more : List EventValue) : Type 0 where
   pub not_refused : HasNotRefused old
   pub taken : List ℕ

@@ -24,7 +24,7 @@ pub data PhaseValue : Type 0 where
 
 -- the state of a walker
 pub record WalkerState : Type 0 where
-  -- the open elements, innermost first
+  -- the open holders, innermost first
   pub stack : List FrameValue
   -- what the next octet belongs to
   pub phase : PhaseValue
@@ -55,12 +55,13 @@ pub record IsInHeader (r : HeadReaderState) (offset : ℕ) : Type 0 where
   pub some : r.octets ≢ []
   pub end : r.offset + length r.octets ≡ offset
 
--- the least number of octets from which this many events can be yielded while these elements are open: one for each
+-- the least number of octets from which this many events can be yielded while these holders are open: one for each
+-- event, and one for each holder
 abbrev pub least_octets : ℕ → List FrameValue → ℕ
 least_octets events stack = events + length stack
 
--- by phase, the least excess of octets taken over events yielded: one for each open element, the octets of a header
--- that has begun, and a first 00. And what is open ends within the bound
+-- by phase, the least excess of octets taken over events yielded: one for each open holder, the octets of a header
+-- that has begun, and a first 00. An open primitive, or the octet for unused bits, also ends within the bound
 abbrev pub CountsFitPhase : PhaseValue → List FrameValue → ℕ → ℕ → Type 0
 CountsFitPhase Between stack offset events = least_octets events stack ≤ offset
 CountsFitPhase (InHeader r) stack offset events =

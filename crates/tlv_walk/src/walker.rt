@@ -149,8 +149,9 @@ impl<'f> Walker<'f> {
     }
 
     /// The ending of the input, if it ends here; after a fault, that fault. The ending is `Done` if and only if the
-    /// input is a sound list of encodings. If it is a fault other than F01 and F02, no input that begins with the
-    /// octets taken and the refused octet is a sound list. Requires that no event waits ([`Walker::waiting`]).
+    /// input is a sound list of encodings. After a fault, no input that begins with the octets taken and the refused
+    /// octet is a sound list, as [`Walker::step`] says (`never_sound`). Requires that no event waits
+    /// ([`Walker::waiting`]).
     pub fn finish(&self) -> Ending
         requires { IsIdle self.now }
         ensures ending { IfStands self.now (λ octets yielded. HasEnding self.now.framing octets result) }
