@@ -1,4 +1,5 @@
--- What a follower makes of events, and what a call of it does.
+-- A follower takes the events of a walk one by one, and puts octets to an `Out`: what it makes of events, and what a
+-- call of it does.
 use Rattle.std.specs.Prelude.{◌≡◌, ℕ, Bool, true, false, List, [], ◌∷◌, ◌++◌, drop, length, Result, Ok, Err, OnOk, IfOk}
 use Rattle.tlv_head.specs.Header.{HasAllContents, HeaderValue, octets_of}
 use Rattle.tlv_walk.specs.declared.follow.Go.{Go}
@@ -74,7 +75,8 @@ whole_events h octets = Begin h ∷ Bytes (contents_in h octets) ∷ End ∷ []
 abbrev pub whole_effect : {S : Type 0} → (S → EventValue → Effect S) → S → HeaderValue → List ℕ → Effect S
 whole_effect next s h octets = effect_of next s (whole_events h octets)
 
--- octets in two parts have the same effect as the same octets in one part
+-- octets in two parts have the same effect as the same octets in one part. `part` makes an event of octets, as `Bytes`
+-- does
 abbrev pub Joins : {S : Type 0} → (S → EventValue → Effect S) → (List ℕ → EventValue) → Type 0
 Joins {S} next part = (s : S) (x y : List ℕ)
     → next s (part (x ++ y)) ≡ and_then (next s (part x)) (λ u. next u (part y))
@@ -94,8 +96,8 @@ each_octet one s (x ∷ xs) = and_then (one s x) (λ u. each_octet one u xs)
 
 module _ {S D : Type 0} (state_of : D → DrainState) (made : Effect S) (old new : Out D) where
   -- a call has this effect: it puts the octets of the effect, and if no write fails, leaves the state of the effect.
-  -- `result` says whether a write failed. If one did, a prefix of these octets was put, and nothing is said of the
-  -- state
+  -- `result` says whether a write failed. If one did, the drain took a prefix of the held octets followed by these, the
+  -- rest is lost, and nothing is said of the state
   pub record HasEffect {T : Type 0} (after : S) (result : Result T WriteFault) : Type 0 where
     pub puts : Puts state_of old new made.put result
     pub state : OnOk result (after ≡ made.state)
@@ -105,12 +107,13 @@ module _ {S D : Type 0} (state_of : D → DrainState) (made : Effect S) (old new
     pub has : HasEffect after result
     pub goes : IfOk result (λ go. go ≡ made.goes)
 
-  -- a call followed a primitive, with this effect, and the follower wants more
+  -- a call that returned `Ok(true)` followed a whole primitive, with this effect, and the follower wants more
   pub record FollowsWhole (after : S) : Type 0 where
     pub has : HasEffect {T = Bool} after (Ok true)
     pub goes_on : made.goes ≡ go.On
 
--- a call left a primitive to other calls: no octet was put, and the state is the same
+-- a call that returned `Ok(false)` left a primitive to the calls for its events: no octet was put, and the state is the
+-- same
 pub record LeavesWhole {S D : Type 0} (state_of : D → DrainState) (old new : Out D) (before after : S) : Type 0 where
   pub puts : Puts {T = Bool} {E = WriteFault} state_of old new [] (Ok false)
   pub state : after ≡ before

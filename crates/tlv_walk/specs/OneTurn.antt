@@ -1,4 +1,4 @@
--- The result of one read of a source and the following of its octets.
+-- A *turn*: one read of a source, and the following of the octets that it gave.
 use Rattle.std.specs.Prelude.{◌≡◌, ◌≢◌, ℕ, ◌<◌, ◌≤◌, List, [], ◌++◌, length, take, Result, Ok, Err, ⊤}
 use Rattle.std.specs.Io.KnownBytes.{Consumes, IsAtEnd}
 use Rattle.tlv_head.specs.Limits.{input_limit}
@@ -33,7 +33,7 @@ LastReadGaveUpTo most never = ⊥
 LastReadGaveUpTo most (gave n) = n ≤ most
 LastReadGaveUpTo most failed = ⊥
 
--- what the read of a turn gave, by the result of the turn: at most this number of octets
+-- what the read of a turn did, by the result of the turn: it failed, or gave at most this number of octets
 abbrev pub LastReadWas : ℕ → Result Turn DeviceFault → LastReadValue → Type 0
 LastReadWas most (Ok turn) last = LastReadGaveUpTo most last
 LastReadWas most (Err ReadFailed) last = last ≡ failed
@@ -84,6 +84,9 @@ module _ {S : Type 0} (next : S → EventValue → Effect S) (old new : TurnStat
   abbrev pub SendsMade : List EventValue → Result ⊤ DeviceFault → Type 0
   SendsMade more result = Sends old.devices.drain new.devices.drain (effect_of next old.follower more).put result
 
+  -- in what follows, `octets` are the followed octets (`octets_followed`), and `yielded` are the events yielded before,
+  -- at `old`
+
   -- more events were followed; with them, all yielded events are `all`. The octets that the follower puts for them were
   -- handed to the drain. The framing stays the same
   pub record FollowsMore (yielded all : List EventValue) (goes : Go) : Type 0 where
@@ -92,8 +95,6 @@ module _ {S : Type 0} (next : S → EventValue → Effect S) (old new : TurnStat
     pub made : FollowsEvents next old.follower new.follower more goes
     pub put : SendsMade more (Ok tt)
     pub framing : new.walker.framing ≡ old.walker.framing
-
-  -- here `octets` are the followed octets (`octets_followed`), and `yielded` are the events yielded before, at `old`
 
   -- a walk so far: the walker stands for these octets, all their events were followed, and no event waits
   pub record HasWalked (octets : List ℕ) (yielded : List EventValue) : Type 0 where
@@ -166,8 +167,8 @@ module _ {S : Type 0} (next : S → EventValue → Effect S) (old new : TurnStat
     pub ready : IsReady new.walker
 
   -- how a walk can go on after a turn. If more is to be read, the walker is ready for the next octet; after a failed
-  -- read nothing has changed. If there were more octets than the limit, the walker is at the limit and ready for the
-  -- next octet; but the octets beyond the limit were read from the source, and are lost
+  -- read the walker and the follower are as before. If there were more octets than the limit, the walker is at the
+  -- limit and ready for the next octet; but the octets beyond the limit were read from the source, and are lost
   abbrev pub CanGoOn : ℕ → Result Turn DeviceFault → Type 0
   CanGoOn limit (Ok Again) = HasMovedWithin limit
   CanGoOn limit (Ok (Ended run)) = ⊤
@@ -175,8 +176,8 @@ module _ {S : Type 0} (next : S → EventValue → Effect S) (old new : TurnStat
   CanGoOn limit (Err WriteFailed) = ⊤
   CanGoOn limit (Err InputTooLong) = IsAtLimit limit
 
-  -- what a turn does: it makes one read, and follows and flushes the octets given. `room` is the content of the array
-  -- for the read, after the turn
+  -- what a turn does: it makes one read, follows the octets given, up to the limit, and hands to the drain what the
+  -- follower puts for them. `room` is the content of the array for the read, after the turn
   pub record FollowsOneRead (limit : ℕ) (room : List ℕ) (result : Result Turn DeviceFault) : Type 0 where
     -- what the devices did
     pub calls : CallsDevices room result

@@ -9,27 +9,28 @@ IsWithin bound offset = IfSome bound (λ b. offset ≤ b)
 pub record FrameValue : Type 0 where
   -- where its contents end, if its length is definite
   pub end : Option ℕ
-  -- the end of the innermost definite element, which is this one or the nearest around it
+  -- the end of the innermost definite holder, which is this one or the nearest around it
   pub bound : Option ℕ
   -- it is a wrapper
   pub wrapper : Bool
 
--- the end of the innermost definite element
+-- the end of the innermost definite holder
 abbrev pub bound_of : List FrameValue → Option ℕ
 bound_of [] = None
 bound_of (f ∷ fs) = f.bound
 
--- the innermost element has the indefinite length
+-- the innermost holder has the indefinite length
 abbrev pub IsInIndefinite : List FrameValue → Type 0
 IsInIndefinite [] = ⊥
 IsInIndefinite (f ∷ fs) = f.end ≡ None
 
--- the innermost element is a wrapper
+-- the innermost holder is a wrapper
 abbrev pub IsInWrapper : List FrameValue → Type 0
 IsInWrapper [] = ⊥
 IsInWrapper (f ∷ fs) = f.wrapper ≡ true
 
--- an element's bound is its own end, within the bound around it; without an end, it is the bound around it
+-- the bound of a holder with an end is that end, which lies within the bound around the holder; the bound of one
+-- without an end is the bound around it
 abbrev pub HasBoundIn : Option ℕ → FrameValue → Type 0
 HasBoundIn outer f = by_end f.end
   where
@@ -37,7 +38,7 @@ HasBoundIn outer f = by_end f.end
     by_end None = f.bound ≡ outer
     by_end (Some e) = (f.bound ≡ Some e) × IsWithin outer e
 
--- each element ends within the bound around it
+-- each holder has its bound within the holders around it
 abbrev pub IsNested : List FrameValue → Type 0
 IsNested [] = Unit {0}
 IsNested (f ∷ fs) = HasBoundIn (bound_of fs) f × IsNested fs

@@ -62,17 +62,18 @@ depth_of (OpenBitString h) = 1
 depth_of (OpenHeader octets) = 0
 depth_of OpenEndOctets = 0
 
--- the event with which a definite element ends once it is filled, by its frame. 8.1.5 asks for no end-of-contents
--- octets
+-- the event with which a definite holder with this frame ends once it is filled. `Close None`: there are no
+-- end-of-contents octets (8.1.5)
 abbrev pub filled_end_event : FrameValue → EventValue
 filled_end_event f = if f.wrapper then Leave else Close None
 
--- whether an element ends at the offset; an element of indefinite length has no known end
+-- whether a holder with this end, if any, ends at the offset
 abbrev pub is_end_at : Option ℕ → ℕ → Bool
 is_end_at None offset = false
 is_end_at (Some e) offset = eqb e offset
 
--- the end events of the elements that are filled at the offset, innermost first
+-- the end events of the holders that end at the offset without another octet: innermost first, up to the first that is
+-- not filled there
 abbrev pub filled_end_events : ℕ → List FrameValue → List EventValue
 filled_end_events offset [] = []
 filled_end_events offset (f ∷ fs) =
@@ -106,11 +107,11 @@ pub record HasEvents (framing : Framing) (octets : List ℕ) (es : List EventVal
   pub is_reading : IsReading framing octets reading
   pub all_events : AreEqualJoined es (events reading)
 
--- what a walker that refused no octet stands for: octets, and the events yielded for them. The yielded and waiting
--- events together are the events of the reading
+-- what a walker stands for: octets, and the events yielded for them. The yielded and waiting events together are the
+-- events of the reading
 pub record Stands (w : WalkerState) (b : List ℕ) (yielded : List EventValue) : Type 0 where
   pub has_events : HasEvents w.framing b (yielded ++ waiting_events w)
-  -- used only in proofs
+  -- no octet was refused, and the stack, the phase and the offset belong to these octets. Used only in proofs
   pub private_state : HasPrivateState w b yielded
 
 -- P holds of the octets and the events that the walker stands for
@@ -164,8 +165,8 @@ pub record RefusesAt (w : WalkerState) (octets : List ℕ) (yielded : List Event
   pub octets_are : taken ++ octet ∷ others ≡ octets
   pub stands : StandsRefused w taken octet yielded f
 
--- a walker that walked over these octets to their end and yielded these events: it stands for all the octets, or for
--- the octets before the one that it refused
+-- a walker that walked over these octets, to their end or to one that it refused, and yielded these events: it stands
+-- for all of them, or for the octets before the refused one
 pub data StandsAtEnd (w : WalkerState) (octets : List ℕ) (yielded : List EventValue) : Type 0 where
   took_all : Stands w octets yielded → IsIdle w → StandsAtEnd w octets yielded
   refused_one : (f : Fault) → RefusesAt w octets yielded f → StandsAtEnd w octets yielded

@@ -9,11 +9,11 @@ use Rattle.tlv_walk.specs.Stack.{FrameValue, IsInIndefinite, IsInWrapper, IsNest
 
 -- what the next octet of an input belongs to
 pub data PhaseValue : Type 0 where
-  -- a new element, or the end of the innermost one
+  -- a new element, padding, or the end-of-contents octets of the innermost holder
   Between : PhaseValue
   -- a header that has begun
   InHeader : (reader : HeadReaderState) → PhaseValue
-  -- a primitive's contents, with this many octets still to come
+  -- a primitive's contents, with this many octets still to come. If there are none, its end still waits
   InPrimitive : (left : ℕ) → PhaseValue
   -- a wrapping BIT STRING, whose first contents octet is still to come
   InBitString : PhaseValue
@@ -34,7 +34,7 @@ pub record WalkerState : Type 0 where
   pub framing : Framing
   -- an octet of an element came
   pub has_element : Bool
-  -- the number of named offsets, from the first on, that are offsets of wrappers
+  -- how many of the named offsets, counted from the first, have been found to be offsets of wrappers
   pub wrapper_count : ℕ
 
 -- a walker that has taken nothing
@@ -56,12 +56,13 @@ pub record IsInHeader (r : HeadReaderState) (offset : ℕ) : Type 0 where
   pub end : r.offset + length r.octets ≡ offset
 
 -- the least number of octets from which this many events can be yielded while these holders are open: one for each
--- event, and one for each holder
+-- event, and one for each holder, whose header has two octets or more, and whose end may need none
 abbrev pub least_octets : ℕ → List FrameValue → ℕ
 least_octets events stack = events + length stack
 
--- by phase, the least excess of octets taken over events yielded: one for each open holder, the octets of a header
--- that has begun, and a first 00. An open primitive, or the octet for unused bits, also ends within the bound
+-- by phase: the octets taken are more than the events yielded by at least one for each open holder, one for an open
+-- primitive, the octets of a header that has begun, and one for a first 00. An open primitive, and the octet for unused
+-- bits, end within the bound
 abbrev pub CountsFitPhase : PhaseValue → List FrameValue → ℕ → ℕ → Type 0
 CountsFitPhase Between stack offset events = least_octets events stack ≤ offset
 CountsFitPhase (InHeader r) stack offset events =
