@@ -40,7 +40,8 @@ has_encodings encodings h =
     is_universal h.class
     && option_map_or (λ t. are_same_encodings encodings t.encodings) (type_at h.number) false
 
--- a string of bits, octets or characters. UTCTime, GeneralizedTime and ObjectDescriptor are strings too (8.25)
+-- a string of bits, octets or characters, but not a CHARACTER STRING (8.24). UTCTime, GeneralizedTime and
+-- ObjectDescriptor are strings too (8.25)
 abbrev pub is_string : HeaderValue → Bool
 is_string h = has_encodings Segmented h
 
