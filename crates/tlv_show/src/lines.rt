@@ -188,8 +188,10 @@ impl<'n, N: FiniteNames> Lines<'n, N> {
             (whole_lines_with self.old.with_text (finite.get self.old.names) header.now
             self.old.layout contents.now) result }
     {
-        self.set_after_header(header);
-        self.offset = self.offset.saturating_add(contents.len() as u64);
+        // One sum, and not two, since each asks whether the largest number is reached.
+        let octets = header.raw().len() + contents.len();
+        self.offset = header.offset.saturating_add(octets as u64);
+        self.in_padding = false;
         self.is_open = false;
         put_whole_with(
             header,

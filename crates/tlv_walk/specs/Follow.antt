@@ -1,6 +1,6 @@
 -- A follower takes the events of a walk one by one, and puts octets to an `Out`: what it makes of events, and what a
 -- call of it does.
-use Rattle.std.specs.Prelude.{◌≡◌, ℕ, Bool, true, false, List, [], ◌∷◌, ◌++◌, drop, length, Result, Ok, Err, OnOk, IfOk}
+use Rattle.std.specs.Prelude.{◌≡◌, ℕ, Bool, true, false, List, [], ◌∷◌, ◌++◌, drop, length, Result, Ok, OnOk, IfOk}
 use Rattle.tlv_head.specs.Header.{HasAllContents, HeaderValue, octets_of}
 use Rattle.tlv_walk.specs.declared.follow.Go.{Go}
 use Rattle.tlv_walk.specs.declared.follow.Go.TheVariants as go

@@ -10,6 +10,7 @@ mod follow;
 mod frames;
 mod framing;
 pub mod laws;
+mod one_piece;
 mod one_turn;
 mod run;
 mod stack;

@@ -7,8 +7,8 @@ use Rattle.tlv_walk.specs.declared.run.DeviceFault.TheVariants.{ReadFailed, Writ
 use Rattle.tlv_walk.specs.declared.run.Turn.{Turn}
 use Rattle.tlv_walk.specs.declared.run.Turn.TheVariants.{Again, Ended}
 use Rattle.tlv_io.specs.declared.source.ReadFault.{ReadFault}
-use Rattle.tlv_walk.specs.declared.one_turn.Pause.{Pause}
-use Rattle.tlv_walk.specs.declared.one_turn.Pause.TheVariants as pause
+use Rattle.tlv_walk.specs.declared.one_piece.Pause.{Pause}
+use Rattle.tlv_walk.specs.declared.one_piece.Pause.TheVariants as pause
 use Rattle.tlv_io.specs.declared.out.Out.{Out}
 use Rattle.tlv_io.specs.Device.{LastReadValue, never, gave, failed, failures_after, ReadsOnce}
 use Rattle.tlv_walk.specs.Events.{EventValue}

@@ -8,8 +8,8 @@ use Rattle.tlv_walk.specs.declared.event.Step.TheVariants as step
 use Rattle.tlv_walk.specs.declared.follow.Go.{Go}
 use Rattle.tlv_walk.specs.declared.follow.Go.TheVariants as go
 use Rattle.tlv_walk.specs.declared.framing.Framing.{Framing}
-use Rattle.tlv_walk.specs.declared.one_turn.Pause.{Pause}
-use Rattle.tlv_walk.specs.declared.one_turn.Pause.TheVariants as pause
+use Rattle.tlv_walk.specs.declared.one_piece.Pause.{Pause}
+use Rattle.tlv_walk.specs.declared.one_piece.Pause.TheVariants as pause
 use Rattle.tlv_io.specs.Device.{DrainState}
 use Rattle.tlv_walk.specs.Events.{AreEqualJoined, EventValue, events, single_octets}
 use Rattle.tlv_walk.specs.Follow.{Effect, and_then, effect_of, followed_events, FollowsEvents, ReturnsEffect}
@@ -188,7 +188,7 @@ module _ {S : Type 0} (next : S → EventValue → Effect S) where
     }
 
     -- the same was put, and another result is returned
-    same_put : (x y : FollowStates S D) (more : List EventValue) (why : Pause)
+    pub same_put : (x y : FollowStates S D) (more : List EventValue) (why : Pause)
         → HasPut state_of x.out y.out (effect_of next x.follower more).put
         → Puts {T = Pause} {E = WriteFault} state_of x.out y.out (effect_of next x.follower more).put (Ok why)
     same_put x y more why p =

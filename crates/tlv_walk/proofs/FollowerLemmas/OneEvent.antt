@@ -1,18 +1,20 @@
 -- One event of a piece, followed after others, or nothing of it.
-use Rattle.std.proofs.Common.{◌≡◌, ℕ, ◌+◌, List, length, Option, Some, None, sym, ap₂, subst}
+use Rattle.std.proofs.Common.{◌≡◌, ℕ, ◌+◌, List, length, Option, Some, None, refl, sym, ap, ap₂, subst, arith}
 use Rattle.std.specs.Prelude.{Ok, Err}
 use Rattle.tlv_io.specs.declared.drain.WriteFault.{WriteFault}
 use Rattle.tlv_io.specs.Device.{DrainState}
 use Rattle.tlv_walk.specs.declared.event.Event.{Event}
 use Rattle.tlv_walk.specs.declared.follow.Go.{Go}
 use Rattle.tlv_walk.specs.declared.follow.Go.TheVariants as go
+use Rattle.tlv_walk.specs.declared.one_piece.Pause.{Pause}
+use Rattle.tlv_walk.specs.declared.one_piece.Pause.TheVariants as pause
 use Rattle.tlv_walk.specs.Events.{EventValue, event_value_of}
 use Rattle.tlv_walk.specs.Follow.{Effect, ReturnsEffect}
 use Rattle.tlv_walk.specs.WalkerState.{WalkerState}
-use Rattle.tlv_walk.specs.Private.FollowsPiece.{FollowsIfTaken, FollowsOneOrNone, FollowsPiece, FollowStates}
-use Rattle.tlv_walk.specs.Private.WalkerCalls.{CountsOne}
+use Rattle.tlv_walk.specs.Private.FollowsPiece.{Follows, FollowsIfTaken, FollowsOneOrNone, FollowsPiece, FollowStates}
+use Rattle.tlv_walk.specs.Private.WalkerCalls.{CountsOne, UsesUp}
 use Rattle.tlv_walk.specs.Private.Yields.{StepsAtOnce}
-use Rattle.tlv_walk.proofs.FollowerLemmas.FollowSteps.{HasFollowed, fails_event, follows_event}
+use Rattle.tlv_walk.proofs.FollowerLemmas.FollowSteps.{HasFollowed, fails_event, follows_event, pauses_enough, same_put}
 use Rattle.tlv_walk.proofs.WalkerLemmas.StepStands.{stands_all}
 
 module _ {S D : Type 0} (next : S → EventValue → Effect S) (state_of : D → DrainState) where
@@ -108,3 +110,24 @@ module _ {S D : Type 0} (next : S → EventValue → Effect S) (state_of : D →
   no_more_walked y z rest left r is p =
       let n : LeavesAll y z rest left = leaves_all y z rest left r is p in
       ap₂ (λ (m : WalkerState) (o : List ℕ). m.offset + length o) n.walker n.all_left
+
+  -- why a piece is followed no further that its first event uses up
+  abbrev pub pause_after : Go → Pause
+  pause_after go.On = pause.UsedUp
+  pause_after go.Enough = pause.Enough
+
+  pub pauses_used_up_at_once : (x y : FollowStates S D) (piece rest : List ℕ) (goes : Go)
+      → HasFollowed next state_of x y piece rest goes
+      → CountsOne x.walker y.walker piece rest → UsesUp y.walker rest
+      → FollowsPiece next state_of x y piece (Ok (pause_after goes))
+  pauses_used_up_at_once x y piece rest go.On h counts used = record {
+    more = h.more;
+    pauses = record {
+      follows = subst (λ (left : List ℕ). Follows next x y piece left h.more go.On) used.none_left h.follows;
+      offset = omega (arith, counts.counts, ap length used.none_left);
+      ready = used.ready;
+    };
+    puts = same_put next state_of x y h.more pause.UsedUp h.puts;
+  }
+  pauses_used_up_at_once x y piece rest go.Enough h counts used =
+      pauses_enough next state_of x y piece rest go.Enough h refl counts.has_yielded.after_event

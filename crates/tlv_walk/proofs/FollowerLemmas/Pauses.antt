@@ -4,8 +4,8 @@ use Rattle.std.specs.Prelude.{Ok, Err, ⊤}
 use Rattle.tlv_head.specs.declared.fault.Fault.{Fault}
 use Rattle.tlv_io.specs.declared.drain.WriteFault.{WriteFault}
 use Rattle.tlv_io.specs.declared.out.Out.{Out}
-use Rattle.tlv_walk.specs.declared.one_turn.Pause.{Pause}
-use Rattle.tlv_walk.specs.declared.one_turn.Pause.TheVariants as pause
+use Rattle.tlv_walk.specs.declared.one_piece.Pause.{Pause}
+use Rattle.tlv_walk.specs.declared.one_piece.Pause.TheVariants as pause
 use Rattle.tlv_io.specs.Device.{DrainState}
 use Rattle.tlv_walk.specs.Events.{AreEqualJoined, EventValue, events}
 use Rattle.tlv_walk.specs.Follow.{Effect, effect_of}

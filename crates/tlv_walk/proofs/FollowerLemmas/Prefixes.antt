@@ -6,7 +6,6 @@ use Rattle.std.proofs.lemmas.List.{take-append-drop}
 use Rattle.std.specs.Prelude.{Ok, Err}
 use Rattle.tlv_head.specs.Header.{HeaderValue}
 use Rattle.tlv_io.specs.declared.drain.WriteFault.{WriteFault}
-use Rattle.tlv_io.specs.declared.out.Out.{Out}
 use Rattle.tlv_walk.specs.declared.follow.Go.{Go}
 use Rattle.tlv_walk.specs.declared.follow.Go.TheVariants as go
 use Rattle.tlv_walk.specs.declared.framing.Framing.{Framing}
@@ -16,7 +15,6 @@ use Rattle.tlv_walk.specs.Events.{EventValue}
 use Rattle.tlv_walk.specs.Follow.{Effect, effect_of, followed_events, events_if_more, effect_if_more, whole_effect}
 use Rattle.tlv_walk.specs.Follow.{whole_events, FollowsEvents, FollowsWhole, HasEffect}
 use Rattle.tlv_walk.specs.WalkerState.{WalkerState}
-use Rattle.tlv_io.specs.Out.{Puts}
 use Rattle.tlv_walk.specs.Private.FollowsPiece.{FollowsPrefix, FollowsPiece, BeginEventsOf, TakesNone, TakesPrefix}
 use Rattle.tlv_walk.specs.Private.FollowsPiece.{TakesPrefixOrNone, FollowStates, WalksOver}
 use Rattle.tlv_walk.specs.Private.WalkerCalls.{CanPass, Passes, header_at}

@@ -15,8 +15,8 @@ use Rattle.tlv_walk.specs.declared.run.DeviceFault.TheVariants.{ReadFailed, Writ
 use Rattle.tlv_walk.specs.declared.run.Run.{Run}
 use Rattle.tlv_walk.specs.declared.run.Turn.{Turn}
 use Rattle.tlv_walk.specs.declared.run.Turn.TheVariants.{Again, Ended}
-use Rattle.tlv_walk.specs.declared.one_turn.Pause.{Pause}
-use Rattle.tlv_walk.specs.declared.one_turn.Pause.TheVariants as pause
+use Rattle.tlv_walk.specs.declared.one_piece.Pause.{Pause}
+use Rattle.tlv_walk.specs.declared.one_piece.Pause.TheVariants as pause
 use Rattle.tlv_io.specs.Device.{DrainState}
 use Rattle.tlv_walk.specs.Ending.{IsEnding, IsFinalEnding}
 use Rattle.tlv_walk.specs.Events.{AreEqualJoined, EventValue, events}

@@ -10,8 +10,8 @@ use Rattle.tlv_walk.specs.declared.event.Event.{Event}
 use Rattle.tlv_walk.specs.declared.follow.Go.{Go}
 use Rattle.tlv_walk.specs.declared.follow.Go.TheVariants as go
 use Rattle.tlv_walk.specs.declared.framing.Framing.{Framing}
-use Rattle.tlv_walk.specs.declared.one_turn.Pause.{Pause}
-use Rattle.tlv_walk.specs.declared.one_turn.Pause.TheVariants as pause
+use Rattle.tlv_walk.specs.declared.one_piece.Pause.{Pause}
+use Rattle.tlv_walk.specs.declared.one_piece.Pause.TheVariants as pause
 use Rattle.tlv_walk.specs.Events.{AreEqualJoined, EventValue, event_value_of, events}
 use Rattle.tlv_walk.specs.Follow.{Effect, effect_of, ReturnsEffect, FollowsEvents}
 use Rattle.tlv_walk.specs.Forest.{Forest}

@@ -7,8 +7,8 @@ use Rattle.tlv_walk.specs.declared.run.DeviceFault.TheVariants.{InputTooLong}
 use Rattle.tlv_walk.specs.declared.run.Run.{Run}
 use Rattle.tlv_walk.specs.declared.run.Turn.{Turn}
 use Rattle.tlv_walk.specs.declared.run.Turn.TheVariants.{Again, Ended}
-use Rattle.tlv_walk.specs.declared.one_turn.Pause.{Pause}
-use Rattle.tlv_walk.specs.declared.one_turn.Pause.TheVariants as pause
+use Rattle.tlv_walk.specs.declared.one_piece.Pause.{Pause}
+use Rattle.tlv_walk.specs.declared.one_piece.Pause.TheVariants as pause
 use Rattle.tlv_walk.specs.Ending.{IsEnding}
 use Rattle.tlv_walk.specs.WalkerState.{WalkerState}
 use Rattle.tlv_walk.specs.Walker.{unused_offset, IfStands}

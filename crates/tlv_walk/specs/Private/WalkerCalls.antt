@@ -63,6 +63,17 @@ HasOpenPrimitive phase = (left : ℕ) × (phase ≡ InPrimitive left)
 abbrev pub HasNoContents : WalkerState → List ℕ → Type 0
 HasNoContents w piece = (left : ℕ) → w.phase ≡ InPrimitive left → (0 < left) × (piece ≡ [])
 
+-- so many contents octets of the open primitive are still to come, and a piece with some of them does not have all
+pub record EndsBeyond (w : WalkerState) (left : ℕ) (piece : List ℕ) : Type 0 where
+  pub phase : w.phase ≡ InPrimitive left
+  pub beyond : length piece < left
+  pub some : piece ≢ []
+
+-- nothing is left of a piece, and the walker is ready for the next octet
+pub record UsesUp (new : WalkerState) (rest : List ℕ) : Type 0 where
+  pub none_left : rest ≡ []
+  pub ready : IsReady new
+
 -- the piece begins where a header begins or continues
 abbrev pub CanRead : WalkerState → List ℕ → Type 0
 CanRead w piece = CanBegin w piece ⊎ (HasBegunHeader w.phase × (piece ≢ []))

@@ -1,8 +1,9 @@
 //! How a walker takes the contents of primitives, and padding.
-ghost use Rattle.std.specs.Prelude.{◌≡◌, ◌≢◌, ◌<◌, ◌≤◌, [], All, Some, length, slice_get, take, true};
+ghost use Rattle.std.specs.Prelude.{◌≡◌, ◌≢◌, ◌<◌, ◌≤◌, [], All, IfSome, Some, length, slice_get, take, true};
 ghost use Rattle.tlv_walk.specs.declared.event.Step.TheVariants as step;
 ghost use Rattle.tlv_walk.specs.WalkerState.{Between, InBitString, InPrimitive};
 ghost use Rattle.tlv_walk.specs.Walker.{IsWithinInputLimit};
+ghost use Rattle.tlv_walk.specs.Private.WalkerCalls.{EndsBeyond, UsesUp};
 ghost use Rattle.tlv_walk.specs.Private.Yields.{EndsElement, Steps};
 
 use super::{Phase, Walker};
@@ -10,13 +11,29 @@ use crate::{Event, Step};
 use tlv_head::FaultCode;
 
 impl Walker<'_> {
+    /// The number of contents octets of the open primitive that are still to come, if a piece has contents alone and
+    /// does not have all of them.
+    #[inline(always)]
+    pub(crate) fn left_beyond(&self, piece: &[u8]) -> Option<u64>
+        ensures { IfSome result (λ left. EndsBeyond self.now left piece.now) }
+    {
+        let Phase::InPrimitive(left) = self.phase else {
+            return None;
+        };
+        if piece.is_empty() || piece.len() as u64 >= left {
+            return None;
+        }
+        Some(left)
+    }
+
     /// Takes contents of a primitive.
     #[inline(always)]
-    pub(super) fn contents<'a>(&mut self, left: u64, piece: &mut &'a [u8]) -> Event<'a>
+    pub(crate) fn contents<'a>(&mut self, left: u64, piece: &mut &'a [u8]) -> Event<'a>
         requires phase { self.old.phase ≡ InPrimitive left }
         requires some { (0 < left) × (piece.old.now ≢ []) }
         requires limit { IsWithinInputLimit self.old piece.old.now }
-        ensures { Steps self.old self.new piece.old.now piece.new.now (step.Event result) }
+        ensures steps { Steps self.old self.new piece.old.now piece.new.now (step.Event result) }
+        ensures used_up { length piece.old.now < left → UsesUp self.new piece.new.now }
     {
         let octets: &'a [u8] = *piece;
         let count = left.min(octets.len() as u64);

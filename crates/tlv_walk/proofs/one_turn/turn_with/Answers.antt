@@ -15,18 +15,18 @@ returns-in_default-clause-read g c = record {
   goes_on = search rules;
 }
 
-pub returns-in_default-follow_and_flush-clause-read : goal.returns-in_default-follow_and_flush-clause-read
-returns-in_default-follow_and_flush-clause-read g c = record {
+pub returns-in_default-follow_piece-clause-read : goal.returns-in_default-follow_piece-clause-read
+returns-in_default-follow_piece-clause-read g c = record {
   calls =
       calls_given g.F.Follow.next _ _ _ c.in-Ok.count _ (rw c.in-Ok.is at c.read.ensures) (search rules)
       (search rules) refl (search rules);
   are_octets = grind (arith, elements);
   turned = λ b yielded st.
-      turns_failed g.F.Follow.next _ _ c.args.out.now c.follow_and_flush.new.out b yielded c.read.new.to
+      turns_failed g.F.Follow.next _ _ c.args.out.now c.follow_piece.new.out b yielded c.read.new.to
       _ _ c.in-Ok.count c.min-walked.result c.args.limit st
       (search rules) c.requires.can.within (search rules) refl (search rules)
-      c.in_default-follow_and_flush.ensures.are_octets
-      g.D.Drain.state refl refl _ c.in_default-follow_and_flush.ensures;
+      c.in_default-follow_piece.ensures.are_octets
+      g.D.Drain.state refl refl _ c.in_default-follow_piece.ensures;
   goes_on = tt;
 }
 
@@ -34,8 +34,8 @@ pub result_of_pause-requires : goal.result_of_pause-requires
 result_of_pause-requires g c used =
     used_up_ready g.F.Follow.next
     (follow_states c.args.walker.now c.args.follower.now c.args.out.now)
-    (follow_states c.follow_and_flush.new.walker c.follow_and_flush.new.follower c.follow_and_flush.new.out)
-    _ _ _ c.in-Ok-follow_and_flush.ensures.pauses used
+    (follow_states c.follow_piece.new.walker c.follow_piece.new.follower c.follow_piece.new.out)
+    _ _ _ c.in-Ok-follow_piece.ensures.pauses used
 
 pub returns-clause-read : goal.returns-clause-read
 returns-clause-read g c =
@@ -43,8 +43,8 @@ returns-clause-read g c =
     turn_states c.args.walker.now c.args.follower.now (g.S.Source.state c.args.source.now)
     (g.D.Drain.state (drain_of c.args.out.now).now) in
     let new =
-    turn_states c.follow_and_flush.new.walker c.follow_and_flush.new.follower (g.S.Source.state c.read.new.self)
-    (g.D.Drain.state (drain_of c.follow_and_flush.new.out).now) in
+    turn_states c.follow_piece.new.walker c.follow_piece.new.follower (g.S.Source.state c.read.new.self)
+    (g.D.Drain.state (drain_of c.follow_piece.new.out).now) in
     record {
       calls =
           calls_answered g.F.Follow.next old new c.read.new.to c.in-Ok.count _ new.walker
@@ -52,14 +52,14 @@ returns-clause-read g c =
           (search rules) (search rules) (search rules) c.result_of_pause.ensures;
       are_octets = grind (arith, elements);
       turned = λ b yielded st.
-          turns_answered g.F.Follow.next old new c.args.out.now c.follow_and_flush.new.out b yielded c.read.new.to
+          turns_answered g.F.Follow.next old new c.args.out.now c.follow_piece.new.out b yielded c.read.new.to
           _ _ c.in-Ok.count c.min-walked.result c.args.limit st
           (search rules) c.requires.can.within (search rules) refl (search rules)
-          c.in-Ok-follow_and_flush.ensures.are_octets
-          g.D.Drain.state refl refl _ _ c.in-Ok-follow_and_flush.ensures c.result_of_pause.ensures;
+          c.in-Ok-follow_piece.ensures.are_octets
+          g.D.Drain.state refl refl _ _ c.in-Ok-follow_piece.ensures c.result_of_pause.ensures;
       goes_on =
-          can_go_on_answered g.F.Follow.next old new c.read.new.to c.args.out.now c.follow_and_flush.new.out
+          can_go_on_answered g.F.Follow.next old new c.read.new.to c.args.out.now c.follow_piece.new.out
           c.in-Ok.count c.min-walked.result c.args.limit _ _ _ _ c.result_of_pause.ensures
-          c.in-Ok-follow_and_flush.ensures.pauses
+          c.in-Ok-follow_piece.ensures.pauses
           (search rules) (search rules) c.requires.can.within;
     }

@@ -15,5 +15,5 @@ returns-clause-puts g c =
     (g.met.N.FiniteNames.has_table c.self.inside.names.now) in
     let same =
     ap (λ (s : LinesState). whole_lines_with s.with_text (finite.get s.names) h s.layout octets)
-    (c.self.view_is ∙ c.set_after_header.ensures) in
+    c.self.view_is in
     puts_text g.D.Drain.state _ _ _ _ _ (named ∙ same) c.put_whole_with.ensures

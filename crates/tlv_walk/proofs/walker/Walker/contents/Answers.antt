@@ -4,8 +4,8 @@ use Rattle.tlv_walk.specs.WalkerState.{WalkerState}
 use Rattle.tlv_walk.proofs.WalkerLemmas.YieldedEvents.{yields_contents}
 use Rattle.tlv_walk.proofs.walker.Walker.contents.Goals as goal
 
-pub returns : goal.returns
-returns c =
+pub returns-clause-steps : goal.returns-clause-steps
+returns-clause-steps c =
     let offset = ap (λ (w : WalkerState). w.offset) c.self.view_is in
     record {
       counts = (
@@ -28,3 +28,10 @@ returns c =
             (search rules));
       };
     }
+
+pub returns-clause-used_up : goal.returns-clause-used_up
+returns-clause-used_up c beyond = record {
+  none_left = nil_from_length _
+      (omega (arith, c.split_at.ensures.front_len, c.split_at.ensures.back_len, c.min-count.ensures, beyond));
+  ready = search rules;
+}

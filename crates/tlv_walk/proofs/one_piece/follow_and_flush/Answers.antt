@@ -3,7 +3,7 @@ use Rattle.std.proofs.lemmas.Grind.{elements}
 use Rattle.std.proofs.lemmas.Result.{err_from_is_err_and}
 use Rattle.tlv_walk.specs.Reading.{AreOctets}
 use Rattle.tlv_walk.proofs.FollowerLemmas.Pauses.{fails_sent, pauses_flushed, pauses_unflushed}
-use Rattle.tlv_walk.proofs.one_turn.follow_and_flush.Goals as goal
+use Rattle.tlv_walk.proofs.one_piece.follow_and_flush.Goals as goal
 
 pub returns-in_err-pause : goal.returns-in_err-pause
 returns-in_err-pause g c =

@@ -15,19 +15,19 @@ use Rattle.tlv_walk.proofs.FollowerLemmas.OneEvent.{no_more_walked, one_counts}
 use Rattle.tlv_walk.proofs.FollowerLemmas.Prefixes.{fails_prefix, follows_left, follows_prefix, left_walked}
 use Rattle.tlv_walk.proofs.FollowerLemmas.Prefixes.{prefix_passes}
 use Rattle.tlv_walk.proofs.WalkerLemmas.StepStands.{event_offset, stands_all, walked_event}
-use Rattle.tlv_walk.proofs.one_turn.follow.Goals.{in-Some+in-Close+in_ok-go-in-Close}
-use Rattle.tlv_walk.proofs.one_turn.follow.Goals.{in-Some+in-Leave+in_ok-go-in-Leave}
-use Rattle.tlv_walk.proofs.one_turn.follow.Goals.{in_default+in-Some-constructed+in_ok-go}
-use Rattle.tlv_walk.proofs.one_turn.follow.Goals.{
+use Rattle.tlv_walk.proofs.one_piece.follow.Goals.{in-Some+in-Close+in_ok-go-in-Close}
+use Rattle.tlv_walk.proofs.one_piece.follow.Goals.{in-Some+in-Leave+in_ok-go-in-Leave}
+use Rattle.tlv_walk.proofs.one_piece.follow.Goals.{in_default+in-Some-constructed+in_ok-go}
+use Rattle.tlv_walk.proofs.one_piece.follow.Goals.{
   in_default+in_default-constructed+in-Some-contents_event+in_ok-go-2,
 }
-use Rattle.tlv_walk.proofs.one_turn.follow.Goals.{
+use Rattle.tlv_walk.proofs.one_piece.follow.Goals.{
   in_default+in_default-constructed+in_default-contents_event+in_ok-go-3+in-Some-2,
 }
-use Rattle.tlv_walk.proofs.one_turn.follow.Goals.{
+use Rattle.tlv_walk.proofs.one_piece.follow.Goals.{
   in_default+in_default-constructed+in_default-contents_event+in_ok-go-3+in-None+in-Event+in_ok-go-in-Event,
 }
-use Rattle.tlv_walk.proofs.one_turn.follow.Goals as goal
+use Rattle.tlv_walk.proofs.one_piece.follow.Goals as goal
 
 -- nothing was taken
 counts-of_none : (v w : WalkerState) (xs ys : List ℕ) → v ≡ w → xs ≡ ys → v.offset + length xs ≡ w.offset + length ys

@@ -2,7 +2,7 @@ use Rattle.std.proofs.Common.{◌≡◌, ◌+◌, ◌-◌, length}
 use Rattle.tlv_walk.specs.declared.follow.Go.TheVariants.{On}
 use Rattle.tlv_walk.specs.Private.FollowsPiece.{follow_states}
 use Rattle.tlv_walk.proofs.FollowerLemmas.FollowSteps.{HasFollowed}
-use Rattle.tlv_walk.proofs.one_turn.follow.Given as goal
+use Rattle.tlv_walk.proofs.one_piece.follow.Given as goal
 
 abbrev pub invariant-events : goal.invariant-events
 invariant-events g l = record {

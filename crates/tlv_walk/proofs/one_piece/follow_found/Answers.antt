@@ -2,7 +2,7 @@ use Rattle.std.proofs.Common.{refl, rules}
 use Rattle.std.proofs.lemmas.Result.{err_from_is_err_and}
 use Rattle.tlv_walk.proofs.FollowerLemmas.Prefixes.{prefix_fails, prefix_whole}
 use Rattle.tlv_walk.proofs.WalkerLemmas.Passing.{is_whole_element}
-use Rattle.tlv_walk.proofs.one_turn.follow_found.Goals as goal
+use Rattle.tlv_walk.proofs.one_piece.follow_found.Goals as goal
 
 pub whole-requires : goal.whole-requires
 whole-requires g c = rw c.new-header.ensures (record {
