@@ -45,8 +45,8 @@ pub(crate) fn follow_piece<F: Follow, D: Drain>(
     }
 }
 
-/// Follows a piece that has contents of the open primitive alone, and hands the follower's output to the drain. `left`
-/// is the number of contents octets still to come, which are more than the piece has.
+/// Follows a piece that has some contents of the open primitive and nothing else, and hands the follower's output to
+/// the drain. `left` is the number of contents octets still to come, which are more than the piece has.
 #[inline(never)]
 fn follow_contents<F: Follow, D: Drain>(
     walker: &mut Walker<'_>,

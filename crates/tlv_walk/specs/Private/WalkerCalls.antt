@@ -63,7 +63,8 @@ HasOpenPrimitive phase = (left : ℕ) × (phase ≡ InPrimitive left)
 abbrev pub HasNoContents : WalkerState → List ℕ → Type 0
 HasNoContents w piece = (left : ℕ) → w.phase ≡ InPrimitive left → (0 < left) × (piece ≡ [])
 
--- so many contents octets of the open primitive are still to come, and a piece with some of them does not have all
+-- `left` contents octets of the open primitive are still to come: the piece has some of them and nothing else, and does
+-- not have all
 pub record EndsBeyond (w : WalkerState) (left : ℕ) (piece : List ℕ) : Type 0 where
   pub phase : w.phase ≡ InPrimitive left
   pub beyond : length piece < left

@@ -11,8 +11,8 @@ use crate::{Event, Step};
 use tlv_head::FaultCode;
 
 impl Walker<'_> {
-    /// The number of contents octets of the open primitive that are still to come, if a piece has contents alone and
-    /// does not have all of them.
+    /// The number of contents octets of the open primitive that are still to come, if the piece has some of them and
+    /// nothing else, and does not have all.
     #[inline(always)]
     pub(crate) fn left_beyond(&self, piece: &[u8]) -> Option<u64>
         ensures { IfSome result (λ left. EndsBeyond self.now left piece.now) }
