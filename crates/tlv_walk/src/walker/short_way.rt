@@ -61,11 +61,8 @@ impl Walker<'_> {
         let Size::Definite(length) = fields.size else {
             return None;
         };
-        if length > (octets.len() - header_length) as u64 {
-            return None;
-        }
         let octet_count = header_length + length as usize;
-        if !self.stack.is_within(self.offset + octet_count as u64) {
+        if octet_count > octets.len() || !self.stack.is_within(self.offset + octet_count as u64) {
             return None;
         }
         Some(WholePrimitive {
