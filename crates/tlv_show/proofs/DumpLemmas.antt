@@ -4,6 +4,7 @@ pub mod DumpItems
 pub mod DumpShown
 pub mod DumpSteps
 pub mod DumpTexts
+pub mod FinderKeeps
 pub mod LongerInputs
 pub mod OctetPieces
 pub mod ClearPrimitives

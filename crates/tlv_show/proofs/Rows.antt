@@ -9,7 +9,8 @@ use Rattle.tlv_head.specs.Header.{HeaderValue}
 use Rattle.hex.specs.Hex.{encode_with}
 use Rattle.tlv_walk.specs.Events.{Begin, Bytes, Close, End, Enter, EventValue, Leave, Open, Pad}
 use Rattle.tlv_walk.specs.Follow.{effect_of}
-use Rattle.tlv_show.specs.LinesStep.{lines_step, new_lines}
+use Rattle.tlv_show.specs.declared.rules.Rules.TheVariants.{Ber}
+use Rattle.tlv_show.specs.DumpStep.{dump_step, new_dump}
 
 -- a universal header of two octets
 universal : ℕ → Bool → ℕ → Size → List ℕ → List ℕ → HeaderValue
@@ -28,7 +29,7 @@ ended : List ℕ → List ℕ
 ended text = text ++ 10 ∷ []
 
 dump_of : List EventValue → List ℕ
-dump_of es = (effect_of lines_step (new_lines false (record { level = 0; limit = None; pure = false }) finite.empty) es).put
+dump_of es = (effect_of dump_step (new_dump Ber (record { level = 0; limit = None; pure = false }) finite.empty) es).put
 
 -- 3a 09 04 03 4a 6f 6e 04 02 65 73
 constructed-string : dump_of

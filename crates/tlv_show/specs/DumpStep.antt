@@ -1,6 +1,6 @@
 -- What a dump does with events: the lines of elements, with the lines of findings in them before and after.
 use Rattle.std.specs.Option.{is_some}
-use Rattle.std.specs.Prelude.{ℕ, Bool, false, List, [], ◌∷◌, ◌++◌}
+use Rattle.std.specs.Prelude.{ℕ, ◌-◌, Bool, false, List, [], ◌∷◌, ◌++◌}
 use Rattle.tlv_value.specs.declared.layout.Layout.{Layout}
 use Rattle.tlv_value.specs.Names.{NamesValue}
 use Rattle.tlv_walk.specs.Events.{Begin, Bytes, Close, End, Enter, EventValue, Leave, Open, Pad, Unused}
@@ -13,6 +13,7 @@ use Rattle.tlv_show.specs.LinesStep.{LinesState, lines_octet_step, lines_padding
 use Rattle.tlv_show.specs.FinderState.{CheckState, FinderState, finder_begin_step, finder_bytes_step}
 use Rattle.tlv_show.specs.FinderState.{finder_close_step, finder_end_step, finder_open_step, new_check}
 use Rattle.tlv_show.specs.FinderState.{without_findings}
+use Rattle.tlv_show.specs.NestingState.{depth_in}
 use Rattle.tlv_show.specs.ShownFindings.{listed_by}
 
 -- what contracts see of a `Dump`
@@ -31,6 +32,10 @@ new_dump_with with_text wanted layout names = record {
 
 abbrev pub new_dump : Rules → Layout → NamesValue → DumpState
 new_dump rules layout names = new_dump_with false (listed_by rules) layout names
+
+-- the number of open holders, which is the level of what is in the innermost one
+abbrev pub level_in : DumpState → ℕ
+level_in s = depth_in s.finder.holders
 
 -- the lines of the findings
 abbrev pub finding_lines : DumpState → FinderState → List ℕ
@@ -53,18 +58,21 @@ dump_octet_step s x =
 
 abbrev pub dump_padding_step : DumpState → ℕ → Effect DumpState
 dump_padding_step s x =
-    let d = lines_padding_step s.lines x in
+    let d = lines_padding_step (level_in s) s.lines x in
     effect_with (record { lines = d.state; finder = s.finder }) d.put
 
--- an event
+-- an event: an element that begins is at the level of what is in the innermost open holder, and a holder that ends is
+-- at the level outside of it
 abbrev pub dump_step : DumpState → EventValue → Effect DumpState
-dump_step s (Open h) = findings_before s (finder_open_step s.finder h) (lines_step s.lines (Open h))
-dump_step s (Enter h) = findings_before s (finder_open_step s.finder h) (lines_step s.lines (Enter h))
-dump_step s (Begin h) = findings_before s (finder_begin_step s.finder h) (lines_step s.lines (Begin h))
+dump_step s (Open h) = findings_before s (finder_open_step s.finder h) (lines_step (level_in s) s.lines (Open h))
+dump_step s (Enter h) = findings_before s (finder_open_step s.finder h) (lines_step (level_in s) s.lines (Enter h))
+dump_step s (Begin h) = findings_before s (finder_begin_step s.finder h) (lines_step (level_in s) s.lines (Begin h))
 dump_step s (Bytes octets) = each_octet dump_octet_step s octets
-dump_step s End = findings_after s (finder_end_step s.finder) (lines_step s.lines End)
+dump_step s End = findings_after s (finder_end_step s.finder) (lines_step (level_in s) s.lines End)
 dump_step s (Close offset) =
-    findings_after s (finder_close_step s.finder (is_some offset)) (lines_step s.lines (Close offset))
-dump_step s Leave = findings_after s (finder_close_step s.finder false) (lines_step s.lines Leave)
-dump_step s Unused = findings_after s (without_findings s.finder) (lines_step s.lines Unused)
+    findings_after s (finder_close_step s.finder (is_some offset))
+    (lines_step (level_in s - 1) s.lines (Close offset))
+dump_step s Leave =
+    findings_after s (finder_close_step s.finder false) (lines_step (level_in s - 1) s.lines Leave)
+dump_step s Unused = findings_after s (without_findings s.finder) (lines_step (level_in s) s.lines Unused)
 dump_step s (Pad octets) = each_octet dump_padding_step s octets

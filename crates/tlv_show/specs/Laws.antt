@@ -9,7 +9,7 @@ use Rattle.tlv_show.specs.declared.rules.Rules.TheVariants.{Ber}
 use Rattle.tlv_show.specs.ShowJob.{top_layout}
 use Rattle.tlv_show.specs.WantedJobs.{check_job_with, dump_job_with, wanted_in}
 use Rattle.tlv_show.specs.FinderState.{new_check}
-use Rattle.tlv_show.specs.Texts.{check_line, finding_count}
+use Rattle.tlv_show.specs.Texts.{check_line, finding_count, layout_at}
 use Rattle.tlv_show.specs.CheckStep.{check_step}
 use Rattle.tlv_show.specs.DumpStep.{new_dump_with}
 use Rattle.tlv_head.specs.Header.{HasAllContents, HeaderValue}
@@ -28,9 +28,8 @@ use Rattle.tlv_show.specs.declared.wanted.Wanted.{Wanted}
 use Rattle.tlv_walk.specs.declared.follow.Go.TheVariants.{On}
 use Rattle.tlv_show.specs.declared.finding_lines.Style.TheVariants.{Dump}
 use Rattle.tlv_show.specs.FindingLines.{styled_lines}
-use Rattle.tlv_show.specs.DumpStep.{DumpState, dump_step, finding_lines}
+use Rattle.tlv_show.specs.DumpStep.{DumpState, dump_step, finding_lines, level_in}
 use Rattle.tlv_show.specs.FinderState.{CheckState, finder_begin_step, finder_bytes_step, finder_end_step, is_misplaced}
-use Rattle.tlv_show.specs.NestingState.{depth_in}
 use Rattle.tlv_show.specs.ListedFindings.{rules_have, listed_findings}
 use Rattle.tlv_show.specs.ShownFindings.{all_by, contents_findings, is_listed, listed_by, wanted_findings}
 use Rattle.tlv_show.specs.ShownFindings.{with_order_if}
@@ -60,7 +59,7 @@ whole_primitive s h c = (finder_end_step (finder_bytes_step (finder_begin_step s
 -- the lines of the findings on the contents of a primitive
 abbrev pub contents_finding_lines : DumpState → HeaderValue → List ℕ → List ℕ
 contents_finding_lines s h c =
-    styled_lines (Dump s.lines.layout.pure) (depth_in s.finder.holders) h.offset
+    styled_lines (Dump s.lines.layout.pure) (level_in s) h.offset
     (with_order_if (is_misplaced s.finder.wanted (whole_primitive s.finder h c).seen)
     (contents_findings s.finder.wanted h c))
 
@@ -75,7 +74,7 @@ PrimitivesAreShown =
     × (effect_of dump_step s (Begin h ∷ Bytes c ∷ End ∷ [])
     ≡ effect_with shown
     (finding_lines s (finder_begin_step s.finder h)
-    ++ (whole_lines_with s.lines.with_text (finite.get s.lines.names) h s.lines.layout c
+    ++ (whole_lines_with s.lines.with_text (finite.get s.lines.names) h (layout_at s.lines.layout (level_in s)) c
     ++ contents_finding_lines s h c)))
 
 -- a `Dump` puts the text of the reading of an input of at most 2^40 octets, counts its findings, and always wants more

@@ -1,6 +1,6 @@
 -- What a dump does with events, without the lines of findings.
-use Rattle.std.specs.Prelude.{ℕ, ◌+◌, ◌-◌, ◌==◌, if◌then◌else◌, Bool, true, false, List, [], ◌∷◌, length, min}
-use Rattle.std.specs.Prelude.{take, Option, Some, None}
+use Rattle.std.specs.Prelude.{ℕ, ◌==◌, if◌then◌else◌, Bool, true, false, List, [], ◌∷◌, length, take}
+use Rattle.std.specs.Prelude.{Option, Some, None}
 use Rattle.std.specs.FinMap as finite
 use Rattle.tlv_head.specs.Header.{HeaderValue, octets_of}
 use Rattle.tlv_value.specs.declared.layout.Layout.{Layout}
@@ -11,10 +11,11 @@ use Rattle.tlv_walk.specs.Events.{Begin, Bytes, Close, End, Enter, EventValue, L
 use Rattle.tlv_walk.specs.Follow.{Effect, each_octet, effect_with}
 use Rattle.tlv_show.specs.HolderLines.{closing_line, opening_line, padding_line, opening_word}
 use Rattle.tlv_show.specs.SaturatingSum.{saturating_sum}
+use Rattle.tlv_show.specs.Texts.{layout_at}
 
 -- what contracts see of the `Lines` of a dump
 pub record LinesState : Type 0 where
-  -- how lines are laid out: the level is the number of open holders
+  -- how lines are laid out; the level is that of each line
   pub layout : Layout
   -- whether text is shown beside pairs of digits
   pub with_text : Bool
@@ -38,13 +39,6 @@ new_lines with_text layout names = record {
   open_text = None;
 }
 
--- the layout of what an element holds, and of what holds it; the level stops at 255
-abbrev pub inner_layout : Layout → Layout
-inner_layout layout = record layout { level = min (layout.level + 1) 255 }
-
-abbrev pub outer_layout : Layout → Layout
-outer_layout layout = record layout { level = layout.level - 1 }
-
 -- an element begins, and padding ends
 abbrev pub lines_after_header : LinesState → HeaderValue → LinesState
 lines_after_header s h = record s {
@@ -52,25 +46,29 @@ lines_after_header s h = record s {
   in_padding = false;
 }
 
+-- Below, the level is that of the element: the number of open holders around it.
+
 -- a holder begins
-abbrev pub lines_open_step : LinesState → HeaderValue → List ℕ → Effect LinesState
-lines_open_step s h word =
-    effect_with (record (lines_after_header s h) { layout = inner_layout s.layout })
-    (opening_line s.layout h word)
+abbrev pub lines_open_step : ℕ → LinesState → HeaderValue → List ℕ → Effect LinesState
+lines_open_step level s h word =
+    effect_with (lines_after_header s h) (opening_line (layout_at s.layout level) h word)
 
 -- a holder ends
-abbrev pub lines_close_step : LinesState → Option ℕ → Effect LinesState
-lines_close_step s None =
-    effect_with (record s { layout = outer_layout s.layout }) (closing_line (outer_layout s.layout) None)
-lines_close_step s (Some offset) =
-    effect_with (record s { layout = outer_layout s.layout; offset = saturating_sum offset 2 })
-    (closing_line (outer_layout s.layout) (Some offset))
+abbrev pub lines_close_step : ℕ → LinesState → Option ℕ → Effect LinesState
+lines_close_step level s None = effect_with s (closing_line (layout_at s.layout level) None)
+lines_close_step level s (Some offset) =
+    effect_with (record s { offset = saturating_sum offset 2 })
+    (closing_line (layout_at s.layout level) (Some offset))
+
+-- the text of a primitive that begins
+abbrev pub first_text : ℕ → LinesState → HeaderValue → ValueTextState
+first_text level s h = new_value_text_with s.with_text h (layout_at s.layout level)
 
 -- a primitive begins
-abbrev pub lines_begin_step : LinesState → HeaderValue → Effect LinesState
-lines_begin_step s h =
-    effect_with (record (lines_after_header s h) { open_text = Some (new_value_text_with s.with_text h s.layout) })
-    (begin_lines (new_value_text_with s.with_text h s.layout))
+abbrev pub lines_begin_step : ℕ → LinesState → HeaderValue → Effect LinesState
+lines_begin_step level s h =
+    effect_with (record (lines_after_header s h) { open_text = Some (first_text level s h) })
+    (begin_lines (first_text level s h))
 
 -- contents octets: those after the announced ones are not shown
 abbrev pub open_text_after : Option ValueTextState → List ℕ → Option ValueTextState
@@ -99,19 +97,19 @@ abbrev pub lines_end_step : LinesState → Effect LinesState
 lines_end_step s = effect_with (record s { open_text = None }) (open_text_end_lines s.names s.open_text)
 
 -- an octet of padding: the first of a run has a line
-abbrev pub lines_padding_step : LinesState → ℕ → Effect LinesState
-lines_padding_step s x =
+abbrev pub lines_padding_step : ℕ → LinesState → ℕ → Effect LinesState
+lines_padding_step level s x =
     effect_with (record s { offset = saturating_sum s.offset 1; in_padding = true })
-    (if s.in_padding then [] else padding_line s.layout s.offset)
+    (if s.in_padding then [] else padding_line (layout_at s.layout level) s.offset)
 
--- an event
-abbrev pub lines_step : LinesState → EventValue → Effect LinesState
-lines_step s (Open h) = lines_open_step s h (opening_word true)
-lines_step s (Enter h) = lines_open_step s h (opening_word false)
-lines_step s (Begin h) = lines_begin_step s h
-lines_step s (Bytes octets) = each_octet lines_octet_step s octets
-lines_step s End = lines_end_step s
-lines_step s (Close offset) = lines_close_step s offset
-lines_step s Leave = lines_close_step s None
-lines_step s Unused = effect_with (record s { offset = saturating_sum s.offset 1 }) []
-lines_step s (Pad octets) = each_octet lines_padding_step s octets
+-- an event of an element at this level
+abbrev pub lines_step : ℕ → LinesState → EventValue → Effect LinesState
+lines_step level s (Open h) = lines_open_step level s h (opening_word true)
+lines_step level s (Enter h) = lines_open_step level s h (opening_word false)
+lines_step level s (Begin h) = lines_begin_step level s h
+lines_step level s (Bytes octets) = each_octet lines_octet_step s octets
+lines_step level s End = lines_end_step s
+lines_step level s (Close offset) = lines_close_step level s offset
+lines_step level s Leave = lines_close_step level s None
+lines_step level s Unused = effect_with (record s { offset = saturating_sum s.offset 1 }) []
+lines_step level s (Pad octets) = each_octet (lines_padding_step level) s octets

@@ -1,4 +1,5 @@
 pub mod IfOpen
+pub mod KeptLines
 pub mod LinesStep
 pub mod FinderState
 pub mod Nesting

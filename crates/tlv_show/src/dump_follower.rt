@@ -4,7 +4,7 @@ ghost use Rattle.tlv_head.specs.Header.{octets_of};
 ghost use Rattle.tlv_walk.proofs.FollowerLemmas.FollowedEvents.{each_octet-goes_on, each_octet-joins};
 ghost use Rattle.tlv_walk.specs.Events.{Begin, Bytes, Close, End, Enter, event_value_of};
 ghost use Rattle.tlv_walk.specs.Follow.{HasEffect};
-ghost use Rattle.tlv_show.specs.DumpStep.{dump_octet_step, dump_padding_step, dump_step, findings_before};
+ghost use Rattle.tlv_show.specs.DumpStep.{dump_octet_step, dump_padding_step, dump_step, findings_before, level_in};
 ghost use Rattle.tlv_show.specs.DumpStep.{new_dump, new_dump_with};
 ghost use Rattle.tlv_show.specs.FinderState.{finder_open_step};
 ghost use Rattle.tlv_show.specs.LinesStep.{lines_open_step};
@@ -29,19 +29,25 @@ use tlv_walk::{Drain, Event, Follow, Go, Out, WriteFault};
 #[derive(Drop)]
 pub struct Dump<'n, N: FiniteNames, const TRACKED: usize> {
     lines: Lines<'n, N>,
+    /// It also knows how many elements are open, and whether a primitive is.
     finder: Finder<TRACKED>,
 }
 
 impl<'n, N: FiniteNames, const TRACKED: usize> Model for Dump<'n, N, TRACKED> {
     ghost use Rattle.std.specs.Coded.{codes};
+    ghost use Rattle.std.specs.Option.{is_some};
     ghost use Rattle.tlv_show.specs.DumpStep.{DumpState};
+    ghost use Rattle.tlv_show.specs.Private.KeptLines.{lines_if};
     ghost use Rattle.tlv_value.specs.Names.{table_code};
 
     ghost Value = { DumpState };
 
     ghost coded = { Prim.hlevel (codes, table_code) };
 
-    ghost view = { λ d. record { lines = d.lines; finder = d.finder.kept } };
+    ghost view = { λ d. record {
+      lines = lines_if (is_some d.finder.kept.open_primitive) d.lines;
+      finder = d.finder.kept;
+    } };
 }
 
 impl<'n, N: FiniteNames> Dump<'n, N, 0> {
@@ -137,7 +143,8 @@ impl<N: FiniteNames, const TRACKED: usize> Follow for Dump<'_, N, TRACKED> {
         if !self.finder.passes(header, contents) {
             return Ok(false);
         }
-        self.lines.whole(header, contents, out)?;
+        self.lines
+            .whole(self.finder.level(), header, contents, out)?;
         Ok(true)
     }
 
@@ -187,7 +194,7 @@ impl<N: FiniteNames, const TRACKED: usize> Dump<'_, N, TRACKED> {
                 self.lines.unused();
                 Ok(())
             }
-            Event::Pad(octets) => self.lines.pad(octets, out),
+            Event::Pad(octets) => self.lines.pad(self.finder.level(), octets, out),
         }
     }
 
@@ -204,13 +211,14 @@ impl<N: FiniteNames, const TRACKED: usize> Dump<'_, N, TRACKED> {
         requires short { length word.now ≤ 16 }
         ensures { HasEffect D.state
             (findings_before self.old (finder_open_step self.old.finder header.now)
-            (lines_open_step self.old.lines header.now word.now))
+            (lines_open_step (level_in self.old) self.old.lines header.now word.now))
             out.old out.new self.new result }
     {
+        let level = self.finder.level();
         let may_have_findings = self.finder.open(header, octets);
         let style = self.lines.style();
         put_findings(may_have_findings, style, &self.finder, out)?;
-        self.lines.open(header, word, out)
+        self.lines.open(level, header, word, out)
     }
 
     /// A string that holds encodings begins. Separate: with it [`Dump::put_lines`] would be too large to be inlined.
@@ -235,7 +243,7 @@ impl<N: FiniteNames, const TRACKED: usize> Dump<'_, N, TRACKED> {
         self.finder.begin(header);
         let style = self.lines.style();
         put_findings(true, style, &self.finder, out)?;
-        self.lines.begin(header, out)
+        self.lines.begin(self.finder.level(), header, out)
     }
 
     /// Contents of a primitive go on.
@@ -245,7 +253,7 @@ impl<N: FiniteNames, const TRACKED: usize> Dump<'_, N, TRACKED> {
             out.old out.new self.new result }
     {
         self.finder.bytes(octets);
-        self.lines.bytes(octets, out)
+        self.lines.bytes(self.finder.is_open(), octets, out)
     }
 
     /// A primitive ends.
@@ -253,8 +261,9 @@ impl<N: FiniteNames, const TRACKED: usize> Dump<'_, N, TRACKED> {
     fn end<D: Drain>(&mut self, out: &mut Out<'_, D>) -> Result<(), WriteFault>
         ensures { HasEffect D.state (dump_step self.old End) out.old out.new self.new result }
     {
+        let was_open = self.finder.is_open();
         let may_have_findings = self.finder.end();
-        self.lines.end(out)?;
+        self.lines.end(was_open, out)?;
         let style = self.lines.style();
         put_findings(may_have_findings, style, &self.finder, out)
     }
@@ -270,7 +279,7 @@ impl<N: FiniteNames, const TRACKED: usize> Dump<'_, N, TRACKED> {
             out.old out.new self.new result }
     {
         let may_have_findings = self.finder.close(offset.is_some());
-        self.lines.close(offset, out)?;
+        self.lines.close(self.finder.level(), offset, out)?;
         let style = self.lines.style();
         put_findings(may_have_findings, style, &self.finder, out)
     }

@@ -116,6 +116,22 @@ impl<const TRACKED: usize> Finder<TRACKED> {
         self.finding_count
     }
 
+    /// The number of open elements that hold others.
+    #[inline(always)]
+    pub fn level(&self) -> u8
+        ensures { result ≡ depth_in self.now.kept.holders }
+    {
+        self.holders.depth()
+    }
+
+    /// Whether a primitive is open.
+    #[inline(always)]
+    pub fn is_open(&self) -> bool
+        ensures { result ≡ is_some self.now.kept.open_primitive }
+    {
+        self.is_open
+    }
+
     /// The findings of the last event that may have had some.
     #[inline(always)]
     pub fn last(&self) -> &LastFindings

@@ -1,15 +1,17 @@
 //! The lines of a dump, except the lines of findings.
 ghost use Rattle.std.specs.FinMap as finite;
-ghost use Rattle.std.specs.Prelude.{◌≡◌, ◌≤◌, OnOk, length};
+ghost use Rattle.std.specs.Prelude.{◌≡◌, ◌≤◌, Bool, OnOk, false, length, true};
 ghost use Rattle.tlv_walk.specs.Events.{Unused};
 ghost use Rattle.tlv_walk.specs.Follow.{each_octet, HasEffect};
 ghost use Rattle.tlv_io.specs.Out.{Puts};
 ghost use Rattle.tlv_head.specs.Header.{HasAllContents};
 ghost use Rattle.tlv_value.specs.TextBeside.{whole_lines_with};
+ghost use Rattle.tlv_show.specs.Private.KeptLines.{kept_after_header, lines_if};
 ghost use Rattle.tlv_show.specs.Private.LinesStep.{lines_after_primitive};
 ghost use Rattle.tlv_show.specs.LinesStep.{lines_begin_step, lines_close_step, lines_end_step};
 ghost use Rattle.tlv_show.specs.LinesStep.{lines_octet_step, lines_open_step, lines_padding_step, lines_step};
-ghost use Rattle.tlv_show.specs.LinesStep.{new_lines, lines_after_header};
+ghost use Rattle.tlv_show.specs.LinesStep.{new_lines};
+ghost use Rattle.tlv_show.specs.Texts.{layout_at};
 
 use crate::FiniteNames;
 use crate::finding_lines::Style;
@@ -21,9 +23,12 @@ use tlv_walk::{Drain, Out, WriteFault};
 
 /// Writes the lines that each event allows. An element that holds others has a line with its header and a line with
 /// its end; the lines of a primitive come as [`ValueText`] writes them.
+///
+/// How many elements are open, and whether a primitive is, is not kept here: a [`Finder`](crate::finder::Finder) keeps
+/// it, and each call is given what it needs of it.
 #[derive(Drop)]
 pub(crate) struct Lines<'n, N: FiniteNames> {
-    /// How lines are laid out: the level is the number of open elements that hold others.
+    /// How lines are laid out; the level is that of each line.
     layout: Layout,
     /// Whether text is shown beside pairs of digits.
     with_text: bool,
@@ -32,19 +37,16 @@ pub(crate) struct Lines<'n, N: FiniteNames> {
     offset: u64,
     /// Whether the last octets were padding.
     in_padding: bool,
-    /// Whether a primitive is open.
-    is_open: bool,
     /// The text of the open primitive, or of the last one.
     text: ValueText,
 }
 
 impl<'n, N: FiniteNames> Model for Lines<'n, N> {
     ghost use Rattle.std.specs.Coded.{codes};
-    ghost use Rattle.tlv_show.specs.LinesStep.{LinesState};
-    ghost use Rattle.tlv_show.specs.Private.IfOpen.{if_open};
+    ghost use Rattle.tlv_show.specs.Private.KeptLines.{KeptLines};
     ghost use Rattle.tlv_value.specs.Names.{table_code};
 
-    ghost Value = { LinesState };
+    ghost Value = { KeptLines };
 
     ghost coded = { Prim.hlevel (codes, table_code) };
 
@@ -54,14 +56,14 @@ impl<'n, N: FiniteNames> Model for Lines<'n, N> {
       names = N.table d.names.now;
       offset = d.offset;
       in_padding = d.in_padding;
-      open_text = if_open d.is_open d.text;
+      text = d.text;
     } };
 }
 
 impl<'n, N: FiniteNames> Lines<'n, N> {
     /// The lines of a dump in this layout, before the first line. `with_text` asks for text beside pairs of digits.
     pub fn new(layout: Layout, with_text: bool, names: &'n N) -> Lines<'n, N>
-        ensures { result ≡ new_lines with_text layout (N.table names.now) }
+        ensures { lines_if false result ≡ new_lines with_text layout (N.table names.now) }
     {
         Lines {
             layout,
@@ -69,7 +71,6 @@ impl<'n, N: FiniteNames> Lines<'n, N> {
             names,
             offset: 0,
             in_padding: false,
-            is_open: false,
             text: ValueText::idle(),
         }
     }
@@ -83,10 +84,23 @@ impl<'n, N: FiniteNames> Lines<'n, N> {
         }
     }
 
+    /// The layout of the lines of an element at this level.
+    #[inline(always)]
+    fn layout_at(&self, level: u8) -> Layout
+        ensures { result ≡ layout_at self.now.layout level }
+    {
+        Layout {
+            level,
+            limit: self.layout.limit,
+            pure: self.layout.pure,
+        }
+    }
+
     /// The count of unused bits of a BIT STRING that holds encodings: it has no line.
     #[inline(always)]
     pub fn unused(&mut self)
-        ensures { self.new ≡ (lines_step self.old Unused).state }
+        ensures { (is_open : Bool)
+            → lines_if is_open self.new ≡ (lines_step 0 (lines_if is_open self.old) Unused).state }
     {
         self.offset = self.offset.saturating_add(1);
     }
@@ -94,7 +108,7 @@ impl<'n, N: FiniteNames> Lines<'n, N> {
     /// An element begins: padding ends, and its contents are after its header.
     #[inline(always)]
     fn set_after_header(&mut self, header: &Header)
-        ensures { self.new ≡ lines_after_header self.old header.now }
+        ensures { self.new ≡ kept_after_header self.old header.now }
     {
         self.offset = header.offset.saturating_add(header.raw().len() as u64);
         self.in_padding = false;
@@ -104,16 +118,17 @@ impl<'n, N: FiniteNames> Lines<'n, N> {
     #[inline(always)]
     pub fn open<D: Drain>(
         &mut self,
+        level: u8,
         header: &Header,
         word: &[u8],
         out: &mut Out<'_, D>,
     ) -> Result<(), WriteFault>
         requires { length word.now ≤ 16 }
-        ensures { HasEffect D.state (lines_open_step self.old header.now word.now)
-            out.old out.new self.new result }
+        ensures { (is_open : Bool)
+            → HasEffect D.state (lines_open_step level (lines_if is_open self.old) header.now word.now)
+            out.old out.new (lines_if is_open self.new) result }
     {
-        put_opening(self.layout, header, word, out)?;
-        self.layout.level = self.layout.level.saturating_add(1);
+        put_opening(self.layout_at(level), header, word, out)?;
         self.set_after_header(header);
         Ok(())
     }
@@ -121,56 +136,61 @@ impl<'n, N: FiniteNames> Lines<'n, N> {
     /// An element that holds others ends: `offset` is where its end-of-contents octets are, if it has them.
     pub fn close<D: Drain>(
         &mut self,
+        level: u8,
         offset: Option<u64>,
         out: &mut Out<'_, D>,
     ) -> Result<(), WriteFault>
-        ensures { HasEffect D.state (lines_close_step self.old offset)
-            out.old out.new self.new result }
+        ensures { (is_open : Bool)
+            → HasEffect D.state (lines_close_step level (lines_if is_open self.old) offset)
+            out.old out.new (lines_if is_open self.new) result }
     {
-        self.layout.level = self.layout.level.saturating_sub(1);
         if let Some(offset) = offset {
             self.offset = offset.saturating_add(2);
         }
-        put_closing(self.layout, offset, out)
+        put_closing(self.layout_at(level), offset, out)
     }
 
     /// A primitive begins.
     #[inline(always)]
     pub fn begin<D: Drain>(
         &mut self,
+        level: u8,
         header: &Header,
         out: &mut Out<'_, D>,
     ) -> Result<(), WriteFault>
-        ensures { HasEffect D.state (lines_begin_step self.old header.now)
-            out.old out.new self.new result }
+        ensures { (was_open : Bool)
+            → HasEffect D.state (lines_begin_step level (lines_if was_open self.old) header.now)
+            out.old out.new (lines_if true self.new) result }
     {
         self.set_after_header(header);
-        self.is_open = true;
-        self.text = ValueText::new_with(header, self.layout, self.with_text);
+        self.text = ValueText::new_with(header, self.layout_at(level), self.with_text);
         self.text.begin(out)
     }
 
-    /// Contents of a primitive go on.
+    /// Contents of a primitive go on, if it is open.
     #[inline(always)]
-    pub fn bytes<D: Drain>(&mut self, octets: &[u8], out: &mut Out<'_, D>) -> Result<(), WriteFault>
-        ensures { HasEffect D.state (each_octet lines_octet_step self.old octets.now)
-            out.old out.new self.new result }
+    pub fn bytes<D: Drain>(
+        &mut self,
+        is_open: bool,
+        octets: &[u8],
+        out: &mut Out<'_, D>,
+    ) -> Result<(), WriteFault>
+        ensures { HasEffect D.state (each_octet lines_octet_step (lines_if is_open self.old) octets.now)
+            out.old out.new (lines_if is_open self.new) result }
     {
         if octets.is_empty() {
             return Ok(());
         }
         self.offset = self.offset.saturating_add(octets.len() as u64);
-        put_bytes(self.is_open, &mut self.text, octets, out)
+        put_bytes(is_open, &mut self.text, octets, out)
     }
 
-    /// A primitive ends.
-    pub fn end<D: Drain>(&mut self, out: &mut Out<'_, D>) -> Result<(), WriteFault>
-        ensures state { self.new ≡ (lines_end_step self.old).state }
-        ensures puts { Puts D.state out.old out.new (lines_end_step self.old).put result }
+    /// A primitive ends, if it is open.
+    pub fn end<D: Drain>(&mut self, is_open: bool, out: &mut Out<'_, D>) -> Result<(), WriteFault>
+        ensures state { lines_if false self.new ≡ (lines_end_step (lines_if is_open self.old)).state }
+        ensures puts { Puts D.state out.old out.new (lines_end_step (lines_if is_open self.old)).put result }
     {
-        let put = put_end(self.is_open, &mut self.text, self.names, out);
-        self.is_open = false;
-        put
+        put_end(is_open, &mut self.text, self.names, out)
     }
 
     /// A primitive begins, has all of these contents, and ends. Its lines are written in one step, and nothing is
@@ -178,24 +198,26 @@ impl<'n, N: FiniteNames> Lines<'n, N> {
     #[inline(always)]
     pub fn whole<D: Drain>(
         &mut self,
+        level: u8,
         header: &Header,
         contents: &[u8],
         out: &mut Out<'_, D>,
     ) -> Result<(), WriteFault>
         requires { HasAllContents header.now contents.now }
-        ensures state { self.new ≡ lines_after_primitive self.old header.now contents.now }
+        ensures state { (was_open : Bool)
+            → lines_if false self.new
+            ≡ lines_after_primitive (lines_if was_open self.old) header.now contents.now }
         ensures puts { Puts D.state out.old out.new
             (whole_lines_with self.old.with_text (finite.get self.old.names) header.now
-            self.old.layout contents.now) result }
+            (layout_at self.old.layout level) contents.now) result }
     {
         // One sum, and not two, since each asks whether the largest number is reached.
         let octets = header.raw().len() + contents.len();
         self.offset = header.offset.saturating_add(octets as u64);
         self.in_padding = false;
-        self.is_open = false;
         put_whole_with(
             header,
-            self.layout,
+            self.layout_at(level),
             self.with_text,
             contents,
             self.names,
@@ -204,9 +226,16 @@ impl<'n, N: FiniteNames> Lines<'n, N> {
     }
 
     /// Padding goes on. A run of it has one line, which comes with its first octet.
-    pub fn pad<D: Drain>(&mut self, octets: &[u8], out: &mut Out<'_, D>) -> Result<(), WriteFault>
-        ensures { HasEffect D.state (each_octet lines_padding_step self.old octets.now)
-            out.old out.new self.new result }
+    pub fn pad<D: Drain>(
+        &mut self,
+        level: u8,
+        octets: &[u8],
+        out: &mut Out<'_, D>,
+    ) -> Result<(), WriteFault>
+        ensures { (is_open : Bool)
+            → HasEffect D.state
+            (each_octet (lines_padding_step level) (lines_if is_open self.old) octets.now)
+            out.old out.new (lines_if is_open self.new) result }
     {
         if octets.is_empty() {
             return Ok(());
@@ -217,7 +246,7 @@ impl<'n, N: FiniteNames> Lines<'n, N> {
             return Ok(());
         }
         self.in_padding = true;
-        put_padding(self.layout, offset, out)
+        put_padding(self.layout_at(level), offset, out)
     }
 }
 

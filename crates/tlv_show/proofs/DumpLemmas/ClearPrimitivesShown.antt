@@ -1,7 +1,8 @@
 -- A primitive with which nothing is found: what a dump makes of it at once.
 use Rattle.std.proofs.Common.{◌≡◌, ℕ, Bool, true, false, List, [], ◌∷◌, ◌++◌, length, sym, ap, ap₂, ◌∙◌, append-nil}
 use Rattle.std.specs.FinMap as finite
-use Rattle.std.specs.Prelude.{Ok, Err, Result, IsErr, ⊤}
+use Rattle.std.specs.Option.{is_some}
+use Rattle.std.specs.Prelude.{Ok, Err, Option, Result, IsErr, ⊤}
 use Rattle.std.proofs.lemmas.Bool.{true≢false}
 use Rattle.tlv_head.specs.Header.{HasAllContents, HeaderValue}
 use Rattle.tlv_value.specs.declared.finding.Finding.{Finding}
@@ -18,15 +19,19 @@ use Rattle.tlv_io.proofs.Puts.{HasPut, puts_as, puts_failed_last, puts_text}
 use Rattle.tlv_show.specs.declared.finding_lines.Style.TheVariants.{Dump}
 use Rattle.tlv_show.specs.FindingLines.{styled_lines}
 use Rattle.tlv_show.specs.LinesStep.{LinesState}
+use Rattle.tlv_show.specs.Private.KeptLines.{KeptLines, lines_if}
 use Rattle.tlv_show.specs.Private.LinesStep.{lines_after_primitive}
-use Rattle.tlv_show.specs.DumpStep.{DumpState, dump_step}
-use Rattle.tlv_show.specs.FinderState.{CheckState, FinderState, finder_begin_step}
+use Rattle.tlv_show.specs.Texts.{layout_at}
+use Rattle.tlv_show.specs.DumpStep.{DumpState, dump_step, level_in}
+use Rattle.tlv_show.specs.FinderState.{CheckState, FinderState, OpenPrimitiveState, finder_begin_step, finder_bytes_step}
+use Rattle.tlv_show.specs.NestingState.{depth_in}
 use Rattle.tlv_show.specs.Private.FinderState.{PassesOrStays, PassesPrimitive, finder_whole_step}
 use Rattle.tlv_show.proofs.DumpLemmas.DumpEvents.{dump_state, primitive-by, texts}
 use Rattle.tlv_show.proofs.DumpLemmas.DumpTexts.{primitives_shown}
+use Rattle.tlv_show.proofs.DumpLemmas.FinderKeeps.{dump_with, none-after_end, same-level}
 
 abbrev pub lines_of : DumpState → HeaderValue → List ℕ → List ℕ
-lines_of s h c = whole_lines_with s.lines.with_text (finite.get s.lines.names) h s.lines.layout c
+lines_of s h c = whole_lines_with s.lines.with_text (finite.get s.lines.names) h (layout_at s.lines.layout (level_in s)) c
 
 abbrev pub after_whole : DumpState → HeaderValue → List ℕ → DumpState
 after_whole s h c = dump_state (lines_after_primitive s.lines h c) (finder_whole_step s.finder h c).kept
@@ -41,7 +46,7 @@ whole_is s h c size begins ends =
     primitive-by s.lines s.finder h c
     ∙ ap (λ (d : Effect LinesState). effect_with (dump_state d.state f.kept)
     (texts s.lines.layout b ++ (d.put ++ texts s.lines.layout f)))
-    (primitives_shown s.lines h c size)
+    (primitives_shown (level_in s) s.lines h c size)
     ∙ ap₂
     (λ (k l : List Finding). effect_with (after_whole s h c)
     (styled_lines style b.level b.offset k ++ (lines_of s h c ++ styled_lines style f.level f.offset l)))
@@ -73,13 +78,26 @@ module _ (s u : DumpState) (old new : FinderState) (h : HeaderValue) (o c : List
       ap (λ (v : DumpState). effect_of dump_step v (whole_events h o)) (sym is)
       ∙ octets_are u h o c same (whole.contents ∙ ap length (sym same)) (rw finder p.begins) (rw finder p.ends)
 
-  pub stands_after : (l : LinesState) → l ≡ lines_after_primitive u.lines h c
-      → dump_state l new.kept ≡ after_whole u h c
-  stands_after l e =
+  pub stands_after : (k : KeptLines) → lines_if false k ≡ lines_after_primitive u.lines h c
+      → dump_with k new.kept ≡ after_whole u h c
+  stands_after k e =
       let p = passes-if_taken old new h c x on passes in
-      ap₂ dump_state e
-      (ap (λ (f : FinderState). f.kept) p.kept
-      ∙ ap (λ (f : CheckState). (finder_whole_step f h c).kept) (sym finder))
+      let kept : new.kept ≡ (finder_whole_step u.finder h c).kept =
+      ap (λ (f : FinderState). f.kept) p.kept
+      ∙ ap (λ (f : CheckState). (finder_whole_step f h c).kept) (sym finder) in
+      ap (dump_with k) kept
+      ∙ ap (λ (v : Option OpenPrimitiveState). dump_state (lines_if (is_some v) k) (finder_whole_step u.finder h c).kept)
+      (none-after_end (finder_bytes_step (finder_begin_step u.finder h).kept c))
+      ∙ ap (λ (l : LinesState). dump_state l (finder_whole_step u.finder h c).kept) e
+
+  -- the lines are at the level at which they are put
+  pub at_level : (level : ℕ) → level ≡ depth_in new.kept.holders → level ≡ level_in u
+  at_level level e =
+      let p = passes-if_taken old new h c x on passes in
+      e
+      ∙ ap (λ (f : FinderState). depth_in f.kept.holders) p.kept
+      ∙ same-level old.kept h c
+      ∙ ap (λ (f : CheckState). depth_in f.holders) (sym finder)
 
 -- ---- by a call that may leave them to others
 

@@ -73,7 +73,7 @@ module _ (with_text : Bool) (style : Layout) (names : NamesValue) (wanted : Want
 
   abbrev pub start : Place → Bool → HolderFrame → List HolderFrame → Kept → DumpState
   start p padded w outer n =
-      dump_state (lines_between with_text style names p.depth p.offset padded) (check_between wanted w outer n)
+      dump_state (lines_between with_text style names p.offset padded) (check_between wanted w outer n)
 
   pub record IsShown (p : Place) (holder : Option HeaderValue) (previous : Forest) (w : HolderFrame)
       (outer : List HolderFrame) (f : Forest) : Type 0 where
@@ -84,7 +84,7 @@ module _ (with_text : Bool) (style : Layout) (names : NamesValue) (wanted : Want
         → (m : Kept)
         × ((effect_of dump_step (start p (is_padding previous) w outer n) (events f)).state
         ≡ dump_state
-        (lines_between with_text style names p.depth (p.offset + length (spelling f))
+        (lines_between with_text style names (p.offset + length (spelling f))
         (ends_in_padding with_text style names (is_padding previous) f))
         (check_between wanted (frame_after_elements w f) outer m))
         × HasSeenAll wanted n.seen f m.seen
@@ -119,18 +119,24 @@ module _ (with_text : Bool) (style : Layout) (names : NamesValue) (wanted : Want
       (styled_lines (Dump style.pure) (length outer) h.offset (header_findings_in wanted (surroundings_in w) h)
       ++ opening_line (layout_at style p.depth) h (opening_word h.constructed))
   opened-shown p holder previous w outer n h k there low far =
-      opens-by (lines_between with_text style names p.depth p.offset (is_padding previous)) (check_between wanted w outer n) h
+      opens-by (lines_between with_text style names p.offset (is_padding previous)) (check_between wanted w outer n) h
       h.constructed (h.number == 3)
       ∙ ap₂
       (λ (d : Effect LinesState) (f : FinderState). effect_with (dump_state d.state f.kept)
       (texts style f ++ d.put))
-      (holder_shown with_text style names p.depth p.offset (is_padding previous) h there (omega (arith, low)) far)
+      (holder_shown with_text style names (length outer) p.offset (is_padding previous) h there far)
       (opened-find wanted w outer n h (omega (arith, k.1, low)))
+      ∙ ap
+      (λ (level : ℕ). effect_with
+      (start (place_of_children p h) false (frame_under w h) (with_element w ∷ outer) (later_header wanted w h n))
+      (styled_lines (Dump style.pure) (length outer) h.offset (header_findings_in wanted (surroundings_in w) h)
+      ++ opening_line (layout_at style level) h (opening_word h.constructed)))
+      k.1
 
   -- a primitive
   pub primitive-shown : (p : Place) (padded : Bool) (w : HolderFrame) (outer : List HolderFrame) (n : Kept)
       (h : HeaderValue) (c : List ℕ)
-      → h.offset ≡ p.offset → HasAllContents h c
+      → length outer ≡ p.depth → h.offset ≡ p.offset → HasAllContents h c
       → p.offset + (length (octets_of h) + length c) ≤ 2 ^ 64 - 1
       → effect_of dump_step (start p padded w outer n) (Begin h ∷ Bytes c ∷ End ∷ [])
       ≡ effect_with
@@ -139,23 +145,31 @@ module _ (with_text : Bool) (style : Layout) (names : NamesValue) (wanted : Want
       (styled_lines (Dump style.pure) (length outer) h.offset (header_findings_in wanted (surroundings_in w) h)
       ++ (whole_lines_with with_text (finite.get names) h (layout_at style p.depth) c
       ++ styled_lines (Dump style.pure) (length outer) h.offset (found_in_contents wanted h c n)))
-  primitive-shown p padded w outer n h c there size far =
-      primitive-by (lines_between with_text style names p.depth p.offset padded) (check_between wanted w outer n) h c
+  primitive-shown p padded w outer n h c deep there size far =
+      primitive-by (lines_between with_text style names p.offset padded) (check_between wanted w outer n) h c
       ∙ ap₂
       (λ (d : Effect LinesState) (f : FinderState). effect_with (dump_state d.state f.kept)
       (styled_lines (Dump style.pure) (length outer) h.offset (header_findings_in wanted (surroundings_in w) h)
       ++ (d.put ++ texts style f)))
-      (primitive_shown with_text style names p.depth p.offset padded h c there size far)
+      (primitive_shown with_text style names (length outer) p.offset padded h c there size far)
       (primitive-find wanted w outer n h c size)
+      ∙ ap
+      (λ (level : ℕ). effect_with
+      (start (place_after p (length (octets_of h) + length c)) false (after_primitive wanted w h c) outer
+      (after_contents wanted w h c n))
+      (styled_lines (Dump style.pure) (length outer) h.offset (header_findings_in wanted (surroundings_in w) h)
+      ++ (whole_lines_with with_text (finite.get names) h (layout_at style level) c
+      ++ styled_lines (Dump style.pure) (length outer) h.offset (found_in_contents wanted h c n))))
+      deep
 
   -- an element that holds others ends
   pub closed-shown : (p : Place) (w : HolderFrame) (outer : List HolderFrame) (n : Kept) (h : HeaderValue)
       (inside : Forest)
-      → ObeysGrammar (place_of_children p h) inside → is_whole inside ≡ true → h.offset ≡ p.offset
+      → length outer ≡ p.depth → ObeysGrammar (place_of_children p h) inside → is_whole inside ≡ true → h.offset ≡ p.offset
       → AllowsSize h.constructed h.size → p.offset + holder_extent h inside ≤ 2 ^ 64 - 1 → HasItsOffset wanted h inside n
       → effect_of dump_step
       (dump_state
-      (lines_between with_text style names (p.depth + 1) (p.offset + length (opening h) + length (spelling inside)) false)
+      (lines_between with_text style names (p.offset + length (opening h) + length (spelling inside)) false)
       (check_between wanted (frame_after_elements (frame_under w h) inside) (with_element w ∷ outer) n))
       (closing_event h inside ∷ [])
       ≡ effect_with
@@ -163,27 +177,32 @@ module _ (with_text : Bool) (style : Layout) (names : NamesValue) (wanted : Want
       (frame_after (with_element w) (has_primitive_form h) (announced_length h.size) false) outer (after_end wanted h inside n))
       (closing_line (layout_at style p.depth) (end_octets_offset h inside)
       ++ styled_lines (Dump style.pure) (length outer) h.offset (found_at_end wanted h inside n))
-  closed-shown p w outer n h inside v whole there allowed far known =
+  closed-shown p w outer n h inside deep v whole there allowed far known =
       let end : ℕ = p.offset + length (opening h) + length (spelling inside) in
-      let close : List ℕ =
-      closing_line (layout_at style p.depth) (end_octets_offset h inside) in
+      let level : ℕ = length (with_element w ∷ outer) - 1 in
+      let close : List ℕ = closing_line (layout_at style level) (end_octets_offset h inside) in
       let last : List ℕ =
       styled_lines (Dump style.pure) (length outer) h.offset (found_at_end wanted h inside n) in
       let after : CheckState =
       check_between wanted (frame_after (with_element w) (has_primitive_form h) (announced_length h.size) false) outer
       (after_end wanted h inside n) in
-      closes-by (lines_between with_text style names (p.depth + 1) end false)
+      closes-by (lines_between with_text style names end false)
       (check_between wanted (frame_after_elements (frame_under w h) inside) (with_element w ∷ outer) n)
       (end_offset h.size (h.offset + length (opening h) + length (spelling inside))) h.constructed
       ∙ ap₂
       (λ (d : Effect LinesState) (f : FinderState). effect_with (dump_state d.state f.kept)
       (d.put ++ texts style f))
-      (closer_shown with_text style names p.depth end h inside (omega (arith, there)) allowed (omega (arith, far)))
+      (closer_shown with_text style names level end h inside (omega (arith, there)) allowed (omega (arith, far)))
       (closed-find wanted (place_of_children p h) w outer n h inside v whole)
       ∙ ap (λ (l : List ℕ). effect_with
-      (dump_state (lines_between with_text style names p.depth (end + length (end_octets h.size)) false) after) (close ++ l))
+      (dump_state (lines_between with_text style names (end + length (end_octets h.size)) false) after) (close ++ l))
       (offset-at_end wanted (place_of_children p h) w h inside n v whole known
       (styled_lines (Dump style.pure) (length outer)) (λ offset. refl))
-      ∙ ap (λ (offset : ℕ). effect_with (dump_state (lines_between with_text style names p.depth offset false) after)
+      ∙ ap (λ (offset : ℕ). effect_with (dump_state (lines_between with_text style names offset false) after)
       (close ++ last))
       (omega arith)
+      ∙ ap
+      (λ (l : ℕ). effect_with
+      (dump_state (lines_between with_text style names (p.offset + holder_extent h inside) false) after)
+      (closing_line (layout_at style l) (end_octets_offset h inside) ++ last))
+      (omega (arith, deep))

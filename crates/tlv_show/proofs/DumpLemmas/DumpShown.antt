@@ -73,7 +73,7 @@ module _ (with_text : Bool) (style : Layout) (names : NamesValue) (wanted : Want
         λ n o held
         e. (
           n,
-          ap (λ (offset : ℕ). dump_state (lines_between with_text style names p.depth offset (is_padding previous))
+          ap (λ (offset : ℕ). dump_state (lines_between with_text style names offset (is_padding previous))
               (check_between wanted w outer n))
               (omega arith),
           nothing-seen wanted n.seen,
@@ -89,7 +89,11 @@ module _ (with_text : Bool) (style : Layout) (names : NamesValue) (wanted : Want
       ≡ effect_with (start with_text style names wanted (place_after p 1) true w outer n)
       (if is_padding previous then [] else padding_line (layout_at style p.depth) p.offset) =
       λ n. ap (λ (d : Effect LinesState). effect_with (dump_state d.state (check_between wanted w outer n)) d.put)
-      (fill_shown with_text style names p.depth p.offset (is_padding previous) (omega (arith, b))) in
+      (fill_shown with_text style names (length outer) p.offset (is_padding previous) (omega (arith, b)))
+      ∙ ap
+      (λ (level : ℕ). effect_with (start with_text style names wanted (place_after p 1) true w outer n)
+      (if is_padding previous then [] else padding_line (layout_at style level) p.offset))
+      k.1 in
       let all =
       λ (n : Kept) (o : HasSeen wanted s n.seen). shown-after with_text style names wanted p (place_after p 1) (is_padding previous) w outer n n w holder (PaddingOctet NoMore)
       (Pad (0 ∷ []) ∷ [])
@@ -131,7 +135,7 @@ module _ (with_text : Bool) (style : Layout) (names : NamesValue) (wanted : Want
       shown-after with_text style names wanted p q (is_padding previous) w outer n (after_contents wanted w h c n)
       (after_primitive wanted w h c) holder (Primitive h c NoMore) (Begin h ∷ Bytes c ∷ End ∷ []) _ rest
       refl
-      (primitive-shown with_text style names wanted p (is_padding previous) w outer n h c v.0.0.header.offset size
+      (primitive-shown with_text style names wanted p (is_padding previous) w outer n h c k.1 v.0.0.header.offset size
       (omega (arith, b, length-primitive h c rest)))
       t (next n o) in
       let others : List Item = items (wanted_findings wanted) (site_after_primitive s h c) rest in
@@ -160,7 +164,7 @@ module _ (with_text : Bool) (style : Layout) (names : NamesValue) (wanted : Want
               r.0,
               ap (λ (x : Effect DumpState). x.state) (all n o) ∙ r.1
                   ∙ ap (λ (offset : ℕ). dump_state
-                  (lines_between with_text style names p.depth offset (ends_in_padding with_text style names false rest))
+                  (lines_between with_text style names offset (ends_in_padding with_text style names false rest))
                   (check_between wanted (frame_after_elements (after_primitive wanted w h c) rest) outer r.0))
                   (omega (arith, length-primitive h c rest)),
               after-primitive wanted s n.seen h c rest (seen_whole wanted n.seen h c) r.0.seen o
@@ -198,7 +202,7 @@ module _ (with_text : Bool) (style : Layout) (names : NamesValue) (wanted : Want
       → (r : Kept)
       × (effect_of dump_step (start with_text style names wanted i_place false (frame_under w h) (with_element w ∷ outer) m) (events inside)
       ≡ effect_with
-      (dump_state (lines_between with_text style names (p.depth + 1) end false)
+      (dump_state (lines_between with_text style names end false)
       (check_between wanted (frame_after_elements (frame_under w h) inside) (with_element w ∷ outer) r))
       held)
       × HasSeenAll wanted m.seen inside r.seen =
@@ -207,7 +211,7 @@ module _ (with_text : Bool) (style : Layout) (names : NamesValue) (wanted : Want
         r.0,
         as_shows (start with_text style names wanted i_place false (frame_under w h) (with_element w ∷ outer) m) _ (events inside) held
             (r.1
-            ∙ ap (λ (x : Bool). dump_state (lines_between with_text style names (p.depth + 1) end x)
+            ∙ ap (λ (x : Bool). dump_state (lines_between with_text style names end x)
             (check_between wanted (frame_after_elements (frame_under w h) inside) (with_element w ∷ outer) r.0))
             (no_padding with_text style names i_place inside refl v.1))
             (i.text m o),
@@ -236,11 +240,11 @@ module _ (with_text : Bool) (style : Layout) (names : NamesValue) (wanted : Want
             (omega (arith, b, size)))
             ∙ ap (λ (x : Effect DumpState). record x { put = (first ++ line) ++ x.put })
             (then_shown (start with_text style names wanted i_place false (frame_under w h) (with_element w ∷ outer) a)
-            (dump_state (lines_between with_text style names (p.depth + 1) end false)
+            (dump_state (lines_between with_text style names end false)
             (check_between wanted (frame_after_elements (frame_under w h) inside) (with_element w ∷ outer) r.0))
             held (events inside) (closing_event h inside ∷ []) r.1
             ∙ ap (λ (x : Effect DumpState). record x { put = held ++ x.put })
-            (closed-shown with_text style names wanted p w outer r.0 h inside v.1 v.0.1 v.0.0.header.offset
+            (closed-shown with_text style names wanted p w outer r.0 h inside k.1 v.1 v.0.1 v.0.0.header.offset
             v.0.0.header.valid.allowed (omega (arith, b, size)) (passed-offset wanted s n.seen e wrong closed o taken, has_wrong_string wanted h inside, string)
             ∙ ap₂ (λ (x y : Bool). effect_with
             (start with_text style names wanted q false
@@ -291,7 +295,7 @@ module _ (with_text : Bool) (style : Layout) (names : NamesValue) (wanted : Want
               r.0,
               ap (λ (x : Effect DumpState). x.state) (all n o) ∙ r.1
                   ∙ ap (λ (offset : ℕ). dump_state
-                  (lines_between with_text style names p.depth offset (ends_in_padding with_text style names false rest))
+                  (lines_between with_text style names offset (ends_in_padding with_text style names false rest))
                   (check_between wanted
                   (frame_after_elements (frame_after (with_element w) (has_primitive_form h) (announced_length h.size) false) rest) outer
                   r.0))
@@ -312,13 +316,14 @@ module _ (with_text : Bool) (style : Layout) (names : NamesValue) (wanted : Want
           ∙ ap₂ (λ (u : DumpState) (l : List ℕ). effect_with u l) e f
   shows_forest p holder previous w outer (OpenPrimitive h c) v b k = record {
     text = λ n o.
-        part-by (lines_between with_text style names p.depth p.offset (is_padding previous)) (check_between wanted w outer n) h c
+        part-by (lines_between with_text style names p.offset (is_padding previous)) (check_between wanted w outer n) h c
         ∙ found-first with_text style names wanted (length outer) p.depth h.offset
         (header_findings_in wanted (surroundings_in w) h)
         (header_findings wanted (site with_text style names wanted p holder previous) h)
         _ (OpenPrimitiveLines p.depth h c ∷ []) k.1
         (header-same wanted w (site with_text style names wanted p holder previous) h k.0)
-        (part_shown with_text style names p.depth p.offset (is_padding previous) h c (omega (arith, v.1))
+        (part_shown with_text style names (length outer) p.offset (is_padding previous) h c (omega (arith, v.1))
+        ∙ ap (λ (level : ℕ). incomplete_lines_with with_text h (layout_at style level) c) k.1
         ∙ sym (append-nil (incomplete_lines_with with_text h (layout_at style p.depth) c)));
     after = λ n o held e. absurd (cc (e));
   }
@@ -353,13 +358,15 @@ module _ (with_text : Bool) (style : Layout) (names : NamesValue) (wanted : Want
     text = λ n o.
         append_assoc
         (styled_lines (Dump style.pure) (length outer) h.offset (header_findings_in wanted (surroundings_in w) h))
-        (opening_line (layout_at style p.depth) h (opening_word false)) []
+        (opening_line (layout_at style (length outer)) h (opening_word false)) []
         ∙ found-first with_text style names wanted (length outer) p.depth h.offset
         (header_findings_in wanted (surroundings_in w) h)
         (header_findings wanted (site with_text style names wanted p holder previous) h)
         _ (OpeningLine p.depth h ∷ []) k.1
         (header-same wanted w (site with_text style names wanted p holder previous) h k.0)
-        (ap (λ (l : List ℕ). l ++ []) (sym (awaiting p.depth h h.constructed v.1)));
+        (ap (λ (l : List ℕ). l ++ [])
+        (ap (λ (level : ℕ). opening_line (layout_at style level) h (opening_word false)) k.1
+        ∙ sym (awaiting p.depth h h.constructed v.1)));
     after = λ n o held e. absurd (cc (e));
   }
     where

@@ -10,7 +10,7 @@ use Rattle.tlv_walk.specs.declared.follow.Go.TheVariants as go
 use Rattle.tlv_walk.specs.Events.{Begin, Bytes, Close, End, Enter, EventValue, Leave, Open, Pad, Unused}
 use Rattle.tlv_walk.specs.Follow.{Effect, each_octet, effect_if_more, effect_of}
 use Rattle.tlv_show.specs.LinesStep.{lines_octet_step, lines_padding_step}
-use Rattle.tlv_show.specs.DumpStep.{DumpState, dump_octet_step, dump_padding_step, dump_step, finding_lines}
+use Rattle.tlv_show.specs.DumpStep.{DumpState, dump_octet_step, dump_padding_step, dump_step, finding_lines, level_in}
 use Rattle.tlv_show.specs.FinderState.{CheckState, FinderState, finder_bytes_step}
 use Rattle.tlv_show.specs.FindingLines.{last_finding_lines}
 use Rattle.tlv_show.specs.Private.FinderState.{ReturnsFindings, with_findings_if}
@@ -44,13 +44,13 @@ each-shown s (x ∷ octets) =
 pub each-filled : (s : DumpState) (octets : List ℕ)
     → each_octet dump_padding_step s octets
     ≡ record {
-      state = record { lines = (each_octet lines_padding_step s.lines octets).state; finder = s.finder };
-      put = (each_octet lines_padding_step s.lines octets).put;
+      state = record { lines = (each_octet (lines_padding_step (level_in s)) s.lines octets).state; finder = s.finder };
+      put = (each_octet (lines_padding_step (level_in s)) s.lines octets).put;
       goes = go.On;
     }
 each-filled s [] = refl
 each-filled s (x ∷ octets) =
-    let d = lines_padding_step s.lines x in
+    let d = lines_padding_step (level_in s) s.lines x in
     ap (λ (k : Effect DumpState). record { state = k.state; put = d.put ++ k.put; goes = k.goes })
     (each-filled (record { lines = d.state; finder = s.finder }) octets)
 

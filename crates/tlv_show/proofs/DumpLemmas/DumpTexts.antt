@@ -50,14 +50,14 @@ whole_shown with_text name_of h layout c e =
     ∙ sym (lines-end with_text name_of h layout c e)
 
 -- whatever went before
-pub primitives_shown : (s : LinesState) (h : HeaderValue) (c : List ℕ) → HasAllContents h c
-    → effect_of lines_step s (Begin h ∷ Bytes c ∷ End ∷ [])
+pub primitives_shown : (level : ℕ) (s : LinesState) (h : HeaderValue) (c : List ℕ) → HasAllContents h c
+    → effect_of (lines_step level) s (Begin h ∷ Bytes c ∷ End ∷ [])
     ≡ effect_with
     (record (lines_after_header s h)
     { offset = saturating_sum (lines_after_header s h).offset (length c); open_text = None })
-    (whole_lines_with s.with_text (finite.get s.names) h s.layout c)
-primitives_shown s h c size =
-    let t : ValueTextState = new_value_text_with s.with_text h s.layout in
+    (whole_lines_with s.with_text (finite.get s.names) h (layout_at s.layout level) c)
+primitives_shown level s h c size =
+    let t : ValueTextState = new_value_text_with s.with_text h (layout_at s.layout level) in
     let u : LinesState = record (lines_after_header s h) { open_text = Some t } in
     let lines_after : LinesState =
     record (lines_after_header s h)
@@ -65,8 +65,8 @@ primitives_shown s h c size =
     let took = take_all (announced_length h.size) c (omega (arith, size)) in
     let none : announced_length h.size - length c ≡ 0 = omega (arith, size) in
     ap (λ (k : Effect LinesState). after_put (begin_lines t)
-    (effect_if_more k.goes k (λ w. effect_of lines_step w (End ∷ []))))
-    (dumped_bytes u c (λ e. rested-new s.with_text h s.layout))
+    (effect_if_more k.goes k (λ w. effect_of (lines_step level) w (End ∷ []))))
+    (dumped_bytes u c (λ e. rested-new s.with_text h (layout_at s.layout level)))
     ∙ ap (λ (l : List ℕ). effect_with lines_after
     (begin_lines t
     ++ (contents_lines t l
@@ -79,14 +79,14 @@ primitives_shown s h c size =
     ++ (contents_lines t c
     ++ ((if n == 0 then end_lines (finite.get s.names) (value_text_after t c) else []) ++ []))))
     none
-    ∙ ap (effect_with lines_after) (whole_shown s.with_text (finite.get s.names) h s.layout c size)
+    ∙ ap (effect_with lines_after) (whole_shown s.with_text (finite.get s.names) h (layout_at s.layout level) c size)
 
 -- of elements in this style, with these names, with text beside pairs of digits or without it
 module _ (with_text : Bool) (style : Layout) (names : NamesValue) where
   -- a dump between two elements
-  abbrev pub lines_between : ℕ → ℕ → Bool → LinesState
-  lines_between level offset padded = record {
-    layout = layout_at style level;
+  abbrev pub lines_between : ℕ → Bool → LinesState
+  lines_between offset padded = record {
+    layout = style;
     with_text = with_text;
     names = names;
     offset = offset;
@@ -95,40 +95,39 @@ module _ (with_text : Bool) (style : Layout) (names : NamesValue) where
   }
 
   -- a state between two elements, and what was put
-  between-equal : (l m o n : ℕ) (k j : Bool) (put put' : List ℕ) → l ≡ m → o ≡ n → k ≡ j → put ≡ put'
-      → effect_with (lines_between l o k) put ≡ effect_with (lines_between m n j) put'
-  between-equal l m o n k j put put' e f g i =
-      ap₂ (λ (l : ℕ) (put : List ℕ). effect_with (lines_between l o k) put) e i
-      ∙ ap₂ (λ (o : ℕ) (k : Bool). effect_with (lines_between m o k) put') f g
+  between-equal : (o n : ℕ) (k : Bool) (put put' : List ℕ) → o ≡ n → put ≡ put'
+      → effect_with (lines_between o k) put ≡ effect_with (lines_between n k) put'
+  between-equal o n k put put' e f =
+      ap₂ (λ (o : ℕ) (put : List ℕ). effect_with (lines_between o k) put) e f
 
   -- ---- a primitive
 
   abbrev lines_in_primitive : ℕ → ℕ → Bool → HeaderValue → LinesState
   lines_in_primitive level offset padded h =
-      record (lines_after_header (lines_between level offset padded) h)
+      record (lines_after_header (lines_between offset padded) h)
       { open_text = Some (new_value_text_with with_text h (layout_at style level)) }
 
   pub primitive_shown : (level offset : ℕ) (padded : Bool) (h : HeaderValue) (c : List ℕ) → h.offset ≡ offset
       → HasAllContents h c → offset + (length (octets_of h) + length c) ≤ 2 ^ 64 - 1
-      → effect_of lines_step (lines_between level offset padded) (Begin h ∷ Bytes c ∷ End ∷ [])
-      ≡ effect_with (lines_between level (offset + (length (octets_of h) + length c)) false)
+      → effect_of (lines_step level) (lines_between offset padded) (Begin h ∷ Bytes c ∷ End ∷ [])
+      ≡ effect_with (lines_between (offset + (length (octets_of h) + length c)) false)
       (whole_lines_with with_text (finite.get names) h (layout_at style level) c)
   primitive_shown level offset padded h c there size far_enough =
-      primitives_shown (lines_between level offset padded) h c size
-      ∙ between-equal level level (saturating_sum (saturating_sum h.offset (length (octets_of h))) (length c))
-      (offset + (length (octets_of h) + length c)) false false
+      primitives_shown level (lines_between offset padded) h c size
+      ∙ between-equal (saturating_sum (saturating_sum h.offset (length (octets_of h))) (length c))
+      (offset + (length (octets_of h) + length c)) false
       _ (whole_lines_with with_text (finite.get names) h (layout_at style level) c)
-      refl (omega (arith, there, far_enough)) refl refl
+      (omega (arith, there, far_enough)) refl
 
   pub part_shown : (level offset : ℕ) (padded : Bool) (h : HeaderValue) (c : List ℕ)
       → length c ≤ announced_length h.size
-      → (effect_of lines_step (lines_between level offset padded) (Begin h ∷ Bytes c ∷ [])).put
+      → (effect_of (lines_step level) (lines_between offset padded) (Begin h ∷ Bytes c ∷ [])).put
       ≡ incomplete_lines_with with_text h (layout_at style level) c
   part_shown level offset padded h c size =
       let t : ValueTextState = new_value_text_with with_text h (layout_at style level) in
       ap
       (λ (k : Effect LinesState).
-      (after_put (begin_lines t) (effect_if_more k.goes k (λ w. effect_of lines_step w []))).put)
+      (after_put (begin_lines t) (effect_if_more k.goes k (λ w. effect_of (lines_step level) w []))).put)
       (dumped_bytes (lines_in_primitive level offset padded h) c (λ e. rested-new with_text h (layout_at style level)))
       ∙ ap (λ (l : List ℕ). begin_lines t ++ (contents_lines t l ++ [])) (take_all (announced_length h.size) c size)
       ∙ ap (λ (l : List ℕ). begin_lines t ++ l) (append-nil (contents_lines t c))
@@ -136,78 +135,67 @@ module _ (with_text : Bool) (style : Layout) (names : NamesValue) where
 
   -- ---- an element that holds others begins
 
-  holder_by : (level offset : ℕ) (padded k three : Bool) (h : HeaderValue) → h.offset ≡ offset → level + 1 ≤ 255
+  holder_by : (level offset : ℕ) (padded k three : Bool) (h : HeaderValue) → h.offset ≡ offset
       → offset + (length (octets_of h) + length (lead_by k three)) ≤ 2 ^ 64 - 1
-      → effect_of lines_step (lines_between level offset padded)
+      → effect_of (lines_step level) (lines_between offset padded)
       ((if k then Open h else Enter h) ∷ map (λ z. Unused) (lead_by k three))
-      ≡ effect_with (lines_between (level + 1) (offset + (length (octets_of h) + length (lead_by k three))) false)
+      ≡ effect_with (lines_between (offset + (length (octets_of h) + length (lead_by k three))) false)
       (opening_line (layout_at style level) h (opening_word k))
-  holder_by level offset padded true three h there low far_enough =
-      between-equal (min (level + 1) 255) (level + 1) (saturating_sum h.offset (length (octets_of h)))
-      (offset + (length (octets_of h) + 0)) false false _ (opening_line (layout_at style level) h (opening_word true))
-      (omega (arith, low)) (omega (arith, there, far_enough)) refl
-      (append-nil (opening_line (layout_at style level) h (opening_word true)))
-  holder_by level offset padded false true h there low far_enough =
-      between-equal (min (level + 1) 255) (level + 1)
-      (saturating_sum (saturating_sum h.offset (length (octets_of h))) 1)
-      (offset + (length (octets_of h) + 1)) false false _ (opening_line (layout_at style level) h (opening_word false))
-      (omega (arith, low)) (omega (arith, there, far_enough)) refl
-      (append-nil (opening_line (layout_at style level) h (opening_word false)))
-  holder_by level offset padded false false h there low far_enough =
-      between-equal (min (level + 1) 255) (level + 1) (saturating_sum h.offset (length (octets_of h)))
-      (offset + (length (octets_of h) + 0)) false false _ (opening_line (layout_at style level) h (opening_word false))
-      (omega (arith, low)) (omega (arith, there, far_enough)) refl
-      (append-nil (opening_line (layout_at style level) h (opening_word false)))
+  holder_by level offset padded true three h there far_enough =
+      between-equal (saturating_sum h.offset (length (octets_of h)))
+      (offset + (length (octets_of h) + 0)) false _ (opening_line (layout_at style level) h (opening_word true))
+      (omega (arith, there, far_enough)) (append-nil (opening_line (layout_at style level) h (opening_word true)))
+  holder_by level offset padded false true h there far_enough =
+      between-equal (saturating_sum (saturating_sum h.offset (length (octets_of h))) 1)
+      (offset + (length (octets_of h) + 1)) false _ (opening_line (layout_at style level) h (opening_word false))
+      (omega (arith, there, far_enough)) (append-nil (opening_line (layout_at style level) h (opening_word false)))
+  holder_by level offset padded false false h there far_enough =
+      between-equal (saturating_sum h.offset (length (octets_of h)))
+      (offset + (length (octets_of h) + 0)) false _ (opening_line (layout_at style level) h (opening_word false))
+      (omega (arith, there, far_enough)) (append-nil (opening_line (layout_at style level) h (opening_word false)))
 
-  pub holder_shown : (level offset : ℕ) (padded : Bool) (h : HeaderValue) → h.offset ≡ offset → level + 1 ≤ 255
+  pub holder_shown : (level offset : ℕ) (padded : Bool) (h : HeaderValue) → h.offset ≡ offset
       → offset + length (opening h) ≤ 2 ^ 64 - 1
-      → effect_of lines_step (lines_between level offset padded) (opening_events h)
-      ≡ effect_with (lines_between (level + 1) (offset + length (opening h)) false)
+      → effect_of (lines_step level) (lines_between offset padded) (opening_events h)
+      ≡ effect_with (lines_between (offset + length (opening h)) false)
       (opening_line (layout_at style level) h (opening_word h.constructed))
-  holder_shown level offset padded h there low far_enough =
-      holder_by level offset padded h.constructed (h.number == 3) h there low
+  holder_shown level offset padded h there far_enough =
+      holder_by level offset padded h.constructed (h.number == 3) h there
       (omega (arith, far_enough, length-opening h))
-      ∙ between-equal (level + 1) (level + 1) (offset + (length (octets_of h) + length (lead h)))
-      (offset + length (opening h)) false false (opening_line (layout_at style level) h (opening_word h.constructed))
+      ∙ between-equal (offset + (length (octets_of h) + length (lead h)))
+      (offset + length (opening h)) false (opening_line (layout_at style level) h (opening_word h.constructed))
       (opening_line (layout_at style level) h (opening_word h.constructed))
-      refl (omega (arith, length-opening h)) refl refl
+      (omega (arith, length-opening h)) refl
 
   -- ---- and ends
 
   closer_by : (level o : ℕ) (k : Bool) (size : Size) → AllowsSize k size → o + length (end_octets size) ≤ 2 ^ 64 - 1
-      → effect_of lines_step (lines_between (level + 1) o false) ((if k then Close (end_offset size o) else Leave) ∷ [])
-      ≡ effect_with (lines_between level (o + length (end_octets size)) false)
+      → effect_of (lines_step level) (lines_between o false) ((if k then Close (end_offset size o) else Leave) ∷ [])
+      ≡ effect_with (lines_between (o + length (end_octets size)) false)
       (closing_line (layout_at style level) (end_offset size o))
   closer_by level o true (Definite n) allowed far_enough =
-      between-equal (level + 1 - 1) level o (o + 0) false false _ (closing_line (layout_at style level) None)
-      (omega arith)
-      (omega arith) refl
-      (append-nil (closing_line (layout_at style (level + 1 - 1)) None)
-      ∙ ap (λ (l : ℕ). closing_line (layout_at style l) None) (omega arith))
+      between-equal o (o + 0) false _ (closing_line (layout_at style level) None)
+      (omega arith) (append-nil (closing_line (layout_at style level) None))
   closer_by level o true Indefinite allowed far_enough =
-      between-equal (level + 1 - 1) level (saturating_sum o 2) (o + 2) false false
-      _ (closing_line (layout_at style level) (Some o)) (omega arith) (omega (arith, far_enough)) refl
-      (append-nil (closing_line (layout_at style (level + 1 - 1)) (Some o))
-      ∙ ap (λ (l : ℕ). closing_line (layout_at style l) (Some o)) (omega arith))
+      between-equal (saturating_sum o 2) (o + 2) false
+      _ (closing_line (layout_at style level) (Some o)) (omega (arith, far_enough))
+      (append-nil (closing_line (layout_at style level) (Some o)))
   closer_by level o false (Definite n) allowed far_enough =
-      between-equal (level + 1 - 1) level o (o + 0) false false _ (closing_line (layout_at style level) None)
-      (omega arith)
-      (omega arith) refl
-      (append-nil (closing_line (layout_at style (level + 1 - 1)) None)
-      ∙ ap (λ (l : ℕ). closing_line (layout_at style l) None) (omega arith))
+      between-equal o (o + 0) false _ (closing_line (layout_at style level) None)
+      (omega arith) (append-nil (closing_line (layout_at style level) None))
   closer_by level o false Indefinite allowed far_enough = absurd (cc (allowed))
 
   pub closer_shown : (level o : ℕ) (h : HeaderValue) (inside : Forest)
       → h.offset + length (opening h) + length (spelling inside) ≡ o → AllowsSize h.constructed h.size
       → o + length (end_octets h.size) ≤ 2 ^ 64 - 1
-      → effect_of lines_step (lines_between (level + 1) o false) (closing_event h inside ∷ [])
-      ≡ effect_with (lines_between level (o + length (end_octets h.size)) false)
+      → effect_of (lines_step level) (lines_between o false) (closing_event h inside ∷ [])
+      ≡ effect_with (lines_between (o + length (end_octets h.size)) false)
       (closing_line (layout_at style level) (end_octets_offset h inside))
   closer_shown level o h inside there allowed far_enough =
       subst
-      (λ (n : ℕ). effect_of lines_step (lines_between (level + 1) o false)
+      (λ (n : ℕ). effect_of (lines_step level) (lines_between o false)
       ((if h.constructed then Close (end_offset h.size n) else Leave) ∷ [])
-      ≡ effect_with (lines_between level (o + length (end_octets h.size)) false)
+      ≡ effect_with (lines_between (o + length (end_octets h.size)) false)
       (closing_line (layout_at style level) (end_offset h.size n)))
       (sym there) (closer_by level o h.constructed h.size allowed far_enough)
 
@@ -238,10 +226,10 @@ module _ (with_text : Bool) (style : Layout) (names : NamesValue) where
   no_padding p OpenEndOctets e v = refl
 
   pub fill_shown : (level offset : ℕ) (padded : Bool) → offset + 1 ≤ 2 ^ 64 - 1
-      → effect_of lines_step (lines_between level offset padded) (Pad (0 ∷ []) ∷ [])
-      ≡ effect_with (lines_between level (offset + 1) true)
+      → effect_of (lines_step level) (lines_between offset padded) (Pad (0 ∷ []) ∷ [])
+      ≡ effect_with (lines_between (offset + 1) true)
       (if padded then [] else padding_line (layout_at style level) offset)
   fill_shown level offset padded far_enough =
       let line = if padded then [] else padding_line (layout_at style level) offset in
-      between-equal level level (saturating_sum offset 1) (offset + 1) true true ((line ++ []) ++ []) line refl
-      (sum-small offset 1 far_enough) refl (append-nil (line ++ []) ∙ append-nil line)
+      between-equal (saturating_sum offset 1) (offset + 1) true ((line ++ []) ++ []) line
+      (sum-small offset 1 far_enough) (append-nil (line ++ []) ∙ append-nil line)

@@ -13,6 +13,7 @@ use Rattle.tlv_show.specs.LinesStep.{LinesState, lines_octet_step, lines_padding
 use Rattle.tlv_show.specs.LinesStep.{open_text_lines}
 use Rattle.tlv_show.specs.HolderLines.{padding_line}
 use Rattle.tlv_show.specs.SaturatingSum.{saturating_sum}
+use Rattle.tlv_show.specs.Texts.{layout_at}
 use Rattle.tlv_show.proofs.SaturatingSums.{sum-more, sum-none}
 
 -- ---- contents
@@ -94,40 +95,40 @@ abbrev pub lines_at : LinesState → ℕ → Bool → LinesState
 lines_at s offset in_padding = record s { offset = offset; in_padding = in_padding }
 
 -- it had its line
-pub more_pad : (s : LinesState) (offset : ℕ) (xs : List ℕ)
-    → each_octet lines_padding_step (lines_at s offset true) xs
+pub more_pad : (level : ℕ) (s : LinesState) (offset : ℕ) (xs : List ℕ)
+    → each_octet (lines_padding_step level) (lines_at s offset true) xs
     ≡ effect_with (lines_at s (saturating_sum offset (length xs)) true) []
-more_pad s offset [] = ap (λ (o : ℕ). effect_with (lines_at s o true) []) (sym (sum-none offset))
-more_pad s offset (x ∷ xs) =
-    more_pad s (saturating_sum offset 1) xs
+more_pad level s offset [] = ap (λ (o : ℕ). effect_with (lines_at s o true) []) (sym (sum-none offset))
+more_pad level s offset (x ∷ xs) =
+    more_pad level s (saturating_sum offset 1) xs
     ∙ ap (λ (o : ℕ). effect_with (lines_at s o true) [])
     (sum-more offset 1 (length xs) ∙ ap (saturating_sum offset) (omega arith))
 
-more_by : (s : LinesState) (offset : ℕ) (in_padding : Bool) (xs : List ℕ) → in_padding ≡ true
-    → each_octet lines_padding_step (lines_at s offset in_padding) xs
+more_by : (level : ℕ) (s : LinesState) (offset : ℕ) (in_padding : Bool) (xs : List ℕ) → in_padding ≡ true
+    → each_octet (lines_padding_step level) (lines_at s offset in_padding) xs
     ≡ effect_with (lines_at s (saturating_sum offset (length xs)) in_padding) []
-more_by s offset true xs e = more_pad s offset xs
-more_by s offset false xs e = absurd (cc)
+more_by level s offset true xs e = more_pad level s offset xs
+more_by level s offset false xs e = absurd (cc)
 
-pub padded_more : (s : LinesState) (xs : List ℕ) → s.in_padding ≡ true
-    → each_octet lines_padding_step s xs
+pub padded_more : (level : ℕ) (s : LinesState) (xs : List ℕ) → s.in_padding ≡ true
+    → each_octet (lines_padding_step level) s xs
     ≡ effect_with (lines_at s (saturating_sum s.offset (length xs)) s.in_padding) []
-padded_more s xs e = more_by s s.offset s.in_padding xs e
+padded_more level s xs e = more_by level s s.offset s.in_padding xs e
 
 -- it has its line with the first octet
-first_by : (s : LinesState) (offset : ℕ) (in_padding : Bool) (xs : List ℕ) → 0 < length xs → in_padding ≡ false
-    → each_octet lines_padding_step (lines_at s offset in_padding) xs
-    ≡ effect_with (lines_at s (saturating_sum offset (length xs)) true) (padding_line s.layout offset)
-first_by s offset true xs some e = absurd (cc)
-first_by s offset false [] some e = absurd (omega (arith, some))
-first_by s offset false (x ∷ xs) some e =
-    ap (after_put (padding_line s.layout offset)) (more_pad s (saturating_sum offset 1) xs)
-    ∙ ap (λ (o : ℕ). effect_with (lines_at s o true) (padding_line s.layout offset ++ []))
+first_by : (level : ℕ) (s : LinesState) (offset : ℕ) (in_padding : Bool) (xs : List ℕ) → 0 < length xs → in_padding ≡ false
+    → each_octet (lines_padding_step level) (lines_at s offset in_padding) xs
+    ≡ effect_with (lines_at s (saturating_sum offset (length xs)) true) (padding_line (layout_at s.layout level) offset)
+first_by level s offset true xs some e = absurd (cc)
+first_by level s offset false [] some e = absurd (omega (arith, some))
+first_by level s offset false (x ∷ xs) some e =
+    ap (after_put (padding_line (layout_at s.layout level) offset)) (more_pad level s (saturating_sum offset 1) xs)
+    ∙ ap (λ (o : ℕ). effect_with (lines_at s o true) (padding_line (layout_at s.layout level) offset ++ []))
     (sum-more offset 1 (length xs) ∙ ap (saturating_sum offset) (omega arith))
     ∙ ap (effect_with (lines_at s (saturating_sum offset (length (x ∷ xs))) true))
-    (append-nil (padding_line s.layout offset))
+    (append-nil (padding_line (layout_at s.layout level) offset))
 
-pub padded_first : (s : LinesState) (xs : List ℕ) → 0 < length xs → s.in_padding ≡ false
-    → each_octet lines_padding_step s xs
-    ≡ effect_with (lines_at s (saturating_sum s.offset (length xs)) true) (padding_line s.layout s.offset)
-padded_first s xs some e = first_by s s.offset s.in_padding xs some e
+pub padded_first : (level : ℕ) (s : LinesState) (xs : List ℕ) → 0 < length xs → s.in_padding ≡ false
+    → each_octet (lines_padding_step level) s xs
+    ≡ effect_with (lines_at s (saturating_sum s.offset (length xs)) true) (padding_line (layout_at s.layout level) s.offset)
+padded_first level s xs some e = first_by level s s.offset s.in_padding xs some e

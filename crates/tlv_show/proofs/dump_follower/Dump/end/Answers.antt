@@ -1,23 +1,39 @@
-use Rattle.std.proofs.Common.{◌∙◌, ap, rules, subst}
+use Rattle.std.proofs.Common.{◌∙◌, Bool, ap, rules, subst}
+use Rattle.std.specs.Option.{is_some}
+use Rattle.std.specs.Prelude.{Option}
 use Rattle.tlv_walk.specs.Events.{End}
 use Rattle.tlv_io.specs.Out.{Puts}
-use Rattle.tlv_io.proofs.Puts.{puts_failed}
+use Rattle.tlv_io.proofs.Puts.{puts_failed, puts_text}
 use Rattle.tlv_show.specs.declared.finding_lines.Style.TheVariants.{Dump}
-use Rattle.tlv_show.specs.LinesStep.{LinesState}
+use Rattle.tlv_show.specs.LinesStep.{LinesState, lines_end_step}
 use Rattle.tlv_show.specs.DumpStep.{DumpState, dump_step}
+use Rattle.tlv_show.specs.FinderState.{OpenPrimitiveState, finder_end_step}
+use Rattle.tlv_show.specs.Private.KeptLines.{lines_if}
+use Rattle.tlv_show.proofs.FindingLemmas.CheckLaws.{last-state}
 use Rattle.tlv_show.proofs.DumpLemmas.DumpSteps.{found_after}
+use Rattle.tlv_show.proofs.DumpLemmas.FinderKeeps.{dump_with, none-after_end}
 use Rattle.tlv_show.proofs.dump_follower.Dump.end.Goals as goal
 
 pub returns-in_err-end : goal.returns-in_err-end
-returns-in_err-end g c = record {
-  puts = rw (← c.self.view_is) (puts_failed g.D.Drain.state _ _ _ _ _ _ c.in_err-end.ensures.puts (search rules));
-  state = search rules;
-}
+returns-in_err-end g c =
+    let put =
+    ap (λ (b : Bool). (lines_end_step (lines_if b c.self.inside.lines)).put) c.is_open-was_open.ensures in
+    record {
+      puts =
+          rw (← c.self.view_is)
+          (puts_failed g.D.Drain.state _ _ _ _ _ _ (puts_text g.D.Drain.state _ _ _ _ _ put c.in_err-end.ensures.puts)
+          (search rules));
+      state = search rules;
+    }
 
 pub returns : goal.returns
 returns g c =
-    let s : DumpState = record { lines = c.self.inside.lines; finder = c.self.inside.finder.kept } in
-    let style = c.style-style.ensures ∙ ap (λ (l : LinesState). Dump l.layout.pure) c.in_ok-end.ensures.state in
+    let s : DumpState = dump_with c.self.inside.lines c.self.inside.finder.kept in
+    let f = finder_end_step s.finder in
+    let put =
+    ap (λ (b : Bool). (lines_end_step (lines_if b c.self.inside.lines)).put) c.is_open-was_open.ensures in
+    let style =
+    c.style-style.ensures ∙ ap (λ (l : LinesState). Dump l.layout.pure) c.in_ok-end.ensures.state in
     record {
       puts =
           subst
@@ -26,6 +42,7 @@ returns g c =
           c.self.view_is
           (found_after g.D.Drain.state s _ c.end-may_have_findings.new.self c.end-may_have_findings.result
           _ _ _ _ _ _ _ style
-          c.end-may_have_findings.ensures c.in_ok-end.ensures.puts c.put_findings.ensures);
+          c.end-may_have_findings.ensures (puts_text g.D.Drain.state _ _ _ _ _ put c.in_ok-end.ensures.puts)
+          c.put_findings.ensures);
       state = search rules;
     }

@@ -4,6 +4,7 @@ use Rattle.std.specs.Prelude.{Option}
 use Rattle.tlv_value.specs.ValueTextState.{ValueTextState}
 use Rattle.tlv_walk.specs.Follow.{Effect, each_octet}
 use Rattle.tlv_show.specs.LinesStep.{LinesState, lines_octet_step}
+use Rattle.tlv_show.specs.Private.KeptLines.{KeptLines, lines_if}
 use Rattle.tlv_show.proofs.DumpLemmas.OctetPieces.{dumped_bytes}
 use Rattle.tlv_io.proofs.Puts.{puts_text}
 use Rattle.tlv_show.proofs.lines.Lines.bytes.Goals as goal
@@ -16,7 +17,7 @@ returns g c =
     let some : 0 < length octets = search arith in
     let within : s.offset ≤ 2 ^ 64 - 1 = omega arith in
     let is =
-    ap (λ (s : LinesState). each_octet lines_octet_step s octets) (sym c.self.view_is)
+    ap (λ (k : KeptLines). each_octet lines_octet_step (lines_if c.args.is_open k) octets) (sym c.self.view_is)
     ∙ dumped_bytes _ octets (λ e. absurd (omega (arith, some, ap length e))) in
     let there : c.saturating_add-self-inside.result ≡ saturating_sum s.offset (length octets) =
     omega (arith, c.saturating_add-self-inside.ensures, within) in
