@@ -33,7 +33,7 @@ new_dump_with with_text wanted layout names = record {
 abbrev pub new_dump : Rules → Layout → NamesValue → DumpState
 new_dump rules layout names = new_dump_with false (listed_by rules) layout names
 
--- the number of open holders, which is the level of what is in the innermost one
+-- the number of open holders: the level of what begins next
 abbrev pub level_in : DumpState → ℕ
 level_in s = depth_in s.finder.holders
 
@@ -61,8 +61,8 @@ dump_padding_step s x =
     let d = lines_padding_step (level_in s) s.lines x in
     effect_with (record { lines = d.state; finder = s.finder }) d.put
 
--- an event: an element that begins is at the level of what is in the innermost open holder, and a holder that ends is
--- at the level outside of it
+-- an event. What begins is inside the open holders, so its level is their number. A holder that ends is not inside
+-- itself, so its level is one less
 abbrev pub dump_step : DumpState → EventValue → Effect DumpState
 dump_step s (Open h) = findings_before s (finder_open_step s.finder h) (lines_step (level_in s) s.lines (Open h))
 dump_step s (Enter h) = findings_before s (finder_open_step s.finder h) (lines_step (level_in s) s.lines (Enter h))

@@ -15,7 +15,7 @@ use Rattle.tlv_show.specs.Texts.{layout_at}
 
 -- what contracts see of the `Lines` of a dump
 pub record LinesState : Type 0 where
-  -- how lines are laid out; the level is that of each line
+  -- how lines are laid out. Each line has its own level
   pub layout : Layout
   -- whether text is shown beside pairs of digits
   pub with_text : Bool
@@ -46,7 +46,7 @@ lines_after_header s h = record s {
   in_padding = false;
 }
 
--- Below, the level is that of the element: the number of open holders around it.
+-- In what follows, a level is the number of holders around an element.
 
 -- a holder begins
 abbrev pub lines_open_step : ℕ → LinesState → HeaderValue → List ℕ → Effect LinesState

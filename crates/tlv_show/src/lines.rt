@@ -24,11 +24,11 @@ use tlv_walk::{Drain, Out, WriteFault};
 /// Writes the lines that each event allows. An element that holds others has a line with its header and a line with
 /// its end; the lines of a primitive come as [`ValueText`] writes them.
 ///
-/// How many elements are open, and whether a primitive is, is not kept here: a [`Finder`](crate::finder::Finder) keeps
-/// it, and each call is given what it needs of it.
+/// A [`Finder`](crate::finder::Finder) knows how many elements are open, and whether a primitive is. So this is not kept
+/// here too: calls are given the level of an element, which is the number of elements that hold it.
 #[derive(Drop)]
 pub(crate) struct Lines<'n, N: FiniteNames> {
-    /// How lines are laid out; the level is that of each line.
+    /// How lines are laid out. Each line has its own level.
     layout: Layout,
     /// Whether text is shown beside pairs of digits.
     with_text: bool,

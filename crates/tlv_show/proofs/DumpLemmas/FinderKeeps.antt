@@ -1,5 +1,5 @@
 -- What a finder keeps for the lines of a dump: whether a primitive is open, and the number of open holders.
-use Rattle.std.proofs.Common.{◌≡◌, ◌-◌, ℕ, Bool, false, List, [], ◌∷◌, length, refl, ap, arith, ◌==◌, ◌∙◌}
+use Rattle.std.proofs.Common.{◌≡◌, ◌-◌, ℕ, Bool, List, [], ◌∷◌, length, refl, ap, arith, ◌∙◌}
 use Rattle.std.specs.Option.{is_some}
 use Rattle.std.specs.Prelude.{Option, Some, None}
 use Rattle.tlv_show.specs.declared.holder_frame.HolderFrame.{HolderFrame}
@@ -55,17 +55,7 @@ same-level s h c =
     let u : CheckState = finder_bytes_step t c in
     same-level-ended u u.open_primitive ∙ same-level-after_bytes t c
 
--- the end of a holder leaves open what is open
-closed-same : (s : CheckState) (has_end_octets : Bool) (outer : List HolderFrame)
-    → (finder_frame_end_step s has_end_octets outer).kept.open_primitive ≡ s.open_primitive
-closed-same s has_end_octets [] = refl
-closed-same s has_end_octets (w ∷ outer) = refl
-
-pub same-after_close : (s : CheckState) (has_end_octets : Bool)
-    → (finder_close_step s has_end_octets).kept.open_primitive ≡ s.open_primitive
-same-after_close s has_end_octets = closed-same s has_end_octets s.holders.outer
-
--- and one holder fewer is open
+-- with the end of a holder one fewer is open
 closed-level : (s : CheckState) (has_end_octets : Bool) (outer : List HolderFrame) → s.holders.outer ≡ outer
     → depth_in (finder_frame_end_step s has_end_octets outer).kept.holders ≡ length outer - 1
 closed-level s has_end_octets [] e = ap length e

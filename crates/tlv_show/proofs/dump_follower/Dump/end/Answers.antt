@@ -1,17 +1,14 @@
 use Rattle.std.proofs.Common.{◌∙◌, Bool, ap, rules, subst}
-use Rattle.std.specs.Option.{is_some}
-use Rattle.std.specs.Prelude.{Option}
 use Rattle.tlv_walk.specs.Events.{End}
 use Rattle.tlv_io.specs.Out.{Puts}
 use Rattle.tlv_io.proofs.Puts.{puts_failed, puts_text}
 use Rattle.tlv_show.specs.declared.finding_lines.Style.TheVariants.{Dump}
 use Rattle.tlv_show.specs.LinesStep.{LinesState, lines_end_step}
 use Rattle.tlv_show.specs.DumpStep.{DumpState, dump_step}
-use Rattle.tlv_show.specs.FinderState.{OpenPrimitiveState, finder_end_step}
+use Rattle.tlv_show.specs.FinderState.{finder_end_step}
 use Rattle.tlv_show.specs.Private.KeptLines.{lines_if}
-use Rattle.tlv_show.proofs.FindingLemmas.CheckLaws.{last-state}
 use Rattle.tlv_show.proofs.DumpLemmas.DumpSteps.{found_after}
-use Rattle.tlv_show.proofs.DumpLemmas.FinderKeeps.{dump_with, none-after_end}
+use Rattle.tlv_show.proofs.DumpLemmas.FinderKeeps.{dump_with}
 use Rattle.tlv_show.proofs.dump_follower.Dump.end.Goals as goal
 
 pub returns-in_err-end : goal.returns-in_err-end
