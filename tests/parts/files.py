@@ -69,14 +69,15 @@ def standard_input_by_name(part):
     part.gives(["extract", "--offset", "0", "/dev/stdin"], long, 0, long)
 
 
-def as_another_user(part):
+def as_another_user(part, program=None):
     """Returns how to run the program as a user who may not read each file: nobody, if the tests run as root.
 
-    Nobody may not enter the folder of the tests, so a copy of the program is put where the child already is.
+    Nobody may not enter the folder of the tests, so a copy of the program is put where the child already is. Without a
+    path of another program it is tlvdump.
     """
     if os.geteuid():
-        return {}
-    shutil.copy(part.program, part.path("program"))
+        return {"program": program} if program else {}
+    shutil.copy(program or part.program, part.path("program"))
     os.chmod(part.path("program"), 0o755)
     os.chmod(part.folder, 0o755)
     nobody = pwd.getpwnam("nobody")

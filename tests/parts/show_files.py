@@ -5,6 +5,7 @@ import resource
 import signal
 import subprocess
 
+from parts.files import as_another_user
 from parts.harness import Done
 from parts.show_program import Program
 from second_opinion.running import put
@@ -29,7 +30,7 @@ CLOSED = (
     "                 }\n"
 ).encode()
 BREAKS = "string at 7 is the value of an extension and breaks at 10: F11 element runs past the enclosing length"
-READ, WRITE, OPEN = "E1 read failed", "E2 write failed", "E5 cannot open the file"
+READ, WRITE, OPEN = "E1 read failed", "E2 write failed", "E5 cannot open the file: no such file"
 NO_NAMES = "no names file was found: object identifiers have no names"
 
 REFUSED = [
@@ -188,6 +189,7 @@ def inputs(part, program):
         for name in ("missing", "null/below", ""):
             program.gives([*given, name], NULL, 3, err=f"{name}: {OPEN}")
         program.gives([*given, "folder"], NULL, 3, err=f"folder: {READ}")
+        program.gives([*given, "n" * 300], NULL, 3, err=f"{'n' * 300}: E5 cannot open the file")
         empty = "fault at 0: F01 empty input"
         program.gives([*given, "/dev/null"], NULL, 2, err=program.with_reasons(f"/dev/null: {empty}", b""))
         program.gives(given, b"", 2, err=program.with_reasons(empty, b""))
@@ -199,6 +201,20 @@ def inputs(part, program):
     got = program.run([], long)
     fine = got.status == 0 and got.out.count(b"NULL\n") == 500_000 and got.out.startswith(b"       0 1000000: OCTET STRING wraps {\n")
     part.expect("a million octets by a pipe", fine, *got.lines())
+
+
+def inputs_that_may_not_be_read(part, program):
+    """A file of mode 0, and one in a folder of mode 0."""
+    how = as_another_user(part, program.path)
+    os.chmod(part.write("closed", NULL), 0)
+    os.mkdir(part.path("closed-folder"))
+    part.write("closed-folder/null", NULL)
+    os.chmod(part.path("closed-folder"), 0)
+    for given in ([], ["--check"], ["--offsets"], ["--offset", "0"]):
+        for name in ("closed", "closed-folder/null"):
+            wanted = Done(3, b"", f"{name}: E5 cannot open the file: permission denied\n".encode())
+            part.same(f"{' '.join(given)} {name}", part.run([*given, name], NULL, **how), wanted)
+    os.chmod(part.path("closed-folder"), 0o700)
 
 
 def at_a_terminal(part, program):
@@ -241,5 +257,6 @@ def test(part):
     long_lines(part, program)
     names(part, program)
     inputs(part, program)
+    inputs_that_may_not_be_read(part, program)
     at_a_terminal(part, program)
     outputs(part, program)

@@ -255,9 +255,9 @@ def several(part, program):
     program.gives(["--raw", "a text", "it's.pem", "b.der"], b"", 0, SOUND + NULL * 3, said)
     program.gives(["b.der", "-", "--check"], SOUND, 0, b"# block 1 of 2: b.der\n# block 2 of 2: standard input\n")
     lines = b"# block 1 of 3: standard input: A\n# block 2 of 3: none\n# block 3 of 3: missing\n"
-    said = f"taken for PEM, A\nnone: {t1('Dear Sir')}\nmissing: E5 cannot open the file"
+    said = f"taken for PEM, A\nnone: {t1('Dear Sir')}\nmissing: E5 cannot open the file: no such file"
     program.gives(["--check", "-", "none", "missing"], pem(b"A", NULL), 4, lines, said)
-    program.gives(["--raw", "none", "missing"], b"", 3, b"", f"none: {t1('Dear Sir')}\nmissing: E5 cannot open the file")
+    program.gives(["--raw", "none", "missing"], b"", 3, b"", f"none: {t1('Dear Sir')}\nmissing: E5 cannot open the file: no such file")
     program.gives(["--raw", "."], b"", 3, b"", ".: E1 read failed")
     program.gives(["--as", "ber", "b.der", "a.der"], b"", 0, program.run(["b.der", "a.der"]).out)
 

@@ -116,7 +116,7 @@ def title(show, file, block):
 def of_block(show, block, known):
     """Returns the result for a block. The first line that is reported is the note."""
     if block is None:
-        return Shown(3, lines=["E5 cannot open the file"])
+        return Shown(3, lines=["E5 cannot open the file: no such file"])
     note, is_raw = block.note(), show.job == "raw"
     shown = of_octets(show, block.octets, known) if block.is_shown() else Shown(0)
     shown.status, shown.lines = block.status(shown.status, is_raw), [note] * bool(note) + shown.lines

@@ -3,7 +3,7 @@ ghost use Rattle.tlv_program.specs.System.{unknown_system};
 
 use crate::expect::expect_eq;
 use std::test::Fail;
-use tlv_program::{System, run_program};
+use tlv_program::{OpenFault, System, run_program};
 use tlv_view_program::{Streams, run_show};
 use tlv_view_words::{FileNames, Wanted, request_of};
 use tlv_walk::{MemDrain, MemSource};
@@ -18,8 +18,8 @@ impl System for NoFiles {
 
     ghost allows = { unknown_system };
 
-    fn open(&mut self, _name: &str) -> Option<MemSource<'static>> {
-        None
+    fn open(&mut self, _name: &str) -> Result<MemSource<'static>, OpenFault> {
+        Err(OpenFault::Missing)
     }
 
     fn close(&mut self, _file: MemSource<'static>) {}

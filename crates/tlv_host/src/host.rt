@@ -3,9 +3,9 @@ ghost use Rattle.tlv_program.specs.System.{unknown_system};
 
 use crate::printable::Printable;
 use std::fs;
-use std::io::{Eprint, Print};
+use std::io::{Eprint, ErrorKind, Print};
 use std::rt::Files;
-use tlv_program::System;
+use tlv_program::{OpenFault, System};
 use tlv_walk::ReadSource;
 
 /// The system on which a program runs. What it does is not known before it does it.
@@ -20,10 +20,10 @@ impl<R: Files + Print + Eprint> System for Host<'_, R> {
 
     ghost allows = { unknown_system };
 
-    fn open(&mut self, name: &str) -> Option<ReadSource<R::File>> {
+    fn open(&mut self, name: &str) -> Result<ReadSource<R::File>, OpenFault> {
         match fs::open(self.rt, name) {
-            Ok(file) => Some(ReadSource::new(file)),
-            Err(_) => None,
+            Ok(file) => Ok(ReadSource::new(file)),
+            Err(error) => Err(open_fault(error.kind())),
         }
     }
 
@@ -38,5 +38,14 @@ impl<R: Files + Print + Eprint> System for Host<'_, R> {
         } else {
             self.rt.print(text).is_ok()
         }
+    }
+}
+
+/// Why a file does not open.
+fn open_fault(kind: ErrorKind) -> OpenFault {
+    match kind {
+        ErrorKind::NotFound | ErrorKind::NotADirectory => OpenFault::Missing,
+        ErrorKind::PermissionDenied => OpenFault::Denied,
+        _ => OpenFault::Other,
     }
 }

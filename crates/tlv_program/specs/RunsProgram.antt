@@ -20,6 +20,7 @@ use Rattle.tlv_words.specs.declared.usage.UsageFault.{UsageFault}
 use Rattle.tlv_words.specs.declared.usage.UsageFault.TheVariants as usage
 use Rattle.tlv_program.specs.System.{Allows, IsUnread}
 use Rattle.tlv_program.specs.declared.program.NoWords.{NoWords}
+use Rattle.tlv_program.specs.declared.system.OpenFault.{OpenFault}
 use Rattle.tlv_program.specs.declared.program.NoWords.TheVariants.{NotUtf8, Memory}
 
 -- what the program works with, before or after it runs: the system, standard input and standard output
@@ -52,11 +53,11 @@ module _ {S : Type 0} (allows : Allows S) where
     -- the command asks for no names
     not_asked : names_file_of command ≡ None → new ≡ old → GetsNames command old new (Ok finite.empty)
     -- the names file does not open
-    unopened : (name : List ℕ) → names_file_of command ≡ Some name → allows.opens old new name None
-        → GetsNames command old new (Err names.ReadFailed)
+    unopened : (name : List ℕ) (why : OpenFault) → names_file_of command ≡ Some name
+        → allows.opens old new name (Err why) → GetsNames command old new (Err names.ReadFailed)
     -- the names file is opened and read, and given back in the state after that
     read : (name : List ℕ) (between : S) (before after : SourceState) (result : Result NamesValue NamesFault)
-        → names_file_of command ≡ Some name → allows.opens old between name (Some before) → IsUnread before
+        → names_file_of command ≡ Some name → allows.opens old between name (Ok before) → IsUnread before
         → ReadsFrom before after result → allows.closes between new after
         → GetsNames command old new result
 
@@ -68,11 +69,11 @@ module _ {S : Type 0} (allows : Allows S) where
         → RunsAndReports (command_job command table) old.standard new.standard report
         → RunsOverInput command table old new report
     -- the file does not open, and nothing is read or written
-    unopened : (name : List ℕ) → file_of command ≡ Some name → allows.opens old.system new.system name None
-        → new.standard ≡ old.standard → RunsOverInput command table old new unopened_report
+    unopened : (name : List ℕ) (why : OpenFault) → file_of command ≡ Some name
+        → allows.opens old.system new.system name (Err why) → new.standard ≡ old.standard → RunsOverInput command table old new unopened_report
     -- the input is the file, which is opened, and given back in the state after the run; standard input is not read
     file : (name : List ℕ) (between : S) (before after : SourceState) (report : ReportValue)
-        → file_of command ≡ Some name → allows.opens old.system between name (Some before) → IsUnread before
+        → file_of command ≡ Some name → allows.opens old.system between name (Ok before) → IsUnread before
         → new.standard.source ≡ old.standard.source
         → RunsAndReports (command_job command table) (device_states before old.standard.drain)
         (device_states after new.standard.drain) report

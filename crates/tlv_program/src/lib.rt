@@ -5,4 +5,4 @@ mod program;
 mod system;
 
 pub use program::{NoWords, run_program};
-pub use system::System;
+pub use system::{OpenFault, System};

@@ -115,12 +115,12 @@ fn names_for<S: System>(
         return Ok(Names::empty());
     };
     match system.open(name) {
-        Some(mut file) => {
+        Ok(mut file) => {
             let names = Names::read(alloc, &mut file);
             system.close(file);
             names
         }
-        None => Err(NamesFault::ReadFailed),
+        Err(_) => Err(NamesFault::ReadFailed),
     }
 }
 
@@ -141,11 +141,11 @@ fn run_over_input<S: System, I: Source, O: Drain>(
         return run(command, names, input, output);
     };
     match system.open(name) {
-        Some(mut file) => {
+        Ok(mut file) => {
             let report = run(command, names, &mut file, output);
             system.close(file);
             report
         }
-        None => unopened_report(),
+        Err(_) => unopened_report(),
     }
 }

@@ -2,7 +2,7 @@
 use Rattle.std.specs.Prelude.{◌≡◌, ℕ, Bool, false, nat_lt, List, [], ◌∷◌, ◌++◌, Option, Some, None, Result, Ok, Err}
 use Rattle.std.specs.Prelude.{length, map}
 use Rattle.tlv_io.specs.Device.{SourceState}
-use Rattle.tlv_run.specs.Report.{ReportValue, unopened_report}
+use Rattle.tlv_run.specs.Report.{ReportValue}
 use Rattle.tlv_text.specs.declared.text_fault.TextFault.{TextFault}
 use Rattle.tlv_text.specs.declared.text_fault.TextFault.TheVariants as text
 use Rattle.tlv_forms.specs.Taken.{IsTakenAs, IsTakenFor, IsTakingFault, TakenValue, taken_octets}
@@ -11,7 +11,8 @@ use Rattle.tlv_view.specs.declared.input.InputFault.{InputFault}
 use Rattle.tlv_view_words.specs.declared.request.InputForm.{InputForm}
 use Rattle.tlv_view_words.specs.declared.request.InputForm.TheVariants as asked
 use Rattle.tlv_program.specs.System.{Allows, IsUnread}
-use Rattle.tlv_view_program.specs.Notes.{text_report}
+use Rattle.tlv_program.specs.declared.system.OpenFault.{OpenFault}
+use Rattle.tlv_view_program.specs.Notes.{open_report, text_report}
 use Rattle.tlv_view_program.specs.Streams.{StreamsValue}
 
 -- ---- blocks
@@ -58,11 +59,12 @@ module _ {S : Type 0} (allows : Allows S) where
     standard_input : (result : Result (List ℕ) InputFault) → file ≡ None → ReadsWhole old.input new.input result
         → new ≡ record old { input = new.input } → GetsOctets file old new (octets_or_report result)
     -- the file does not open
-    unopened : (name : List ℕ) → file ≡ Some name → allows.opens old.system new.system name None
-        → new ≡ record old { system = new.system } → GetsOctets file old new (Err unopened_report)
+    unopened : (name : List ℕ) (why : OpenFault) → file ≡ Some name
+        → allows.opens old.system new.system name (Err why)
+        → new ≡ record old { system = new.system } → GetsOctets file old new (Err (open_report why))
     -- it is opened, read to its end, and given back
     opened : (name : List ℕ) (between : S) (before after : SourceState) (result : Result (List ℕ) InputFault)
-        → file ≡ Some name → allows.opens old.system between name (Some before) → IsUnread before
+        → file ≡ Some name → allows.opens old.system between name (Ok before) → IsUnread before
         → ReadsWhole before after result → allows.closes between new.system after
         → new ≡ record old { system = new.system } → GetsOctets file old new (octets_or_report result)
 

@@ -11,9 +11,11 @@ use Rattle.tlv_text.specs.declared.text_fault.TextFault.TheVariants as text
 use Rattle.tlv_forms.specs.Taken.{TakenValue}
 use Rattle.tlv_forms.specs.declared.taken.TakenFor.{TakenFor}
 use Rattle.tlv_forms.specs.declared.taken.TakenFor.TheVariants.{Octets, OtherText, Text}
-use Rattle.tlv_run.specs.Report.{ReportValue, report_with}
+use Rattle.tlv_run.specs.Report.{ReportValue, report_with, unopened_report}
 use Rattle.tlv_view.specs.ReadWhole.{input_report}
 use Rattle.tlv_view.specs.declared.input.InputFault.TheVariants as input
+use Rattle.tlv_program.specs.declared.system.OpenFault.{OpenFault}
+use Rattle.tlv_program.specs.declared.system.OpenFault.TheVariants.{Missing, Denied, Other}
 use Rattle.tlv_view_program.specs.Lines.{MessagePlace, place_words}
 
 -- ---- parts of a note
@@ -109,6 +111,12 @@ name_in_form form state b = []
 abbrev pub name_by : TakenFor → BlockValue → List ℕ
 name_by (Text form) b = name_in_form form b.state b
 name_by taken_for b = []
+
+-- the report if a file does not open, with the cause if it is a usual one
+abbrev pub open_report : OpenFault → ReportValue
+open_report Missing = report_with 3 (codes "E5 cannot open the file: no such file")
+open_report Denied = report_with 3 (codes "E5 cannot open the file: permission denied")
+open_report Other = unopened_report
 
 -- the report if the blocks of an input cannot be obtained
 abbrev pub text_report : TextFault → ReportValue

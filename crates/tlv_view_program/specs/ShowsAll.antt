@@ -22,6 +22,7 @@ use Rattle.tlv_view_words.specs.declared.request.Wanted.{Wanted}
 use Rattle.tlv_view_words.specs.declared.request.Wanted.TheVariants.{Dump}
 use Rattle.tlv_program.specs.System.{Allows, IsUnread}
 use Rattle.tlv_program.specs.declared.program.NoWords.{NoWords}
+use Rattle.tlv_program.specs.declared.system.OpenFault.{OpenFault}
 use Rattle.tlv_program.specs.declared.program.NoWords.TheVariants.{NotUtf8, Memory}
 use Rattle.tlv_view_program.specs.Lines.{input_note, no_names_note}
 use Rattle.tlv_view_program.specs.InputBlocks.{GetsAllBlocks, InputBlockValue}
@@ -94,9 +95,9 @@ module _ {S : Type 0} (allows : Allows S) where
   pub data OpensFirst : List (List ℕ) → S → S → Option SourceState → Type 0 where
     none : {s : S} → OpensFirst [] s s None
     here : {name : List ℕ} {places : List (List ℕ)} {old new : S} (file : SourceState)
-        → allows.opens old new name (Some file) → IsUnread file → OpensFirst (name ∷ places) old new (Some file)
+        → allows.opens old new name (Ok file) → IsUnread file → OpensFirst (name ∷ places) old new (Some file)
     later : {name : List ℕ} {places : List (List ℕ)} {old new : S} {found : Option SourceState} (between : S)
-        → allows.opens old between name None → OpensFirst places between new found
+        (why : OpenFault) → allows.opens old between name (Err why) → OpensFirst places between new found
         → OpensFirst (name ∷ places) old new found
 
   -- the names for what is wanted, or why there are none; the Bool says whether to note that no names file was found: a
@@ -106,11 +107,11 @@ module _ {S : Type 0} (allows : Allows S) where
     -- no object identifiers are shown
     not_asked : names_of_wanted wanted ≡ None → new ≡ old → GetsTable wanted places old new false (Ok finite.empty)
     -- the names file that the words name does not open
-    unopened : (name : List ℕ) → names_of_wanted wanted ≡ Some (Some name) → allows.opens old new name None
-        → GetsTable wanted places old new false (Err names.ReadFailed)
+    unopened : (name : List ℕ) (why : OpenFault) → names_of_wanted wanted ≡ Some (Some name)
+        → allows.opens old new name (Err why) → GetsTable wanted places old new false (Err names.ReadFailed)
     -- it is opened and read
     named : (name : List ℕ) (between : S) (before after : SourceState) (result : Result NamesValue NamesFault)
-        → names_of_wanted wanted ≡ Some (Some name) → allows.opens old between name (Some before) → IsUnread before
+        → names_of_wanted wanted ≡ Some (Some name) → allows.opens old between name (Ok before) → IsUnread before
         → ReadsFrom before after result → allows.closes between new after
         → GetsTable wanted places old new false result
     -- the words name none, and one is found and read

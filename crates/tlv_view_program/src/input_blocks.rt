@@ -13,12 +13,12 @@ ghost use Rattle.tlv_view_program.specs.ShowsAll.{files_of_words};
 ghost use Rattle.tlv_view_program.specs.Streams.{streams_value};
 
 use crate::files::file_of_word;
-use crate::notes::text_report;
+use crate::notes::{open_report, text_report};
 use crate::streams::Streams;
 use std::alloc::{AllocError, Global};
 use tlv_forms::{Taken, take_as, take_input, take_octets};
-use tlv_program::System;
-use tlv_run::{Report, unopened_report};
+use tlv_program::{OpenFault, System};
+use tlv_run::Report;
 use tlv_text::TextFault;
 use tlv_view::{InputFault, input_report, read_whole};
 use tlv_view_words::{InputForm, Request};
@@ -28,7 +28,7 @@ use tlv_walk::{Drain, Source};
 #[derive(Clone, Copy, Debug, PartialEq, Eq)]
 pub(crate) enum NoBlocks {
     /// It does not open.
-    Unopened,
+    Unopened(OpenFault),
     /// Its octets cannot be obtained.
     Input(InputFault),
     /// What is written in its text cannot be obtained.
@@ -181,12 +181,12 @@ fn octets_of_file<S: System, I: Source, O: Drain, M: Drain>(
         return octets_read(read_whole(alloc, &mut streams.input));
     };
     match streams.system.open(name) {
-        Some(mut opened) => {
+        Ok(mut opened) => {
             let octets = read_whole(alloc, &mut opened);
             streams.system.close(opened);
             octets_read(octets)
         }
-        None => Err(NoBlocks::Unopened),
+        Err(why) => Err(NoBlocks::Unopened(why)),
     }
 }
 
@@ -207,7 +207,7 @@ pub(crate) fn report_without_blocks(why: NoBlocks) -> Report
     ensures { report_value_of result ≡ report_without_blocks why }
 {
     match why {
-        NoBlocks::Unopened => unopened_report(),
+        NoBlocks::Unopened(why) => open_report(why),
         NoBlocks::Input(fault) => input_report(fault),
         NoBlocks::Text(fault) => text_report(fault),
     }

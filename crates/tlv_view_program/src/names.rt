@@ -2,7 +2,7 @@
 ghost use Rattle.std.specs.FinMap as finite;
 ghost use Rattle.std.specs.Option.{is_none};
 ghost use Rattle.std.specs.Prelude.{◌≡◌, option_map};
-ghost use Rattle.tlv_view_program.specs.Private.Tables.{OpensNames, is_noted, result_without_file, table_result};
+ghost use Rattle.tlv_view_program.specs.Private.Tables.{OpensNames, OpensOrNot, is_noted, result_without_file, table_result};
 ghost use Rattle.tlv_view_program.specs.ShowsAll.{GetsTable, OpensFirst};
 
 use std::alloc::Global;
@@ -77,8 +77,18 @@ fn open_names<S: System>(name: &Option<Text>, places: &FileNames, system: &mut S
     ensures { OpensNames S.allows name.now places.now system.old system.new (option_map S.File.state result) }
 {
     match name {
-        Some(name) => system.open(name.as_str()),
+        Some(name) => open_or_not(name.as_str(), system),
         None => open_first(places, system),
+    }
+}
+
+/// Opens the file of this name, if it opens.
+fn open_or_not<S: System>(name: &str, system: &mut S) -> Option<S::File>
+    ensures { OpensOrNot S.allows name.now system.old system.new (option_map S.File.state result) }
+{
+    match system.open(name) {
+        Ok(file) => Some(file),
+        Err(_) => None,
     }
 }
 
@@ -87,7 +97,7 @@ fn open_first<S: System>(places: &FileNames, system: &mut S) -> Option<S::File>
     ensures { OpensFirst S.allows places.now system.old system.new (option_map S.File.state result) }
 {
     for place in places.as_slice() {
-        if let Some(file) = system.open(place.as_str()) {
+        if let Ok(file) = system.open(place.as_str()) {
             return Some(file);
         }
     }

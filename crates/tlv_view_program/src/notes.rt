@@ -5,17 +5,29 @@ ghost use Rattle.tlv_run.specs.Report.{report_value_of};
 ghost use Rattle.tlv_text.specs.Blocks.{block_value};
 ghost use Rattle.tlv_view_program.specs.Notes.{absent_words, expected_words, form_note, form_words, label_words};
 ghost use Rattle.tlv_view_program.specs.Notes.{layer_words, other_text_note, run_words, state_words, taken_note};
-ghost use Rattle.tlv_view_program.specs.Notes.{has_note, name_by, text_report};
+ghost use Rattle.tlv_view_program.specs.Notes.{has_note, name_by, open_report, text_report};
 ghost use Rattle.tlv_view_program.specs.Private.LineOut.{PutsLine};
 
 use crate::line_out::LineOut;
 use arrayvec::ArrayVec;
 use itoa::Buffer;
 use tlv_forms::{Taken, TakenFor};
-use tlv_run::Report;
+use tlv_program::OpenFault;
+use tlv_run::{Report, unopened_report};
 use tlv_text::{Block, BlockState, Form, TextFault};
 use tlv_view::{InputFault, input_report};
 use tlv_walk::{Drain, WriteFault};
+
+/// The report if a file does not open, with the cause if it is a usual one.
+pub(crate) fn open_report(why: OpenFault) -> Report
+    ensures { report_value_of result ≡ open_report why }
+{
+    match why {
+        OpenFault::Missing => Report::with_message(3, b"E5 cannot open the file: no such file"),
+        OpenFault::Denied => Report::with_message(3, b"E5 cannot open the file: permission denied"),
+        OpenFault::Other => unopened_report(),
+    }
+}
 
 /// The report if the blocks of an input cannot be obtained.
 pub(crate) fn text_report(fault: TextFault) -> Report

@@ -76,7 +76,7 @@ fn several_files_are_shown(rt: HostRuntime) -> Result<(), Fail> {
             words: &["--check", "null", "missing", "null"],
             asked: b"n;mn;",
             written: b"# block 1 of 3: null\n# block 2 of 3: missing\n# block 3 of 3: null\n",
-            said: b"missing: E5 cannot open the file\n",
+            said: b"missing: E5 cannot open the file: no such file\n",
             status: 3,
             ..NOTHING
         },
@@ -89,7 +89,7 @@ fn several_files_are_shown(rt: HostRuntime) -> Result<(), Fail> {
         ShowRow {
             words: &["--check", "\u{e9}\n"],
             asked: b"\xc3",
-            said: b"???: E5 cannot open the file\n",
+            said: b"???: E5 cannot open the file: no such file\n",
             status: 3,
             ..NOTHING
         },

@@ -2,7 +2,7 @@
 ghost use Rattle.tlv_program.specs.System.{unknown_system};
 
 use arrayvec::ArrayVec;
-use tlv_program::System;
+use tlv_program::{OpenFault, System};
 use tlv_walk::MemSource;
 
 /// The files. First encodings and names files: a NULL, a string that holds a NULL, a string that is broken, an INTEGER
@@ -45,15 +45,15 @@ impl System for MemSystem {
 
     ghost allows = { unknown_system };
 
-    fn open(&mut self, name: &str) -> Option<MemSource<'static>> {
+    fn open(&mut self, name: &str) -> Result<MemSource<'static>, OpenFault> {
         let first = name.as_bytes().first().copied().unwrap_or(b'?');
         let _ = self.asked.try_push(first);
         for (file, octets) in FILES {
             if file == name {
-                return Some(MemSource::new(octets, &[], None));
+                return Ok(MemSource::new(octets, &[], None));
             }
         }
-        None
+        Err(OpenFault::Missing)
     }
 
     fn close(&mut self, _file: MemSource<'static>) {

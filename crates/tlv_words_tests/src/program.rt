@@ -7,7 +7,7 @@ use arrayvec::ArrayVec;
 use std::alloc::Global;
 use std::process::Abort;
 use std::test::Fail;
-use tlv_program::{NoWords, System, run_program};
+use tlv_program::{NoWords, OpenFault, System, run_program};
 use tlv_walk::{MemDrain, MemSource};
 use tlv_words::{UsageFault, Words};
 
@@ -35,15 +35,15 @@ impl System for MemSystem {
 
     ghost allows = { unknown_system };
 
-    fn open(&mut self, name: &str) -> Option<MemSource<'static>> {
+    fn open(&mut self, name: &str) -> Result<MemSource<'static>, OpenFault> {
         let first = name.as_bytes().first().copied().unwrap_or(b'?');
         let _ = self.asked.try_push(first);
         for (file, octets) in FILES {
             if file == name {
-                return Some(MemSource::new(octets, &[], None));
+                return Ok(MemSource::new(octets, &[], None));
             }
         }
-        None
+        Err(OpenFault::Missing)
     }
 
     fn close(&mut self, _file: MemSource<'static>) {

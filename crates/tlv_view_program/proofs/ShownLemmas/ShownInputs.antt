@@ -11,6 +11,9 @@ use Rattle.tlv_run.specs.Report.{ReportValue}
 use Rattle.tlv_view.specs.declared.input.InputFault.{InputFault}
 use Rattle.tlv_view_words.specs.declared.request.InputForm.{InputForm}
 use Rattle.tlv_program.specs.System.{Allows}
+use Rattle.tlv_program.specs.declared.system.OpenFault.{OpenFault}
+use Rattle.tlv_program.specs.declared.system.OpenFault.TheVariants.{Missing, Denied, Other}
+use Rattle.tlv_view_program.specs.Notes.{open_report}
 use Rattle.tlv_view_program.specs.InputBlocks.{BlockContents, GetsAllBlocks, GetsBlocks, GetsOctets, InputBlockValue}
 use Rattle.tlv_view_program.specs.InputBlocks.{block_of_file, blocks_taken, octets_or_report}
 use Rattle.tlv_view_program.specs.ShownLines.{HasShownReport}
@@ -64,11 +67,16 @@ written streams = (streams.output, streams.messages)
 abbrev pub IsSilent : {S : Type 0} → StreamsValue S → StreamsValue S → Type 0
 IsSilent old new = written new ≡ written old
 
+open_report-shown : (why : OpenFault) → IsShownIfErr (Err (open_report why))
+open_report-shown Missing = refl
+open_report-shown Denied = refl
+open_report-shown Other = refl
+
 module _ {S : Type 0} (allows : Allows S) where
   octets_report-shown : (file : Option (List ℕ)) (old new : StreamsValue S) (r : Result (List ℕ) ReportValue)
       → GetsOctets allows file old new r → IsShownIfErr r
   octets_report-shown file old new _ (GetsOctets.standard_input result none reads same) = octets_or-shown result
-  octets_report-shown file old new _ (GetsOctets.unopened name is opens same) = refl
+  octets_report-shown file old new _ (GetsOctets.unopened name why is opens same) = open_report-shown why
   octets_report-shown file old new _
       (GetsOctets.opened name between before after result is opens unread reads closes same) = octets_or-shown result
 
@@ -76,7 +84,7 @@ module _ {S : Type 0} (allows : Allows S) where
       → GetsOctets allows file old new r → IsSilent old new
   octets-silent file old new _ (GetsOctets.standard_input result none reads same) =
       ap written same
-  octets-silent file old new _ (GetsOctets.unopened name is opens same) =
+  octets-silent file old new _ (GetsOctets.unopened name why is opens same) =
       ap written same
   octets-silent file old new _
       (GetsOctets.opened name between before after result is opens unread reads closes same) =

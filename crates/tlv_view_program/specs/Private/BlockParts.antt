@@ -3,9 +3,9 @@ use Rattle.std.specs.Prelude.{ℕ, ◌≤◌, ◌∷◌, [], All, IfOk, List, Op
 use Rattle.std.specs.Prelude.{flat_map, length, map}
 use Rattle.tlv_head.specs.Limits.{input_limit}
 use Rattle.tlv_run.specs.BorrowedText.{text_in}
-use Rattle.tlv_run.specs.Report.{ReportValue, unopened_report}
+use Rattle.tlv_run.specs.Report.{ReportValue}
 use Rattle.tlv_view.specs.ReadWhole.{input_report}
-use Rattle.tlv_view_program.specs.Notes.{text_report}
+use Rattle.tlv_view_program.specs.Notes.{open_report, text_report}
 use Rattle.tlv_text.specs.declared.text_fault.TextFault.{TextFault}
 use Rattle.tlv_forms.specs.Taken.{TakenValue, taken_value}
 use Rattle.tlv_forms.specs.declared.taken.Taken.{Taken}
@@ -24,7 +24,7 @@ use Rattle.tlv_view_program.specs.declared.lines.BlockName.{BlockName}
 
 -- the report for a file that gives no block
 abbrev pub report_without_blocks : NoBlocks → ReportValue
-report_without_blocks Unopened = unopened_report
+report_without_blocks (Unopened why) = open_report why
 report_without_blocks (Input fault) = input_report fault
 report_without_blocks (Text fault) = text_report fault
 

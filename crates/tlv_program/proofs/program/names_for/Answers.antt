@@ -5,10 +5,10 @@ use Rattle.tlv_program.proofs.program.names_for.Goals as goal
 pub returns-in_default : goal.returns-in_default
 returns-in_default g c = rw c.empty.ensures (not_asked (search rules) refl)
 
-pub returns-in-Some-open : goal.returns-in-Some-open
-returns-in-Some-open g c =
-    read c.in-Some.name.now c.«open».new.self (g.S.File.Source.state c.in-Some-open.file) _ _ (search rules)
-    c.in-Some-open.ensures.opens c.in-Some-open.ensures.unread (search rules) c.close.ensures
+pub returns-in-Ok : goal.returns-in-Ok
+returns-in-Ok g c =
+    read c.in-Some.name.now c.«open».new.self (g.S.File.Source.state c.in-Ok.file) _ _ (search rules)
+    c.in-Ok.ensures.opens c.in-Ok.ensures.unread (search rules) c.close.ensures
 
-pub returns-in-None : goal.returns-in-None
-returns-in-None g c = unopened c.in-Some.name.now (search rules) c.in-None.ensures.opens
+pub returns-in-Err : goal.returns-in-Err
+returns-in-Err g c = unopened c.in-Some.name.now c.in-Err.field-0 (search rules) c.in-Err.ensures.opens

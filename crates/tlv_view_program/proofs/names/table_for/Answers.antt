@@ -16,7 +16,7 @@ module _ {S : Type 0} (allows : Allows S) (wanted : Wanted) (places : List (List
       → names_of_wanted wanted ≡ Some name → OpensNames allows name places old new None → noted ≡ is_none name
       → result ≡ result_without_file name → GetsTable allows wanted places old new noted result
   without-file None noted result asked opens n r = rw (n, r) (none_found asked opens)
-  without-file (Some name) noted result asked opens n r = rw (n, r) (unopened name asked opens.0)
+  without-file (Some name) noted result asked opens n r = rw (n, r) (unopened name opens.0 asked opens.1)
 
   -- a file opens
   with-file : (name : Option (List ℕ)) (between : S) (before after : SourceState)
