@@ -77,7 +77,8 @@ def of_body(text, start, end):
         skip = end_of_headers(body, headers)
         if b"ENCRYPTED" in body[headers:skip]:
             return None
-        start += skip
+        if skip < len(body):
+            start += skip
     decoded = of_base64(text[start:end], 4)
     if decoded.place is not None:
         decoded.place += start

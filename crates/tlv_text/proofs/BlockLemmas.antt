@@ -18,7 +18,7 @@ use Rattle.tlv_text.specs.Blocks.{is_too_long, is_url_symbol, line_at, only_bloc
 use Rattle.tlv_text.specs.Blocks.{numbers_block, or_absent, place_in_text, state_at_place, state_with_end}
 use Rattle.tlv_text.specs.Dump.{IsFault, dump_limit, dump_read}
 use Rattle.tlv_text.specs.Pem.{HasNoBlock, IsFirstBlock, begin_marker, dashes}
-use Rattle.tlv_text.specs.PemBody.{after_line, base64_part, has_headers, is_encrypted, is_escaped_line_feed}
+use Rattle.tlv_text.specs.PemBody.{after_line, base64_part, has_more_than_headers, is_encrypted, is_escaped_line_feed}
 use Rattle.tlv_text.specs.PemBody.{size_of_headers}
 use Rattle.tlv_text.specs.TextRead.{refused_at}
 use Rattle.tlv_text.specs.Tokens.{token_count}
@@ -79,7 +79,7 @@ after-few (x ∷ y ∷ text) = cases (x == 10) (is_escaped_line_feed x y) (after
     cases false false less = omega (arith, less)
 
 pub base64-part-le : (body : List ℕ) → length (base64_part body) ≤ length body
-base64-part-le body = cases (has_headers body)
+base64-part-le body = cases (has_more_than_headers body)
   where
     cases : (headers : Bool)
         → length (if headers then drop (size_of_headers body) (after_line body) else body) ≤ length body

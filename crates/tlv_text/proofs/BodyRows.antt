@@ -53,11 +53,14 @@ row-macro = refl
 row-own_line : headers_of (codes " \nVersion: x\n\nMAA=\n") ≡ codes "Version: x\n\n"
 row-own_line = refl
 
--- a colon without a blank line
-row-no_blank_line : BodyHolds (codes "\nVersion: x\nMAA=\n") []
+-- a colon without a blank line, and nothing after it
+row-no_blank_line : BodyHolds (codes "\nVersion: x\nMAA=\n") (codes "\nVersion: x\nMAA=\n")
 row-no_blank_line = record { open_to_all = refl; held = refl }
 
-row-no_line : BodyHolds (codes "Version: x") []
+row-nothing_after : BodyHolds (codes "\nVersion: x\n\n") (codes "\nVersion: x\n\n")
+row-nothing_after = record { open_to_all = refl; held = refl }
+
+row-no_line : BodyHolds (codes "Version: x") (codes "Version: x")
 row-no_line = record { open_to_all = refl; held = refl }
 
 -- a line with a backslash and another letter is not blank

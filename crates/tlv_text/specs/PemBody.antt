@@ -1,6 +1,6 @@
 -- What the body of a block of PEM holds: base64, or headers and then base64 (RFC 7468; RFC 1421, section 4.4).
 use Rattle.std.specs.Prelude.{◌≡◌, ℕ, ◌+◌, ◌==◌, Bool, true, false, ◌&&◌, ◌||◌, if◌then◌else◌}
-use Rattle.std.specs.Prelude.{List, [], ◌∷◌, codes, drop, length, take}
+use Rattle.std.specs.Prelude.{List, [], ◌∷◌, codes, drop, length, nat_lt, take}
 use Rattle.std.specs.List.{list_any}
 use Rattle.std.specs.Str.{bytes_eq}
 use Rattle.tlv_text.specs.Characters.{is_quote}
@@ -56,9 +56,14 @@ size_of_headers body = headers_size true (after_line body)
 abbrev pub headers_of : List ℕ → List ℕ
 headers_of body = if has_headers body then take (size_of_headers body) (after_line body) else []
 
--- the base64 of a body: all of it, or what comes after the blank line
+-- headers, a blank line, and then more
+abbrev pub has_more_than_headers : List ℕ → Bool
+has_more_than_headers body = has_headers body && nat_lt (size_of_headers body) (length (after_line body))
+
+-- the base64 of a body: what comes after the blank line; or all of it, if there are no headers, or nothing comes after
+-- them. In the latter case it is refused at its first colon
 abbrev pub base64_part : List ℕ → List ℕ
-base64_part body = if has_headers body then drop (size_of_headers body) (after_line body) else body
+base64_part body = if has_more_than_headers body then drop (size_of_headers body) (after_line body) else body
 
 -- a word stands somewhere in a text
 abbrev pub has_word : List ℕ → List ℕ → Bool

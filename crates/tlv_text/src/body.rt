@@ -18,8 +18,8 @@ pub enum PemBody<'a> {
 }
 
 /// Returns what a body holds: only base64, or, if it has a colon, headers, a blank line and then base64 (RFC 7468;
-/// RFC 1421, section 4.4). A line end may also be a backslash and n, as in JSON and C. Without a blank line there is
-/// no base64.
+/// RFC 1421, section 4.4). A line end may also be a backslash and n, as in JSON and C. If nothing comes after the
+/// headers, as without a blank line, all of the body is taken for base64, and is refused at its first colon.
 pub fn pem_body(body: &[u8]) -> PemBody<'_>
     ensures { IsHeldBy body.now result }
 {
@@ -30,6 +30,9 @@ pub fn pem_body(body: &[u8]) -> PemBody<'_>
     let (headers, base64) = lines.split_at(headers_size(lines));
     if is_encrypted(headers) {
         return PemBody::Encrypted;
+    }
+    if base64.is_empty() {
+        return PemBody::Base64(body);
     }
     PemBody::Base64(base64)
 }

@@ -126,7 +126,7 @@ fn numbers_are_decoded(rt: HostRuntime) -> Result<(), Fail> {
 /// The body of a block of PEM, and the base64 in it. `None` means that the block is encrypted.
 type BodyRow<'a> = (&'a [u8], Option<&'a [u8]>);
 
-static BODIES: [BodyRow<'static>; 7] = [
+static BODIES: [BodyRow<'static>; 8] = [
     (b"\nMAA=\n", Some(b"\nMAA=\n")),
     (
         b"\nProc-Type: 4,ENCRYPTED\nDEK-Info: AES-256-CBC,00\n\nMAA=\n",
@@ -135,7 +135,8 @@ static BODIES: [BodyRow<'static>; 7] = [
     (b"\nVersion: x\n\nMAA=\n", Some(b"MAA=\n")),
     (b"\r\nVersion: x\r\n\r\nMAA=\r\n", Some(b"MAA=\r\n")),
     (b"\\nVersion: x\\n\\nMAA=\\n", Some(b"MAA=\\n")),
-    (b"\nVersion: x\nMAA=\n", Some(b"")),
+    (b"\nVersion: x\nMAA=\n", Some(b"\nVersion: x\nMAA=\n")),
+    (b"\nVersion: x\n\n", Some(b"\nVersion: x\n\n")),
     (b"", Some(b"")),
 ];
 

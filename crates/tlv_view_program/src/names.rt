@@ -97,7 +97,7 @@ fn open_first<S: System>(places: &FileNames, system: &mut S) -> Option<S::File>
     ensures { OpensFirst S.allows places.now system.old system.new (option_map S.File.state result) }
 {
     for place in places.as_slice() {
-        if let Ok(file) = system.open(place.as_str()) {
+        if let Some(file) = open_or_not(place.as_str(), system) {
             return Some(file);
         }
     }
