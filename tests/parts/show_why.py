@@ -172,6 +172,10 @@ HINTS = [
     ("OpenSSH", b"openssh-key-v1\0", "a key of OpenSSH", 2),
     ("UTF-16", b"\xff\xfe\xe9\x00", UTF_16, 2),
     ("UTF-16, high octets first", b"\xfe\xff\x00\x30", UTF_16, 2),
+    ("pcap", b"\xd4\xc3\xb2\xa1\x02\x00\x04\x00", "a capture of packets (pcap)", 2),
+    ("pcap with nanoseconds", b"\x4d\x3c\xb2\xa1\x02\x00\x04\x00", "a capture of packets (pcap)", 2),
+    ("pcapng", b"\x0a\x0d\x0d\x0a\x1c\x00\x00\x00", "a capture of packets (pcap)", 2),
+    ("a key store of Java", b"\xfe\xed\xfe\xed\x00\x00\x00\x02", "a key store of Java (JKS)", 2),
 ]
 # Octets for which no other start may be suggested: those after whole encodings, and the last record.
 NO_START = [BODY + b"garbage\n", BODY + b"\x41\x82\x13\x04\x30", BODY + DAMAGED]

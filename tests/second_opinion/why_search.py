@@ -3,6 +3,7 @@ from second_opinion.reading import Element, Reading
 
 MOST_SEARCHED, MOST_OFF, LAST_START, MOST_TRIED = 1 << 20, 5, 64, 1024
 UTF_16 = "It begins as text in UTF-16 does. Try: iconv -f UTF-16 -t UTF-8 FILE | tlvdump-show"
+CAPTURE = "It begins as a capture of packets (pcap) does: export the octets of a packet first."
 MORE = "If one octet more stood after the header at offset {}, all would parse: an octet of its contents may be missing."
 FEWER = "If one octet fewer stood after the header at offset {}, all would parse: an octet may have been put in there."
 KINDS = (
@@ -14,6 +15,10 @@ KINDS = (
     (b"openssh-key", "It is a key of OpenSSH, which is no encoding by X.690."),
     (b"\xff\xfe", UTF_16),
     (b"\xfe\xff", UTF_16),
+    (b"\xd4\xc3\xb2\xa1", CAPTURE),
+    (b"\x4d\x3c\xb2\xa1", CAPTURE),
+    (b"\x0a\x0d\x0d\x0a", CAPTURE),
+    (b"\xfe\xed\xfe\xed", "It begins as a key store of Java (JKS) does: export what you need first."),
 )
 LATIN_1 = ("It was taken for a text in Latin-1 and written in UTF-8. "
            "Try: fetch it anew, in binary, or: iconv -f UTF-8 -t ISO-8859-1 FILE | tlvdump-show")

@@ -71,6 +71,22 @@ utf16_high_first-row : kind_line (0xfe ∷ 0xff ∷ [])
     ≡ codes "It begins as text in UTF-16 does. Try: iconv -f UTF-16 -t UTF-8 FILE | tlvdump-show\n"
 utf16_high_first-row = refl
 
+pcap-row : kind_line (0xd4 ∷ 0xc3 ∷ 0xb2 ∷ 0xa1 ∷ 2 ∷ [])
+    ≡ codes "It begins as a capture of packets (pcap) does: export the octets of a packet first.\n"
+pcap-row = refl
+
+pcap_nanoseconds-row : kind_line (0x4d ∷ 0x3c ∷ 0xb2 ∷ 0xa1 ∷ [])
+    ≡ codes "It begins as a capture of packets (pcap) does: export the octets of a packet first.\n"
+pcap_nanoseconds-row = refl
+
+pcapng-row : kind_line (0x0a ∷ 0x0d ∷ 0x0d ∷ 0x0a ∷ 0x1c ∷ [])
+    ≡ codes "It begins as a capture of packets (pcap) does: export the octets of a packet first.\n"
+pcapng-row = refl
+
+java-row : kind_line (0xfe ∷ 0xed ∷ 0xfe ∷ 0xed ∷ [])
+    ≡ codes "It begins as a key store of Java (JKS) does: export what you need first.\n"
+java-row = refl
+
 -- the octets have to be there whole
 short-row : kind_line (0x50 ∷ 0x4b ∷ 3 ∷ []) ≡ []
 short-row = refl

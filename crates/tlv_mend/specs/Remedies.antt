@@ -71,6 +71,13 @@ abbrev pub begins_utf16 : List ℕ → Bool
 begins_utf16 octets =
     starts_with nat_eq octets (0xff ∷ 0xfe ∷ []) || starts_with nat_eq octets (0xfe ∷ 0xff ∷ [])
 
+-- the octets begin as a capture of packets does: pcap, with microseconds or nanoseconds, or pcapng
+abbrev pub begins_capture : List ℕ → Bool
+begins_capture octets =
+    starts_with nat_eq octets (0xd4 ∷ 0xc3 ∷ 0xb2 ∷ 0xa1 ∷ [])
+    || (starts_with nat_eq octets (0x4d ∷ 0x3c ∷ 0xb2 ∷ 0xa1 ∷ [])
+    || starts_with nat_eq octets (0x0a ∷ 0x0d ∷ 0x0d ∷ 0x0a ∷ []))
+
 -- the line about another kind of file, by the octets with which files of that kind begin
 abbrev pub kind_line : List ℕ → List ℕ
 kind_line octets =
@@ -87,7 +94,11 @@ kind_line octets =
     codes "It is a key of OpenSSH, which is no encoding by X.690.\n"
     else (if begins_utf16 octets then
     codes "It begins as text in UTF-16 does. Try: iconv -f UTF-16 -t UTF-8 FILE | tlvdump-show\n"
-    else []))))))
+    else (if begins_capture octets then
+    codes "It begins as a capture of packets (pcap) does: export the octets of a packet first.\n"
+    else (if starts_with nat_eq octets (0xfe ∷ 0xed ∷ 0xfe ∷ 0xed ∷ []) then
+    codes "It begins as a key store of Java (JKS) does: export what you need first.\n"
+    else []))))))))
 
 -- ---- another start
 

@@ -1,7 +1,7 @@
 //! The texts of lines that say what may be done with an input that does not parse.
 ghost use Rattle.std.specs.Prelude.{◌≡◌, ◌≤◌, ◌+◌, ◌++◌, IfSome, decimal, length};
 ghost use Rattle.tlv_head.specs.Limits.{input_limit};
-ghost use Rattle.tlv_mend.specs.Remedies.{change_line, kind_line, length_line};
+ghost use Rattle.tlv_mend.specs.Remedies.{begins_capture, change_line, kind_line, length_line};
 ghost use Rattle.tlv_mend.specs.Remedies.{octet_line, octets_word, record_line, start_line, start_reason};
 
 use crate::lengths::WrongLength;
@@ -113,9 +113,22 @@ pub(crate) fn kind_line(octets: &[u8]) -> &'static [u8]
         b"It is a key of OpenSSH, which is no encoding by X.690.\n"
     } else if octets.starts_with(b"\xff\xfe") || octets.starts_with(b"\xfe\xff") {
         b"It begins as text in UTF-16 does. Try: iconv -f UTF-16 -t UTF-8 FILE | tlvdump-show\n"
+    } else if begins_capture(octets) {
+        b"It begins as a capture of packets (pcap) does: export the octets of a packet first.\n"
+    } else if octets.starts_with(b"\xfe\xed\xfe\xed") {
+        b"It begins as a key store of Java (JKS) does: export what you need first.\n"
     } else {
         b""
     }
+}
+
+/// Whether the octets begin as a capture of packets does: pcap, with microseconds or nanoseconds, or pcapng.
+fn begins_capture(octets: &[u8]) -> bool
+    ensures { result ≡ begins_capture octets.now }
+{
+    octets.starts_with(b"\xd4\xc3\xb2\xa1")
+        || octets.starts_with(b"\x4d\x3c\xb2\xa1")
+        || octets.starts_with(b"\x0a\x0d\x0d\x0a")
 }
 
 /// The line about the offset from which an input is sound; empty for `None`.
