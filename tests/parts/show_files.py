@@ -210,7 +210,7 @@ def inputs_that_may_not_be_read(part, program):
     os.mkdir(part.path("closed-folder"))
     part.write("closed-folder/null", NULL)
     os.chmod(part.path("closed-folder"), 0)
-    for given in ([], ["--check"], ["--offsets"], ["--offset", "0"]):
+    for given in (["--check"], ["--offsets"], ["--offset", "0"]):
         for name in ("closed", "closed-folder/null"):
             wanted = Done(3, b"", f"{name}: E5 cannot open the file: permission denied\n".encode())
             part.same(f"{' '.join(given)} {name}", part.run([*given, name], NULL, **how), wanted)
