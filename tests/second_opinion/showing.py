@@ -6,7 +6,11 @@ from second_opinion.commands import FAULTS, LARGEST_LIMIT, LARGEST_OFFSET, Optio
 from second_opinion.commands import answer, fault_text, in_range
 from second_opinion.findings import LETTERS
 from second_opinion.opened import Strings
+from second_opinion.paths import LONGEST_PATH
 from second_opinion.reading import Reading
+
+# The longest part of a path, in octets, on the usual file systems.
+LONGEST_PART = 255
 
 
 @dataclass
@@ -22,6 +26,12 @@ class File:
         if self.is_standard_input:
             return "standard input"
         return "".join(chr(it) if 0x20 <= it <= 0x7E else "?" for it in self.word.encode("utf-8", "surrogateescape"))
+
+    def cause(self):
+        """Returns why a file of this name does not open: there is none, or the name is too long for the system."""
+        octets = self.word.encode("utf-8", "surrogateescape")
+        fits = len(octets) <= LONGEST_PATH and all(len(part) <= LONGEST_PART for part in octets.split(b"/"))
+        return ": no such file" if fits else ""
 
 
 @dataclass
@@ -96,7 +106,7 @@ def run(show, names):
             number += 1
             if count > 1 and show.job in ("dump", "check", "why"):
                 whole.out += f"# block {number} of {count}: {title(show, file, block)}\n".encode()
-            shown = of_block(show, block, known)
+            shown = of_block(show, file, block, known)
             front = "" if file.is_standard_input else f"{file.shown()}: "
             front += f"block {number}: " if len(of_file) > 1 else ""
             whole.status, whole.out = max(whole.status, shown.status), whole.out + shown.out
@@ -113,10 +123,10 @@ def title(show, file, block):
     return name if len(show.files) == 1 else f"{file.shown()}: {name}"
 
 
-def of_block(show, block, known):
+def of_block(show, file, block, known):
     """Returns the result for a block. The first line that is reported is the note."""
     if block is None:
-        return Shown(3, lines=["E5 cannot open the file: no such file"])
+        return Shown(3, lines=[f"E5 cannot open the file{file.cause()}"])
     note, is_raw = block.note(), show.job == "raw"
     shown = of_octets(show, block.octets, known) if block.is_shown() else Shown(0)
     shown.status, shown.lines = block.status(shown.status, is_raw), [note] * bool(note) + shown.lines
