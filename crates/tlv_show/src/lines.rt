@@ -18,7 +18,7 @@ use crate::finding_lines::Style;
 use crate::holder_lines::{put_closing, put_opening, put_padding};
 use std::marker::Model;
 use tlv_head::Header;
-use tlv_value::{Layout, ValueText, put_whole_with};
+use tlv_value::{KnownTexts, Layout, ValueText, put_whole_with};
 use tlv_walk::{Drain, Out, WriteFault};
 
 /// Writes the lines that each event allows. An element that holds others has a line with its header and a line with
@@ -33,6 +33,8 @@ pub(crate) struct Lines<'n, N: FiniteNames> {
     /// Whether text is shown beside pairs of digits.
     with_text: bool,
     names: &'n N,
+    /// Kept, so that the text of an object identifier that comes again is not made again.
+    known: KnownTexts,
     /// The offset of the next octet.
     offset: u64,
     /// Whether the last octets were padding.
@@ -69,6 +71,7 @@ impl<'n, N: FiniteNames> Lines<'n, N> {
             layout,
             with_text,
             names,
+            known: KnownTexts::new(),
             offset: 0,
             in_padding: false,
             text: ValueText::idle(),
@@ -190,7 +193,7 @@ impl<'n, N: FiniteNames> Lines<'n, N> {
         ensures state { lines_if false self.new ≡ (lines_end_step (lines_if is_open self.old)).state }
         ensures puts { Puts D.state out.old out.new (lines_end_step (lines_if is_open self.old)).put result }
     {
-        put_end(is_open, &mut self.text, self.names, out)
+        put_end(is_open, &mut self.text, self.names, &mut self.known, out)
     }
 
     /// A primitive begins, has all of these contents, and ends. Its lines are written in one step, and nothing is
@@ -221,6 +224,7 @@ impl<'n, N: FiniteNames> Lines<'n, N> {
             self.with_text,
             contents,
             self.names,
+            &mut self.known,
             out,
         )
     }
@@ -278,6 +282,7 @@ fn put_end<N: FiniteNames, D: Drain>(
     is_open: bool,
     text: &mut ValueText,
     names: &N,
+    known: &mut KnownTexts,
     out: &mut Out<'_, D>,
 ) -> Result<(), WriteFault>
     ensures { Puts D.state out.old out.new
@@ -286,5 +291,5 @@ fn put_end<N: FiniteNames, D: Drain>(
     if !is_open || text.left() != 0 {
         return Ok(());
     }
-    text.end(names, out)
+    text.end(names, known, out)
 }

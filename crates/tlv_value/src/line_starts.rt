@@ -1,8 +1,8 @@
 //! How lines begin.
-ghost use Rattle.std.specs.Prelude.{◌≡◌, ◌≢◌, ◌+◌, ◌≤◌, ◌++◌, ◌∷◌, ℕ, [], decimal, if◌then◌else◌, take};
+ghost use Rattle.std.specs.Prelude.{◌≡◌, ◌≢◌, ◌+◌, ◌≤◌, ◌++◌, ◌∷◌, ℕ, [], codes, decimal, if◌then◌else◌, take};
 ghost use Rattle.tlv_io.specs.LineTexts.{AddsAtMost, HasRoomFor};
 ghost use Rattle.tlv_io.specs.OutLimits.{line_start_limit, line_start_room};
-ghost use Rattle.tlv_head.specs.Tag.{tag_text};
+ghost use Rattle.tlv_head.specs.Tag.{bracketed_tag, tag_text};
 ghost use Rattle.tlv_value.specs.Layout.{blank_columns, columns, margin, spaces};
 ghost use Rattle.tlv_value.specs.Private.Rows.{row_indent, row_margin};
 
@@ -94,8 +94,7 @@ pub fn write_tag(held: &mut HeldOctets, class: Class, number: u64)
     if matches!(class, Class::Universal) {
         write_universal(held, number);
     } else {
-        let (prefix, count) = bracket_block(class);
-        write_bracketed(held, prefix, count, number);
+        write_bracketed(held, class, number);
     }
 }
 
@@ -107,15 +106,30 @@ fn write_universal(held: &mut HeldOctets, number: u64)
 {
     match type_name_block(number) {
         Some((name, size)) => held.add_prefix(name, size),
-        None => write_bracketed(held, b"[UNIVERSAL                      ", 11, number),
+        None => write_bracketed(held, Class::Universal, number),
     }
+}
+
+/// Adds the text of a tag that has no name: in brackets a word for the class, and the number.
+#[inline(never)]
+fn write_bracketed(held: &mut HeldOctets, class: Class, number: u64)
+    requires { HasRoomFor held.old 40 }
+    ensures universal { class ≡ Class.Universal
+        → AddsAtMost 40 held.old held.new (bracketed_tag (codes "UNIVERSAL ") number) }
+    ensures other { class ≢ Class.Universal → AddsAtMost 40 held.old held.new (tag_text class number) }
+{
+    let (prefix, count) = bracket_block(class);
+    held.add_prefix(prefix, count);
+    held.number(number);
+    held.add(b"]");
 }
 
 /// A block that begins with the text before the number of a tag that has no name, and the number of octets of that
 /// text. The classes of elements that follow one another differ, so no branch depends on which of them it is.
 #[inline(always)]
 fn bracket_block(class: Class) -> (&'static [u8; 32], usize)
-    ensures text { class ≢ Class.Universal → (number : ℕ)
+    ensures universal { class ≡ Class.Universal → take result.1 result.0.now ≡ codes "[UNIVERSAL " }
+    ensures other { class ≢ Class.Universal → (number : ℕ)
         → take result.1 result.0.now ++ decimal number ++ 93 ∷ [] ≡ tag_text class number }
     ensures within { result.1 ≤ 16 }
 {
@@ -125,19 +139,6 @@ fn bracket_block(class: Class) -> (&'static [u8; 32], usize)
         Class::Context => (b"[                               ", 1),
         Class::Private => (b"[PRIVATE                        ", 9),
     }
-}
-
-/// Adds the text of a tag that has no name: a prefix, the number and a bracket. The prefix is the first `count`
-/// octets of a block of 32, so that the size of the copy does not depend on `count`.
-#[inline]
-fn write_bracketed(held: &mut HeldOctets, prefix: &[u8; 32], count: usize, number: u64)
-    requires within { count ≤ 16 }
-    requires room { HasRoomFor held.old 40 }
-    ensures { AddsAtMost 40 held.old held.new (take count prefix.now ++ decimal number ++ 93 ∷ []) }
-{
-    held.add_prefix(prefix, count);
-    held.number(number);
-    held.add(b"]");
 }
 
 /// Begins the line of an element with its first columns, its indentation and its tag text. Leaves out the first

@@ -9,6 +9,7 @@ ghost use Rattle.tlv_value.specs.Value.{most_not_long};
 ghost use Rattle.tlv_value.specs.ValueTextState.{is_long_primitive, long_value_line, new_primitive, primitive_line};
 ghost use Rattle.tlv_value.specs.ValueTextState.{primitive_lines};
 
+use crate::known_texts::KnownTexts;
 use crate::line_starts::begin_element;
 use crate::quick_kind::quick_kind;
 use crate::row_sizes::row_size;
@@ -176,6 +177,7 @@ impl Primitive {
         &self,
         contents: &[u8],
         names: &N,
+        known: &mut KnownTexts,
         out: &mut Out<'_, D>,
     ) -> Result<(), WriteFault>
         requires { length contents.now ≤ most_not_long self.now.kind }
@@ -184,7 +186,7 @@ impl Primitive {
     {
         self.put_prefix(out)?;
         match self.kind {
-            Kind::Object => put_object(self.layout, self.with_text, contents, names, out),
+            Kind::Object => put_object(self.layout, self.with_text, contents, names, known, out),
             Kind::Relative => put_relative(self.layout, self.with_text, contents, out),
             _ => {
                 write_undotted(&mut out.held, self.kind, self.with_text, contents);

@@ -8,6 +8,7 @@ ghost use Rattle.tlv_value.specs.Value.{no_names};
 mod row_lines;
 
 use crate::dotted_texts::write_dotted;
+use crate::known_texts::KnownTexts;
 use crate::pairs::write_pairs;
 use crate::{Layout, NameTable};
 use row_lines::put_all_rows;
@@ -20,6 +21,7 @@ pub(crate) fn put_object<N: NameTable, D: Drain>(
     with_text: bool,
     contents: &[u8],
     names: &N,
+    known: &mut KnownTexts,
     out: &mut Out<'_, D>,
 ) -> Result<(), WriteFault>
     requires room { HasRoomFor (held_octets out.old) 400 }
@@ -28,7 +30,7 @@ pub(crate) fn put_object<N: NameTable, D: Drain>(
         (object_lines with_text (N.name_of names.now) layout false contents.now) result }
 {
     let start = out.held.len() + 1;
-    if !write_dotted(&mut out.held, contents, false) {
+    if !known.write_dotted(&mut out.held, contents) {
         return put_octets(layout, with_text, contents, out);
     }
     match names.get(&out.held.as_slice()[start..]) {

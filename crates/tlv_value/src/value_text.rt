@@ -8,6 +8,7 @@ ghost use Rattle.tlv_value.specs.ValueTextState.{begin_lines, contents_lines, en
 ghost use Rattle.tlv_value.specs.ValueTextState.{new_value_text, new_value_text_of, new_value_text_with};
 ghost use Rattle.tlv_value.specs.ValueTextState.{PutsRest, value_text_after, value_text_for};
 
+use crate::known_texts::KnownTexts;
 use crate::primitive::Primitive;
 use crate::row_form::RowForm;
 use crate::value_lines::{put_last, put_rows};
@@ -184,7 +185,7 @@ impl ValueText {
     }
 
     /// Puts the lines that become known with the last contents octet: the rest of the lines of the whole primitive,
-    /// after the lines that were put before.
+    /// after the lines that were put before. They do not depend on what is `known`.
     ///
     /// # Errors
     ///
@@ -192,6 +193,7 @@ impl ValueText {
     pub fn end<N: NameTable, D: Drain>(
         &mut self,
         names: &N,
+        known: &mut KnownTexts,
         out: &mut Out<'_, D>,
     ) -> Result<(), WriteFault>
         requires { self.old.left ≡ 0 }
@@ -216,6 +218,6 @@ impl ValueText {
             };
             return put_last(&form, self.row_count, contents, out);
         }
-        self.primitive.put(contents, names, out)
+        self.primitive.put(contents, names, known, out)
     }
 }

@@ -11,6 +11,7 @@ ghost use Rattle.tlv_value.specs.ValueLines.{whole_lines};
 ghost use Rattle.tlv_value.specs.TextBeside.{shown_row_lines_with, whole_lines_with};
 ghost use Rattle.tlv_value.specs.ValueTextState.{is_long_primitive, long_value_line, new_value_text_of};
 
+use crate::known_texts::KnownTexts;
 use crate::primitive::Primitive;
 use crate::value_lines::put_pair_rows;
 use crate::{Layout, NameTable, ValueText};
@@ -18,7 +19,7 @@ use tlv_head::{Header, Kind};
 use tlv_io::{Drain, Out, WriteFault};
 
 /// Puts the lines of a primitive whose contents are all available: the lines that a [`ValueText`] puts for its
-/// header, its contents and its end.
+/// header, its contents and its end. They do not depend on what is `known`.
 ///
 /// # Errors
 ///
@@ -29,13 +30,14 @@ pub fn put_whole<N: NameTable, D: Drain>(
     layout: Layout,
     contents: &[u8],
     names: &N,
+    known: &mut KnownTexts,
     out: &mut Out<'_, D>,
 ) -> Result<(), WriteFault>
     requires { HasAllContents header.now contents.now }
     ensures { Puts D.state out.old out.new
         (whole_lines (N.name_of names.now) header.now layout contents.now) result }
 {
-    put_whole_with(header, layout, false, contents, names, out)
+    put_whole_with(header, layout, false, contents, names, known, out)
 }
 
 /// Like [`put_whole`], but with text beside pairs of digits if `with_text` is set, as in [`ValueText::new_with`].
@@ -50,6 +52,7 @@ pub fn put_whole_with<N: NameTable, D: Drain>(
     with_text: bool,
     contents: &[u8],
     names: &N,
+    known: &mut KnownTexts,
     out: &mut Out<'_, D>,
 ) -> Result<(), WriteFault>
     requires { HasAllContents header.now contents.now }
@@ -60,9 +63,9 @@ pub fn put_whole_with<N: NameTable, D: Drain>(
     if primitive.is_long() {
         // A reference to a copy: a value on its line then stays in registers.
         let other = primitive;
-        put_long_lines(&other, contents, names, out)
+        put_long_lines(&other, contents, names, known, out)
     } else {
-        primitive.put(contents, names, out)
+        primitive.put(contents, names, known, out)
     }
 }
 
@@ -74,6 +77,7 @@ fn put_long_lines<N: NameTable, D: Drain>(
     primitive: &Primitive,
     contents: &[u8],
     names: &N,
+    known: &mut KnownTexts,
     out: &mut Out<'_, D>,
 ) -> Result<(), WriteFault>
     requires long { is_long_primitive primitive.now ≡ true }
@@ -85,7 +89,7 @@ fn put_long_lines<N: NameTable, D: Drain>(
     if primitive.has_unlimited_pairs() {
         put_pairs(primitive, contents, out)
     } else {
-        put_in_steps(primitive, contents, names, out)
+        put_in_steps(primitive, contents, names, known, out)
     }
 }
 
@@ -127,6 +131,7 @@ fn put_in_steps<N: NameTable, D: Drain>(
     primitive: &Primitive,
     contents: &[u8],
     names: &N,
+    known: &mut KnownTexts,
     out: &mut Out<'_, D>,
 ) -> Result<(), WriteFault>
     requires { length contents.now ≡ primitive.now.size }
@@ -137,5 +142,5 @@ fn put_in_steps<N: NameTable, D: Drain>(
     let mut text = ValueText::of(*primitive);
     text.begin(out)?;
     text.bytes(contents, out)?;
-    text.end(names, out)
+    text.end(names, known, out)
 }

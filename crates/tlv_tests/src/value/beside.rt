@@ -5,7 +5,7 @@ use super::{OneName, PLAIN, Pieces, Row, are_shown, cut_at, put_pieces};
 use crate::expect::expect_of;
 use crate::inputs::element_at;
 use std::process::Abort;
-use tlv_value::{Layout, ValueText, put_whole_with};
+use tlv_value::{KnownTexts, Layout, ValueText, put_whole_with};
 use tlv_walk::{MemDrain, Out};
 
 /// Values with one line.
@@ -189,7 +189,16 @@ fn show_at_once(element: &[u8], layout: Layout, with_text: bool, room: &mut [u8]
     let mut drain = MemDrain::new(room, 7);
     {
         let mut out = Out::new(&mut drain);
-        put_whole_with(&header, layout, with_text, contents, &OneName, &mut out).ok()?;
+        put_whole_with(
+            &header,
+            layout,
+            with_text,
+            contents,
+            &OneName,
+            &mut KnownTexts::new(),
+            &mut out,
+        )
+        .ok()?;
         out.flush().ok()?;
     }
     Some(drain.written().len())

@@ -3,7 +3,7 @@ use super::{OneName, PLAIN};
 use crate::expect::{expect, expect_eq};
 use crate::inputs::header;
 use tlv_head::{Class, Header, Size};
-use tlv_value::{Layout, ValueText, begin_blank, begin_word, put_whole, write_tag};
+use tlv_value::{KnownTexts, Layout, ValueText, begin_blank, begin_word, put_whole, write_tag};
 use tlv_walk::{HeldOctets, MemDrain, Out};
 
 /// Puts the line of an INTEGER with the contents octet `05`, in three calls.
@@ -17,7 +17,7 @@ fn put_five(text: &mut ValueText, drain: &mut MemDrain<'_>) -> Option<()> {
     if text.left() != 0 {
         return None;
     }
-    text.end(&OneName, &mut out).ok()?;
+    text.end(&OneName, &mut KnownTexts::new(), &mut out).ok()?;
     out.flush().ok()
 }
 
@@ -28,7 +28,15 @@ fn put_five_whole(header: &Header, drain: &mut MemDrain<'_>) -> Option<()> {
         return None;
     }
     let mut out = Out::new(drain);
-    put_whole(header, PLAIN, octets, &OneName, &mut out).ok()?;
+    put_whole(
+        header,
+        PLAIN,
+        octets,
+        &OneName,
+        &mut KnownTexts::new(),
+        &mut out,
+    )
+    .ok()?;
     out.flush().ok()
 }
 
