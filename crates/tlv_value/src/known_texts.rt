@@ -7,24 +7,26 @@ use crate::dotted_texts::write_dotted;
 use tlv_io::HeldOctets;
 
 /// The most contents octets of an object identifier whose text is kept.
-const MOST_CONTENTS: usize = 14;
+const MOST_CONTENTS: usize = 13;
 
 /// The most octets of a text that is kept, with the space before it.
 const MOST_TEXT: usize = 32;
 
-/// The dotted text of an object identifier after a space, and the contents octets that it stands for.
+/// Contents octets, and the dotted text of the object identifier that has them, after a space, if there is such a text.
 #[derive(Clone, Copy)]
 struct KnownText {
-    /// The contents octets, and others after them.
+    /// The contents octets, and other octets after them.
     contents: [u8; MOST_CONTENTS],
     contents_size: u8,
+    has_text: bool,
     /// The text, and other octets after it.
     text: [u8; MOST_TEXT],
     text_size: u8,
-    ghost contents_within: { contents_size ≤ 14 },
+    ghost contents_within: { contents_size ≤ 13 },
     ghost text_within: { text_size ≤ 32 },
-    ghost exists: { is_some (dotted_of false (take contents_size contents)) ≡ true },
-    ghost is: { take text_size text ≡ 32 ∷ unwrap_or (dotted_of false (take contents_size contents)) [] },
+    ghost exists: { has_text ≡ is_some (dotted_of false (take contents_size contents)) },
+    ghost is: { take text_size text
+        ≡ (if has_text then 32 ∷ unwrap_or (dotted_of false (take contents_size contents)) [] else []) },
 }
 
 /// The dotted texts of up to 64 object identifiers that were shown. In certificates the same few come again and again,
@@ -36,15 +38,16 @@ pub struct KnownTexts {
 }
 
 impl KnownTexts {
-    /// No texts but the one of 0.0.
+    /// No texts: only that no octets have none is known. This is all zeros, which are set at once.
     pub fn new() -> KnownTexts {
-        let zeros = KnownText {
+        let none = KnownText {
             contents: [0; MOST_CONTENTS],
-            contents_size: 1,
-            text: *b" 0.0                            ",
-            text_size: 4,
+            contents_size: 0,
+            has_text: false,
+            text: [0; MOST_TEXT],
+            text_size: 0,
         };
-        KnownTexts { texts: [zeros; 64] }
+        KnownTexts { texts: [none; 64] }
     }
 
     /// Adds the dotted text of an object identifier after a space, as [`write_dotted`] does. Returns whether there is
@@ -60,7 +63,7 @@ impl KnownTexts {
         let known = &self.texts[place_of(contents)];
         if contents == &known.contents[..usize::from(known.contents_size)] {
             held.add_prefix(&known.text, usize::from(known.text_size));
-            return true;
+            return known.has_text;
         }
         self.write_other(held, contents)
     }
@@ -93,6 +96,7 @@ impl KnownTexts {
         self.texts[place_of(contents)] = KnownText {
             contents: block_of(contents),
             contents_size: contents.len() as u8,
+            has_text: true,
             text: block_of(text),
             text_size: text.len() as u8,
         };

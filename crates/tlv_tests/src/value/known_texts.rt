@@ -63,36 +63,38 @@ fn texts_at_one_place_take_turns(rt: HostRuntime) {
     expect_lines(&rt, &elements, lines.as_slice());
 }
 
-/// 15 octets, and 14 octets with a long text, are not kept. The last 14 octets are: their text has 30.
+/// 14 octets, and 13 octets with a long text, are not kept. The last 13 octets are: their text has 28.
 #[test]
 fn long_texts_come_again(rt: HostRuntime) {
-    let fifteen = b"\x06\x0f\x2a\x01\x01\x01\x01\x01\x01\x01\x01\x01\x01\x01\x01\x01\x01";
-    let wide = b"\x06\x0e\x2a\x7f\x7f\x7f\x7f\x7f\x7f\x7f\x7f\x7f\x7f\x7f\x7f\x7f";
-    let fourteen = b"\x06\x0e\x2a\x01\x01\x01\x01\x01\x01\x01\x01\x01\x01\x01\x01\x0a";
-    let elements: [&[u8]; 6] = [fifteen, fifteen, wide, wide, fourteen, fourteen];
-    let lines = b"       0     15: OBJECT IDENTIFIER 1.2.1.1.1.1.1.1.1.1.1.1.1.1.1.1\n\
-                \x20      0     15: OBJECT IDENTIFIER 1.2.1.1.1.1.1.1.1.1.1.1.1.1.1.1\n\
-                \x20      0     14: OBJECT IDENTIFIER 1.2.127.127.127.127.127.127.127.127.127.127.127.127.127\n\
-                \x20      0     14: OBJECT IDENTIFIER 1.2.127.127.127.127.127.127.127.127.127.127.127.127.127\n\
-                \x20      0     14: OBJECT IDENTIFIER 1.2.1.1.1.1.1.1.1.1.1.1.1.1.10\n\
-                \x20      0     14: OBJECT IDENTIFIER 1.2.1.1.1.1.1.1.1.1.1.1.1.1.10\n";
+    let fourteen = b"\x06\x0e\x2a\x01\x01\x01\x01\x01\x01\x01\x01\x01\x01\x01\x01\x01";
+    let wide = b"\x06\x0d\x2a\x7f\x7f\x7f\x7f\x7f\x7f\x7f\x7f\x7f\x7f\x7f\x7f";
+    let thirteen = b"\x06\x0d\x2a\x01\x01\x01\x01\x01\x01\x01\x01\x01\x01\x01\x0a";
+    let elements: [&[u8]; 6] = [fourteen, fourteen, wide, wide, thirteen, thirteen];
+    let lines = b"       0     14: OBJECT IDENTIFIER 1.2.1.1.1.1.1.1.1.1.1.1.1.1.1\n\
+                \x20      0     14: OBJECT IDENTIFIER 1.2.1.1.1.1.1.1.1.1.1.1.1.1.1\n\
+                \x20      0     13: OBJECT IDENTIFIER 1.2.127.127.127.127.127.127.127.127.127.127.127.127\n\
+                \x20      0     13: OBJECT IDENTIFIER 1.2.127.127.127.127.127.127.127.127.127.127.127.127\n\
+                \x20      0     13: OBJECT IDENTIFIER 1.2.1.1.1.1.1.1.1.1.1.1.1.10\n\
+                \x20      0     13: OBJECT IDENTIFIER 1.2.1.1.1.1.1.1.1.1.1.1.1.10\n";
     expect_lines(&rt, &elements, lines.as_slice());
 }
 
-/// The text of 0.0 is known from the start; no octets, and an unfinished one, have no text, also when they come again.
+/// No octets, and an unfinished subidentifier, have no text, the second time too.
 #[test]
 fn what_has_no_text_comes_again(rt: HostRuntime) {
-    let elements: [&[u8]; 5] = [
+    let elements: [&[u8]; 6] = [
+        b"\x06\x00",
+        b"\x06\x01\x00",
+        b"\x06\x01\x80",
+        b"\x06\x01\x80",
         b"\x06\x01\x00",
         b"\x06\x00",
-        b"\x06\x01\x80",
-        b"\x06\x01\x80",
-        b"\x06\x01\x00",
     ];
-    let lines = b"       0      1: OBJECT IDENTIFIER 0.0\n\
-                \x20      0      0: OBJECT IDENTIFIER\n\
+    let lines = b"       0      0: OBJECT IDENTIFIER\n\
+                \x20      0      1: OBJECT IDENTIFIER 0.0\n\
                 \x20      0      1: OBJECT IDENTIFIER 80\n\
                 \x20      0      1: OBJECT IDENTIFIER 80\n\
-                \x20      0      1: OBJECT IDENTIFIER 0.0\n";
+                \x20      0      1: OBJECT IDENTIFIER 0.0\n\
+                \x20      0      0: OBJECT IDENTIFIER\n";
     expect_lines(&rt, &elements, lines.as_slice());
 }

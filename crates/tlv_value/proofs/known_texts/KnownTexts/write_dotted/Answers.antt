@@ -1,5 +1,5 @@
 use Rattle.std.proofs.Common.{◌≡◌, ◌≤◌, ◌++◌, ◌∷◌, ◌∙◌, ℕ, List, [], ap, arith, false, get_or, length, sym, take}
-use Rattle.std.specs.Prelude.{unwrap_or}
+use Rattle.std.specs.Prelude.{if◌then◌else◌, unwrap_or}
 use Rattle.std.proofs.lemmas.Slice.Eq.{slice_eq-Decides}
 use Rattle.std.proofs.lemmas.Bool.Decides.{Decides-eqb}
 use Rattle.std.proofs.lemmas.List.{length-append, length-take}
@@ -15,9 +15,9 @@ returns-then-eq-clause-adds c =
     let size : contents ≡ take known.contents_size known.contents =
     ap (λ (n : ℕ). take n known.contents) c.from.ensures in
     let added : List ℕ = take c.from-then-eq.result known.text in
-    let text : added ≡ 32 ∷ unwrap_or (dotted_of false c.args.contents.now) [] =
+    let text : added ≡ (if known.has_text then 32 ∷ unwrap_or (dotted_of false c.args.contents.now) [] else []) =
     ap (λ (n : ℕ). take n known.text) c.from-then-eq.ensures ∙ known.is
-    ∙ ap (λ (l : List ℕ). 32 ∷ unwrap_or (dotted_of false l) []) (sym (same ∙ size)) in
+    ∙ ap (λ (l : List ℕ). if known.has_text then 32 ∷ unwrap_or (dotted_of false l) [] else []) (sym (same ∙ size)) in
     let fewer : length added ≤ 259 =
     omega (arith, length-take c.from-then-eq.result known.text, c.from-then-eq.ensures, known.text_within) in
     record {
