@@ -2,6 +2,7 @@ pub mod HolderLines
 pub mod LinesStep
 pub mod ShowJob
 pub mod WantedJobs
+pub mod PlainJobs
 pub mod Site
 pub mod SetOrder
 pub mod SetOrderState

@@ -2,6 +2,7 @@
 
 ghost use Rattle.tlv_show.specs.Laws.{BasicFindingsStay, ChecksGoOn, ChecksMakeTexts, DumpsGoOn};
 ghost use Rattle.tlv_show.specs.Laws.{DumpsMakeTexts, ListedItemsStay, PrimitivesAreShown};
+ghost use Rattle.tlv_show.specs.PlainJobs.{PlainJobsStay};
 ghost use Rattle.tlv_show.specs.Spellings.{LongerIdentifiersAreFound, LongerLengthsAreFound, OneSpelling, SomeSpelling};
 ghost use Rattle.tlv_show.specs.SetOrderState.{OutOfOrderIsFound};
 ghost use Rattle.tlv_show.specs.SegmentCharactersState.{WrongCharactersAreFound};
@@ -45,6 +46,14 @@ pub fn basic_findings_stay()
 /// without those that are not listed. It is also what is reported in the scope of the listed findings.
 pub fn listed_items_stay()
     ensures { ListedItemsStay }
+{}
+
+/// Without text beside pairs of digits, and with the listed findings alone, the jobs of [`dump_with`](crate::dump_with)
+/// and [`check_with`](crate::check_with) are those of [`dump`](crate::dump) and [`check`](crate::check). Without the
+/// text, the lines of each primitive are those of a plain dump. The listed findings on its contents are all findings on
+/// them, without those that are not listed and those that the rules do not have.
+pub fn plain_jobs_stay()
+    ensures { PlainJobsStay }
 {}
 
 /// Encodings by DER, and by CER, have one spelling. Two sound inputs are the same octets if their elements agree, one
