@@ -81,7 +81,9 @@ def day(rng, year=None):
 
 
 def clock(rng):
-    """Returns an hour, a minute and a second as six digits, rarely out of range."""
+    """Returns an hour, a minute and a second as six digits, rarely out of range, sometimes midnight or a leap second."""
+    if rng.random() < 0.15:
+        return rng.choice(["240000", "240001", "240060", "240100", "235960", "000060", "235961"])
     numbers = [rng.choice([0, most, rng.randrange(most + 1), most + (rng.random() < 0.1)]) for most in (23, 59, 59)]
     return "".join(f"{number:02}" for number in numbers)
 

@@ -141,8 +141,13 @@ def is_date_or_time(number, contents):
         return False
     date, time = (b"", contents) if number == TIME_OF_DAY else (contents[:8], contents[8:])
     has_date = not date or has_day(is_leap_year(int(date[:4])), int(date[4:6]), int(date[6:]))
-    has_time = not time or int(time[:2]) < 24 and int(time[2:4]) < 60 and int(time[4:]) < 60
-    return has_date and has_time
+    return has_date and (not time or is_clock(time))
+
+
+def is_clock(digits):
+    """Returns whether six digits name an hour, a minute and a second, which may be a leap second, or midnight as 240000."""
+    hour, minute, second = (int(digits[place : place + 2]) for place in (0, 2, 4))
+    return digits == b"240000" or hour < 24 and minute < 60 and second <= 60
 
 
 def has_no_such_day(element):

@@ -17,12 +17,24 @@ year-1900 = refl
 year-2000 : type_findings universal.date (codes "20000229") ≡ []
 year-2000 = refl
 
-hour-24 : type_findings universal.time_of_day (codes "240000") ≡ B21 ∷ []
-hour-24 = refl
+midnight : type_findings universal.time_of_day (codes "240000") ≡ []
+midnight = refl
+
+after-midnight : type_findings universal.time_of_day (codes "240001") ≡ B21 ∷ []
+after-midnight = refl
+
+leap-second : type_findings universal.time_of_day (codes "235960") ≡ []
+leap-second = refl
+
+second-61 : type_findings universal.time_of_day (codes "235961") ≡ B21 ∷ []
+second-61 = refl
 
 -- a DATE-TIME
-last-second : type_findings 33 (codes "20241231235959") ≡ []
+last-second : type_findings 33 (codes "20161231235960") ≡ []
 last-second = refl
+
+end-of-day : type_findings 33 (codes "20241231240000") ≡ []
+end-of-day = refl
 
 empty-relative : type_findings universal.relative_oid [] ≡ B24 ∷ []
 empty-relative = refl

@@ -2,7 +2,8 @@
 use Rattle.std.specs.Prelude.{ℕ, ◌+◌, ◌*◌, ◌%◌, Bool, false, ◌&&◌, ◌||◌, not, ◌==◌, nat_le}
 use Rattle.std.specs.Prelude.{if◌then◌else◌, List, ◌∷◌}
 use Rattle.tlv_head.specs.UniversalTypes as universal
-use Rattle.tlv_value.specs.Times.{Form, minute, month_and_day, two_digit_number, two_digits, year_digits, ◌followed_by◌}
+use Rattle.tlv_value.specs.Times.{Form, minute, month_and_day, second, two_digit_number, two_digits, year_digits}
+use Rattle.tlv_value.specs.Times.{◌or◌, ◌followed_by◌}
 
 -- the Gregorian calendar: 4 divides a leap year, and 100 does not, or 400 does
 abbrev pub is_leap_year : ℕ → Bool
@@ -33,9 +34,18 @@ month_has_day_in_some_century text = false
 
 -- ---- 8.26
 
+-- hhmmss with an hour of at most 23. Second 60, a leap second, is allowed in any minute: only a list of leap seconds
+-- says in which minutes there is one
+abbrev pub clock_form : Form
+clock_form = two_digits 0 23 followed_by minute followed_by second
+
+-- 240000: midnight at the end of a day
+abbrev pub midnight_form : Form
+midnight_form = two_digits 24 24 followed_by two_digits 0 0 followed_by two_digits 0 0
+
 -- hhmmss
 abbrev pub time_of_day_form : Form
-time_of_day_form = two_digits 0 23 followed_by minute followed_by two_digits 0 59
+time_of_day_form = clock_form or midnight_form
 
 -- YYYYMMDD
 abbrev pub date_form : Form

@@ -1,7 +1,8 @@
 //! Dates: which days a month has, and DATE, TIME-OF-DAY and DATE-TIME (8.26).
 ghost use Rattle.std.specs.Prelude.{◌≡◌, ◌<◌, option_copied};
-ghost use Rattle.tlv_value.specs.Dates.{date_form, date_time_form, has_thirty_days, is_date_or_time, is_leap_year};
-ghost use Rattle.tlv_value.specs.Dates.{last_day, month_has_day, month_has_day_in_some_century, time_of_day_form};
+ghost use Rattle.tlv_value.specs.Dates.{clock_form, date_form, date_time_form, has_thirty_days, is_date_or_time};
+ghost use Rattle.tlv_value.specs.Dates.{is_leap_year, last_day, midnight_form, month_has_day};
+ghost use Rattle.tlv_value.specs.Dates.{month_has_day_in_some_century, time_of_day_form};
 ghost use Rattle.tlv_value.specs.Private.TimeParts.{LeavesRest};
 ghost use Rattle.tlv_value.specs.Times.{month_and_day, two_digit_number, two_digits, ◌followed_by◌};
 
@@ -104,11 +105,28 @@ fn is_date_time(octets: &[u8]) -> bool
     }
 }
 
-/// `hhmmss`, and no more.
+/// `hhmmss`, and no more: an hour of at most 23, or midnight at the end of a day.
 fn is_time_of_day(octets: &[u8]) -> bool
     ensures { result ≡ time_of_day_form octets.now }
 {
-    match after_time_of_day(octets) {
+    is_clock(octets) || is_midnight(octets)
+}
+
+/// `hhmmss` with an hour of at most 23, and no more.
+fn is_clock(octets: &[u8]) -> bool
+    ensures { result ≡ clock_form octets.now }
+{
+    match after_clock(octets) {
+        Some(rest) => rest.is_empty(),
+        None => false,
+    }
+}
+
+/// `240000`, and no more.
+fn is_midnight(octets: &[u8]) -> bool
+    ensures { result ≡ midnight_form octets.now }
+{
+    match after_midnight(octets) {
         Some(rest) => rest.is_empty(),
         None => false,
     }
@@ -123,11 +141,20 @@ fn after_date(octets: &[u8]) -> Option<&[u8]>
     after_month_and_day(rest)
 }
 
-/// What is after `hhmmss`.
-fn after_time_of_day(octets: &[u8]) -> Option<&[u8]>
-    ensures { LeavesRest time_of_day_form octets.now (option_copied result) }
+/// What is after `hhmmss`, with an hour of at most 23 and a second of at most 60.
+fn after_clock(octets: &[u8]) -> Option<&[u8]>
+    ensures { LeavesRest clock_form octets.now (option_copied result) }
 {
     let rest = after_two_digits(octets, 0, 23)?;
     let rest = after_two_digits(rest, 0, 59)?;
-    after_two_digits(rest, 0, 59)
+    after_two_digits(rest, 0, 60)
+}
+
+/// What is after `240000`.
+fn after_midnight(octets: &[u8]) -> Option<&[u8]>
+    ensures { LeavesRest midnight_form octets.now (option_copied result) }
+{
+    let rest = after_two_digits(octets, 24, 24)?;
+    let rest = after_two_digits(rest, 0, 0)?;
+    after_two_digits(rest, 0, 0)
 }

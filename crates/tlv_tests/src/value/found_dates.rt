@@ -91,13 +91,17 @@ pub(super) static DATES: [Found<'static>; 21] = [
 ];
 
 /// TIME-OF-DAYs and DATE-TIMEs.
-pub(super) static CLOCKS: [Found<'static>; 11] = [
+pub(super) static CLOCKS: [Found<'static>; 14] = [
     Found {
         element: b"\x1f\x20\x06235959",
         findings: &[],
     },
     Found {
         element: b"\x1f\x20\x06240000",
+        findings: &[],
+    },
+    Found {
+        element: b"\x1f\x20\x06240001",
         findings: &[Finding::B21],
     },
     Found {
@@ -106,6 +110,10 @@ pub(super) static CLOCKS: [Found<'static>; 11] = [
     },
     Found {
         element: b"\x1f\x20\x06235960",
+        findings: &[],
+    },
+    Found {
+        element: b"\x1f\x20\x06235961",
         findings: &[Finding::B21],
     },
     Found {
@@ -126,6 +134,10 @@ pub(super) static CLOCKS: [Found<'static>; 11] = [
     },
     Found {
         element: b"\x1f\x21\x0e20240229240000",
+        findings: &[],
+    },
+    Found {
+        element: b"\x1f\x21\x0e20240229240100",
         findings: &[Finding::B21],
     },
     Found {

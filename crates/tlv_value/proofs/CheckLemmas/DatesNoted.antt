@@ -4,7 +4,8 @@ use Rattle.std.proofs.Common.{if◌then◌else◌, length, take, refl, sym, ap, 
 use Rattle.std.proofs.lemmas.Bool.{leb-true}
 use Rattle.std.proofs.lemmas.Bool.Decides.{nat_tests}
 use Rattle.std.proofs.lemmas.List.{take_all}
-use Rattle.tlv_value.specs.Dates.{date_form, date_time_form, is_date_or_time, month_has_day, time_of_day_form}
+use Rattle.tlv_value.specs.Dates.{clock_form, date_form, date_time_form, is_date_or_time, midnight_form}
+use Rattle.tlv_value.specs.Dates.{month_has_day, time_of_day_form}
 use Rattle.tlv_value.specs.Times.{Form, month_and_day, two_digits, ◌followed_by◌}
 use Rattle.tlv_value.proofs.CheckLemmas.Forms.{and-false, are_two_digits, then-assoc, two-then}
 
@@ -25,8 +26,14 @@ long-two low high (x ∷ []) h = absurd (omega (arith, h))
 long-two low high (x ∷ y ∷ []) h = absurd (omega (arith, h))
 long-two low high (x ∷ y ∷ z ∷ xs) h = refl
 
+long-clock : (xs : List ℕ) → 6 < length xs → clock_form xs ≡ false
+long-clock = long-then 0 23 4 _ (long-then 0 59 2 _ (long-two 0 60))
+
+long-midnight : (xs : List ℕ) → 6 < length xs → midnight_form xs ≡ false
+long-midnight = long-then 24 24 4 _ (long-then 0 0 2 _ (long-two 0 0))
+
 long-time : (xs : List ℕ) → 6 < length xs → time_of_day_form xs ≡ false
-long-time = long-then 0 23 4 _ (long-then 0 59 2 _ (long-two 0 59))
+long-time xs h = rw (long-clock xs h, long-midnight xs h) refl
 
 long-date : (xs : List ℕ) → 8 < length xs → date_form xs ≡ false
 long-date = long-then 0 99 6 _ (long-then 0 99 4 _ (long-then 1 12 2 _ (long-two 1 31)))
