@@ -107,6 +107,9 @@ WRONG = [
     ("has 31 days in each month", "DAYS", (31,) * 12),
     ("has surrogates to dbff", "is_scalar", lambda unit: unit <= 0x10FFFF and not 0xD800 <= unit < 0xDC00),
     ("has numbers above 10ffff", "is_scalar", lambda unit: not 0xD800 <= unit <= 0xDFFF),
+    ("lets labels of an IRI be empty", "IRIS", {35: rb"/[^/]+(/[^/]*)*", 36: rb"[^/]+(/[^/]*)*"}),
+    ("lets an OID-IRI have no label", "IRIS", {**show_findings.IRIS, 35: show_findings.IRIS[35] + rb"|/"}),
+    ("lets a RELATIVE-OID-IRI begin with /", "IRIS", {**show_findings.IRIS, 36: rb"/?" + show_findings.IRIS[36]}),
     ("takes any octets for an IRI", "is_iri", lambda number, contents: contents[:1] == b"/" or number == 36 and contents != b""),
 ]
 

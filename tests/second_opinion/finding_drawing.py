@@ -107,7 +107,13 @@ def time(rng, number):
 
 def iri(rng):
     """Returns contents of an OID-IRI or RELATIVE-OID-IRI."""
-    text = rng.choice(["/ISO/Registration_Authority", "ISO/a", "/", "", "/\u00e9/\u20ac/\U0001f600", "a", "/" * 5000]).encode()
+    text = rng.choice(["/ISO/Registration_Authority", "ISO/a", "/", "", "/\u00e9/\u20ac/\U0001f600", "a", "/" * 5000])
+    if rng.random() < 0.3:
+        label = "abcd"[: rng.choice([1, 2, 3, 4])] + "/"
+        text = rng.choice(["/", ""]) + label * rng.choice([1, 2, 3, 2000]) + rng.choice(["", "/", "x", "x", "x"])
+        place = rng.choice([0, len(text), rng.randrange(len(text) + 1)])
+        text = text[:place] + rng.choice(["", "", "/"]) + text[place:]
+    text = text.encode()
     if rng.random() < 0.3:
         text = rng.choice([b"/", b""]) + contents.wide_text(rng, 12)
     return text + rng.choice(contents.ILL_FORMED) * (rng.random() < 0.1)

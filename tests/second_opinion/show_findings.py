@@ -162,10 +162,13 @@ def has_no_such_day(element):
     return not has_day(is_leap, int(rest[:2]), int(rest[2:4]))
 
 
+# Labels, none of which is empty, with / before each, or between them.
+IRIS = {OID_IRI: rb"(/[^/]+)+", RELATIVE_OID_IRI: rb"[^/]+(/[^/]+)*"}
+
+
 def is_iri(number, contents):
-    """B23: returns whether the contents are UTF-8, and begin with / or, of a RELATIVE-OID-IRI, are there."""
-    begins = contents[:1] == b"/" if number == OID_IRI else len(contents) > 0
-    return begins and findings.has_its_characters(values.UTF8, contents)
+    """B23: returns whether the contents are UTF-8, and labels."""
+    return re.fullmatch(IRIS[number], contents) is not None and findings.has_its_characters(values.UTF8, contents)
 
 
 def units(number, contents):

@@ -10,5 +10,6 @@ pub mod Forms
 pub mod FractionForms
 pub mod Noting
 pub mod LastAndPadded
+pub mod Labels
 pub mod NestedForms
 pub mod ClearStrings

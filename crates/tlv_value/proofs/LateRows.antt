@@ -1,9 +1,9 @@
 -- The findings on the contents of dates, relative identifiers and wide strings, by example.
-use Rattle.std.proofs.Common.{◌≡◌, [], ◌∷◌, refl}
+use Rattle.std.proofs.Common.{◌≡◌, true, false, [], ◌∷◌, refl}
 use Rattle.std.specs.Prelude.{codes}
 use Rattle.tlv_head.specs.UniversalTypes as universal
 use Rattle.tlv_value.specs.declared.finding.Finding.TheVariants.{B18, B21, B24, B25, B26, S04}
-use Rattle.tlv_value.specs.AllChecks.{type_findings}
+use Rattle.tlv_value.specs.AllChecks.{are_labels, type_findings}
 
 seven-digits : type_findings universal.date (codes "2020010") ≡ B21 ∷ []
 seven-digits = refl
@@ -35,6 +35,22 @@ last-second = refl
 
 end-of-day : type_findings 33 (codes "20241231240000") ≡ []
 end-of-day = refl
+
+-- the labels of a RELATIVE-OID-IRI, and of an OID-IRI without its first octet
+two-labels : are_labels (codes "a/b") ≡ true
+two-labels = refl
+
+no-label : are_labels [] ≡ false
+no-label = refl
+
+last-label-empty : are_labels (codes "a/") ≡ false
+last-label-empty = refl
+
+label-empty : are_labels (codes "a//b") ≡ false
+label-empty = refl
+
+first-label-empty : are_labels (codes "/a") ≡ false
+first-label-empty = refl
 
 empty-relative : type_findings universal.relative_oid [] ≡ B24 ∷ []
 empty-relative = refl

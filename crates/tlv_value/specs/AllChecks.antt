@@ -1,5 +1,6 @@
 -- All findings on the contents of a primitive: the listed ones, which `Checks` has, and the others.
-use Rattle.std.specs.Prelude.{ℕ, Bool, ◌&&◌, not, ◌==◌, if◌then◌else◌, List, [], ◌∷◌, ◌++◌, length}
+use Rattle.std.specs.Prelude.{ℕ, Bool, ◌&&◌, not, ◌==◌, if◌then◌else◌, List, [], ◌∷◌, ◌++◌, drop, length}
+use Rattle.std.specs.List.{list_all, slice_split}
 use Rattle.std.specs.Str.{is_utf8}
 use Rattle.tlv_head.specs.Header.{HeaderValue, is_universal}
 use Rattle.tlv_head.specs.UniversalTypes as universal
@@ -10,6 +11,7 @@ use Rattle.tlv_value.specs.Checks.{begins_with, findings_by, is_short_time, list
 use Rattle.tlv_value.specs.Checks.{listed_strict_type_conditions, time_form}
 use Rattle.tlv_value.specs.Dates.{is_date_or_time, month_has_day, month_has_day_in_some_century}
 use Rattle.tlv_value.specs.Real.{is_canonical_real, is_real_form}
+use Rattle.tlv_value.specs.TextForms.{no_octets}
 use Rattle.tlv_value.specs.Types.{wide_string_types}
 use Rattle.tlv_head.specs.declared.type_table.Rule.TheVariants as rules
 use Rattle.tlv_head.specs.Lists.{is_among}
@@ -20,12 +22,18 @@ abbrev pub time_has_day : ℕ → List ℕ → Bool
 time_has_day number contents =
     if number == universal.utc_time then month_has_day_in_some_century contents else month_has_day contents
 
--- 8.21, 8.22: the contents of an OID-IRI or RELATIVE-OID-IRI, the type with this number, are UTF-8. An OID-IRI begins
--- with / (2f), a RELATIVE-OID-IRI is not empty
+-- X.680 34, 36: the text is one label or more, with / (2f) between them, and no label is empty
+abbrev pub are_labels : List ℕ → Bool
+are_labels text = list_all (λ label. not (no_octets label)) (slice_split (λ x. x == 0x2f) text)
+
+-- 8.21, 8.22: the contents of an OID-IRI or RELATIVE-OID-IRI, the type with this number, are UTF-8, and labels. Before
+-- the labels of an OID-IRI is a /
 abbrev pub is_iri : ℕ → List ℕ → Bool
 is_iri number contents =
     is_utf8 contents
-    && (if number == universal.oid_iri then begins_with 0x2f contents else not (length contents == 0))
+    && (if number == universal.oid_iri
+    then begins_with 0x2f contents && are_labels (drop 1 contents)
+    else are_labels contents)
 
 -- ---- The findings
 
@@ -37,7 +45,7 @@ later_basic_type_conditions number contents =
     (B20, has_rule rules.RealForm number && not (is_real_form contents))
     -- 8.26: a DATE, TIME-OF-DAY or DATE-TIME is one, as `Dates` has it
     ∷ (B21, has_rule rules.DateForm number && not (is_date_or_time number contents))
-    -- 8.21: an OID-IRI is UTF-8 and begins with /. 8.22: a RELATIVE-OID-IRI is UTF-8, and is not empty
+    -- 8.21, 8.22, X.680 34, 36: an OID-IRI or RELATIVE-OID-IRI is UTF-8, and is made of labels as it has to be
     ∷ (B23, has_rule rules.IriForm number && not (is_iri number contents))
     -- 8.20.2: a RELATIVE-OID has one subidentifier or more
     ∷ (B24, number == universal.relative_oid && length contents == 0)

@@ -17,6 +17,7 @@ value_check_state_of t = record {
   is_padded = t.is_padded;
   are_full_rows_utf8 = t.are_full_rows_utf8;
   row = t.row.items;
+  has_empty_label = t.has_empty_label;
   time = t.time.items;
   are_characters = t.are_characters;
   unit = t.unit.items;

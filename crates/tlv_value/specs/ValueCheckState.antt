@@ -40,6 +40,8 @@ pub record ValueCheckState : Type 0 where
   -- that has begun
   pub are_full_rows_utf8 : Bool
   pub row : List ℕ
+  -- for an OID-IRI or RELATIVE-OID-IRI, whether a label between two octets / (2f) is empty
+  pub has_empty_label : Bool
   -- the first 64 octets of a time or date
   pub time : List ℕ
   -- for a BMPString or UniversalString, whether the units that were whole are characters, and the unit that has begun
@@ -60,6 +62,7 @@ new_value_check_of number size = record {
   is_padded = false;
   are_full_rows_utf8 = true;
   row = [];
+  has_empty_label = false;
   time = [];
   are_characters = true;
   unit = [];
@@ -96,7 +99,7 @@ notes_time number = is_among number (types_with rules.TimeForm ++ types_with rul
 abbrev pub notes_units : ℕ → Bool
 notes_units number = is_among number wide_string_types
 
--- the first octet and each row are checked: OID-IRI, RELATIVE-OID-IRI
+-- the first octet, the last one, each row and each label are checked: OID-IRI, RELATIVE-OID-IRI
 abbrev pub notes_iri : ℕ → Bool
 notes_iri number = has_rule rules.IriForm number
 
@@ -118,6 +121,16 @@ is_padded_after previous (x ∷ xs) = (nat_lt previous 0x80 && x == 0x80) || is_
 -- whether a subidentifier begins with 80, in the octets before or in these
 abbrev pub is_padded_with : Bool → ℕ → List ℕ → Bool
 is_padded_with is_padded previous octets = is_padded || is_padded_after previous octets
+
+-- X.680 34: two octets / (2f) stand side by side in these octets, before which is `previous`. The label between them
+-- is empty
+abbrev pub has_empty_label_after : ℕ → List ℕ → Bool
+has_empty_label_after previous [] = false
+has_empty_label_after previous (x ∷ xs) = (previous == 0x2f && x == 0x2f) || has_empty_label_after x xs
+
+-- whether a label is empty, in the octets before or in these
+abbrev pub has_empty_label_with : Bool → ℕ → List ℕ → Bool
+has_empty_label_with has_empty_label previous octets = has_empty_label || has_empty_label_after previous octets
 
 -- the state with more octets noted: the first ones and the last, what must be known of each, the time, the units, or
 -- what must be known of an OID-IRI
@@ -154,6 +167,7 @@ with_iri_noted s octets = record s {
   last = last_octet_after s.last octets;
   are_full_rows_utf8 = s.are_full_rows_utf8 && list_all is_utf8 (full_rows Utf8 s.row octets);
   row = open_row Utf8 s.row octets;
+  has_empty_label = has_empty_label_with s.has_empty_label s.last octets;
 }
 
 abbrev pub with_real_noted : ValueCheckState → List ℕ → ValueCheckState
@@ -199,11 +213,19 @@ is_allowed s =
 abbrev pub is_kept_date : ℕ → ValueCheckState → Bool
 is_kept_date number s = nat_le s.size 64 && is_date_or_time number s.time
 
--- an OID-IRI or RELATIVE-OID-IRI is UTF-8, and begins as it has to
+-- an OID-IRI begins with /, a RELATIVE-OID-IRI with another octet
+abbrev pub begins_kept_iri : ℕ → ValueCheckState → Bool
+begins_kept_iri number s =
+    if number == universal.oid_iri
+    then begins_with 0x2f s.first_octets
+    else not (s.size == 0) && not (begins_with 0x2f s.first_octets)
+
+-- an OID-IRI or RELATIVE-OID-IRI is UTF-8, and is made of labels: it begins as it has to, no label in it is empty, and
+-- its last octet is not /
 abbrev pub is_kept_iri : ℕ → ValueCheckState → Bool
 is_kept_iri number s =
     (s.are_full_rows_utf8 && is_utf8 s.row)
-    && (if number == universal.oid_iri then begins_with 0x2f s.first_octets else not (s.size == 0))
+    && (begins_kept_iri number s && (not s.has_empty_label && not (s.last == 0x2f)))
 
 -- a UTCTime or GeneralizedTime, all of which is kept
 abbrev pub is_kept_time : ℕ → ValueCheckState → Bool

@@ -1,7 +1,7 @@
 //! A short look at all of the contents of a primitive.
 ghost use Rattle.std.specs.Prelude.{◌≡◌, ◌||◌, ◌==◌, [], IsTrue, eqb, false, length, nat_le, true};
 ghost use Rattle.tlv_head.specs.UniversalTypes.{bit_string, boolean, generalized_time, utc_time};
-ghost use Rattle.tlv_value.specs.AllChecks.{all_contents_findings, type_findings};
+ghost use Rattle.tlv_value.specs.AllChecks.{all_contents_findings, are_labels, is_iri, type_findings};
 ghost use Rattle.tlv_value.specs.Checks.{begins_with, is_padded_integer, last_octet};
 ghost use Rattle.std.specs.List.{list_any};
 ghost use Rattle.tlv_value.specs.Arcs.{parts_of};
@@ -15,8 +15,8 @@ use crate::dates::{is_date_or_time, month_has_day, month_has_day_in_some_century
 use crate::real::is_canonical_real;
 use crate::time::{general_canonical, utc_canonical};
 use crate::value_check::{
-    are_allowed, are_characters_of_four, are_characters_of_two, is_any_set, is_padded_after,
-    is_utf8, last_octet,
+    are_allowed, are_characters_of_four, are_characters_of_two, has_empty_label_after, is_any_set,
+    is_padded_after, is_utf8, last_octet,
 };
 use tlv_head::{Class, Header, universal};
 
@@ -61,8 +61,7 @@ fn is_type_clear(number: u64, contents: &[u8]) -> bool
         universal::DATE | universal::TIME_OF_DAY | universal::DATE_TIME => is_date_or_time(
             number, contents,
         ),
-        universal::OID_IRI => begins_with_solidus(contents) && is_utf8(contents),
-        universal::RELATIVE_OID_IRI => !contents.is_empty() && is_utf8(contents),
+        universal::OID_IRI | universal::RELATIVE_OID_IRI => is_iri(number, contents),
         // The other types that have primitives are not checked here.
         universal::OCTET_STRING
         | universal::OBJECT_DESCRIPTOR
@@ -126,11 +125,27 @@ fn are_subidentifiers(contents: &[u8]) -> bool
     last_octet(0, contents) < 128 && !is_padded_after(0, contents)
 }
 
-/// Whether the first octet is `/`.
-fn begins_with_solidus(contents: &[u8]) -> bool
-    ensures { result ≡ begins_with 0x2f contents.now }
+/// Whether the contents are those of an OID-IRI or RELATIVE-OID-IRI, the type with this number (8.21, 8.22).
+fn is_iri(number: u64, contents: &[u8]) -> bool
+    ensures { result ≡ is_iri number contents.now }
 {
-    matches!(contents, [b'/', ..])
+    let has_labels = if number == universal::OID_IRI {
+        match contents {
+            [b'/', labels @ ..] => are_labels(labels),
+            _ => false,
+        }
+    } else {
+        are_labels(contents)
+    };
+    is_utf8(contents) && has_labels
+}
+
+/// Whether the text is one label or more, with `/` between them, and no label is empty (X.680 34, 36).
+fn are_labels(text: &[u8]) -> bool
+    ensures { result ≡ are_labels text.now }
+{
+    // Before the first label, as before each other one, is a `/`.
+    !has_empty_label_after(b'/', text) && last_octet(b'/', text) != b'/'
 }
 
 /// Whether nothing is found on a UTCTime.

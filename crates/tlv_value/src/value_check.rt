@@ -20,9 +20,10 @@ use arrayvec::ArrayVec;
 pub use characters::are_allowed;
 pub(crate) use findings::is_any_set;
 use notes::{
-    is_padded_with, note_time, notes_each, notes_first, notes_iri, notes_time, notes_units,
+    has_empty_label_with, is_padded_with, note_time, notes_each, notes_first, notes_iri,
+    notes_time, notes_units,
 };
-pub(crate) use notes::{is_padded_after, last_octet};
+pub(crate) use notes::{has_empty_label_after, is_padded_after, last_octet};
 use std::marker::Model;
 use tlv_head::{Class, Header, universal};
 pub(crate) use units::{are_characters_of_four, are_characters_of_two};
@@ -50,6 +51,8 @@ pub struct ValueCheck {
     is_padded: bool,
     /// Whether the rows of a UTF8String, OID-IRI or RELATIVE-OID-IRI that were full are well-formed.
     are_full_rows_utf8: bool,
+    /// Whether a label of an OID-IRI or RELATIVE-OID-IRI, between two octets `/`, is empty.
+    has_empty_label: bool,
     /// Whether the units of a BMPString or UniversalString that were whole are characters.
     are_characters: bool,
     /// The octets of the row that has begun.
@@ -97,6 +100,7 @@ impl ValueCheck {
             are_octets_allowed: true,
             is_padded: false,
             are_full_rows_utf8: true,
+            has_empty_label: false,
             are_characters: true,
             row: ArrayVec::new(),
             time: ArrayVec::new(),
@@ -119,6 +123,7 @@ impl ValueCheck {
         self.are_octets_allowed = true;
         self.is_padded = false;
         self.are_full_rows_utf8 = true;
+        self.has_empty_label = false;
         self.are_characters = true;
         self.real = RealCheck::new();
         if !self.unit.is_empty() {
@@ -234,10 +239,12 @@ impl ValueCheck {
         );
     }
 
-    /// Notes the first octets of an OID-IRI or RELATIVE-OID-IRI, and whether its rows are UTF-8.
+    /// Notes the first octets of an OID-IRI or RELATIVE-OID-IRI and the last one, whether a label is empty, and whether
+    /// its rows are UTF-8.
     fn note_iri(&mut self, octets: &[u8])
         ensures { self.new ≡ with_iri_noted self.old octets.now }
     {
+        self.has_empty_label = has_empty_label_with(self.has_empty_label, self.last, octets);
         self.note_first(octets);
         self.are_full_rows_utf8 = both(self.are_full_rows_utf8, take_rows(&mut self.row, octets));
     }

@@ -111,7 +111,7 @@ pub(super) static FOURS: [Found<'static>; 14] = [
 ];
 
 /// OID-IRIs and RELATIVE-OID-IRIs.
-pub(super) static IRIS: [Found<'static>; 13] = [
+pub(super) static IRIS: [Found<'static>; 20] = [
     Found {
         element: b"\x1f\x23\x00",
         findings: &[Finding::B23],
@@ -122,7 +122,19 @@ pub(super) static IRIS: [Found<'static>; 13] = [
     },
     Found {
         element: b"\x1f\x23\x01/",
-        findings: &[],
+        findings: &[Finding::B23],
+    },
+    Found {
+        element: b"\x1f\x23\x02//",
+        findings: &[Finding::B23],
+    },
+    Found {
+        element: b"\x1f\x23\x03/a/",
+        findings: &[Finding::B23],
+    },
+    Found {
+        element: b"\x1f\x23\x05/a//b",
+        findings: &[Finding::B23],
     },
     Found {
         element: b"\x1f\x23\x04/a/b",
@@ -159,6 +171,22 @@ pub(super) static IRIS: [Found<'static>; 13] = [
     Found {
         element: b"\x1f\x24\x01a",
         findings: &[],
+    },
+    Found {
+        element: b"\x1f\x24\x03a/b",
+        findings: &[],
+    },
+    Found {
+        element: b"\x1f\x24\x02/a",
+        findings: &[Finding::B23],
+    },
+    Found {
+        element: b"\x1f\x24\x02a/",
+        findings: &[Finding::B23],
+    },
+    Found {
+        element: b"\x1f\x24\x04a//b",
+        findings: &[Finding::B23],
     },
     Found {
         element: b"\x1f\x24\x01\xff",

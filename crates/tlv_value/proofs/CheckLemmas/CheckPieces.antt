@@ -8,7 +8,8 @@ use Rattle.std.specs.Str.{is_utf8}
 use Rattle.tlv_head.specs.Header.{HeaderValue, announced_length}
 use Rattle.tlv_head.specs.declared.kind.Kind.TheVariants.{Utf8}
 use Rattle.tlv_value.specs.CheckLaws.{ChecksJoin, FindingsEnd}
-use Rattle.tlv_value.specs.ValueCheckState.{is_padded_after, last_octet_after, new_value_check, ValueCheckState}
+use Rattle.tlv_value.specs.ValueCheckState.{has_empty_label_after, is_padded_after}
+use Rattle.tlv_value.specs.ValueCheckState.{last_octet_after, new_value_check, ValueCheckState}
 use Rattle.tlv_value.specs.ValueCheckState.{kept_conditions, new_value_check_of, notes_each, notes_first, notes_iri}
 use Rattle.tlv_value.specs.ValueCheckState.{notes_real, notes_time, notes_units, type_number, value_check_for}
 use Rattle.tlv_value.specs.ValueCheckState.{with_each_noted, with_first_noted, with_iri_noted, with_octets_noted}
@@ -104,6 +105,7 @@ state_with s left first_octets last are_octets_allowed is_padded are_full_rows_u
   is_padded = is_padded;
   are_full_rows_utf8 = are_full_rows_utf8;
   row = row;
+  has_empty_label = s.has_empty_label;
   time = time;
   are_characters = s.are_characters;
   unit = s.unit;
@@ -115,6 +117,30 @@ state_with-eq : (s : ValueCheckState) (l l' : ℕ) (f f' : List ℕ) (t t' : ℕ
     → state_with s l f t a p m r i ≡ state_with s l' f' t' a' p' m' r' i'
 state_with-eq s l l' f f' t t' a a' p p' m m' r r' i i' e1 e2 e3 e4 e5 e6 e7 e8 =
     rw (e1, e2, e3, e4, e5, e6, e7, e8) refl
+
+-- an OID-IRI or RELATIVE-OID-IRI
+abbrev iri_with : ValueCheckState → ℕ → List ℕ → ℕ → Bool → List ℕ → Bool → ValueCheckState
+iri_with s left first_octets last are_full_rows_utf8 row has_empty_label = record s {
+  left = left;
+  first_octets = first_octets;
+  last = last;
+  are_full_rows_utf8 = are_full_rows_utf8;
+  row = row;
+  has_empty_label = has_empty_label;
+}
+
+iri-eq : (s : ValueCheckState) (l l' : ℕ) (f f' : List ℕ) (t t' : ℕ) (m m' : Bool) (r r' : List ℕ) (e e' : Bool)
+    → l ≡ l' → f ≡ f' → t ≡ t' → m ≡ m' → r ≡ r' → e ≡ e' → iri_with s l f t m r e ≡ iri_with s l' f' t' m' r' e'
+iri-eq s l l' f f' t t' m m' r r' e e' e1 e2 e3 e4 e5 e6 = rw (e1, e2, e3, e4, e5, e6) refl
+
+labels-join : (previous : ℕ) (x y : List ℕ)
+    → (has_empty_label_after previous x || has_empty_label_after (last_octet_after previous x) y)
+    ≡ has_empty_label_after previous (x ++ y)
+labels-join previous [] y = refl
+labels-join previous (z ∷ x) y =
+    or-assoc (eqb previous 0x2f && eqb z 0x2f) (has_empty_label_after z x)
+    (has_empty_label_after (last_octet_after z x) y)
+    ∙ ap (λ (b : Bool). (eqb previous 0x2f && eqb z 0x2f) || b) (labels-join z x y)
 
 units-eq : (s : ValueCheckState) (l l' : ℕ) (a a' : Bool) (u u' : List ℕ) → l ≡ l' → a ≡ a' → u ≡ u'
     → record s { left = l; are_characters = a; unit = u } ≡ record s { left = l'; are_characters = a'; unit = u' }
@@ -187,15 +213,18 @@ join-by false false false true i r s x y =
     (open_unit-join size s.unit x y)
 join-by false false false false true r s x y =
     let l : s.left - length x - length y ≡ s.left - length (x ++ y) = omega (arith, length-append x y) in
-    state_with-eq s (s.left - length x - length y) (s.left - length (x ++ y))
+    iri-eq s (s.left - length x - length y) (s.left - length (x ++ y))
     (take 2 (take 2 (s.first_octets ++ x) ++ y))
     (take 2 (s.first_octets ++ (x ++ y)))
     (last_octet_after (last_octet_after s.last x) y) (last_octet_after s.last (x ++ y))
-    s.are_octets_allowed s.are_octets_allowed s.is_padded s.is_padded
     (with_iri_noted (with_iri_noted s x) y).are_full_rows_utf8 (with_iri_noted s (x ++ y)).are_full_rows_utf8
-    (with_iri_noted (with_iri_noted s x) y).row (with_iri_noted s (x ++ y)).row s.time s.time
-    l (take-join 2 s.first_octets x y) (last-join s.last x y) refl refl
-    (formed-at true s.are_full_rows_utf8 s.row x y) (row-at true s.row x y) refl
+    (with_iri_noted (with_iri_noted s x) y).row (with_iri_noted s (x ++ y)).row
+    ((s.has_empty_label || has_empty_label_after s.last x) || has_empty_label_after (last_octet_after s.last x) y)
+    (s.has_empty_label || has_empty_label_after s.last (x ++ y))
+    l (take-join 2 s.first_octets x y) (last-join s.last x y)
+    (formed-at true s.are_full_rows_utf8 s.row x y) (row-at true s.row x y)
+    (or-assoc s.has_empty_label (has_empty_label_after s.last x) (has_empty_label_after (last_octet_after s.last x) y)
+    ∙ ap (λ (b : Bool). s.has_empty_label || b) (labels-join s.last x y))
 join-by false false false false false true s x y =
     let l : s.left - length x - length y ≡ s.left - length (x ++ y) = omega (arith, length-append x y) in
     real-eq s (s.left - length x - length y) (s.left - length (x ++ y))

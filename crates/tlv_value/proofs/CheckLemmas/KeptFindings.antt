@@ -4,7 +4,7 @@ use Rattle.std.proofs.lemmas.Bool.{eqb-true}
 use Rattle.std.specs.Prelude.{◌||◌}
 use Rattle.tlv_value.specs.declared.finding.Finding.TheVariants.{B18, B21, B23}
 use Rattle.tlv_value.specs.Checks.{findings_by}
-use Rattle.tlv_value.specs.AllChecks.{type_findings}
+use Rattle.tlv_value.specs.AllChecks.{is_iri, type_findings}
 use Rattle.tlv_value.specs.Dates.{is_date_or_time}
 use Rattle.tlv_head.specs.declared.type_table.Rule.TheVariants as rules
 use Rattle.tlv_head.specs.Lists.{is_among}
@@ -57,6 +57,23 @@ date-clear_by n c false false false e f g h k = absurd cc
 pub date-clear : (n : ℕ) (c : List ℕ) → has_rule rules.DateForm n ≡ true → is_date_or_time n c ≡ true
     → type_findings n c ≡ []
 date-clear n c h k = date-clear_by n c (eqb n 31) (eqb n 32) (eqb n 33) refl refl refl h k
+
+iri-clear_at : (n k : ℕ) (c : List ℕ) → eqb n k ≡ true → is_iri n c ≡ true
+    → type_findings k c ≡ finding_if (not (is_iri k c)) B23 → type_findings n c ≡ []
+iri-clear_at n k c e h same =
+    let is_one : is_iri k c ≡ true = ap (λ (m : ℕ). is_iri m c) (sym (eqb-true n k e)) ∙ h in
+    rw (eqb-true n k e) (same ∙ ap (λ (b : Bool). finding_if (not b) B23) is_one)
+
+iri-clear_by : (n : ℕ) (c : List ℕ) (a b : Bool) → eqb n 35 ≡ a → eqb n 36 ≡ b → (a || (b || false)) ≡ true
+    → is_iri n c ≡ true → type_findings n c ≡ []
+iri-clear_by n c true b e f g h = iri-clear_at n 35 c e h (append-nil (finding_if (not (is_iri 35 c)) B23))
+iri-clear_by n c false true e f g h = iri-clear_at n 36 c f h (append-nil (finding_if (not (is_iri 36 c)) B23))
+iri-clear_by n c false false e f g h = absurd cc
+
+-- nothing is found on an OID-IRI or RELATIVE-OID-IRI that is one
+pub iri-clear : (n : ℕ) (c : List ℕ) → has_rule rules.IriForm n ≡ true → is_iri n c ≡ true
+    → type_findings n c ≡ []
+iri-clear n c h k = iri-clear_by n c (eqb n 35) (eqb n 36) refl refl h k
 
 -- a type with no findings
 pub none-found : (n : ℕ) (s : ValueCheckState) → IsOther n → is_among n (12 ∷ tested_string_types) ≡ false

@@ -13,7 +13,7 @@ use Rattle.tlv_value.specs.Characters.{allows_octet, are_whole_characters, has_w
 use Rattle.tlv_value.specs.Dates.{month_has_day, month_has_day_in_some_century}
 use Rattle.tlv_value.specs.UnitsSoFar.{are_characters_after}
 use Rattle.tlv_value.specs.AllChecks.{all_contents_findings, type_conditions, type_findings}
-use Rattle.tlv_value.specs.Checks.{allows, begins_with}
+use Rattle.tlv_value.specs.Checks.{allows}
 use Rattle.tlv_value.specs.Checks.{findings_by, is_padded_integer}
 use Rattle.tlv_head.specs.declared.type_table.Rule.TheVariants as rules
 use Rattle.tlv_value.specs.Types.{has_rule}
@@ -28,6 +28,7 @@ use Rattle.std.specs.Str.{is_utf8}
 use Rattle.tlv_value.proofs.CheckLemmas.ClearStrings.{all-allowed, fours-kept, twos-kept}
 use Rattle.tlv_value.proofs.CheckLemmas.DatesNoted.{date-kept}
 use Rattle.tlv_value.proofs.CheckLemmas.EachNoted.{nothing-noted}
+use Rattle.tlv_value.proofs.CheckLemmas.Labels.{absolute-kept, relative-kept}
 use Rattle.tlv_value.proofs.CheckLemmas.LastAndPadded.{last_of_all, padded_of_all}
 use Rattle.tlv_value.proofs.RealLemmas.CanonicalContents.{real-canonical}
 use Rattle.tlv_value.proofs.RealLemmas.RealContents.{real-of_form}
@@ -134,18 +135,15 @@ twos-same : (c : List ℕ) → Same 30 c
 twos-same c = wide-by (length c % 2 == 0) (has_wrong_unit 30 c) (are_characters_after 2 [] c) (twos-kept c)
 
 -- internationalized resource identifiers
-begins-noted : (x : ℕ) (c : List ℕ) → begins_with x c ≡ begins_with x (take 2 c)
-begins-noted x [] = refl
-begins-noted x (y ∷ c) = refl
-
 iri-same : (c : List ℕ) → Same 35 c
 iri-same c =
-    ap₂ (λ (text begins : Bool). finding_if (not (text && begins)) B23 ++ [])
-    (sym (rows-formed_at c)) (begins-noted 0x2f c)
+    ap₂ (λ (text labels : Bool). finding_if (not (text && labels)) B23 ++ [])
+    (sym (rows-formed_at c)) (absolute-kept c)
 
 relative_iri-same : (c : List ℕ) → Same 36 c
 relative_iri-same c =
-    ap (λ (text : Bool). finding_if (not (text && not (length c == 0))) B23 ++ []) (sym (rows-formed_at c))
+    ap₂ (λ (text labels : Bool). finding_if (not (text && labels)) B23 ++ [])
+    (sym (rows-formed_at c)) (relative-kept c)
 
 -- REAL
 real-same : (c : List ℕ) → Same 9 c

@@ -6,7 +6,7 @@ ghost use Rattle.tlv_value.specs.Private.TimeFindings.{time_findings};
 ghost use Rattle.tlv_value.specs.Types.{tested_string_types};
 ghost use Rattle.tlv_head.specs.Lists.{is_among};
 ghost use Rattle.tlv_value.specs.ValueCheckState.{finding_if, findings_in, is_allowed, is_kept_date, is_kept_iri};
-ghost use Rattle.tlv_value.specs.ValueCheckState.{kept_conditions};
+ghost use Rattle.tlv_value.specs.ValueCheckState.{begins_kept_iri, kept_conditions};
 
 use super::{ValueCheck, both, is_utf8};
 use crate::Finding;
@@ -74,17 +74,25 @@ impl ValueCheck {
         both(all, self.are_octets_allowed)
     }
 
-    /// Whether the contents of an OID-IRI or RELATIVE-OID-IRI are UTF-8, and begin as they have to (8.21, 8.22).
+    /// Whether the contents of an OID-IRI or RELATIVE-OID-IRI are UTF-8, and made of labels (8.21, 8.22).
     fn is_iri(&self) -> bool
         ensures { result ≡ is_kept_iri self.now.number self.now }
     {
-        let begins = if self.number == universal::OID_IRI {
-            self.known != 0 && self.first == b'/'
-        } else {
-            self.size != 0
-        };
         let is_utf8 = both(self.are_full_rows_utf8, is_utf8(self.row.as_slice()));
-        both(is_utf8, begins)
+        let ends = !self.has_empty_label && self.last != b'/';
+        both(is_utf8, both(self.begins_iri(), ends))
+    }
+
+    /// Whether an OID-IRI begins with `/`, or a RELATIVE-OID-IRI with another octet.
+    fn begins_iri(&self) -> bool
+        ensures { result ≡ begins_kept_iri self.now.number self.now }
+    {
+        let has_solidus = self.known != 0 && self.first == b'/';
+        if self.number == universal::OID_IRI {
+            has_solidus
+        } else {
+            self.size != 0 && !has_solidus
+        }
     }
 
     /// Whether the contents are those of a DATE, TIME-OF-DAY or DATE-TIME, the type that the check is of (8.26).

@@ -1,5 +1,6 @@
 //! What is noted of contents octets while they come.
 ghost use Rattle.std.specs.Prelude.{◌≡◌, ◌++◌, take};
+ghost use Rattle.tlv_value.specs.ValueCheckState.{has_empty_label_after, has_empty_label_with};
 ghost use Rattle.tlv_value.specs.ValueCheckState.{is_padded_after, is_padded_with, last_octet_after, notes_each};
 ghost use Rattle.tlv_value.specs.ValueCheckState.{notes_first, notes_iri, notes_time, notes_units};
 
@@ -94,6 +95,27 @@ pub(crate) fn is_padded_after(previous: u8, octets: &[u8]) -> bool
     let mut previous = previous;
     for octet in octets {
         if previous < 128 && *octet == 128 {
+            return true;
+        }
+        previous = *octet;
+    }
+    false
+}
+
+/// Whether a label of an OID-IRI or RELATIVE-OID-IRI is empty, in the octets before or in these.
+pub(super) fn has_empty_label_with(has_empty_label: bool, previous: u8, octets: &[u8]) -> bool
+    ensures { result ≡ has_empty_label_with has_empty_label previous octets.now }
+{
+    has_empty_label || has_empty_label_after(previous, octets)
+}
+
+/// Whether two octets `/` stand side by side in these octets, which follow `previous`.
+pub(crate) fn has_empty_label_after(previous: u8, octets: &[u8]) -> bool
+    ensures { result ≡ has_empty_label_after previous octets.now }
+{
+    let mut previous = previous;
+    for octet in octets {
+        if previous == b'/' && *octet == b'/' {
             return true;
         }
         previous = *octet;

@@ -1,7 +1,7 @@
 use Rattle.std.proofs.Common.{sym, ◌∙◌, arith}
 use Rattle.std.proofs.lemmas.Bool.Decides.{nat_tests}
 use Rattle.tlv_value.proofs.CheckLemmas.ClearStrings.{fours-clear, twos-clear, utf8-clear}
-use Rattle.tlv_value.proofs.CheckLemmas.KeptFindings.{date-clear}
+use Rattle.tlv_value.proofs.CheckLemmas.KeptFindings.{date-clear, iri-clear}
 use Rattle.tlv_value.proofs.RealLemmas.CanonicalContents.{real-clear}
 use Rattle.tlv_value.proofs.short_look.is_type_clear.Goals as goal
 
@@ -26,3 +26,7 @@ returns-then-contents-eq0-2-clause-contents c =
 pub returns-in-31-clause-contents : goal.returns-in-31-clause-contents
 returns-in-31-clause-contents c =
     λ h. date-clear c.args.number c.args.contents.now (grind (arith, nat_tests)) (sym c.is_date_or_time.ensures ∙ h)
+
+pub returns-in-35-clause-contents : goal.returns-in-35-clause-contents
+returns-in-35-clause-contents c =
+    λ h. iri-clear c.args.number c.args.contents.now (grind (arith, nat_tests)) (sym c.is_iri.ensures ∙ h)
