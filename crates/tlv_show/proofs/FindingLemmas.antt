@@ -12,7 +12,6 @@ pub mod FramesAround
 pub mod HeaderFindings
 pub mod KeptFrames
 pub mod KeptRows
-pub mod ListedFindings
 pub mod ListedTables
 pub mod FindingLines
 pub mod LongerHeaders

@@ -3,9 +3,9 @@ use Rattle.std.specs.Prelude.{ℕ, Bool, true, false, ◌&&◌, if◌then◌else
 use Rattle.std.specs.List.{filter}
 use Rattle.tlv_head.specs.Header.{HeaderValue}
 use Rattle.tlv_value.specs.declared.finding.Finding.{Finding}
-use Rattle.tlv_value.specs.declared.finding.Finding.TheVariants.{B20, B21, B22, B23, B24, B25, B26, B27, B28}
-use Rattle.tlv_value.specs.declared.finding.Finding.TheVariants.{S05, S06, D01, D02, C01, C02, C03, C04, C05, C06}
+use Rattle.tlv_value.specs.declared.finding.Finding.TheVariants.{B28, S05, S06, D01, D02, C01, C02, C03, C04, C05, C06}
 use Rattle.tlv_value.specs.AllChecks.{contents_conditions}
+pub use Rattle.tlv_value.specs.AllChecks.{is_listed}
 use Rattle.tlv_value.specs.Checks.{findings_by}
 use Rattle.tlv_walk.specs.Forest.{Forest}
 use Rattle.tlv_show.specs.declared.rules.Rules.{Rules}
@@ -20,21 +20,6 @@ use Rattle.tlv_show.specs.SetOrder.{Element, holder_element, is_out_of_order_at,
 use Rattle.tlv_show.specs.Site.{Site}
 
 -- ---- Which findings are wanted
-
--- whether a finding is listed: all are but these
-abbrev pub is_listed : Finding → Bool
-is_listed B20 = false
-is_listed B21 = false
-is_listed B22 = false
-is_listed B23 = false
-is_listed B24 = false
-is_listed B25 = false
-is_listed B26 = false
-is_listed B27 = false
-is_listed B28 = false
-is_listed S05 = false
-is_listed S06 = false
-is_listed finding = true
 
 -- the scope has the finding
 abbrev pub is_within : Scope → Finding → Bool

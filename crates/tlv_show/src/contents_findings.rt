@@ -2,7 +2,7 @@
 ghost use Rattle.std.specs.Prelude.{◌≡◌, ◌≤◌, [], length};
 ghost use Rattle.tlv_show.specs.FinderState.{contents_findings_in};
 ghost use Rattle.tlv_show.specs.ListedFindings.{rules_have};
-ghost use Rattle.tlv_show.specs.ShownFindings.{is_listed, is_shown, with_order_if};
+ghost use Rattle.tlv_show.specs.ShownFindings.{is_shown, with_order_if};
 
 use crate::order_finding::insert_order_finding;
 use crate::{Rules, Scope, Wanted};
@@ -42,7 +42,7 @@ pub(crate) fn add_contents_findings(
     ensures found { found.new.items ≡ contents_findings_in wanted check.now }
     ensures short { length found.new.items ≤ 16 }
 {
-    for finding in check.end().as_slice() {
+    for finding in check.end_with_all().as_slice() {
         if is_shown(wanted, *finding) {
             found.push(*finding);
         }
@@ -55,29 +55,9 @@ fn is_shown(wanted: Wanted, finding: Finding) -> bool
 {
     rules_have(wanted.rules, finding)
         && match wanted.scope {
-            Scope::Listed => is_listed(finding),
+            Scope::Listed => finding.is_listed(),
             Scope::All => true,
         }
-}
-
-/// Whether a finding is listed.
-fn is_listed(finding: Finding) -> bool
-    ensures { result ≡ is_listed finding }
-{
-    !matches!(
-        finding,
-        Finding::B20
-            | Finding::B21
-            | Finding::B22
-            | Finding::B23
-            | Finding::B24
-            | Finding::B25
-            | Finding::B26
-            | Finding::B27
-            | Finding::B28
-            | Finding::S05
-            | Finding::S06
-    )
 }
 
 /// Whether the rules have the finding, by the letter of its code.

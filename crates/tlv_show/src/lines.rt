@@ -291,5 +291,5 @@ fn put_end<N: FiniteNames, D: Drain>(
     if !is_open || text.left() != 0 {
         return Ok(());
     }
-    text.end(names, known, out)
+    text.end_with(names, known, out)
 }

@@ -29,7 +29,7 @@ ghost use Rattle.std.specs.Prelude.{length};
 use crate::expect::expect_of;
 use crate::inputs::element_at;
 use std::process::Abort;
-use tlv_value::{KnownTexts, Layout, NameTable, ValueText};
+use tlv_value::{Layout, NameTable, ValueText};
 use tlv_walk::{Drain, MemDrain, Out};
 
 /// An element and the lines of its value, at level 0.
@@ -131,7 +131,7 @@ fn put_pieces<N: NameTable, D: Drain>(
             break;
         }
     }
-    text.end(names, &mut KnownTexts::new(), out).ok()
+    text.end(names, out).ok()
 }
 
 /// Returns whether the octets are exactly these lines, each with a line feed.

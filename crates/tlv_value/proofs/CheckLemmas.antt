@@ -13,3 +13,6 @@ pub mod LastAndPadded
 pub mod Labels
 pub mod NestedForms
 pub mod ClearStrings
+pub mod ListedFindings
+pub mod ListedRows
+pub mod Filtered

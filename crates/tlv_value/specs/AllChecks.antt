@@ -1,11 +1,12 @@
 -- All findings on the contents of a primitive: the listed ones, which `Checks` has, and the others.
-use Rattle.std.specs.Prelude.{ℕ, Bool, ◌&&◌, not, ◌==◌, if◌then◌else◌, List, [], ◌∷◌, ◌++◌, drop, length}
+use Rattle.std.specs.Prelude.{ℕ, Bool, true, false, ◌&&◌, not, ◌==◌, if◌then◌else◌, List, [], ◌∷◌, ◌++◌, drop, length}
 use Rattle.std.specs.List.{list_all, slice_split}
 use Rattle.std.specs.Str.{is_utf8}
 use Rattle.tlv_head.specs.Header.{HeaderValue, is_universal}
 use Rattle.tlv_head.specs.UniversalTypes as universal
 use Rattle.tlv_value.specs.declared.finding.Finding.{Finding}
-use Rattle.tlv_value.specs.declared.finding.Finding.TheVariants.{B20, B21, B23, B24, B25, B26, S06}
+use Rattle.tlv_value.specs.declared.finding.Finding.TheVariants.{B20, B21, B22, B23, B24, B25, B26}
+use Rattle.tlv_value.specs.declared.finding.Finding.TheVariants.{B27, B28, S05, S06}
 use Rattle.tlv_value.specs.Characters.{has_wrong_unit}
 use Rattle.tlv_value.specs.Checks.{begins_with, findings_by, is_short_time, listed_basic_type_conditions}
 use Rattle.tlv_value.specs.Checks.{listed_strict_type_conditions, time_form}
@@ -36,6 +37,21 @@ is_iri number contents =
     else are_labels contents)
 
 -- ---- The findings
+
+-- whether a finding is listed, so that `tlvdump` reports it: all are but these
+abbrev pub is_listed : Finding → Bool
+is_listed B20 = false
+is_listed B21 = false
+is_listed B22 = false
+is_listed B23 = false
+is_listed B24 = false
+is_listed B25 = false
+is_listed B26 = false
+is_listed B27 = false
+is_listed B28 = false
+is_listed S05 = false
+is_listed S06 = false
+is_listed finding = true
 
 -- the findings that are not listed, beside their conditions, for the contents of a primitive: `number` is that of its
 -- universal type. These are by the rules of all encodings

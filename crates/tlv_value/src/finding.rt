@@ -95,6 +95,7 @@ pub enum Finding {
 
 impl Finding {
     ghost use Rattle.std.specs.Prelude.{◌≡◌, ◌≤◌, ◌++◌, ◌∷◌, [], take};
+    ghost use Rattle.tlv_value.specs.AllChecks.{is_listed};
     ghost use Rattle.tlv_value.specs.Finding.{finding_code, finding_text, finding_wording};
 
     /// The three-character code of the finding, such as `B01`.
@@ -103,6 +104,26 @@ impl Finding {
     {
         let (line, _) = self.line_block();
         &line[..3]
+    }
+
+    /// Whether the finding is listed: `tlvdump` reports the listed ones, and `tlvdump-show` all.
+    pub fn is_listed(self) -> bool
+        ensures { result ≡ is_listed self }
+    {
+        !matches!(
+            self,
+            Finding::B20
+                | Finding::B21
+                | Finding::B22
+                | Finding::B23
+                | Finding::B24
+                | Finding::B25
+                | Finding::B26
+                | Finding::B27
+                | Finding::B28
+                | Finding::S05
+                | Finding::S06
+        )
     }
 
     /// The description of the finding, in ASCII.

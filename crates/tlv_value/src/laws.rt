@@ -1,6 +1,6 @@
 //! Laws of the definitions: each is the contract of a function that does nothing.
 
-ghost use Rattle.tlv_value.specs.CheckLaws.{ChecksJoin, FindingsEnd, RowsAreUtf8};
+ghost use Rattle.tlv_value.specs.CheckLaws.{ChecksJoin, FindingsEnd, ListedFindingsStay, RowsAreUtf8};
 ghost use Rattle.tlv_value.specs.Laws.{LinesBegin, LinesEnd, LinesGoOn, PiecesJoin, RowsAreACut, RowsHaveOneCut};
 
 /// The lines do not depend on how the contents are cut into pieces.
@@ -29,9 +29,16 @@ pub fn checks_join()
     ensures { ChecksJoin }
 {}
 
-/// At the end of the contents [`ValueCheck`](crate::ValueCheck) reports all findings on them, and no others.
+/// At the end of the contents [`ValueCheck::end_with_all`](crate::ValueCheck::end_with_all) returns all findings on
+/// them, and no others.
 pub fn findings_end()
     ensures { FindingsEnd }
+{}
+
+/// The listed findings on contents, which [`ValueCheck::end`](crate::ValueCheck::end) returns, are all findings on
+/// them, in the same order, without those that are not listed.
+pub fn listed_findings_stay()
+    ensures { ListedFindingsStay }
 {}
 
 /// Contents are well-formed UTF-8 if and only if each of their rows is.

@@ -1,12 +1,13 @@
 //! The findings on the contents of a primitive.
 ghost use Rattle.std.specs.Prelude.{◌≡◌, ◌+◌, ◌≤◌, ◌&&◌, ℕ, List, length, slice_index};
+ghost use Rattle.std.specs.List.{filter};
 ghost use Rattle.tlv_head.specs.Header.{HasAllContents, HeaderValue, announced_length};
 ghost use Rattle.tlv_value.specs.ValueCheckState.{value_check_after, value_check_for, findings_in, has_unused_bits};
 ghost use Rattle.tlv_value.specs.ValueCheckState.{new_value_check, new_value_check_of};
 ghost use Rattle.tlv_value.specs.ValueCheckState.{type_number, with_each_noted, with_first_noted};
 ghost use Rattle.tlv_value.specs.ValueCheckState.{with_iri_noted, with_units_noted};
-ghost use Rattle.tlv_value.specs.Checks.{is_padded_integer};
-ghost use Rattle.tlv_value.specs.AllChecks.{all_contents_findings};
+ghost use Rattle.tlv_value.specs.Checks.{findings_by, is_padded_integer, listed_contents_conditions};
+ghost use Rattle.tlv_value.specs.AllChecks.{all_contents_findings, is_listed};
 
 mod characters;
 mod findings;
@@ -249,10 +250,30 @@ impl ValueCheck {
         self.are_full_rows_utf8 = both(self.are_full_rows_utf8, take_rows(&mut self.row, octets));
     }
 
-    /// All findings on the contents, in order: those of BER, DER and CER together. The caller leaves out those that its
-    /// rules do not have.
-    #[inline(always)]
+    /// The listed findings on the contents, in order: those of BER, DER and CER together. The caller leaves out those
+    /// that its rules do not have.
     pub fn end(&self) -> ArrayVec<Finding, 16>
+        requires { self.now.left ≡ 0 }
+        ensures found { result.items ≡ filter is_listed (findings_in self.now) }
+
+        // In other words: the listed findings on c, if c is all contents of the primitive with the header h.
+        ensures all_contents { (h : HeaderValue) (c : List ℕ)
+            → self.now ≡ value_check_for h c
+            → HasAllContents h c
+            → result.items ≡ findings_by (listed_contents_conditions h c) }
+    {
+        let mut listed = ArrayVec::new();
+        for finding in self.findings().as_slice() {
+            if finding.is_listed() {
+                listed.push(*finding);
+            }
+        }
+        listed
+    }
+
+    /// All findings on the contents, listed or not, in the same order.
+    #[inline(always)]
+    pub fn end_with_all(&self) -> ArrayVec<Finding, 16>
         requires { self.now.left ≡ 0 }
         ensures found { result.items ≡ findings_in self.now }
 

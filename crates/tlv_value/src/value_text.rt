@@ -185,12 +185,39 @@ impl ValueText {
     }
 
     /// Puts the lines that become known with the last contents octet: the rest of the lines of the whole primitive,
-    /// after the lines that were put before. They do not depend on what is `known`.
+    /// after the lines that were put before.
     ///
     /// # Errors
     ///
     /// `WriteFault` if and only if a write failed.
     pub fn end<N: NameTable, D: Drain>(
+        &mut self,
+        names: &N,
+        out: &mut Out<'_, D>,
+    ) -> Result<(), WriteFault>
+        requires { self.old.left ≡ 0 }
+        ensures state { self.new ≡ self.old }
+        ensures puts { Puts D.state out.old out.new
+            (end_lines (N.name_of names.now) self.old) result }
+
+        // In other words: after the lines with c, all the contents, the rest of the lines of the whole primitive.
+        ensures lines { (with_text : Bool) (h : HeaderValue) (layout : Layout) (c : List ℕ)
+            → self.old ≡ value_text_for with_text h layout c
+            → HasAllContents h c
+            → PutsRest D.state out.old out.new
+            (incomplete_lines_with with_text h layout c)
+            (whole_lines_with with_text (N.name_of names.now) h layout c) result }
+    {
+        self.end_with(names, &mut KnownTexts::new(), out)
+    }
+
+    /// Like `end`, with the texts of object identifiers that were kept from values before. The lines do not depend on
+    /// these.
+    ///
+    /// # Errors
+    ///
+    /// `WriteFault` if and only if a write failed.
+    pub fn end_with<N: NameTable, D: Drain>(
         &mut self,
         names: &N,
         known: &mut KnownTexts,

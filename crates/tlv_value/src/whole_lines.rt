@@ -142,5 +142,5 @@ fn put_in_steps<N: NameTable, D: Drain>(
     let mut text = ValueText::of(*primitive);
     text.begin(out)?;
     text.bytes(contents, out)?;
-    text.end(names, known, out)
+    text.end_with(names, known, out)
 }

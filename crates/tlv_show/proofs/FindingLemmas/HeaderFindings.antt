@@ -19,7 +19,7 @@ use Rattle.tlv_show.specs.declared.scope.Scope.{Scope}
 use Rattle.tlv_show.specs.declared.scope.Scope.TheVariants.{Listed, All}
 use Rattle.tlv_show.specs.Private.UsualTypes.{later_basic_conditions_in}
 use Rattle.tlv_show.specs.Site.{Site, in_bit_string, in_string}
-use Rattle.tlv_show.proofs.FindingLemmas.KeptRows.{kept-found, kept_rows}
+use Rattle.tlv_value.proofs.CheckLemmas.ListedRows.{kept-found, kept_rows}
 
 -- what would be kept of what is around an element, by its site
 abbrev surroundings_of : Site → Surroundings

@@ -3,27 +3,10 @@ use Rattle.std.proofs.Common.{◌≡◌, ◌&&◌, Bool, true, false, List, [], 
 use Rattle.std.specs.List.{filter}
 use Rattle.tlv_value.specs.declared.finding.Finding.{Finding}
 use Rattle.tlv_value.specs.Checks.{findings_by}
+use Rattle.tlv_value.proofs.CheckLemmas.ListedRows.{kept-found, kept_rows}
 use Rattle.tlv_show.specs.declared.rules.Rules.{Rules}
 use Rattle.tlv_show.specs.ListedFindings.{findings_under, rules_have}
 use Rattle.tlv_show.specs.ShownFindings.{is_listed, listed_by, shown_findings}
-
--- the rows whose findings are kept
-abbrev pub kept_rows : (Finding → Bool) → List (Finding × Bool) → List (Finding × Bool)
-kept_rows keeps rows = filter (λ row. keeps row.0) rows
-
--- of the findings by conditions those are kept that the kept rows have
-pub kept-found : (keeps : Finding → Bool) (rows : List (Finding × Bool))
-    → filter keeps (findings_by rows) ≡ findings_by (kept_rows keeps rows)
-kept-found keeps [] = refl
-kept-found keeps (row ∷ rows) = by row.1 (keeps row.0) refl (kept-found keeps rows)
-  where
-    by : (there kept : Bool) → keeps row.0 ≡ kept
-        → filter keeps (findings_by rows) ≡ findings_by (kept_rows keeps rows)
-        → filter keeps (findings_by ((row.0, there) ∷ rows)) ≡ findings_by (kept_rows keeps ((row.0, there) ∷ rows))
-    by true true e h = rw e (ap (λ (l : List Finding). row.0 ∷ l) h)
-    by true false e h = rw e h
-    by false true e h = rw e h
-    by false false e h = rw e h
 
 -- two tests, one after the other
 both-kept : (p q : Finding → Bool) (fs : List Finding) → filter (λ x. p x && q x) fs ≡ filter p (filter q fs)

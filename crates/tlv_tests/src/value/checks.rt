@@ -19,7 +19,7 @@ fn check(element: &[u8], cut: usize) -> Option<ArrayVec<Finding, 16>> {
     let mut check = ValueCheck::new(&header);
     check.bytes(front);
     check.bytes(back);
-    let found = check.end();
+    let found = check.end_with_all();
     if is_clear(&header, contents) != found.is_empty() {
         return None;
     }
@@ -34,7 +34,7 @@ fn check_octets(element: &[u8]) -> Option<ArrayVec<Finding, 16>> {
     for i in 0..contents.len() {
         check.bytes(&contents[i..=i]);
     }
-    let found = check.end();
+    let found = check.end_with_all();
     if is_clear(&header, contents) != found.is_empty() {
         return None;
     }
@@ -54,7 +54,7 @@ fn count_of_real(contents: &[u8; 1000]) -> Option<usize> {
     if check.left() != 0 {
         return None;
     }
-    Some(check.end().len())
+    Some(check.end_with_all().len())
 }
 
 /// Returns whether these are the findings.

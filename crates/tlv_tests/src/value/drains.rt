@@ -2,7 +2,7 @@
 use super::{OneName, PLAIN};
 use crate::expect::{expect, expect_eq, expect_of};
 use crate::inputs::element_at;
-use tlv_value::{KnownTexts, ValueText};
+use tlv_value::ValueText;
 use tlv_walk::{Drain, MemDrain, Out, WriteFault};
 
 /// The call in which a write fails.
@@ -37,10 +37,7 @@ fn failing_call(element: &[u8], letters: usize, drain: &mut MemDrain<'_>) -> Opt
     if text.bytes(contents, &mut out).is_err() {
         return Some(Call::Bytes);
     }
-    if text
-        .end(&OneName, &mut KnownTexts::new(), &mut out)
-        .is_err()
-    {
+    if text.end(&OneName, &mut out).is_err() {
         return Some(Call::End);
     }
     if out.flush().is_err() {

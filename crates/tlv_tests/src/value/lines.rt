@@ -17,7 +17,7 @@ fn put_five(text: &mut ValueText, drain: &mut MemDrain<'_>) -> Option<()> {
     if text.left() != 0 {
         return None;
     }
-    text.end(&OneName, &mut KnownTexts::new(), &mut out).ok()?;
+    text.end(&OneName, &mut out).ok()?;
     out.flush().ok()
 }
 

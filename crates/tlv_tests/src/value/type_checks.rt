@@ -8,7 +8,7 @@ use tlv_value::{Finding, ValueCheck};
 fn found_on(number: u64, contents: &[u8]) -> ArrayVec<Finding, 16> {
     let mut check = ValueCheck::of_type(number, contents.len() as u64);
     check.bytes(contents);
-    check.end()
+    check.end_with_all()
 }
 
 /// Checks the findings on the contents of a primitive of this universal type.

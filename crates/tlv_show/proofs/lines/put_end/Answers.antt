@@ -25,4 +25,4 @@ returns g c =
     rw (c.if-not-is_open.false, all)
     (puts_text g.D.Drain.state _ _ _ _ _
     (ap (λ (n : NameOf). end_lines n c.args.text.now) (g.met.N.FiniteNames.has_table c.args.names.now))
-    c.end.ensures.puts)
+    c.end_with.ensures.puts)

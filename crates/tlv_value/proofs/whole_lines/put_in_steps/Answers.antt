@@ -7,8 +7,8 @@ use Rattle.tlv_value.proofs.whole_lines.put_in_steps.Goals as goal
 pub bytes-requires : goal.bytes-requires
 bytes-requires g c = omega (arith, ap (λ (t : ValueTextState). t.left) c.of-text.ensures, c.requires)
 
-pub end-requires : goal.end-requires
-end-requires g c =
+pub end_with-requires : goal.end_with-requires
+end_with-requires g c =
     omega (
       arith,
       ap (λ (t : ValueTextState). t.left) c.in_ok-bytes.ensures.state,
@@ -48,7 +48,7 @@ returns g c =
     let octets : List ℕ = c.args.contents.now in
     let s : ValueTextState = c.of-text.result in
     let end =
-    puts_text g.D.Drain.state _ _ _ _ _ (ap (end_lines name_of) c.in_ok-bytes.ensures.state) c.end.ensures.puts in
+    puts_text g.D.Drain.state _ _ _ _ _ (ap (end_lines name_of) c.in_ok-bytes.ensures.state) c.end_with.ensures.puts in
     let rest =
     puts_then_as g.D.Drain.state _ _ _ (contents_lines s octets) (end_lines name_of (value_text_after s octets))
     (contents_lines s octets ++ end_lines name_of (value_text_after s octets)) _ _ c.in_ok-bytes.ensures.puts

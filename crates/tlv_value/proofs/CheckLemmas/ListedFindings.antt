@@ -6,7 +6,7 @@ use Rattle.tlv_value.specs.declared.finding.Finding.TheVariants.{B10, B11, B12, 
 use Rattle.tlv_value.specs.declared.finding.Finding.TheVariants.{B19, B20, B21, B22, B23, B24, B25, B26, B27}
 use Rattle.tlv_value.specs.declared.finding.Finding.TheVariants.{B28, S01, S02, S03, S04, S05, S06, D01, D02}
 use Rattle.tlv_value.specs.declared.finding.Finding.TheVariants.{C01, C02, C03, C04, C05, C06}
-use Rattle.tlv_show.specs.ShownFindings.{is_listed}
+use Rattle.tlv_value.specs.AllChecks.{is_listed}
 
 pub unlisted : (x : Finding)
     → (x ≡ B20) ⊎ (x ≡ B21) ⊎ (x ≡ B22) ⊎ (x ≡ B23) ⊎ (x ≡ B24) ⊎ (x ≡ B25) ⊎ (x ≡ B26) ⊎ (x ≡ B27) ⊎ (x ≡ B28)

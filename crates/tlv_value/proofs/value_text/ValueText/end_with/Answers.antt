@@ -6,7 +6,7 @@ use Rattle.tlv_value.specs.Value.{is_long}
 use Rattle.tlv_value.specs.ValueTextFields.{value_text_state_of}
 use Rattle.tlv_value.proofs.TextLemmas.PrimitiveLines.{ended-shown, held-most}
 use Rattle.tlv_value.proofs.TextLemmas.Rests.{end-puts}
-use Rattle.tlv_value.proofs.value_text.ValueText.end.Goals as goal
+use Rattle.tlv_value.proofs.value_text.ValueText.end_with.Goals as goal
 
 pub put-requires : goal.put-requires
 put-requires g c =

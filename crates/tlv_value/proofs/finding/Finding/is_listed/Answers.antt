@@ -1,7 +1,7 @@
 use Rattle.std.proofs.Common.{◌∙◌, ap, not, sym}
-use Rattle.tlv_show.proofs.FindingLemmas.ListedFindings.{listed, unlisted}
-use Rattle.tlv_show.proofs.contents_findings.is_listed.Goals as goal
-use Rattle.tlv_show.proofs.contents_findings.is_listed.Goals.{in-B20, in_default}
+use Rattle.tlv_value.proofs.CheckLemmas.ListedFindings.{listed, unlisted}
+use Rattle.tlv_value.proofs.finding.Finding.is_listed.Goals as goal
+use Rattle.tlv_value.proofs.finding.Finding.is_listed.Goals.{in-B20, in_default}
 
 pub returns : goal.returns
 returns c = elim c.match-matches.branch [
