@@ -49,6 +49,10 @@ def binary(rng):
         mantissa[-1] |= 1
     if mantissa and rng.random() < 0.2:
         mantissa[0] = rng.choice([0, 0, 1, 0x80])
+    if rng.random() < 0.1:
+        mantissa = bytearray(len(mantissa))
+        if mantissa and rng.random() < 0.3:
+            mantissa[rng.choice([0, -1, rng.randrange(len(mantissa))])] = rng.choice([1, 2, 0x80])
     octets = bytes([first]) + bytes([size]) * (form == 3) + exponent + mantissa
     return octets[: rng.randrange(len(octets) + 1)] if rng.random() < 0.06 else octets
 
@@ -56,6 +60,8 @@ def binary(rng):
 def decimal(rng):
     """Returns contents of a decimal REAL, about a third of which are canonical."""
     digits = "".join(rng.choice("0123456789") for _ in range(rng.choice([1, 1, 2, 3, 9, 70, 5000])))
+    if rng.random() < 0.1:
+        digits = "0" * len(digits) + rng.choice(["", "", "1"])
     power = "".join(rng.choice("0123456789") for _ in range(rng.choice([1, 1, 2, 3, 30])))
     if rng.random() < 0.5:
         digits, power = digits.strip("0") or "5", power.lstrip("0")

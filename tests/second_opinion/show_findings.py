@@ -16,6 +16,7 @@ MORE = {
     "B26": "month has no such day",
     "B27": "components are missing",
     "B28": "segments have characters not of the type",
+    "B29": "REAL zero with contents",
     "S05": "element of a SET is out of order",
     "S06": "REAL is not canonical",
 }
@@ -60,10 +61,15 @@ def of_held(octets, element):
 
 
 def of_contents(element):
-    """B20, B21, B23 to B26 and S06: conditions on the contents of a primitive."""
+    """B20, B21, B23 to B26, B29 and S06: conditions on the contents of a primitive."""
     contents = element.contents
     if element.is_universal(REAL):
-        return {"B20": not is_real(contents), "S06": is_real(contents) and not is_canonical_real(contents)}
+        is_of_form = is_real(contents)
+        return {
+            "B20": not is_of_form,
+            "B29": is_of_form and is_zero(contents),
+            "S06": is_of_form and not is_canonical_real(contents),
+        }
     if element.is_universal(DATE, TIME_OF_DAY, DATE_TIME):
         return {"B21": not is_date_or_time(element.number, contents)}
     if element.is_universal(OID_IRI, RELATIVE_OID_IRI):
@@ -106,6 +112,14 @@ def exponent_and_mantissa(contents):
     # Of an exponent whose size has an octet of its own, the first nine bits differ, as in an INTEGER.
     is_padded = start == 2 and findings.is_padded(exponent)
     return (exponent, mantissa) if has_base and exponent and mantissa and not is_padded else None
+
+
+def is_zero(contents):
+    """B29: returns whether the contents of a REAL, which are of a form, are a number in binary or decimal that is zero."""
+    if contents[:1] >= b"\x80":
+        return not any(exponent_and_mantissa(contents)[1])
+    digits = re.split(rb"[Ee]", contents[1:])[0]
+    return b"" < contents[:1] < b"\x40" and re.search(rb"[1-9]", digits) is None
 
 
 def is_canonical_real(contents):

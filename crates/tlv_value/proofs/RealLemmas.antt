@@ -3,3 +3,4 @@ pub mod NumberForms
 pub mod CanonicalForms
 pub mod RealContents
 pub mod CanonicalContents
+pub mod ZeroContents

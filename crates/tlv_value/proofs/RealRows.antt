@@ -2,7 +2,7 @@
 use Rattle.std.proofs.Common.{◌≡◌, ℕ, List, [], ◌∷◌, refl}
 use Rattle.std.specs.Prelude.{codes}
 use Rattle.tlv_head.specs.UniversalTypes as universal
-use Rattle.tlv_value.specs.declared.finding.Finding.TheVariants.{B20, S06}
+use Rattle.tlv_value.specs.declared.finding.Finding.TheVariants.{B20, B29, S06}
 use Rattle.tlv_value.specs.AllChecks.{type_findings}
 
 abbrev IsNone : List ℕ → Type 0
@@ -10,6 +10,9 @@ IsNone contents = type_findings universal.real contents ≡ B20 ∷ []
 
 abbrev IsOfForm : List ℕ → Type 0
 IsOfForm contents = type_findings universal.real contents ≡ S06 ∷ []
+
+abbrev IsZero : List ℕ → Type 0
+IsZero contents = type_findings universal.real contents ≡ B29 ∷ S06 ∷ []
 
 abbrev IsCanonical : List ℕ → Type 0
 IsCanonical contents = type_findings universal.real contents ≡ []
@@ -45,7 +48,7 @@ one = refl
 even : IsOfForm (0x80 ∷ 0 ∷ 2 ∷ [])
 even = refl
 
-mantissa-zero : IsOfForm (0x80 ∷ 0 ∷ 0 ∷ [])
+mantissa-zero : IsZero (0x80 ∷ 0 ∷ 0 ∷ [])
 mantissa-zero = refl
 
 leading-zero : IsOfForm (0x80 ∷ 0 ∷ 0 ∷ 1 ∷ [])
@@ -154,3 +157,20 @@ nr3-space = refl
 
 nr3-plus : IsOfForm (3 ∷ codes "1.E+5")
 nr3-plus = refl
+
+-- ---- zero
+
+nr1-zero : IsZero (1 ∷ codes "-00")
+nr1-zero = refl
+
+nr2-zero : IsZero (2 ∷ codes "0,0")
+nr2-zero = refl
+
+nr3-zero : IsZero (3 ∷ codes "0.E5")
+nr3-zero = refl
+
+nr2-not_zero : IsOfForm (2 ∷ codes "0.10")
+nr2-not_zero = refl
+
+long-mantissa_zero : IsZero (0xc0 ∷ 5 ∷ 0 ∷ 0 ∷ [])
+long-mantissa_zero = refl

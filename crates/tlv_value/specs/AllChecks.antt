@@ -6,12 +6,12 @@ use Rattle.tlv_head.specs.Header.{HeaderValue, is_universal}
 use Rattle.tlv_head.specs.UniversalTypes as universal
 use Rattle.tlv_value.specs.declared.finding.Finding.{Finding}
 use Rattle.tlv_value.specs.declared.finding.Finding.TheVariants.{B20, B21, B22, B23, B24, B25, B26}
-use Rattle.tlv_value.specs.declared.finding.Finding.TheVariants.{B27, B28, S05, S06}
+use Rattle.tlv_value.specs.declared.finding.Finding.TheVariants.{B27, B28, B29, S05, S06}
 use Rattle.tlv_value.specs.Characters.{has_wrong_unit}
 use Rattle.tlv_value.specs.Checks.{begins_with, findings_by, is_short_time, listed_basic_type_conditions}
 use Rattle.tlv_value.specs.Checks.{listed_strict_type_conditions, time_form}
 use Rattle.tlv_value.specs.Dates.{is_date_or_time, month_has_day, month_has_day_in_some_century}
-use Rattle.tlv_value.specs.Real.{is_canonical_real, is_real_form}
+use Rattle.tlv_value.specs.Real.{is_canonical_real, is_real_form, is_zero_number}
 use Rattle.tlv_value.specs.TextForms.{no_octets}
 use Rattle.tlv_value.specs.Types.{wide_string_types}
 use Rattle.tlv_head.specs.declared.type_table.Rule.TheVariants as rules
@@ -49,6 +49,7 @@ is_listed B25 = false
 is_listed B26 = false
 is_listed B27 = false
 is_listed B28 = false
+is_listed B29 = false
 is_listed S05 = false
 is_listed S06 = false
 is_listed finding = true
@@ -73,6 +74,8 @@ later_basic_type_conditions number contents =
       is_short_time number contents && time_form number contents
           && not (time_has_day number contents),
     )
+    -- 8.5.2, 8.5.3: a REAL of a form that is a number is not zero: plus zero has no contents, minus zero is special
+    ∷ (B29, has_rule rules.RealForm number && is_real_form contents && is_zero_number contents)
     ∷ []
 
 -- and by the rules of DER, and of CER

@@ -1,8 +1,8 @@
 -- The contents of a REAL: X.690 8.5, and 11.3 for the canonical ones. The conditions are at the end, and the terms that
 -- they use before them. The first octet of the contents is x.
-use Rattle.std.specs.Prelude.{ℕ, ◌+◌, ◌/◌, ◌%◌, Bool, true, ◌&&◌, not, ◌==◌, nat_le}
+use Rattle.std.specs.Prelude.{ℕ, ◌+◌, ◌/◌, ◌%◌, Bool, true, false, ◌&&◌, ◌||◌, not, ◌==◌, nat_le}
 use Rattle.std.specs.Prelude.{if◌then◌else◌, List, [], ◌∷◌, length, take, drop}
-use Rattle.std.specs.List.{list_all}
+use Rattle.std.specs.List.{list_all, list_any}
 use Rattle.tlv_value.specs.ContentsOctets.{first_octet, is_padded_integer, last_octet}
 use Rattle.tlv_value.specs.TextForms.{Form, digits, mark, maybe, octet_between, sign, ◌or◌, ◌followed_by◌}
 
@@ -127,6 +127,17 @@ canonical_nr3_form =
     maybe (mark 0x2d) followed_by canonical_mantissa followed_by mark 0x2e followed_by mark 0x45
     followed_by canonical_exponent
 
+-- ---- Zero
+
+-- the octets of a decimal number before its E or e (45, 65): all of them, if there is none
+abbrev pub before_exponent : List ℕ → List ℕ
+before_exponent [] = []
+before_exponent (x ∷ xs) = if x == 0x45 || x == 0x65 then [] else x ∷ before_exponent xs
+
+-- no digit before the exponent is from 1 to 9 (31 to 39)
+abbrev pub is_decimal_zero : List ℕ → Bool
+is_decimal_zero text = not (list_any (λ x. nat_le 0x31 x && nat_le x 0x39) (before_exponent text))
+
 -- ---- The conditions
 
 -- 8.5.2: no contents are plus zero. 8.5.6: bits 8 and 7 of the first octet say which form the others have
@@ -136,6 +147,13 @@ is_real_form (x ∷ rest) =
     if nat_le 0x80 x then is_binary_form x rest
     else if nat_le 0x40 x then is_special_form x rest
     else is_decimal_form x rest
+
+-- 8.5.2, 8.5.3: contents of one of the forms are a number in binary or decimal, and the number is zero
+abbrev pub is_zero_number : List ℕ → Bool
+is_zero_number [] = false
+is_zero_number (x ∷ rest) =
+    if nat_le 0x80 x then list_all (λ octet. octet == 0) (mantissa_octets x rest)
+    else not (nat_le 0x40 x) && is_decimal_zero rest
 
 -- 11.3
 abbrev pub is_canonical_real : List ℕ → Bool

@@ -151,13 +151,28 @@ may_be_canonical (SecondExponent has_size first later) x = not (is_padded_intege
 may_be_canonical (BeforeMantissa left) x = not (left == 0) || not (x == 0)
 may_be_canonical part x = true
 
+-- the exponent of the number has begun
+abbrev pub in_exponent : DecimalPlace → Bool
+in_exponent ExponentMark = true
+in_exponent ExponentSign = true
+in_exponent ExponentDigits = true
+in_exponent place = false
+
+-- 8.5.2: with this octet after this part, the number may still be zero
+abbrev pub may_be_zero : RealPart → ℕ → Bool
+may_be_zero (BeforeMantissa left) x = not (left == 0) || x == 0
+may_be_zero (Mantissa last) x = x == 0
+may_be_zero (Decimal form place canonical) x = in_exponent place || not (is_nonzero_digit x)
+may_be_zero part x = true
+
 abbrev pub new_real_check : RealCheck
-new_real_check = record { part = Nothing; is_canonical_so_far = true }
+new_real_check = record { part = Nothing; is_canonical_so_far = true; is_zero_so_far = true }
 
 abbrev pub real_check_next : RealCheck → ℕ → RealCheck
 real_check_next s x = record {
   part = next_part s.part x;
   is_canonical_so_far = s.is_canonical_so_far && may_be_canonical s.part x;
+  is_zero_so_far = s.is_zero_so_far && may_be_zero s.part x;
 }
 
 -- the state after more octets
@@ -177,6 +192,16 @@ ends_form part = false
 
 abbrev pub is_of_form : RealCheck → Bool
 is_of_form s = ends_form s.part
+
+-- 8.5.2: they are a number
+abbrev pub ends_number : RealPart → Bool
+ends_number (Mantissa last) = true
+ends_number (Decimal form place canonical) = is_whole_number form place
+ends_number part = false
+
+-- they are a number, and it is zero
+abbrev pub is_zero : RealCheck → Bool
+is_zero s = s.is_zero_so_far && ends_number s.part
 
 abbrev pub ends_canonical : RealPart → Bool
 ends_canonical Nothing = true

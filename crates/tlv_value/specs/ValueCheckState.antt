@@ -9,13 +9,13 @@ use Rattle.tlv_head.specs.declared.kind.Kind.TheVariants.{Utf8}
 use Rattle.tlv_value.specs.declared.finding.Finding.{Finding}
 use Rattle.tlv_value.specs.declared.finding.Finding.TheVariants.{B06, B07, B08, B09, B10, B11, B12, B13, B14}
 use Rattle.tlv_value.specs.declared.finding.Finding.TheVariants.{B15, B18, B19, B20, B21, B23, B24, B25, B26}
-use Rattle.tlv_value.specs.declared.finding.Finding.TheVariants.{S02, S03, S04, S06}
+use Rattle.tlv_value.specs.declared.finding.Finding.TheVariants.{B29, S02, S03, S04, S06}
 use Rattle.tlv_value.specs.Checks.{begins_with, canonical_form, findings_by}
 use Rattle.tlv_value.specs.Checks.{first_octet, is_padded_integer, time_form}
 use Rattle.tlv_value.specs.Characters.{allows_octet, are_whole_characters}
 use Rattle.tlv_value.specs.AllChecks.{time_has_day}
 use Rattle.tlv_value.specs.Dates.{is_date_or_time}
-use Rattle.tlv_value.specs.RealState.{is_canonical, is_of_form, new_real_check, real_check_after}
+use Rattle.tlv_value.specs.RealState.{is_canonical, is_of_form, is_zero, new_real_check, real_check_after}
 use Rattle.tlv_value.specs.declared.real.RealCheck.{RealCheck}
 use Rattle.tlv_value.specs.RowsSoFar.{full_rows, open_row}
 use Rattle.tlv_head.specs.declared.type_table.Rule.TheVariants as rules
@@ -260,6 +260,7 @@ kept_conditions number s =
       B26,
       is_kept_time number s && time_form number s.time && not (time_has_day number s.time),
     )
+    ∷ (B29, has_rule rules.RealForm number && is_zero s.real)
     ∷ (
       S02,
       has_rule rules.OneOctet number && s.size == 1

@@ -63,6 +63,8 @@ pub enum Finding {
     B27,
     /// A string whose segments have characters that the type does not allow (8.23, X.680 41).
     B28,
+    /// A REAL that is zero and has contents (8.5.2, 8.5.3).
+    B29,
     /// A length that is not the shortest (9.1, 10.1).
     S01,
     /// TRUE that is not `ff` (11.1).
@@ -121,6 +123,7 @@ impl Finding {
                 | Finding::B26
                 | Finding::B27
                 | Finding::B28
+                | Finding::B29
                 | Finding::S05
                 | Finding::S06
         )
@@ -185,6 +188,7 @@ impl Finding {
             Finding::B26 => (b"B26 month has no such day\n                      ", 26),
             Finding::B27 => (b"B27 components are missing\n                     ", 27),
             Finding::B28 => (b"B28 segments have characters not of the type\n   ", 45),
+            Finding::B29 => (b"B29 REAL zero with contents\n                    ", 28),
             Finding::S01 => (b"S01 length is not the shortest\n                 ", 31),
             Finding::S02 => (b"S02 TRUE is not ff\n                             ", 19),
             Finding::S03 => (b"S03 unused bits are set\n                        ", 24),

@@ -1,10 +1,13 @@
 //! The contents of a REAL (8.5): whether they are of a form, and canonical (11.3), in whatever pieces they come.
-ghost use Rattle.std.specs.Prelude.{◌≡◌, ◌&&◌, ◌∷◌, []};
+ghost use Rattle.std.specs.List.{list_all};
+ghost use Rattle.std.specs.Prelude.{◌≡◌, ◌==◌, ◌&&◌, ◌∷◌, [], IsTrue, not};
+ghost use Rattle.tlv_head.specs.UniversalTypes.{real};
+ghost use Rattle.tlv_value.specs.AllChecks.{type_findings};
 ghost use Rattle.tlv_value.specs.ContentsOctets.{is_padded_integer};
-ghost use Rattle.tlv_value.specs.Real.{has_size_octet, is_canonical_real, is_real_form};
+ghost use Rattle.tlv_value.specs.Real.{has_size_octet};
 ghost use Rattle.tlv_value.specs.RealState.{begin_binary, begin_decimal, begin_real, ends_canonical, ends_form};
 ghost use Rattle.tlv_value.specs.RealState.{is_canonical, is_of_form, may_be_canonical, new_real_check, next_part};
-ghost use Rattle.tlv_value.specs.RealState.{real_check_after, real_check_next};
+ghost use Rattle.tlv_value.specs.RealState.{ends_number, is_zero, may_be_zero, real_check_after, real_check_next};
 
 mod canonical_place;
 mod decimal_place;
@@ -13,7 +16,7 @@ use crate::value_check::last_octet;
 pub use canonical_place::CanonicalPlace;
 use canonical_place::{is_whole_canonical, next_canonical_place};
 pub use decimal_place::{DecimalPlace, NumberForm};
-use decimal_place::{is_whole_number, next_place};
+use decimal_place::{in_exponent, is_whole_number, next_place};
 
 /// What has come last of the contents of a REAL.
 #[derive(Clone, Copy)]
@@ -59,6 +62,8 @@ pub struct RealCheck {
     pub(crate) part: RealPart,
     /// Whether the octets so far may begin canonical contents. Of a decimal value its place says it.
     pub(crate) is_canonical_so_far: bool,
+    /// Whether the number may be zero, as far as the octets so far say.
+    pub(crate) is_zero_so_far: bool,
 }
 
 impl RealCheck {
@@ -70,6 +75,7 @@ impl RealCheck {
         RealCheck {
             part: RealPart::Nothing,
             is_canonical_so_far: true,
+            is_zero_so_far: true,
         }
     }
 
@@ -81,13 +87,14 @@ impl RealCheck {
         let mut check = self;
         let mut rest = octets;
         while let [octet, more @ ..] = rest {
-            // Of a mantissa that has begun only the last octet counts.
+            // Of a mantissa that has begun only the last octet counts, and whether all are zero.
             if let RealPart::Mantissa { last } = check.part {
                 return RealCheck {
                     part: RealPart::Mantissa {
                         last: last_octet(last, rest),
                     },
                     is_canonical_so_far: check.is_canonical_so_far,
+                    is_zero_so_far: is_zero_with(check.is_zero_so_far, rest),
                 };
             }
             check = check.next(*octet);
@@ -104,6 +111,7 @@ impl RealCheck {
         RealCheck {
             part: next_part(self.part, octet),
             is_canonical_so_far: self.is_canonical_so_far && may_be_canonical(self.part, octet),
+            is_zero_so_far: self.is_zero_so_far && may_be_zero(self.part, octet),
         }
     }
 
@@ -120,15 +128,48 @@ impl RealCheck {
     {
         self.is_canonical_so_far && ends_canonical(self.part)
     }
+
+    /// Whether they are a number in binary or decimal that is zero (8.5.2).
+    pub(crate) fn is_zero(self) -> bool
+        ensures { result ≡ is_zero self }
+    {
+        self.is_zero_so_far && ends_number(self.part)
+    }
+
+    /// Whether they are of a form, canonical, and no number that is zero.
+    fn is_clear(self) -> bool
+        ensures { result ≡ (is_of_form self && is_canonical self && not (is_zero self)) }
+    {
+        self.is_of_form() && self.is_canonical() && !self.is_zero()
+    }
 }
 
-/// Whether all contents of a REAL are of a form (8.5), and canonical (11.3).
+/// Whether nothing is found on all contents of a REAL: they are of a form (8.5), canonical (11.3), and no number that
+/// is zero (8.5.2).
 #[inline(never)]
-pub(crate) fn is_canonical_real(contents: &[u8]) -> bool
-    ensures { result ≡ (is_real_form contents.now && is_canonical_real contents.now) }
+pub(crate) fn is_clear_real(contents: &[u8]) -> bool
+    ensures { IsTrue result → type_findings real contents.now ≡ [] }
 {
-    let check = RealCheck::new().after(contents);
-    check.is_of_form() && check.is_canonical()
+    RealCheck::new().after(contents).is_clear()
+}
+
+/// Whether all octets are 0, if those before may be.
+fn is_zero_with(is_zero_so_far: bool, octets: &[u8]) -> bool
+    ensures { result ≡ (is_zero_so_far && list_all (λ octet. octet == 0) octets.now) }
+{
+    is_zero_so_far && are_zeros(octets)
+}
+
+/// Whether all octets are 0.
+fn are_zeros(octets: &[u8]) -> bool
+    ensures { result ≡ list_all (λ octet. octet == 0) octets.now }
+{
+    for octet in octets {
+        if *octet != 0 {
+            return false;
+        }
+    }
+    true
 }
 
 /// The part after one octet more.
@@ -204,6 +245,18 @@ fn may_be_canonical(part: RealPart, octet: u8) -> bool
     }
 }
 
+/// Whether the number may still be zero with one octet more (8.5.2).
+fn may_be_zero(part: RealPart, octet: u8) -> bool
+    ensures { result ≡ may_be_zero part octet }
+{
+    match part {
+        RealPart::BeforeMantissa { left } => left != 0 || octet == 0,
+        RealPart::Mantissa { .. } => octet == 0,
+        RealPart::Decimal { place, .. } => in_exponent(place) || !matches!(octet, b'1'..=b'9'),
+        _ => true,
+    }
+}
+
 /// The part after the first octet (8.5.6).
 fn begin_real(octet: u8) -> RealPart
     ensures { result ≡ begin_real octet }
@@ -272,6 +325,17 @@ fn ends_form(part: RealPart) -> bool
     match part {
         RealPart::Nothing => true,
         RealPart::Special => true,
+        RealPart::Mantissa { .. } => true,
+        RealPart::Decimal { form, place, .. } => is_whole_number(form, place),
+        _ => false,
+    }
+}
+
+/// Whether a number in binary or decimal may end here.
+fn ends_number(part: RealPart) -> bool
+    ensures { result ≡ ends_number part }
+{
+    match part {
         RealPart::Mantissa { .. } => true,
         RealPart::Decimal { form, place, .. } => is_whole_number(form, place),
         _ => false,

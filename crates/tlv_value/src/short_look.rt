@@ -12,7 +12,7 @@ ghost use Rattle.tlv_head.specs.declared.type_table.Encodings.TheVariants.{Const
 ghost use Rattle.tlv_value.specs.Types.{has_primitives};
 
 use crate::dates::{is_date_or_time, month_has_day, month_has_day_in_some_century};
-use crate::real::is_canonical_real;
+use crate::real::is_clear_real;
 use crate::time::{general_canonical, utc_canonical};
 use crate::value_check::{
     are_allowed, are_characters_of_four, are_characters_of_two, has_empty_label_after, is_any_set,
@@ -53,7 +53,7 @@ fn is_type_clear(number: u64, contents: &[u8]) -> bool
         universal::PRINTABLE_STRING => are_allowed(universal::PRINTABLE_STRING, contents),
         universal::IA5_STRING => are_allowed(universal::IA5_STRING, contents),
         universal::VISIBLE_STRING => are_allowed(universal::VISIBLE_STRING, contents),
-        universal::REAL => is_canonical_real(contents),
+        universal::REAL => is_clear_real(contents),
         universal::UTC_TIME => contents.len() > 64 || is_utc_clear(contents),
         universal::GENERALIZED_TIME => contents.len() > 64 || is_generalized_clear(contents),
         universal::UNIVERSAL_STRING => contents.len() % 4 == 0 && are_characters_of_four(contents),

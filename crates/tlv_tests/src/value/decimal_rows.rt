@@ -3,7 +3,7 @@ use super::found_rows::Found;
 use tlv_value::Finding;
 
 /// Decimal values.
-pub(super) static DECIMALS: [Found<'static>; 43] = [
+pub(super) static DECIMALS: [Found<'static>; 45] = [
     Found {
         element: b"\x09\x01\x01",
         findings: &[Finding::B20],
@@ -174,6 +174,14 @@ pub(super) static DECIMALS: [Found<'static>; 43] = [
     },
     Found {
         element: b"\x09\x06\x030.E+0",
-        findings: &[Finding::S06],
+        findings: &[Finding::B29, Finding::S06],
+    },
+    Found {
+        element: b"\x09\x03\x01-0",
+        findings: &[Finding::B29, Finding::S06],
+    },
+    Found {
+        element: b"\x09\x05\x030E15",
+        findings: &[Finding::B29, Finding::S06],
     },
 ];

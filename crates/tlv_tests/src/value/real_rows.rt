@@ -78,7 +78,7 @@ pub(super) static BINARIES: [Found<'static>; 36] = [
     },
     Found {
         element: b"\x09\x03\x80\x00\x00",
-        findings: &[Finding::S06],
+        findings: &[Finding::B29, Finding::S06],
     },
     Found {
         element: b"\x09\x04\x80\x00\x00\x01",
@@ -86,7 +86,7 @@ pub(super) static BINARIES: [Found<'static>; 36] = [
     },
     Found {
         element: b"\x09\x03\x80\x01\x00",
-        findings: &[Finding::S06],
+        findings: &[Finding::B29, Finding::S06],
     },
     Found {
         element: b"\x09\x04\x80\x00\x01\x02",

@@ -13,7 +13,7 @@ use Rattle.tlv_value.specs.Arcs.{parts_of}
 use Rattle.tlv_value.specs.Checks.{allows, begins_with, canonical_form, findings_by, first_octet, is_padded_integer}
 use Rattle.tlv_value.specs.Checks.{is_short_time, last_octet, time_form}
 use Rattle.tlv_value.specs.Dates.{is_date_or_time}
-use Rattle.tlv_value.specs.Real.{is_canonical_real, is_real_form}
+use Rattle.tlv_value.specs.Real.{is_canonical_real, is_real_form, is_zero_number}
 use Rattle.tlv_head.specs.declared.type_table.Rule.TheVariants as rules
 use Rattle.tlv_head.specs.Lists.{is_among}
 use Rattle.tlv_value.specs.Types.{has_rule, wide_string_types}
@@ -68,6 +68,9 @@ integer-allowed n c h = integer-by n c (eqb n 2) (eqb n 10) refl refl h
 real-no_iri : (n : ℕ) → has_rule rules.RealForm n ≡ true → has_rule rules.IriForm n ≡ false
 real-no_iri n e = grind (arith, nat_tests)
 
+real-no_wide : (n : ℕ) → has_rule rules.RealForm n ≡ true → is_among n wide_string_types ≡ false
+real-no_wide n e = grind (arith, nat_tests)
+
 type-few : (n : ℕ) (c : List ℕ) → length (findings_by (type_conditions n c)) ≤ 15
 type-few n c =
     let l = found-few (type_conditions n c) in
@@ -109,7 +112,10 @@ type-few n c =
     either-few (has_rule rules.RealForm n && is_real_form c) (has_rule rules.IriForm n) (not (is_canonical_real c))
     (not (is_iri n c))
     (λ e. real-no_iri n ((and_parts (has_rule rules.RealForm n) (is_real_form c) e).0)) in
-    let b25 = one-few (is_among n wide_string_types && has_wrong_unit n c) in
+    let zero-wide =
+    either-few (has_rule rules.RealForm n && is_real_form c) (is_among n wide_string_types) (is_zero_number c)
+    (has_wrong_unit n c)
+    (λ e. real-no_wide n ((and_parts (has_rule rules.RealForm n) (is_real_form c) e).0)) in
     let b26 = one-few (is_short_time n c && time_form n c && not (time_has_day n c)) in
     let s04 = one-few (is_short_time n c && time_form n c && not (canonical_form n c)) in
     omega (
@@ -130,7 +136,7 @@ type-few n c =
       b19,
       real-date,
       real-iri,
-      b25,
+      zero-wide,
       b26,
       s04,
     )

@@ -4,13 +4,13 @@ use Rattle.tlv_value.specs.declared.finding.Finding.{Finding}
 use Rattle.tlv_value.specs.declared.finding.Finding.TheVariants.{B01, B02, B03, B04, B05, B06, B07, B08, B09}
 use Rattle.tlv_value.specs.declared.finding.Finding.TheVariants.{B10, B11, B12, B13, B14, B15, B16, B17, B18}
 use Rattle.tlv_value.specs.declared.finding.Finding.TheVariants.{B19, B20, B21, B22, B23, B24, B25, B26, B27}
-use Rattle.tlv_value.specs.declared.finding.Finding.TheVariants.{B28, S01, S02, S03, S04, S05, S06, D01, D02}
+use Rattle.tlv_value.specs.declared.finding.Finding.TheVariants.{B28, B29, S01, S02, S03, S04, S05, S06, D01, D02}
 use Rattle.tlv_value.specs.declared.finding.Finding.TheVariants.{C01, C02, C03, C04, C05, C06}
 use Rattle.tlv_value.specs.AllChecks.{is_listed}
 
 pub unlisted : (x : Finding)
     → (x ≡ B20) ⊎ (x ≡ B21) ⊎ (x ≡ B22) ⊎ (x ≡ B23) ⊎ (x ≡ B24) ⊎ (x ≡ B25) ⊎ (x ≡ B26) ⊎ (x ≡ B27) ⊎ (x ≡ B28)
-    ⊎ (x ≡ S05) ⊎ (x ≡ S06)
+    ⊎ (x ≡ B29) ⊎ (x ≡ S05) ⊎ (x ≡ S06)
     → is_listed x ≡ false
 unlisted x (inl e) = ap is_listed e
 unlisted x (inr (inl e)) = ap is_listed e
@@ -22,49 +22,51 @@ unlisted x (inr (inr (inr (inr (inr (inr (inl e))))))) = ap is_listed e
 unlisted x (inr (inr (inr (inr (inr (inr (inr (inl e)))))))) = ap is_listed e
 unlisted x (inr (inr (inr (inr (inr (inr (inr (inr (inl e))))))))) = ap is_listed e
 unlisted x (inr (inr (inr (inr (inr (inr (inr (inr (inr (inl e)))))))))) = ap is_listed e
-unlisted x (inr (inr (inr (inr (inr (inr (inr (inr (inr (inr e)))))))))) = ap is_listed e
+unlisted x (inr (inr (inr (inr (inr (inr (inr (inr (inr (inr (inl e))))))))))) = ap is_listed e
+unlisted x (inr (inr (inr (inr (inr (inr (inr (inr (inr (inr (inr e))))))))))) = ap is_listed e
 
 pub listed : (x : Finding) → x ≢ B20 → x ≢ B21 → x ≢ B22 → x ≢ B23 → x ≢ B24 → x ≢ B25 → x ≢ B26 → x ≢ B27 → x ≢ B28
-    → x ≢ S05 → x ≢ S06 → is_listed x ≡ true
-listed B01 a b c d e f g h i j k = refl
-listed B02 a b c d e f g h i j k = refl
-listed B03 a b c d e f g h i j k = refl
-listed B04 a b c d e f g h i j k = refl
-listed B05 a b c d e f g h i j k = refl
-listed B06 a b c d e f g h i j k = refl
-listed B07 a b c d e f g h i j k = refl
-listed B08 a b c d e f g h i j k = refl
-listed B09 a b c d e f g h i j k = refl
-listed B10 a b c d e f g h i j k = refl
-listed B11 a b c d e f g h i j k = refl
-listed B12 a b c d e f g h i j k = refl
-listed B13 a b c d e f g h i j k = refl
-listed B14 a b c d e f g h i j k = refl
-listed B15 a b c d e f g h i j k = refl
-listed B16 a b c d e f g h i j k = refl
-listed B17 a b c d e f g h i j k = refl
-listed B18 a b c d e f g h i j k = refl
-listed B19 a b c d e f g h i j k = refl
-listed B20 a b c d e f g h i j k = absurd (a refl)
-listed B21 a b c d e f g h i j k = absurd (b refl)
-listed B22 a b c d e f g h i j k = absurd (c refl)
-listed B23 a b c d e f g h i j k = absurd (d refl)
-listed B24 a b c d e f g h i j k = absurd (e refl)
-listed B25 a b c d e f g h i j k = absurd (f refl)
-listed B26 a b c d e f g h i j k = absurd (g refl)
-listed B27 a b c d e f g h i j k = absurd (h refl)
-listed B28 a b c d e f g h i j k = absurd (i refl)
-listed S01 a b c d e f g h i j k = refl
-listed S02 a b c d e f g h i j k = refl
-listed S03 a b c d e f g h i j k = refl
-listed S04 a b c d e f g h i j k = refl
-listed S05 a b c d e f g h i j k = absurd (j refl)
-listed S06 a b c d e f g h i j k = absurd (k refl)
-listed D01 a b c d e f g h i j k = refl
-listed D02 a b c d e f g h i j k = refl
-listed C01 a b c d e f g h i j k = refl
-listed C02 a b c d e f g h i j k = refl
-listed C03 a b c d e f g h i j k = refl
-listed C04 a b c d e f g h i j k = refl
-listed C05 a b c d e f g h i j k = refl
-listed C06 a b c d e f g h i j k = refl
+    → x ≢ B29 → x ≢ S05 → x ≢ S06 → is_listed x ≡ true
+listed B01 a b c d e f g h i j k l = refl
+listed B02 a b c d e f g h i j k l = refl
+listed B03 a b c d e f g h i j k l = refl
+listed B04 a b c d e f g h i j k l = refl
+listed B05 a b c d e f g h i j k l = refl
+listed B06 a b c d e f g h i j k l = refl
+listed B07 a b c d e f g h i j k l = refl
+listed B08 a b c d e f g h i j k l = refl
+listed B09 a b c d e f g h i j k l = refl
+listed B10 a b c d e f g h i j k l = refl
+listed B11 a b c d e f g h i j k l = refl
+listed B12 a b c d e f g h i j k l = refl
+listed B13 a b c d e f g h i j k l = refl
+listed B14 a b c d e f g h i j k l = refl
+listed B15 a b c d e f g h i j k l = refl
+listed B16 a b c d e f g h i j k l = refl
+listed B17 a b c d e f g h i j k l = refl
+listed B18 a b c d e f g h i j k l = refl
+listed B19 a b c d e f g h i j k l = refl
+listed B20 a b c d e f g h i j k l = absurd (a refl)
+listed B21 a b c d e f g h i j k l = absurd (b refl)
+listed B22 a b c d e f g h i j k l = absurd (c refl)
+listed B23 a b c d e f g h i j k l = absurd (d refl)
+listed B24 a b c d e f g h i j k l = absurd (e refl)
+listed B25 a b c d e f g h i j k l = absurd (f refl)
+listed B26 a b c d e f g h i j k l = absurd (g refl)
+listed B27 a b c d e f g h i j k l = absurd (h refl)
+listed B28 a b c d e f g h i j k l = absurd (i refl)
+listed B29 a b c d e f g h i j k l = absurd (j refl)
+listed S01 a b c d e f g h i j k l = refl
+listed S02 a b c d e f g h i j k l = refl
+listed S03 a b c d e f g h i j k l = refl
+listed S04 a b c d e f g h i j k l = refl
+listed S05 a b c d e f g h i j k l = absurd (k refl)
+listed S06 a b c d e f g h i j k l = absurd (l refl)
+listed D01 a b c d e f g h i j k l = refl
+listed D02 a b c d e f g h i j k l = refl
+listed C01 a b c d e f g h i j k l = refl
+listed C02 a b c d e f g h i j k l = refl
+listed C03 a b c d e f g h i j k l = refl
+listed C04 a b c d e f g h i j k l = refl
+listed C05 a b c d e f g h i j k l = refl
+listed C06 a b c d e f g h i j k l = refl

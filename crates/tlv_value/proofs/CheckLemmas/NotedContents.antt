@@ -8,7 +8,8 @@ use Rattle.std.specs.List.{list_all}
 use Rattle.std.specs.Prelude.{slice_index}
 use Rattle.tlv_value.specs.declared.finding.Finding.{Finding}
 use Rattle.tlv_value.specs.declared.finding.Finding.TheVariants.{B06, B07, B08, B10, B11, B12, B13, B14, B15, B18, B19}
-use Rattle.tlv_value.specs.declared.finding.Finding.TheVariants.{B20, B21, B23, B24, B25, B26, S02, S03, S04, S06}
+use Rattle.tlv_value.specs.declared.finding.Finding.TheVariants.{B20, B21, B23, B24, B25, B26, B29, S02, S03, S04}
+use Rattle.tlv_value.specs.declared.finding.Finding.TheVariants.{S06}
 use Rattle.tlv_value.specs.Characters.{allows_octet, are_whole_characters, has_wrong_unit}
 use Rattle.tlv_value.specs.Dates.{month_has_day, month_has_day_in_some_century}
 use Rattle.tlv_value.specs.UnitsSoFar.{are_characters_after}
@@ -32,6 +33,9 @@ use Rattle.tlv_value.proofs.CheckLemmas.Labels.{absolute-kept, relative-kept}
 use Rattle.tlv_value.proofs.CheckLemmas.LastAndPadded.{last_of_all, padded_of_all}
 use Rattle.tlv_value.proofs.RealLemmas.CanonicalContents.{real-canonical}
 use Rattle.tlv_value.proofs.RealLemmas.RealContents.{real-of_form}
+use Rattle.tlv_value.proofs.RealLemmas.ZeroContents.{real-zero}
+use Rattle.tlv_value.specs.Real.{is_real_form, is_zero_number}
+use Rattle.tlv_value.specs.RealState.{is_canonical, is_of_form, new_real_check, real_check_after}
 use Rattle.tlv_value.proofs.CheckLemmas.Utf8ByRow.{rows-formed_at}
 use Rattle.tlv_value.specs.Times.{Form, canonical_generalized_time_form, canonical_utc_time_form, generalized_time_form}
 use Rattle.tlv_value.specs.Times.{utc_time_form}
@@ -149,8 +153,13 @@ relative_iri-same c =
 real-same : (c : List ℕ) → Same 9 c
 real-same c =
     ap₂ (λ (of_form is_canonical : Bool). finding_if (not of_form) B20
-    ++ (finding_if (of_form && not is_canonical) S06 ++ []))
+    ++ (finding_if (is_real_form c && is_zero_number c) B29 ++ (finding_if (of_form && not is_canonical) S06 ++ [])))
     (sym (real-of_form c)) (sym (real-canonical c))
+    ∙ ap (λ (zero : Bool). finding_if (not (is_of_form (real_check_after new_real_check c))) B20
+    ++ (finding_if zero B29
+    ++ (finding_if (is_of_form (real_check_after new_real_check c)
+    && not (is_canonical (real_check_after new_real_check c))) S06 ++ [])))
+    (sym (real-zero c))
 
 -- any other type
 allowed-each : (n : ℕ) (c : List ℕ) (text : Bool)

@@ -2,12 +2,11 @@
 use Rattle.std.proofs.Common.{◌≡◌, ℕ, zero, suc, ◌+◌, ◌%◌, Bool, true, false, ◌&&◌, ◌||◌, not, ◌==◌, nat_le}
 use Rattle.std.proofs.Common.{if◌then◌else◌, List, [], ◌∷◌, length, take, drop, refl, sym, ap, ◌∙◌, arith}
 use Rattle.std.proofs.lemmas.Bool.Decides.{nat_tests}
-use Rattle.std.proofs.lemmas.Bool.{and_parts}
 use Rattle.tlv_value.specs.AllChecks.{type_findings}
 use Rattle.tlv_value.specs.ContentsOctets.{first_octet, is_padded_integer}
 use Rattle.tlv_value.specs.Real.{base_bits, canonical_nr3_form, has_size_octet, is_canonical_binary}
 use Rattle.tlv_value.specs.Real.{is_canonical_mantissa}
-use Rattle.tlv_value.specs.Real.{is_canonical_real, is_real_form, is_special_form, scale_bits}
+use Rattle.tlv_value.specs.Real.{is_canonical_real, is_real_form, is_special_form, is_zero_number, scale_bits}
 use Rattle.tlv_value.specs.RealState.{begin_binary, begin_decimal, ends_canonical, is_canonical}
 use Rattle.tlv_value.specs.RealState.{may_be_canonical, new_real_check, next_part, real_check_after}
 use Rattle.tlv_value.specs.RealState.{real_check_next}
@@ -175,6 +174,9 @@ canonical-after s (x ∷ xs) =
 pub real-canonical : (c : List ℕ) → is_canonical (real_check_after new_real_check c) ≡ is_canonical_real c
 real-canonical c = canonical-after new_real_check c
 
--- nothing is found on canonical contents
-pub real-clear : (c : List ℕ) → (is_real_form c && is_canonical_real c) ≡ true → type_findings 9 c ≡ []
-real-clear c h = let parts = and_parts (is_real_form c) (is_canonical_real c) h in rw (parts.0, parts.1) refl
+-- nothing is found on canonical contents that are no number that is zero
+pub real-clear : (c : List ℕ) → is_real_form c ≡ true → is_canonical_real c ≡ true
+    → (is_real_form c && is_zero_number c) ≡ false → type_findings 9 c ≡ []
+real-clear c form canonical nonzero =
+    let number : is_zero_number c ≡ false = sym (ap (λ (b : Bool). b && is_zero_number c) form) ∙ nonzero in
+    rw (form, canonical, number) refl

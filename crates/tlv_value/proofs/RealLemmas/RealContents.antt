@@ -145,7 +145,7 @@ left-step : (left x : ℕ) (xs : List ℕ)
 left-step zero x xs = ap not (not-empty x xs)
 left-step (suc n) x xs = rw (above-zero n, one-less n) refl
 
-form-step : (part : RealPart) (x : ℕ) (xs : List ℕ) → part_form part (x ∷ xs) ≡ part_form (next_part part x) xs
+pub form-step : (part : RealPart) (x : ℕ) (xs : List ℕ) → part_form part (x ∷ xs) ≡ part_form (next_part part x) xs
 form-step Nothing x xs = begins-by (nat_le 0x80 x) (nat_le 0x40 x) x xs refl refl
 form-step Special x xs = not-empty x xs
 form-step ExponentSize x xs = size-step x xs
@@ -156,7 +156,7 @@ form-step (Mantissa last) x xs = refl
 form-step (Decimal form place canonical) x xs = place-step form place x xs
 form-step Formless x xs = refl
 
-form-end : (part : RealPart) → part_form part [] ≡ ends_form part
+pub form-end : (part : RealPart) → part_form part [] ≡ ends_form part
 form-end Nothing = refl
 form-end Special = refl
 form-end ExponentSize = refl

@@ -1,7 +1,7 @@
 //! How far a decimal number of ISO 6093 has come (8.5.8).
 ghost use Rattle.std.specs.Char.{is_ascii_digit};
 ghost use Rattle.std.specs.Prelude.{◌≡◌};
-ghost use Rattle.tlv_value.specs.RealState.{after_digits, after_fraction, begin_number, exponent_digit};
+ghost use Rattle.tlv_value.specs.RealState.{after_digits, after_fraction, begin_number, exponent_digit, in_exponent};
 ghost use Rattle.tlv_value.specs.RealState.{is_decimal_mark, is_exponent_mark, is_sign, is_whole_number, next_place};
 
 /// The forms of ISO 6093.
@@ -131,6 +131,16 @@ fn exponent_digit(octet: u8) -> DecimalPlace
         b'0'..=b'9' => DecimalPlace::ExponentDigits,
         _ => DecimalPlace::Nowhere,
     }
+}
+
+/// Whether the exponent has begun.
+pub(super) fn in_exponent(place: DecimalPlace) -> bool
+    ensures { result ≡ in_exponent place }
+{
+    matches!(
+        place,
+        DecimalPlace::ExponentMark | DecimalPlace::ExponentSign | DecimalPlace::ExponentDigits
+    )
 }
 
 /// Whether a number of the form may end here.

@@ -124,6 +124,7 @@ impl ValueCheck {
         let is_of_form = self.real.is_of_form();
         let is_canonical = self.real.is_canonical();
         add_if(!is_of_form, Finding::B20, found);
+        add_if(self.real.is_zero(), Finding::B29, found);
         add_if(is_of_form && !is_canonical, Finding::S06, found);
     }
 

@@ -2,12 +2,11 @@ use Rattle.std.proofs.Common.{sym, ◌∙◌, arith}
 use Rattle.std.proofs.lemmas.Bool.Decides.{nat_tests}
 use Rattle.tlv_value.proofs.CheckLemmas.ClearStrings.{fours-clear, twos-clear, utf8-clear}
 use Rattle.tlv_value.proofs.CheckLemmas.KeptFindings.{date-clear, iri-clear}
-use Rattle.tlv_value.proofs.RealLemmas.CanonicalContents.{real-clear}
 use Rattle.tlv_value.proofs.short_look.is_type_clear.Goals as goal
 
 pub returns-in-9-clause-contents : goal.returns-in-9-clause-contents
 returns-in-9-clause-contents c =
-    λ h. rw c.in-9.is (real-clear c.args.contents.now (sym c.is_canonical_real.ensures ∙ h))
+    λ h. rw c.in-9.is (c.is_clear_real.ensures h)
 
 pub returns-in-12-clause-contents : goal.returns-in-12-clause-contents
 returns-in-12-clause-contents c =
