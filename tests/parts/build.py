@@ -10,9 +10,10 @@ import signal
 import subprocess
 import time
 
-from parts.fake_kit import BEGINS, RT, await_file, await_waiters, begin_of, builds_of, end_of, environment, has_ended
+from parts.fake_kit import BEGINS, CLOCK, RT, await_file, await_waiters, begin_of, builds_of, end_of, environment, has_ended
 from parts.fake_kit import has_old, left_of, log_of, make_clone, program_of, put_old, run, runs, start, start_waiting
 from parts.fake_kit import top_of, wait_for
+from parts.install import tools
 
 
 def not_on_a_terminal(part):
@@ -149,14 +150,97 @@ def failing(part):
         part.expect(f"the program after a build that fails: {program}", program == "none" or has_old(script))
         put_old(script)
     # A machine without the kit: a PATH that has only the tools of the script.
-    tools = part.path("tools")
-    os.mkdir(tools)
-    for name in ("sh", "dirname", "readlink", "find"):
-        os.symlink(shutil.which(name), os.path.join(tools, name))
-    got = subprocess.run([script], env={"PATH": tools}, capture_output=True, text=True, timeout=60)
+    few = part.path("few tools")
+    os.mkdir(few)
+    for name in ("sh", "readlink", "find"):
+        os.symlink(shutil.which(name), os.path.join(few, name))
+    got = subprocess.run([script], env={"PATH": few}, capture_output=True, text=True, timeout=60)
     message = "tlvdump: not built: rt, the command of the Rattle kit, is not on the PATH\n"
     part.expect("no kit", (got.returncode, got.stdout, got.stderr) == (70, "", message), str(got))
     part.expect("the program of a machine without the kit", has_old(script))
+
+
+def without_program(part):
+    """If rt ends well and there is no program, the build has failed. Without tools that a build needs there is none."""
+    script = make_clone(part, "without-program")
+    got = run(part, script, ["--version"], how="same")
+    part.expect("rt ends well, and there is no program", got == (70, b"", begin_of(script) + "tlvdump: not built\n"), *map(str, got))
+    part.expect("what is left without a program", left_of(script) == [], *left_of(script))
+    os.remove(log_of(script))
+    folder = tools(part)
+    if os.path.lexists(os.path.join(folder, "rt")):
+        os.remove(os.path.join(folder, "rt"))
+    shutil.copy(part.path("kit/rt"), folder)
+    before = builds_of(script)
+    for name in ("awk", "cat", "date", "find", "mkdir", "rm", "sed", "setsid", "sleep", "tail", "touch", "wc"):
+        path = os.readlink(os.path.join(folder, name))
+        os.remove(os.path.join(folder, name))
+        got = run(part, script, ["--version"], env=environment(part, "quick", PATH=folder))
+        fine = got == (70, b"", f"tlvdump: not built: there is no {name}\n") and builds_of(script) == before
+        part.expect(f"a build without {name}", fine and not os.path.exists(log_of(script)), *map(str, got))
+        os.symlink(path, os.path.join(folder, name))
+    status, _, err = run(part, script, ["--version"], env=environment(part, "quick", PATH=folder))
+    part.expect("a build with these tools alone", status == 0 and err.startswith(begin_of(script)), str(status), err)
+
+
+def times(part):
+    """The time of a build is told in seconds up to two minutes, and then in whole minutes."""
+    script = make_clone(part, "times")
+    os.makedirs(part.path("clock"))
+    os.chmod(part.write("clock/date", CLOCK.encode()), 0o755)
+    path, clock = f"{part.path('clock')}:{part.path('kit')}:{os.environ['PATH']}", part.path("clock/second")
+    for seconds, told in ((0, "0 s"), (119, "119 s"), (120, "2 min"), (179, "2 min"), (180, "3 min"), (3659, "60 min")):
+        if os.path.exists(program_of(script)):
+            os.remove(program_of(script))
+        part.write("clock/second", b"1000000\n")
+        own = {"PATH": path, "RT_CLOCK": clock, "RT_LATER": str(1000000 + seconds)}
+        status, _, err = run(part, script, ["--version"], env=environment(part, "later", **own))
+        fine = (status, err) == (0, begin_of(script) + f"tlvdump: built, {told}\n")
+        part.expect(f"a build of {seconds} seconds", fine, str(status), err)
+
+
+def other_kit(part):
+    """A kit whose logic is not the one that README names is told before a build, which goes on."""
+    script = make_clone(part, "other-kit")
+    one, other = "dac8208d650f15bf", "0123456789abcdef"
+    unlike = "tlvdump: the kit's logic is {}; README.md names {}, so a proof may fail\n"
+    for what, readme, version, said in (
+        ("the same kit", one, f"rattle-kit-13f logic {one}", ""),
+        ("the same logic", one, f"rattle-kit-14 logic {one}", ""),
+        ("another logic", one, f"rattle-kit-13f logic {other}", unlike.format(other, one)),
+        ("a logic that begins so", one, f"rattle-kit-13f logic {one}0", unlike.format(one + "0", one)),
+        ("a kit that says nothing", one, "", unlike.format("not known", one)),
+        ("a README that names none", "", f"rattle-kit-13f logic {one}", unlike.format(one, "none")),
+    ):
+        if os.path.exists(program_of(script)):
+            os.remove(program_of(script))
+        named = f"Proved with `rattle-kit-13f logic {readme}` (`rt version`).\n" if readme else "Proved.\n"
+        part.write("other-kit/README.md", f"# tlvdump\n\nThe kit's logic is trusted.\n{named}".encode())
+        status, _, err = run(part, script, ["--version"], env=environment(part, "quick", RT_VERSION=version))
+        fine = status == 0 and err.startswith(said + begin_of(script))
+        part.expect(f"{what}", fine, str(status), err)
+        status, _, err = run(part, script, ["--version"], env=environment(part, "quick", RT_VERSION=version))
+        part.expect(f"{what}, built", (status, err) == (0, ""), str(status), err)
+    readme = open(os.path.join(part.root, "README.md"), encoding="utf-8").read()
+    part.expect("README.md names a logic", re.search(r"rattle-kit-\S+ logic [0-9a-f]{16}\b", readme))
+
+
+def not_to_build(part):
+    """With --no-build the program is run, but never built."""
+    script = make_clone(part, "no-build")
+    run_built = os.path.join(top_of(script), "packaging", "run-built")
+    words = ["--no-build", "tlvdump", "--version"]
+    for program in ("none", "old"):
+        got = run(part, run_built, words, how="quick")
+        left = os.listdir(os.path.dirname(program_of(script)))
+        fine = got == (70, b"", "") and left == ["tlvdump"] * (program == "old")
+        part.expect(f"--no-build, program: {program}", fine, *map(str, got), *left)
+        put_old(script)
+    part.expect("the old program is left alone", has_old(script))
+    run(part, script, ["--version"], how="quick")
+    wanted = part.run(["--version"])
+    got = run(part, run_built, words, how="fails")
+    part.expect("--no-build, a program that is there", got == (0, wanted.out, ""), *map(str, got))
 
 
 def read_only(part, script):
@@ -309,6 +393,14 @@ def the_other_program(part):
     status, out, err = run(part, script, ["--version"], env=env)
     fine = (status, out) == (70, b"") and err.endswith("\ntlvdump-show: not built\n")
     part.expect("./tlvdump-show, not built", fine, str(status), err)
+    # A clone whose path ends in a line feed.
+    script = make_clone(part, "line feed\n")
+    wanted = part.run(["--version"])
+    for name, program in (("tlvdump", part.program), ("tlvdump-show", part.suite.show_program)):
+        env = environment(part, "quick", RT_PROGRAM=program)
+        got = run(part, os.path.join(top_of(script), name), ["--version"], env=env)
+        fine = got[0] == 0 and got[1] == part.run(["--version"], program=program).out and "building; " in got[2]
+        part.expect(f"a line feed at the end of a clone's path, {name}", fine, *map(str, got))
 
 
 def test(part):
@@ -319,6 +411,10 @@ def test(part):
     words_and_links(part)
     changes(part)
     failing(part)
+    without_program(part)
+    times(part)
+    other_kit(part)
+    not_to_build(part)
     not_writable(part)
     signals(part)
     killed(part)

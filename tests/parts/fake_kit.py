@@ -11,8 +11,13 @@ from parts.install import clone, content
 # Writes the lines of rt: for the sources, for two crates in turn, and for the run of the program. As rt does, it
 # replaces the program in one step, leaves it if nothing has changed, and reads its input. RT_HOW changes this:
 # `fails`; `waits` for a minute, with the number of a process that it started in the file RT_CHILD; `quick`; `same`, if
-# nothing has changed; `edits` a source while it builds.
+# nothing has changed; `edits` a source while it builds; `later` sets the clock of CLOCK to the second RT_LATER. RT_VERSION is
+# what it says of itself.
 RT = r"""#!/bin/sh
+if [ "$1" = version ]; then
+    [ -z "${RT_VERSION-}" ] || echo "$RT_VERSION"
+    exit
+fi
 [ "$1" = run ] || exit 2
 cat >/dev/null
 echo begun >>../../builds
@@ -35,6 +40,11 @@ quick)
     exit
     ;;
 same) exit 0 ;;
+later)
+    put_program
+    echo "$RT_LATER" >"$RT_CLOCK"
+    exit
+    ;;
 edits)
     sleep 0.1
     echo >>../tlv_low/src/lib.rt
@@ -58,6 +68,11 @@ done
 sleep 1.5
 put_program
 echo 'rt: running out/tlvdump; to give it other input, run that file yourself' >&2
+"""
+
+# A date that tells the second in the file RT_CLOCK.
+CLOCK = r"""#!/bin/sh
+[ "$*" = +%s ] && cat "$RT_CLOCK"
 """
 
 LOW = """#[derive(Clone, Copy, Debug)]

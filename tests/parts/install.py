@@ -1,4 +1,7 @@
-"""Tests ./install: the files that it installs and removes, and the completions among them."""
+"""Tests ./install: the files that it installs and removes, and the completions among them.
+
+parts/swaps.py has the tests in which somebody else writes there at the same time.
+"""
 import glob
 import os
 import resource
@@ -9,6 +12,7 @@ import subprocess
 import time
 
 from parts.completions import bash, words_of, zsh
+from parts.swaps import check_swaps
 
 PROGRAM, SHOW = "bin/tlvdump", "bin/tlvdump-show"
 PLACES = {
@@ -54,8 +58,9 @@ def all_below(folder):
 
 def places(part, prefix):
     """Checks that exactly the wanted files are below this prefix, each with the contents of its source."""
-    part.expect(f"files below {prefix}", files_below(part.path(prefix)) == sorted(PLACES), *files_below(part.path(prefix)))
-    for place, source in PLACES.items():
+    found = files_below(part.path(prefix))
+    part.expect(f"files below {prefix}", found == sorted(PLACES), *found)
+    for place, source in PLACES.items() if found == sorted(PLACES) else ():
         path = os.path.join(part.folder, prefix, place)
         program = part.suite.show_program if place == SHOW else part.program
         wanted = os.path.join(part.root, source) if source else program
@@ -118,6 +123,8 @@ def check_folders(part):
         os.makedirs(part.path(folder))
     part.write("shared/bin/other", b"")
     os.symlink("../../elsewhere", part.path("shared/share/man"))
+    # What is made in it has its group and this bit, as in /usr/local of some systems.
+    os.chmod(part.path("shared/bin"), 0o2775)
     part.expect("install among others", install(part, "shared")[0] == 0)
     part.expect("a folder by a link", "elsewhere/man1/tlvdump.1" in files_below(part.folder))
     got = install(part, "--remove", "shared")
@@ -230,16 +237,24 @@ def check_running(part):
     part.expect("the new one", part.run(["--version"], program=path) == part.run(["--version"]))
 
 
+SIGNALS = {"TERM": 143, "INT": 130, "HUP": 129, "QUIT": 131, "PIPE": 141}
+
+
+def usual_signals():
+    """Gives a child the signals of a program that a shell starts."""
+    for name in SIGNALS:
+        signal.signal(getattr(signal, f"SIG{name}"), signal.SIG_DFL)
+
+
 def check_signals(part):
     """A signal while a file is written leaves nothing of the file.
     The program is read from a pipe that gives nothing, so the script waits.
     """
     os.mkfifo(part.path("slow"))
     env = dict(os.environ, TLVDUMP=part.path("slow"), TLVDUMP_SHOW=part.suite.show_program)
-    for name, wanted in (("TERM", 143), ("INT", 130), ("HUP", 129)):
-        usual = lambda: [signal.signal(it, signal.SIG_DFL) for it in (signal.SIGHUP, signal.SIGINT, signal.SIGTERM)]
-        how = {"cwd": part.folder, "env": env, "start_new_session": True, "preexec_fn": usual}
-        pipes = {"stdout": subprocess.PIPE, "stderr": subprocess.PIPE}
+    pipes = {"stdout": subprocess.PIPE, "stderr": subprocess.PIPE}
+    for name, wanted in SIGNALS.items():
+        how = {"cwd": part.folder, "env": env, "start_new_session": True, "preexec_fn": usual_signals}
         child = subprocess.Popen([os.path.join(part.root, "install"), "stopped"], **how, **pipes)
         for _ in range(200):
             time.sleep(0.05)
@@ -251,6 +266,15 @@ def check_signals(part):
         left = all_below(part.path("stopped"))
         fine = (child.returncode, out, left) == (wanted, b"", ["bin"])
         part.expect(f"{name} while a file is written", fine, str(child.returncode), str(out), str(err), *left)
+    # The reader of the names that it prints is gone, as with `./install there | head -n 0`.
+    reader, writer = os.pipe()
+    os.close(reader)
+    script, env = os.path.join(part.root, "install"), dict(env, TLVDUMP=part.program)
+    how = {"cwd": part.folder, "env": env, "stderr": subprocess.PIPE, "preexec_fn": usual_signals, "timeout": 60}
+    got = subprocess.run([script, "unread"], stdout=writer, **how)
+    os.close(writer)
+    left = all_below(part.path("unread"))
+    part.expect("no reader", got.returncode == 141 and left == ["bin", PROGRAM], str(got), *left)
 
 
 def check_umask(part):
@@ -305,8 +329,101 @@ def builds(part):
     part.expect("the other program, which cannot be built", fine, str(got.returncode), got.stderr)
 
 
+def foreign(part):
+    """Root does not build in a clone of another user. If the programs are there, or are named, root installs them."""
+    if os.geteuid():
+        part.note("not root: a clone of another user is not tried")
+        return
+    os.chmod(part.folder, 0o755)
+    fake = b'#!/bin/sh\necho begun >>"$BEGUN"\n: >out/"${PWD##*/}"\nchmod 755 out/"${PWD##*/}"\n'
+    os.makedirs(part.path("foreign-kit"))
+    os.chmod(part.write("foreign-kit/rt", fake), 0o755)
+    begun = part.path("begun")
+    env = {"PATH": f"{part.path('foreign-kit')}:{os.environ['PATH']}", "BEGUN": begun}
+    how = {"cwd": part.folder, "capture_output": True, "text": True, "timeout": 60}
+    scripts = {name: clone(part, name, name != "theirs") for name in ("theirs", "theirs-old", "theirs-built")}
+    os.utime(part.path("theirs-old/crates/tlvdump_show/out/tlvdump_show"), (1, 1))
+    for name, script in scripts.items():
+        subprocess.run(["chown", "-R", "65534:65534", os.path.dirname(script)], check=True)
+    for name, called in (("theirs", "tlvdump"), ("theirs-old", "tlvdump-show")):
+        got = subprocess.run([scripts[name], "nowhere"], env=env, **how)
+        fine = (got.returncode, got.stdout, got.stderr.count("\n")) == (70, "", 1) and "build first" in got.stderr
+        fine = fine and "65534" in got.stderr and got.stderr.endswith(f": ./{called} --version\n")
+        part.expect(f"root and a clone of another user, {name}", fine, str(got))
+        owners = {os.lstat(part.path(f"{name}/{path}")).st_uid for path in all_below(part.path(name))}
+        fine = owners == {65534} and not os.path.exists(begun) and not os.path.exists(part.path("nowhere"))
+        part.expect(f"nothing is built in it, {name}", fine, *map(str, owners))
+    got = subprocess.run([scripts["theirs-built"], "from-theirs"], env=env, **how)
+    part.expect("root and the programs of another user", (got.returncode, got.stderr) == (0, ""), str(got))
+    places(part, "from-theirs")
+    named = dict(env, TLVDUMP=part.program, TLVDUMP_SHOW=part.suite.show_program)
+    got = subprocess.run([scripts["theirs"], "from-theirs"], env=named, **how)
+    part.expect("root and programs that are named", (got.returncode, got.stderr) == (0, ""), str(got))
+    got = subprocess.run([scripts["theirs"], "--remove", "from-theirs"], env=env, **how)
+    part.expect("root removes", (got.returncode, got.stderr, all_below(part.path("from-theirs"))) == (0, "", []), str(got))
+    # An own clone is built, also by root.
+    script = clone(part, "own", False)
+    subprocess.run([script, "from-own"], env=env, **how)
+    part.expect("root builds in an own clone", os.path.exists(begun))
+
+
+def odd_paths(part):
+    """A clone, a PREFIX or a program may have a line feed, a blank or a backslash in its name, also at the end."""
+    script = clone(part, "a\\tb\n", True)
+    how = {"cwd": part.folder, "env": {"PATH": os.environ["PATH"]}, "capture_output": True, "text": True, "timeout": 60}
+    got = subprocess.run([script, "to\\n\n"], **how)
+    printed = "".join(f"to\\n\n/{place}\n" for place in PLACES)
+    part.expect("a line feed", (got.returncode, got.stdout, got.stderr) == (0, printed, ""), str(got))
+    places(part, "to\\n\n")
+    got = subprocess.run([script, "--remove", "to\\n\n"], **how)
+    printed = "".join(f"removed to\\n\n/{place}\n" for place in PLACES)
+    part.expect("remove, a line feed", (got.returncode, got.stdout, got.stderr) == (0, printed, ""), str(got))
+    got = install(part, "named", program=shutil.copy(part.program, part.path("a\\tprogram\n")))
+    part.expect("a program with a line feed", got[0] == 0, *map(str, got))
+    places(part, "named")
+
+
+TOOLS = ("chmod", "cp", "dirname", "id", "ls", "mkdir", "mktemp", "mv", "readlink", "rm", "rmdir", "sed", "stat")
+
+
+def tools(part):
+    """Makes a folder of links to all tools of the PATH. Returns its path."""
+    folder = part.path("tools")
+    os.mkdir(folder)
+    for path in os.get_exec_path():
+        for tool in os.listdir(path) if os.path.isdir(path) else ():
+            if not os.path.lexists(os.path.join(folder, tool)):
+                os.symlink(os.path.join(path, tool), os.path.join(folder, tool))
+    return folder
+
+
+def without_tools(part, names, run):
+    """If a tool is missing, the script names it and makes nothing. The PATH has all other tools. `run` runs the script
+    with an environment, into the folder `untouched`.
+    """
+    folder = tools(part)
+    for name in names:
+        link = os.path.join(folder, name)
+        path = os.readlink(link)
+        os.remove(link)
+        status, out, err = run(folder)
+        fine = (status, out) == (1, "") and err.endswith(f": there is no {name}\n") and err.count("\n") == 1
+        left = all_below(part.path("untouched"))
+        part.expect(f"no {name}", fine and not left, str(status), out, err, *left)
+        os.symlink(path, link)
+    status, out, err = run(folder)
+    part.expect("all tools", status == 0 and out and not err, str(status), out, err)
+
+
+def without_tool(part):
+    copies = {"TLVDUMP": part.program, "TLVDUMP_SHOW": part.suite.show_program}
+    os.mkdir(part.path("untouched"))
+    without_tools(part, TOOLS, lambda folder: install(part, "untouched", env=dict(os.environ, **copies, PATH=folder)))
+
+
 def check_refusals(part):
-    for words in (["--nonsense"], ["-x"], ["a", "b"], [""], ["--remove", "a", "b"]):
+    words_of_none = (["--nonsense"], ["-x"], ["a", "b"], [""], ["--remove", "a", "b"], ["--remove", "--x"], ["--remove", "-x"])
+    for words in (*words_of_none, ["--remove", ""], ["--remove", "--help"], ["a", "--remove"]):
         status, out, err = install(part, *words)
         part.expect(f"refused: {words}", (status, out) == (4, "") and err.startswith("usage: "), err)
     status, out, err = install(part, "--help")
@@ -325,7 +442,11 @@ def test(part):
     check_failures(part)
     check_running(part)
     check_signals(part)
+    check_swaps(part, "install", ["swapped"], "swapped/bin", "tlvdump")
     builds(part)
+    foreign(part)
+    odd_paths(part)
+    without_tool(part)
     check_refusals(part)
     options = words_of(part)
     bash(part, options)

@@ -10,8 +10,9 @@ import stat
 import subprocess
 import time
 
-from parts.install import PROGRAM, SHOW, all_below, clone, content, files_below, install
+from parts.install import PROGRAM, SHOW, SIGNALS, all_below, clone, content, files_below, install, usual_signals, without_tools
 from parts.show_program import Program
+from parts.swaps import check_swaps
 
 TOOLS = ("dpkg-deb", "dpkg", "gzip", "strip", "readelf")
 DOCUMENTS = ["usr/share/doc/tlvdump/changelog.gz", "usr/share/doc/tlvdump/copyright"]
@@ -145,19 +146,8 @@ def check_links(part, name):
     part.expect("a FOLDER that cannot be written", (status, out) == (1, "") and err, str(status), out, err)
 
 
-def without_tool(part):
-    """If a tool is missing, the script names it and makes nothing. The PATH has all other tools."""
-    for name in ("dpkg-deb", "gzip", "readelf", "strip"):
-        folder = part.path(f"without-{name}")
-        os.mkdir(folder)
-        for path in os.get_exec_path():
-            for tool in os.listdir(path) if os.path.isdir(path) else ():
-                if tool != name and not os.path.lexists(os.path.join(folder, tool)):
-                    os.symlink(os.path.join(path, tool), os.path.join(folder, tool))
-        os.mkdir(part.path(f"made-without-{name}"))
-        got = package(part, f"made-without-{name}", PATH=folder)
-        part.expect(f"no {name}", got == (1, "", f"package: there is no {name}\n"), *map(str, got))
-        part.expect(f"nothing without {name}", not os.listdir(part.path(f"made-without-{name}")))
+NEEDED = ("chmod", "cp", "date", "dpkg-deb", "find", "gzip", "head", "id", "ls", "md5sum", "mkdir", "mktemp", "mv", "readelf")
+NEEDED += ("readlink", "rm", "sed", "sort", "stat", "strip", "tail", "touch", "xargs")
 
 
 def check_signals(part):
@@ -167,11 +157,10 @@ def check_signals(part):
     slow = part.write("slow", b'#!/bin/sh\n: >"$SLOW"\nexec sleep 1\n')
     os.chmod(slow, 0o755)
     os.mkdir(part.path("stopped"))
-    for name, wanted in (("TERM", 143), ("INT", 130), ("HUP", 129)):
+    pipes = {"stdout": subprocess.PIPE, "stderr": subprocess.PIPE}
+    for name, wanted in SIGNALS.items():
         begun = part.path(f"begun-{name}")
-        usual = lambda: [signal.signal(it, signal.SIG_DFL) for it in (signal.SIGHUP, signal.SIGINT, signal.SIGTERM)]
-        how = {"cwd": part.folder, "env": environment(part, slow, SLOW=begun), "preexec_fn": usual}
-        pipes = {"stdout": subprocess.PIPE, "stderr": subprocess.PIPE}
+        how = {"cwd": part.folder, "env": environment(part, slow, SLOW=begun), "preexec_fn": usual_signals}
         child = subprocess.Popen([os.path.join(part.root, "package"), "stopped"], **how, **pipes)
         for _ in range(400):
             time.sleep(0.05)
@@ -182,6 +171,15 @@ def check_signals(part):
         left = os.listdir(part.path("work")) + os.listdir(part.path("stopped"))
         fine = (child.returncode, out, left) == (wanted, b"", [])
         part.expect(f"{name} while it works", fine, str(child.returncode), str(err), *left)
+    # The reader of the path that it prints is gone.
+    reader, writer = os.pipe()
+    os.close(reader)
+    os.mkdir(part.path("unread"))
+    how = {"cwd": part.folder, "env": environment(part), "preexec_fn": usual_signals, "timeout": 120}
+    got = subprocess.run([os.path.join(part.root, "package"), "unread"], stdout=writer, stderr=subprocess.PIPE, **how)
+    os.close(writer)
+    left = os.listdir(part.path("work")) + [name for name in os.listdir(part.path("unread")) if not name.endswith(".deb")]
+    part.expect("no reader", got.returncode == 141 and not left, str(got), *left)
 
 
 def works(part):
@@ -269,7 +267,10 @@ def test(part):
     part.expect("the same package", content(made) == content(part.path(name)))
     depends_of_another(part, version)
     check_links(part, name)
-    without_tool(part)
+    os.mkdir(part.path("untouched"))
+    without_tools(part, NEEDED, lambda folder: package(part, "untouched", PATH=folder))
+    os.mkdir(part.path("swapped"))
+    check_swaps(part, "package", ["swapped"], "swapped", name)
     check_signals(part)
     installs(part, made)
     check_with_lintian(part, made)
