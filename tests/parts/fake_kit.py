@@ -42,7 +42,7 @@ quick)
 same) exit 0 ;;
 later)
     put_program
-    echo "$RT_LATER" >"$RT_CLOCK"
+    echo "$RT_LATER" >"$RT_CLOCK.new" && mv "$RT_CLOCK.new" "$RT_CLOCK"
     exit
     ;;
 edits)

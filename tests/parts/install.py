@@ -131,19 +131,49 @@ def check_folders(part):
     part.expect("remove among others", got[0] == 0 and not got[2], *map(str, got))
     stays = ["bin", "bin/other", "lib", "lib/tlvdump", "lib/tlvdump/mine", "share", "share/man", "share/zsh", "share/zsh/mine"]
     part.expect("what others have stays", all_below(part.path("shared")) == stays, *all_below(part.path("shared")))
-    # An empty folder is mounted as /usr/local. Only root can do this, in a mount namespace.
-    script = 'mount -t tmpfs none /usr/local && mkdir -p /usr/local/lib/tlvdump && true >/usr/local/lib/tlvdump/tlvdump-show && '
-    script += '"$0" && "$0" --remove && cd /usr/local && find . | LC_ALL=C sort'
+    of_a_system(part)
+
+
+# Run with the path of install, with the folder of a system that is made of the folders of this one, and with PREFIX: makes that
+# system, in which PREFIX has nothing but the empty folders that a system has by itself, and installs and removes there.
+SYSTEM = r"""
+install=$(readlink -f -- "$1") root=$2 prefix=$3
+mount -t tmpfs none "$root" || exit
+for folder in bin lib lib64 tools; do
+    from=/$folder
+    [ $folder != tools ] || from=/usr/bin
+    [ -d $from ] || continue
+    mkdir "$root/$folder" && mount --bind $from "$root/$folder" || exit
+done
+mkdir -p "$root/clone" "$root/dev" "$root/programs" && mount --bind "${install%/*}" "$root/clone" || exit
+mknod -m 666 "$root/dev/null" c 1 3 && cp -- "$TLVDUMP" "$TLVDUMP_SHOW" "$root/programs" || exit
+mkdir -p "$root$prefix/bin" "$root$prefix/lib/tlvdump" "$root$prefix/share/man/man1" || exit
+: >"$root$prefix/lib/tlvdump/tlvdump-show"
+there() {
+    PATH=$PATH:/usr/sbin:/sbin chroot "$root" /tools/env PATH=/bin:/tools "TLVDUMP=/programs/${TLVDUMP##*/}" \
+        "TLVDUMP_SHOW=/programs/${TLVDUMP_SHOW##*/}" "$@"
+}
+there /clone/install "$prefix" && there /clone/install --remove "$prefix" || exit
+cd "$root$prefix" && find . | LC_ALL=C sort
+"""
+
+
+def of_a_system(part):
+    """What a system has by itself in /usr and in /usr/local stays, also if it is empty. In another PREFIX nothing stays.
+    Only root can make such a system, in a mount namespace.
+    """
     if os.geteuid() or subprocess.run(["unshare", "-m", "true"], capture_output=True).returncode:
-        part.note("no root, or no unshare: /usr/local is not tried")
+        part.note("no root, or no unshare: /usr and /usr/local are not tried")
         return
-    copies = {"TLVDUMP": part.program, "TLVDUMP_SHOW": part.suite.show_program}
-    env = dict(os.environ, **{name: shutil.copy(path, part.path(f"copy-{name}")) for name, path in copies.items()})
-    how = {"cwd": part.folder, "env": env, "capture_output": True, "text": True, "timeout": 60}
-    got = subprocess.run(["unshare", "-m", "sh", "-c", script, os.path.join(part.root, "install")], **how)
-    left = [line for line in got.stdout.splitlines() if line.startswith(".")]
-    fine = got.returncode == 0 and left == [".", "./bin", "./lib", "./share", "./share/man"]
-    part.expect("/usr/local", fine, got.stdout, got.stderr)
+    programs = {"TLVDUMP": shutil.copy(part.program, part.path("copy")), "TLVDUMP_SHOW": part.suite.show_program}
+    how = {"cwd": part.folder, "env": dict(os.environ, **programs), "capture_output": True, "text": True, "timeout": 60}
+    os.mkdir(part.path("system"))
+    for prefix, stays in (("/usr", True), ("/usr/local", True), ("/opt/usr", False)):
+        words = ["sh", "-c", SYSTEM, "sh", os.path.join(part.root, "install"), part.path("system"), prefix]
+        got = subprocess.run(["unshare", "-m", *words], **how)
+        left = [line for line in got.stdout.splitlines() if line.startswith(".")]
+        wanted = [".", "./bin", "./lib", "./share", "./share/man"] if stays else ["."]
+        part.expect(f"{prefix}", (got.returncode, left) == (0, wanted), str(got.returncode), got.stdout, got.stderr)
 
 
 def check_links(part):
@@ -327,6 +357,15 @@ def builds(part):
     got = subprocess.run([script, "nowhere"], **how)
     fine = got.returncode == 70 and "tlvdump-show: not built" in got.stderr and not os.path.exists(part.path("nowhere"))
     part.expect("the other program, which cannot be built", fine, str(got.returncode), got.stderr)
+    # To remove, nothing is built, and nothing has to be there.
+    os.chmod(part.write("rt", b'#!/bin/sh\n: >"$BEGUN"\nexit 1\n'), 0o755)
+    how["env"]["BEGUN"] = part.path("build begun")
+    got = subprocess.run([part.path("unbuilt/install"), "--remove", "from-clone"], **how)
+    printed = "".join(f"removed from-clone/{place}\n" for place in PLACES)
+    part.expect("remove from a clone without programs", (got.returncode, got.stdout, got.stderr) == (0, printed, ""), str(got))
+    part.expect("remove builds nothing", not os.path.exists(part.path("build begun")))
+    subprocess.run([part.path("unbuilt/install"), "nowhere"], **how)
+    part.expect("install builds", os.path.exists(part.path("build begun")))
 
 
 def foreign(part):
