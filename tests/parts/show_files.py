@@ -2,6 +2,7 @@
 import os
 import pty
 import resource
+import shutil
 import signal
 import subprocess
 
@@ -149,6 +150,48 @@ def long_lines(part, program):
             program.gives(words, b"", 0, titles, f"{said}\n{said}", what=f"a name of {2 * count} octets and {shown}")
 
 
+def names_of_others(part, program, bare):
+    """A file `data/names.txt` three folders above the program is not read, unless the program lies where the build puts it,
+    beside its sources. So it is not read from a folder such as /tmp, in which others may write.
+    """
+    wanted = Done(0, bare, f"{NO_NAMES}\n".encode())
+    part.write("names of others", b"2.5.29.15 of others\n")
+    for at, place in enumerate((
+        "x/y/z/prog", "x/y/z/tlvdump_show", "x/y/bin/tlvdump-show", "crates/tlvdump/out/tlvdump_show",
+        "crates/tlvdump_show/out/tlvdump-show", "crates/tlvdump_show/out/tlvdump_show2", "crates/tlvdump_show/in/tlvdump_show",
+        "xcrates/tlvdump_show/out/tlvdump_show", "crates/tlvdump_show/out/x/tlvdump_show",
+    )):
+        path = put(program.path, part.path(f"others {at}/{place}"))
+        for above in range(1, 4):
+            data = os.path.join(os.path.dirname(path), *[".."] * above, "data")
+            os.makedirs(data)
+            shutil.copy(part.path("names of others"), os.path.join(data, "names.txt"))
+        part.same(f"names: those of others beside {place}", part.run([], SOUND, program=path), wanted)
+    # The path of the program itself counts, not that of a link to it.
+    link = part.path("others 0/crates/tlvdump_show/out/tlvdump_show")
+    os.makedirs(os.path.dirname(link))
+    os.symlink(part.path("others 0/x/y/z/prog"), link)
+    part.same("names: those of others beside a link", part.run([], SOUND, program=link), wanted)
+
+
+def no_place(part, program):
+    """Where the program cannot know its own place, since there is no proc file system, no names file is looked for. Only root
+    can try this, in a mount namespace.
+    """
+    if os.geteuid() or subprocess.run(["unshare", "-m", "true"], capture_output=True).returncode:
+        part.note("no root, or no unshare: a system without the proc file system is not tried")
+        return
+    bare = LINES.replace(b" (keyUsage)", b"")
+    script = 'mount -t tmpfs none /proc && exec "$@"'
+    for what, words, wanted in (
+        ("no place known", [], Done(0, bare, f"{NO_NAMES}\n".encode())),
+        ("no place known, --names", ["--names", "names"], Done(0, LINES.replace(b"(keyUsage)", b"(another)"), b"")),
+        ("no place known, --check", ["--check"], Done(0, b"", b"")),
+    ):
+        words = ["-m", "sh", "-c", script, "sh", program.path, *words]
+        part.same(f"names: {what}", part.run(words, SOUND, program=shutil.which("unshare")), wanted)
+
+
 def names(part, program):
     """The names file of the installation, that of the tree, another one, and none."""
     alone = put(program.path, part.path("alone/tlvdump-show"))
@@ -177,6 +220,14 @@ def names(part, program):
     linked = part.path("tlvdump-show")
     os.symlink(program.path, linked)
     part.same("names: by a link", part.run([], SOUND, program=linked), Done(0, LINES, b""))
+    names_of_others(part, program, bare)
+    # If there are both, that of the installation counts.
+    part.write("tree/data/names.txt", b"2.5.29.15 of the tree\n")
+    os.makedirs(part.path("tree/crates/tlvdump_show/share/tlvdump"))
+    part.write("tree/crates/tlvdump_show/share/tlvdump/names.txt", b"2.5.29.15 of an installation\n")
+    wanted = LINES.replace(b"(keyUsage)", b"(of an installation)")
+    part.same("names: one of an installation in the tree", part.run([], SOUND, program=in_tree), Done(0, wanted, b""))
+    shutil.rmtree(part.path("tree/crates/tlvdump_show/share"))
     part.write("tree/data/names.txt", b"2.5.29.15 x\n1.40 x\n")
     wanted = Done(4, b"", b"N1 line 2: not an object identifier\n")
     part.same("names: one of the tree that is refused", part.run([], SOUND, program=in_tree), wanted)
@@ -256,6 +307,7 @@ def test(part):
     several(part, program)
     long_lines(part, program)
     names(part, program)
+    no_place(part, program)
     inputs(part, program)
     inputs_that_may_not_be_read(part, program)
     at_a_terminal(part, program)

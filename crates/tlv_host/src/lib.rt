@@ -2,8 +2,10 @@
 #![tactic(auto)]
 
 mod host;
+mod places;
 mod printable;
 mod words;
 
 pub use host::Host;
+pub use places::is_beside_sources;
 pub use words::words_of;

@@ -3,17 +3,20 @@
 
 use std::env;
 use std::io::{ErrorKind, IsTerminal};
+use std::path::Path;
 use std::process::ExitCode;
-use tlv_host::{Host, words_of};
+use tlv_host::{Host, is_beside_sources, words_of};
 use tlv_program::NoWords;
 use tlv_view_program::{Streams, run_show};
 use tlv_view_words::FileNames;
 use tlv_walk::{ReadSource, WriteDrain};
 use tlv_words::Words;
 
-/// Where the names file is, from the folder of the program: in an installation, where the program is in `bin`, and
-/// beside the sources.
-const PLACES: [&str; 2] = ["../share/tlvdump/names.txt", "../../../data/names.txt"];
+/// Where the names file of an installation is, from the folder of the program, which is `bin`.
+const INSTALLED: &str = "../share/tlvdump/names.txt";
+
+/// Where the names file beside the sources is, from the folder of the program.
+const BESIDE_SOURCES: &str = "../../../data/names.txt";
 
 fn main(rt: HostRuntime) -> ExitCode {
     let (words, places) = words_and_places(&rt);
@@ -35,7 +38,8 @@ fn words_and_places(rt: &HostRuntime) -> (Result<Words, NoWords>, FileNames) {
     }
 }
 
-/// Where the names file is looked for. There are no such places if the program does not know where it is itself.
+/// Where the names file is looked for. There are no such places if the program does not know where it is itself. Beside the
+/// sources it is looked for only by the program that lies there: elsewhere others may write in that folder.
 fn places_of(rt: &HostRuntime) -> Result<FileNames, NoWords> {
     let mut places = FileNames::new(rt.alloc());
     let program = match env::current_exe(rt) {
@@ -46,13 +50,29 @@ fn places_of(rt: &HostRuntime) -> Result<FileNames, NoWords> {
     let Some(folder) = program.parent() else {
         return Ok(places);
     };
-    for place in PLACES {
-        let Ok(path) = folder.join(rt.alloc(), place) else {
-            return Err(NoWords::Memory);
-        };
-        if places.push(rt.alloc(), path.as_str()).is_err() {
-            return Err(NoWords::Memory);
-        }
+    add_place(rt, &folder, INSTALLED, &mut places)?;
+    if is_beside_sources(program.as_str()) {
+        add_place(rt, &folder, BESIDE_SOURCES, &mut places)?;
     }
     Ok(places)
+}
+
+/// Adds a place, which is given from the folder of the program.
+///
+/// # Errors
+///
+/// `Memory` if memory for it is refused.
+fn add_place(
+    rt: &HostRuntime,
+    folder: &Path<'_>,
+    place: &str,
+    places: &mut FileNames,
+) -> Result<(), NoWords> {
+    let Ok(path) = folder.join(rt.alloc(), place) else {
+        return Err(NoWords::Memory);
+    };
+    match places.push(rt.alloc(), path.as_str()) {
+        Ok(()) => Ok(()),
+        Err(_) => Err(NoWords::Memory),
+    }
 }
