@@ -1,5 +1,6 @@
 """Tests the command line: which words are refused, and how."""
 from parts.harness import Done, message
+from parts.show_program import Program
 
 NULL = b"\x05\x00"
 NULL_LINE = b"       0      0: NULL\n"
@@ -225,11 +226,38 @@ def no_raw_octets(part):
             got = part.run(words, NULL, program=program or part.program)
             fine = got.status == 4 and wanted in got.err and all(it == 10 or 32 <= it < 127 for it in got.err)
             part.expect(f"{name}: no raw octet of {ascii(word)}", fine, *got.lines())
+    # Each character of one octet but NUL and `=`, which ends the name of an option, and C1 characters, which terminals may
+    # take for commands: of two octets in UTF-8, 80 to 9f among them.
+    for code in (*range(0x01, 0x3D), *range(0x3E, 0xC0), 0x2028, 0x1F600):
+        octets = chr(code).encode()
+        kept = octets if 32 <= code < 127 or code == 10 else b"?" * len(octets)
+        wanted = b"error: unexpected argument '--a" + kept + b"b' found\n"
+        for name, program, words in (("tlvdump", part.program, ["dump"]), ("tlvdump-show", part.suite.show_program, [])):
+            got = part.run([*words, f"--a{chr(code)}b"], NULL, program=program)
+            fine = (got.status, got.out) == (4, b"") and got.err.startswith(wanted) and all(it == 10 or 32 <= it < 127 for it in got.err)
+            part.expect(f"{name}: the character {code:x} in a word", fine, *got.lines())
+
+
+def many_words(part):
+    """No word is left out, however many there are: of 1,100 FILEs the last is shown, and an option after them counts."""
+    program = Program(part)
+    part.write("null", NULL)
+    part.write("seven", b"\x02\x01\x07")
+    names = [*["null"] * 1099, "seven"]
+    lines = {"null": "       0      0: NULL\n", "seven": "       0      1: INTEGER 7\n"}
+    out = "".join(f"# block {at} of 1100: {name}\n{lines[name]}" for at, name in enumerate(names, 1))
+    part.same("1,100 FILEs", program.run(names), Done(0, out.encode(), b""))
+    pure = "".join(f"# block {at} of 1100: {name}\n{lines[name][17:]}" for at, name in enumerate(names, 1))
+    part.same("an option after 1,100 FILEs", program.run([*names, "--pure"]), Done(0, pure.encode(), b""))
+    for path, words in ((part.program, ["dump"]), (program.path, [])):
+        got = part.run([*words, *names, "--nonsense"], program=path)
+        part.expect("an unknown option after 1,100 FILEs", (got.status, got.out) == (4, b""), *got.lines())
 
 
 def test(part):
     check_refusals(part)
     no_raw_octets(part)
+    many_words(part)
     check_taken(part)
     not_utf_8(part)
     files(part)

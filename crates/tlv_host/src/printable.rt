@@ -1,4 +1,8 @@
 //! Texts in printable ASCII alone.
+ghost use Rattle.std.specs.Prelude.{◌≡◌, map};
+ghost use Rattle.std.specs.Option.{option_map};
+ghost use Rattle.std.specs.Fmt.{HasWritten, IsPlainFormatter};
+ghost use Rattle.tlv_host.specs.Texts.{printed_octet};
 
 use std::fmt;
 
@@ -10,6 +14,8 @@ pub(crate) struct Printable<'a, T> {
 }
 
 impl<T: fmt::Display> fmt::Display for Printable<'_, T> {
+    ghost output = { λ p. option_map (map printed_octet) (T.output p.text.now) };
+
     fn fmt<W: fmt::Write>(&self, f: &mut fmt::Formatter<W>) -> fmt::Result {
         fmt::Write::write(&mut Replacing { to: f }, self.text)
     }
@@ -22,6 +28,9 @@ struct Replacing<'a, W> {
 }
 
 impl<W: fmt::Write> fmt::Write for Replacing<'_, W> {
+    ghost write_str_gives = { λ s bs t. (t.to.ghost_name ≡ s.to.ghost_name)
+        × (IsPlainFormatter s.to.now → HasWritten W.write_str_gives s.to.now (map printed_octet bs) t.to.now) };
+
     fn write_str(&mut self, text: &str) -> fmt::Result {
         for octet in text.as_bytes() {
             self.to.write_char(shown(*octet))?;
@@ -31,7 +40,9 @@ impl<W: fmt::Write> fmt::Write for Replacing<'_, W> {
 }
 
 /// The octet as a character, or a question mark.
-fn shown(octet: u8) -> char {
+fn shown(octet: u8) -> char
+    ensures { result ≡ printed_octet octet }
+{
     match octet {
         b'\n' | b' '..=b'~' => char::from(octet),
         _ => '?',
