@@ -54,7 +54,7 @@ def complete(part, text):
     codes = re.findall(r"^\.It ([A-Z]\d+)$", section, re.M)
     part.expect("what to do about each fault", codes == MESSAGES[:12], *codes)
     statuses = text.split(".Sh EXIT STATUS")[1].split(".Sh ")[0]
-    part.expect("the statuses", re.findall(r"^\.It (\d+)$", statuses, re.M) == list("012345"))
+    part.expect("the statuses", re.findall(r"^\.It (\d+)$", statuses, re.M) == [*"012345", "127"])
 
 
 def recipes_of(text):
