@@ -5,17 +5,29 @@ use Rattle.std.specs.Result.{IsErrAnd}
 use Rattle.std.proofs.lemmas.Bool.{eqb-true}
 use Rattle.std.proofs.lemmas.List.{drop_all, length-append, length-map, map-append, take_all}
 use Rattle.std.proofs.lemmas.Result.{err_from_is_err_and}
-use Rattle.tlv_forms.specs.Private.Counting.{IsFaultAmong, IsFittingForm, IsTextFault}
-use Rattle.tlv_forms.specs.Taken.{AreTakenAsEncodings, BlocksCount, Counts, HasInner, IsTakingFault, TakenValue}
+use Rattle.tlv_forms.specs.Private.Counting.{IsFittingForm}
+use Rattle.tlv_forms.specs.Taken.{AreTakenAsEncodings, BlocksCount, BlocksTooLong, Counts, HasInner, HoldsTooLong}
+use Rattle.tlv_forms.specs.Taken.{IsFirstTooLong, IsMemoryOr, TakenValue}
 use Rattle.tlv_forms.specs.Taken.{has_some, in_layer, is_complete, is_whole_block, taken_as, taken_value}
 use Rattle.tlv_forms.specs.declared.taken.Taken.{Taken}
 use Rattle.tlv_forms.specs.declared.taken.TakenFor.TheVariants.{Text}
-use Rattle.tlv_text.specs.Blocks.{AreBlocks, BlockValue, IsBase64Block, IsBlocksFault, block_value}
+use Rattle.tlv_text.specs.Blocks.{BlockValue, IsBlocksFault, block_value}
 use Rattle.tlv_text.specs.declared.block.Block.{Block}
 use Rattle.tlv_text.specs.declared.block.Form.{Form}
-use Rattle.tlv_text.specs.declared.block.Form.TheVariants.{Pem, Base64}
+use Rattle.tlv_text.specs.declared.block.Form.TheVariants.{Base64, Runs}
 use Rattle.tlv_text.specs.declared.text_fault.TextFault.{TextFault}
-use Rattle.tlv_text.specs.declared.text_fault.TextFault.TheVariants.{Memory}
+use Rattle.tlv_text.specs.declared.text_fault.TextFault.TheVariants.{Memory, TooLong}
+
+-- ---- blocks of a text
+
+-- a text that has one block
+pub only-one : (all before : List Block) (b : Block) → all ≡ before ++ b ∷ [] → length (map block_value all) ≡ 1
+    → all ≡ b ∷ []
+only-one all [] b is one = is
+only-one all (c ∷ before) b is one =
+    let sizes : length (map block_value all) ≡ suc (length (map block_value (before ++ b ∷ []))) =
+    ap (λ (bs : List Block). length (map block_value bs)) is in
+    absurd (omega (arith, length-map (before ++ b ∷ []) block_value, length-append before (b ∷ [])))
 
 -- ---- faults
 
@@ -26,38 +38,33 @@ returned-fault {T} r fault P is holds =
     let p = err_from_is_err_and r is in
     subst (λ (s : Result T TextFault). IfErr s P) (sym p.1) (subst P (sym p.2) holds)
 
--- memory may be refused at any time
-pub memory-is_fault : (octets : List ℕ) → IsTakingFault octets Memory
-memory-is_fault octets = IsTakingFault.here Pem IsBlocksFault.no_memory
+-- memory may be refused, or else this is so
+pub fault-weaker : {P Q : Type 0} (fault : TextFault) → (P → Q) → IsMemoryOr P fault → IsMemoryOr Q fault
+fault-weaker TooLong then says = then says
+fault-weaker Memory then says = tt
 
--- what is wrong with one of the blocks of a text is wrong with the text
-pub among-text : (text : List ℕ) (form : Form) (bs : List BlockValue) (fault : TextFault) → AreBlocks text form bs
-    → IsFaultAmong bs fault → IsTextFault text fault
-among-text text form bs fault are IsFaultAmong.no_memory = λ octets is. memory-is_fault octets
-among-text text form bs fault are (IsFaultAmong.inside before after b split inner) = λ octets is.
-    IsTakingFault.inside form before after b
-    (subst (λ (t : List ℕ). AreBlocks t form (before ++ b ∷ after)) (sym is)
-    (subst (λ (all : List BlockValue). AreBlocks text form all) split are))
-    inner
+-- the blocks of a text in the next form have a fault
+pub first-fault : (Inner : List ℕ → List TakenValue → Type 0) (Deep : List ℕ → Type 0) (text : List ℕ) (form : Form)
+    (forms : List Form) (fault : TextFault) → IsBlocksFault text form fault
+    → IsMemoryOr (IsFirstTooLong Inner Deep text (form ∷ forms)) fault
+first-fault Inner Deep text form forms TooLong (IsBlocksFault.too_long bs are long) = IsFirstTooLong.here are long
+first-fault Inner Deep text form forms Memory wrong = tt
 
--- what is wrong with the blocks of a text is wrong with the input
-pub blocks-text : (text : List ℕ) (form : Form) (fault : TextFault) → IsBlocksFault text form fault
-    → IsTextFault text fault
-blocks-text text form fault wrong = λ octets is.
-    IsTakingFault.here form (subst (λ (t : List ℕ). IsBlocksFault t form fault) (sym is) wrong)
+-- the next block holds a text that is too long
+pub next-run : (Deep : List ℕ → Type 0) (before rest all : List Block) (b : Block) → before ++ b ∷ rest ≡ all
+    → HoldsTooLong Deep (block_value b) → BlocksTooLong Deep Runs (map block_value all)
+next-run Deep before rest all b split holds =
+    subst (λ (bs : List BlockValue). BlocksTooLong Deep Runs bs)
+    (sym (map-append block_value before (b ∷ rest)) ∙ ap (map block_value) split)
+    (BlocksTooLong.run (map block_value before) (map block_value rest) holds)
 
--- what is wrong with the block of a base64 text is wrong with the text
-pub base64-fault : (text : List ℕ) (b : BlockValue) (fault : TextFault) → IsBase64Block text b
-    → IsTakingFault b.octets fault → IsTextFault text fault
-base64-fault text b fault is wrong =
-    among-text text Base64 (b ∷ []) fault (AreBlocks.base64 is) (IsFaultAmong.inside [] [] b refl wrong)
-
--- what is wrong with the next block is wrong among all
-pub next-among : (before rest all : List Block) (b : Block) (fault : TextFault) → before ++ b ∷ rest ≡ all
-    → IsTakingFault b.octets.items fault → IsFaultAmong (map block_value all) fault
-next-among before rest all b fault split wrong =
-    IsFaultAmong.inside (map block_value before) (map block_value rest) (block_value b)
-    (ap (map block_value) (sym split) ∙ map-append block_value before (b ∷ rest)) wrong
+-- the only block does
+pub only-base64 : (Deep : List ℕ → Type 0) (all before : List Block) (b : Block) → all ≡ before ++ b ∷ []
+    → IsFittingForm Base64 (map block_value all) → HoldsTooLong Deep (block_value b)
+    → BlocksTooLong Deep Base64 (map block_value all)
+only-base64 Deep all before b is one holds =
+    subst (λ (bs : List Block). BlocksTooLong Deep Base64 (map block_value bs)) (sym (only-one all before b is one))
+    (BlocksTooLong.base64 holds)
 
 -- ---- one block
 
@@ -117,15 +124,6 @@ written-back n new old size same =
     ∙ take_all n new (omega arith)
 
 -- ---- blocks of a form
-
--- a text that has one block
-pub only-one : (all before : List Block) (b : Block) → all ≡ before ++ b ∷ [] → length (map block_value all) ≡ 1
-    → all ≡ b ∷ []
-only-one all [] b is one = is
-only-one all (c ∷ before) b is one =
-    let sizes : length (map block_value all) ≡ suc (length (map block_value (before ++ b ∷ []))) =
-    ap (λ (bs : List Block). length (map block_value bs)) is in
-    absurd (omega (arith, length-map (before ++ b ∷ []) block_value, length-append before (b ∷ [])))
 
 pub base64-counts : (Inner : List ℕ → List TakenValue → Type 0) (all before : List Block) (b : Block)
     (ts : List TakenValue) → all ≡ before ++ b ∷ [] → IsFittingForm Base64 (map block_value all)

@@ -1,21 +1,24 @@
 -- What the blocks of a text count as, form by form.
 use Rattle.std.proofs.Common.{◌≡◌, ◌==◌, ◌+◌, ◌-◌, ◌<◌, ◌≤◌, ◌≢◌, List, [], ◌∷◌, ◌++◌, Some, ℕ, zero, suc, true, false}
 use Rattle.std.proofs.Common.{◌∙◌, ◌⊎◌, ⊎_elim, add-one, append-nil, append_assoc, ap, arith, drop, filter, get_or}
-use Rattle.std.proofs.Common.{if◌then◌else◌, length, map, None, refl, subst, sym}
-use Rattle.std.specs.List.{All}
+use Rattle.std.proofs.Common.{if◌then◌else◌, length, map, refl, subst, sym}
+use Rattle.std.specs.List.{All, list_any}
 use Rattle.std.proofs.Math.Seq.{drop-cons}
 use Rattle.std.proofs.lemmas.Bool.{cases_Bool, eqb-true}
 use Rattle.std.proofs.lemmas.List.{drop_all, map-append}
 use Rattle.tlv_forms.specs.Private.Counting.{IsBounded, IsFittingForm, is_kept}
-use Rattle.tlv_forms.specs.Taken.{AreFirstBlocks, BlocksCount, Counts, HasBlocks, RunsCount, TakenValue, TextBlocks}
-use Rattle.tlv_forms.specs.Taken.{all_forms, has_controls, is_complete, taken_as, taken_value, text_of}
+use Rattle.tlv_forms.specs.Taken.{AreFirstBlocks, BlocksCount, BlocksTooLong, Counts, HasBlocks}
+use Rattle.tlv_forms.specs.Taken.{IsFirstTooLong, IsMemoryOr, RunsCount, TakenValue, TextBlocks}
+use Rattle.tlv_forms.specs.Taken.{TextTooLong, all_forms, has_controls, taken_as, taken_value, text_of}
+use Rattle.tlv_forms.proofs.CountingLemmas.{first-fault}
 use Rattle.tlv_forms.specs.declared.taken.Taken.{Taken}
 use Rattle.tlv_forms.specs.declared.taken.TakenFor.TheVariants.{Text}
-use Rattle.tlv_text.specs.Blocks.{AreBlocks, ArePemBlocks, BlockValue, IsBase64Alone, IsHexAlone, block_value}
-use Rattle.tlv_text.specs.Blocks.{dump_block, numbers_block}
+use Rattle.tlv_text.specs.Blocks.{AreBlocks, BlockValue, IsBlocksFault}
+use Rattle.tlv_text.specs.Blocks.{block_value, is_too_long}
 use Rattle.tlv_text.specs.declared.block.Block.{Block}
 use Rattle.tlv_text.specs.declared.block.Form.{Form}
-use Rattle.tlv_text.specs.declared.block.Form.TheVariants.{Base64, Pem, Dump, Hex, Numbers, Runs}
+use Rattle.tlv_text.specs.declared.block.Form.TheVariants.{Pem, Dump, Hex, Numbers, Runs}
+use Rattle.tlv_text.specs.declared.text_fault.TextFault.{TextFault}
 
 -- what is bounded is bounded more loosely
 pub more-bounded : (n : ℕ) (ts : List Taken) → All (IsBounded 1) ts → All (IsBounded (n + 1)) ts
@@ -51,7 +54,7 @@ module _ (Inner : List ℕ → List TakenValue → Type 0) where
       → ts ≡ map (taken_as (Text Pem)) (filter (is_kept Pem) bs) → BlocksCount Inner Pem bs ts
   pem-count bs ts are = subst (λ (us : List TakenValue). BlocksCount Inner Pem bs us) (sym are) BlocksCount.pem
 
-  dump-count : (bs : List BlockValue) (ts : List TakenValue) → length bs ≡ 1
+  pub dump-count : (bs : List BlockValue) (ts : List TakenValue) → length bs ≡ 1
       → ts ≡ map (taken_as (Text Dump)) (filter (is_kept Dump) bs) → BlocksCount Inner Dump bs ts
   dump-count [] ts one are = absurd (omega (arith, one))
   dump-count (b ∷ []) ts one are =
@@ -59,14 +62,14 @@ module _ (Inner : List ℕ → List TakenValue → Type 0) where
       BlocksCount.dump
   dump-count (b ∷ c ∷ bs) ts one are = absurd (omega (arith, one))
 
-  hex-count : (bs : List BlockValue) (ts : List TakenValue) → length bs ≡ 1
+  pub hex-count : (bs : List BlockValue) (ts : List TakenValue) → length bs ≡ 1
       → ts ≡ map (taken_as (Text Hex)) (filter (is_kept Hex) bs) → BlocksCount Inner Hex bs ts
   hex-count [] ts one are = absurd (omega (arith, one))
   hex-count (b ∷ []) ts one are =
       subst (λ (us : List TakenValue). BlocksCount Inner Hex (b ∷ []) us) (sym (are ∙ kept-one Hex b)) BlocksCount.hex
   hex-count (b ∷ c ∷ bs) ts one are = absurd (omega (arith, one))
 
-  numbers-count : (bs : List BlockValue) (ts : List TakenValue) → length bs ≡ 1
+  pub numbers-count : (bs : List BlockValue) (ts : List TakenValue) → length bs ≡ 1
       → ts ≡ map (taken_as (Text Numbers)) (filter (is_kept Numbers) bs) → BlocksCount Inner Numbers bs ts
   numbers-count [] ts one are = absurd (omega (arith, one))
   numbers-count (b ∷ []) ts one are =
@@ -115,24 +118,24 @@ module _ (Inner : List ℕ → List TakenValue → Type 0) where
   -- ---- the first form in which a block counts
 
   pub first-here : (text : List ℕ) (forms : List Form) (i : ℕ) (d : Form) (bs : List BlockValue) (ts : List Taken)
-      (n : ℕ) → i < length forms → AreBlocks text (get_or forms i d) bs
+      (n : ℕ) → i < length forms → AreBlocks text (get_or forms i d) bs → list_any is_too_long bs ≡ false
       → BlocksCount Inner (get_or forms i d) bs (map taken_value ts) → n ≡ length ts → (n == 0) ≡ false
       → AreFirstBlocks Inner text (drop i forms) (map taken_value ts)
-  first-here text forms i d bs [] n within are counts size some =
+  first-here text forms i d bs [] n within are fit counts size some =
       absurd (cc (ap (λ (k : ℕ). k == 0) size, some))
-  first-here text forms i d bs (t ∷ ts) n within are counts size some =
+  first-here text forms i d bs (t ∷ ts) n within are fit counts size some =
       subst (λ (fs : List Form). AreFirstBlocks Inner text fs (map taken_value (t ∷ ts)))
       (sym (drop-cons forms i d within))
-      (AreFirstBlocks.here are counts)
+      (AreFirstBlocks.here (record { are = are; fit = fit }) counts)
 
   pub first-later : (text : List ℕ) (forms : List Form) (i : ℕ) (d : Form) (bs : List BlockValue) (ts : List Taken)
       (n : ℕ) (others : List TakenValue) → i < length forms → AreBlocks text (get_or forms i d) bs
-      → BlocksCount Inner (get_or forms i d) bs (map taken_value ts) → n ≡ length ts → (n == 0) ≡ true
+      → list_any is_too_long bs ≡ false → BlocksCount Inner (get_or forms i d) bs (map taken_value ts) → n ≡ length ts → (n == 0) ≡ true
       → AreFirstBlocks Inner text (drop (i + 1) forms) others → AreFirstBlocks Inner text (drop i forms) others
-  first-later text forms i d bs [] n others within are counts size none rests =
+  first-later text forms i d bs [] n others within are fit counts size none rests =
       subst (λ (fs : List Form). AreFirstBlocks Inner text fs others) (sym (drop-cons forms i d within))
-      (AreFirstBlocks.later are counts (rw add-one at rests))
-  first-later text forms i d bs (t ∷ ts) n others within are counts size none rests =
+      (AreFirstBlocks.later (record { are = are; fit = fit }) counts (rw add-one at rests))
+  first-later text forms i d bs (t ∷ ts) n others within are fit counts size none rests =
       let zero : n ≡ 0 = eqb-true n 0 none in absurd (omega (arith, size))
 
   pub first-none : (text : List ℕ) (forms : List Form) (i : ℕ) (ts : List Taken) → length forms ≤ i → ts ≡ []
@@ -140,102 +143,41 @@ module _ (Inner : List ℕ → List TakenValue → Type 0) where
   first-none text forms i ts all none =
       rw (drop_all i forms all, none) AreFirstBlocks.no_form
 
-  -- ---- a text that is hexadecimal, and of no form before it
+  -- ---- a form in which a text is too long
 
-  pub hex-first : (text : List ℕ) (b : BlockValue) (ts : List Taken) (t : Taken) → IsHexAlone text b
-      → is_kept Hex b ≡ true → ts ≡ t ∷ [] → taken_value t ≡ taken_as (Text Hex) b
-      → AreFirstBlocks Inner text all_forms (map taken_value ts)
-  hex-first text b ts t alone kept one value =
-      let broken : is_complete (dump_block text) ≡ false = rw alone.no_row refl in
-      let are : AreBlocks text Hex (b ∷ []) =
-      subst (λ (c : BlockValue). AreBlocks text Hex (c ∷ [])) alone.hex AreBlocks.hex in
-      subst (λ (us : List TakenValue). AreFirstBlocks Inner text all_forms us)
-      (sym (ap (map taken_value) one ∙ ap (λ (u : TakenValue). u ∷ []) value))
-      (AreFirstBlocks.later (AreBlocks.pem (ArePemBlocks.no_more alone.no_pem)) BlocksCount.pem
-      (AreFirstBlocks.later AreBlocks.dump (dump-count (dump_block text ∷ []) [] refl (rw broken refl))
-      (AreFirstBlocks.here are (hex-count (b ∷ []) (taken_as (Text Hex) b ∷ []) refl (rw kept refl)))))
+  module _ (Deep : List ℕ → Type 0) where
+    -- the next form that is tried
+    pub long-here : (text : List ℕ) (forms : List Form) (i : ℕ) (d : Form) (fault : TextFault) → i < length forms
+        → IsBlocksFault text (get_or forms i d) fault
+        → IsMemoryOr (IsFirstTooLong Inner Deep text (drop i forms)) fault
+    long-here text forms i d fault within wrong =
+        subst (λ (fs : List Form). IsMemoryOr (IsFirstTooLong Inner Deep text fs) fault)
+        (sym (drop-cons forms i d within))
+        (first-fault Inner Deep text (get_or forms i d) (drop (suc i) forms) fault wrong)
 
-  -- ---- a text that is base64 alone
+    pub long-inside : (text : List ℕ) (forms : List Form) (i : ℕ) (d : Form) (bs : List BlockValue)
+        → i < length forms → AreBlocks text (get_or forms i d) bs → list_any is_too_long bs ≡ false
+        → BlocksTooLong Deep (get_or forms i d) bs → IsFirstTooLong Inner Deep text (drop i forms)
+    long-inside text forms i d bs within are fit long =
+        subst (λ (fs : List Form). IsFirstTooLong Inner Deep text fs) (sym (drop-cons forms i d within))
+        (IsFirstTooLong.inside (record { are = are; fit = fit }) long)
 
-  -- what the blocks of a text in one form count as, if its blocks in the first of this form alone are these
-  data OnlyForm (text : List ℕ) (form : Form) (ts : List TakenValue) : Type 0 where
-    counted : (bs : List BlockValue) → AreBlocks text form bs → BlocksCount Inner form bs ts → OnlyForm text form ts
+    pub long-later : (text : List ℕ) (forms : List Form) (i : ℕ) (d : Form) (bs : List BlockValue) (ts : List Taken)
+        (n : ℕ) → i < length forms → AreBlocks text (get_or forms i d) bs → list_any is_too_long bs ≡ false
+        → BlocksCount Inner (get_or forms i d) bs (map taken_value ts) → n ≡ length ts → (n == 0) ≡ true
+        → IsFirstTooLong Inner Deep text (drop (i + 1) forms) → IsFirstTooLong Inner Deep text (drop i forms)
+    long-later text forms i d bs [] n within are fit counts size none long =
+        subst (λ (fs : List Form). IsFirstTooLong Inner Deep text fs) (sym (drop-cons forms i d within))
+        (IsFirstTooLong.later (record { are = are; fit = fit }) counts (rw add-one at long))
+    long-later text forms i d bs (t ∷ ts) n within are fit counts size none long =
+        let zero : n ≡ 0 = eqb-true n 0 none in absurd (omega (arith, size))
 
-  only-form : (text : List ℕ) (form : Form) (ts : List TakenValue) → AreFirstBlocks Inner text (form ∷ []) ts
-      → OnlyForm text form ts
-  only-form text form ts (AreFirstBlocks.here are counts) = OnlyForm.counted _ are counts
-  only-form text form ts (AreFirstBlocks.later are counts AreFirstBlocks.no_form) = OnlyForm.counted _ are counts
-
-  -- neither PEM nor a dump counts
-  after-dump : (text : List ℕ) (b : BlockValue) (ts : List TakenValue) → IsBase64Alone text b
-      → AreFirstBlocks Inner text (Hex ∷ Numbers ∷ Base64 ∷ Runs ∷ []) ts → AreFirstBlocks Inner text all_forms ts
-  after-dump text b ts alone first =
-      let broken : is_complete (dump_block text) ≡ false = rw alone.no_row refl in
-      AreFirstBlocks.later (AreBlocks.pem (ArePemBlocks.no_more alone.no_pem)) BlocksCount.pem
-      (AreFirstBlocks.later AreBlocks.dump (dump-count (dump_block text ∷ []) [] refl (rw broken refl)) first)
-
-  -- nor do numbers
-  after-numbers : (text : List ℕ) (b : BlockValue) (ts : List TakenValue) → IsBase64Alone text b
-      → AreFirstBlocks Inner text (Base64 ∷ Runs ∷ []) ts
-      → AreFirstBlocks Inner text (Numbers ∷ Base64 ∷ Runs ∷ []) ts
-  after-numbers text b ts alone first =
-      AreFirstBlocks.later AreBlocks.numbers
-      (numbers-count (numbers_block text ∷ []) [] refl (rw alone.no_list refl)) first
-
-  first-of_form : (text : List ℕ) (form : Form) (forms : List Form) (ts : List Taken) (n : ℕ)
-      → OnlyForm text form (map taken_value ts) → n ≡ length ts → (n == 0) ≡ false
-      → AreFirstBlocks Inner text (form ∷ forms) (map taken_value ts)
-  first-of_form text form forms [] n only size some = absurd (cc (ap (λ (k : ℕ). k == 0) size, some))
-  first-of_form text form forms (t ∷ ts) n (OnlyForm.counted bs are counts) size some =
-      AreFirstBlocks.here are counts
-
-  not-of_form : (text : List ℕ) (form : Form) (forms : List Form) (ts : List Taken) (n : ℕ) (others : List TakenValue)
-      → OnlyForm text form (map taken_value ts) → n ≡ length ts → (n == 0) ≡ true
-      → AreFirstBlocks Inner text forms others → AreFirstBlocks Inner text (form ∷ forms) others
-  not-of_form text form forms [] n others (OnlyForm.counted bs are counts) size none rests =
-      AreFirstBlocks.later are counts rests
-  not-of_form text form forms (t ∷ ts) n others only size none rests =
-      let zero : n ≡ 0 = eqb-true n 0 none in absurd (omega (arith, size))
-
-  -- its hexadecimal counts
-  pub base64-hex_first : (text : List ℕ) (b : BlockValue) (ts : List Taken) (n : ℕ) → IsBase64Alone text b
-      → AreFirstBlocks Inner text (Hex ∷ []) (map taken_value ts) → n ≡ length ts → (n == 0) ≡ false
-      → AreFirstBlocks Inner text all_forms (map taken_value ts)
-  base64-hex_first text b ts n alone hex size some =
-      after-dump text b (map taken_value ts) alone
-      (first-of_form text Hex _ ts n (only-form text Hex _ hex) size some)
-
-  -- only its base64 and runs of it can count
-  base64-only : (text : List ℕ) (b : BlockValue) (hexes : List Taken) (n : ℕ) (ts : List TakenValue)
-      → IsBase64Alone text b → AreFirstBlocks Inner text (Hex ∷ []) (map taken_value hexes) → n ≡ length hexes
-      → (n == 0) ≡ true
-      → AreFirstBlocks Inner text (Base64 ∷ Runs ∷ []) ts → AreFirstBlocks Inner text all_forms ts
-  base64-only text b hexes n ts alone hex size none first =
-      after-dump text b ts alone
-      (not-of_form text Hex _ hexes n ts (only-form text Hex _ hex) size none (after-numbers text b ts alone first))
-
-  base64-form : (text : List ℕ) (b : BlockValue) (ts : List TakenValue) → IsBase64Alone text b
-      → is_complete b ≡ true → Counts Inner Base64 None b ts → OnlyForm text Base64 ts
-  base64-form text b ts alone complete counts =
-      OnlyForm.counted (b ∷ []) (AreBlocks.base64 alone.base64) (BlocksCount.base64 complete counts)
-
-  pub base64-first : (text : List ℕ) (b : BlockValue) (hexes ts : List Taken) (n m : ℕ) → IsBase64Alone text b
-      → is_complete b ≡ true → AreFirstBlocks Inner text (Hex ∷ []) (map taken_value hexes) → n ≡ length hexes
-      → (n == 0) ≡ true → Counts Inner Base64 None b (map taken_value ts) → m ≡ length ts → (m == 0) ≡ false
-      → AreFirstBlocks Inner text all_forms (map taken_value ts)
-  base64-first text b hexes ts n m alone complete hex size none counts some_size some =
-      base64-only text b hexes n (map taken_value ts) alone hex size none
-      (first-of_form text Base64 _ ts m (base64-form text b (map taken_value ts) alone complete counts) some_size some)
-
-  pub base64-runs_first : (text : List ℕ) (b : BlockValue) (hexes base64s : List Taken) (n m : ℕ)
-      (ts : List TakenValue) → IsBase64Alone text b
-      → is_complete b ≡ true → AreFirstBlocks Inner text (Hex ∷ []) (map taken_value hexes) → n ≡ length hexes
-      → (n == 0) ≡ true → Counts Inner Base64 None b (map taken_value base64s) → m ≡ length base64s
-      → (m == 0) ≡ true → AreFirstBlocks Inner text (Runs ∷ []) ts → AreFirstBlocks Inner text all_forms ts
-  base64-runs_first text b hexes base64s n m ts alone complete hex size none counts none_size no_base64 runs =
-      base64-only text b hexes n ts alone hex size none
-      (not-of_form text Base64 _ base64s m ts (base64-form text b (map taken_value base64s) alone complete counts)
-      none_size no_base64 runs)
+    -- in a form that is tried alone
+    pub only-long : (text : List ℕ) (form : Form) (forms : List Form) → IsFirstTooLong Inner Deep text (form ∷ [])
+        → IsFirstTooLong Inner Deep text (form ∷ forms)
+    only-long text form forms (IsFirstTooLong.here are long) = IsFirstTooLong.here are long
+    only-long text form forms (IsFirstTooLong.inside are long) = IsFirstTooLong.inside are long
+    only-long text form forms (IsFirstTooLong.later are counts long) = elim long [ ]
 
 -- the blocks of what is base64 in a text
 pub inner-control : (layers : ℕ) (octets text : List ℕ) (ts : List Taken) → layers ≢ 0 → text ≡ text_of octets
@@ -252,3 +194,14 @@ inner-text (suc layers) octets text ts some is no_control are =
     HasBlocks.text (rw is at no_control)
     (subst (λ (t : List ℕ). AreFirstBlocks (TextBlocks layers) t all_forms ts) is
     (subst (λ (k : ℕ). AreFirstBlocks (TextBlocks k) text all_forms ts) less are))
+
+pub inner-long : (layers : ℕ) (octets text : List ℕ) → layers ≢ 0 → text ≡ text_of octets
+    → has_controls text ≡ false
+    → IsFirstTooLong (TextBlocks (layers - 1)) (TextTooLong (layers - 1)) text all_forms → TextTooLong layers octets
+inner-long zero octets text some is no_control long = absurd (some refl)
+inner-long (suc layers) octets text some is no_control long =
+    let less : suc layers - 1 ≡ layers = omega arith in record {
+      no_control = rw is at no_control;
+      first = subst (λ (t : List ℕ). IsFirstTooLong (TextBlocks layers) (TextTooLong layers) t all_forms) is
+          (subst (λ (k : ℕ). IsFirstTooLong (TextBlocks k) (TextTooLong k) text all_forms) less long);
+    }

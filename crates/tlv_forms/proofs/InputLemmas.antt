@@ -4,8 +4,8 @@ use Rattle.std.proofs.Common.{subst, sym, unwrap_or, ◌∙◌}
 use Rattle.std.proofs.lemmas.Bool.{eqb-true}
 use Rattle.std.proofs.lemmas.List.{nil_from_length}
 use Rattle.tlv_forms.specs.Private.Counting.{or_octets}
-use Rattle.tlv_forms.specs.Taken.{AreEncodings, AreFirstBlocks, AreSurelyEncodings, HasBlocks, IsTakenFor, TakenValue}
-use Rattle.tlv_forms.specs.Taken.{TextBlocks}
+use Rattle.tlv_forms.specs.Taken.{AreEncodings, AreFirstBlocks, AreSurelyEncodings, HasBlocks, IsFirstTooLong}
+use Rattle.tlv_forms.specs.Taken.{IsTakenFor, IsTooLong, TakenValue, TextBlocks, TextTooLong}
 use Rattle.tlv_forms.specs.Taken.{all_forms, has_controls, is_other_text, taken_other_text, taken_value, text_of}
 use Rattle.tlv_forms.specs.declared.taken.Taken.{Taken}
 use Rattle.tlv_text.specs.Marks.{after_mark, ascii_of_utf16}
@@ -75,3 +75,15 @@ text-taken octets text is no_control unsure (t ∷ ts) first n size some =
     (HasBlocks.text (rw is at no_control)
     (subst (λ (characters : List ℕ). AreFirstBlocks (TextBlocks 3) characters all_forms (map taken_value (t ∷ ts))) is
     first))
+
+-- a block is too long
+pub too_long-taken : (octets text : List ℕ) → text ≡ text_of octets → has_controls text ≡ false
+    → (AreSurelyEncodings octets → ⊥) → IsFirstTooLong (TextBlocks 3) (TextTooLong 3) text all_forms
+    → IsTooLong octets
+too_long-taken octets text is no_control unsure long = record {
+  unsure = unsure;
+  text = record {
+    no_control = rw is at no_control;
+    first = subst (λ (t : List ℕ). IsFirstTooLong (TextBlocks 3) (TextTooLong 3) t all_forms) is long;
+  };
+}

@@ -3,4 +3,5 @@ pub mod CountLemmas
 pub mod CountingLemmas
 pub mod FormLemmas
 pub mod InputLemmas
+pub mod LoneForms
 pub mod TakenLemmas

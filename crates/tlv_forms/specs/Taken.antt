@@ -6,7 +6,7 @@ use Rattle.std.specs.Str.{is_utf8}
 use Rattle.tlv_value.specs.Units.{is_printable}
 use Rattle.tlv_walk.specs.Reading.{IsSoundList}
 use Rattle.tlv_open.specs.Opens.{closed_framing}
-use Rattle.tlv_text.specs.Blocks.{AreBlocks, BlockValue, IsBlocksFault, block_value, only_block}
+use Rattle.tlv_text.specs.Blocks.{AreBlocks, BlockValue, block_value, is_too_long, only_block}
 use Rattle.tlv_text.specs.Characters.{is_white}
 use Rattle.tlv_text.specs.Marks.{after_mark, ascii_of_utf16}
 use Rattle.tlv_text.specs.declared.block.BlockState.{BlockState}
@@ -14,6 +14,7 @@ use Rattle.tlv_text.specs.declared.block.BlockState.TheVariants.{Whole, Absent}
 use Rattle.tlv_text.specs.declared.block.Form.{Form}
 use Rattle.tlv_text.specs.declared.block.Form.TheVariants.{Pem, Dump, Hex, Numbers, Base64, Runs}
 use Rattle.tlv_text.specs.declared.text_fault.TextFault.{TextFault}
+use Rattle.tlv_text.specs.declared.text_fault.TextFault.TheVariants.{Memory, TooLong}
 use Rattle.tlv_forms.specs.declared.taken.Taken.{Taken}
 use Rattle.tlv_forms.specs.declared.taken.TakenFor.{TakenFor}
 use Rattle.tlv_forms.specs.declared.taken.TakenFor.TheVariants.{Octets, OtherText, Text}
@@ -125,6 +126,11 @@ abbrev pub begins_with_zeros : List ℕ → Bool
 begins_with_zeros (x ∷ y ∷ octets) = (x == 0) && (y == 0)
 begins_with_zeros octets = false
 
+-- these are the blocks of a text in a form, and none is too long
+pub record AreFittingBlocks (text : List ℕ) (form : Form) (bs : List BlockValue) : Type 0 where
+  pub are : AreBlocks text form bs
+  pub fit : list_any is_too_long bs ≡ false
+
 module _ (Inner : List ℕ → List TakenValue → Type 0) where
   -- the blocks of the text that a block of base64 decodes to, if all of the block is decoded
   abbrev pub HasInner : Bool → List ℕ → List TakenValue → Type 0
@@ -173,10 +179,33 @@ module _ (Inner : List ℕ → List TakenValue → Type 0) where
   pub data AreFirstBlocks (text : List ℕ) : List Form → List TakenValue → Type 0 where
     no_form : AreFirstBlocks text [] []
     here : {form : Form} {forms : List Form} {bs : List BlockValue} {t : TakenValue} {ts : List TakenValue}
-        → AreBlocks text form bs → BlocksCount form bs (t ∷ ts) → AreFirstBlocks text (form ∷ forms) (t ∷ ts)
+        → AreFittingBlocks text form bs → BlocksCount form bs (t ∷ ts) → AreFirstBlocks text (form ∷ forms) (t ∷ ts)
     later : {form : Form} {forms : List Form} {bs : List BlockValue} {ts : List TakenValue}
-        → AreBlocks text form bs → BlocksCount form bs [] → AreFirstBlocks text forms ts
+        → AreFittingBlocks text form bs → BlocksCount form bs [] → AreFirstBlocks text forms ts
         → AreFirstBlocks text (form ∷ forms) ts
+
+module _ (TooLong : List ℕ → Type 0) where
+  -- all of a block of base64 is decoded, and its octets are a text of which a block is too long
+  pub record HoldsTooLong (b : BlockValue) : Type 0 where
+    pub some : has_some b.octets ≡ true
+    pub whole : is_whole_block b.state ≡ true
+    pub text : TooLong b.octets
+
+  -- one of the blocks of a text in a form is base64 of such a text
+  pub data BlocksTooLong : Form → List BlockValue → Type 0 where
+    base64 : {b : BlockValue} → HoldsTooLong b → BlocksTooLong Base64 (b ∷ [])
+    run : {b : BlockValue} (before after : List BlockValue) → HoldsTooLong b → BlocksTooLong Runs (before ++ b ∷ after)
+
+-- a block of a text is too long in one of these forms, and no block counts in a form before it: a line for each case
+pub data IsFirstTooLong (Inner : List ℕ → List TakenValue → Type 0) (TooLong : List ℕ → Type 0) (text : List ℕ)
+    : List Form → Type 0 where
+  here : {form : Form} {forms : List Form} {bs : List BlockValue} → AreBlocks text form bs
+      → list_any is_too_long bs ≡ true → IsFirstTooLong Inner TooLong text (form ∷ forms)
+  inside : {form : Form} {forms : List Form} {bs : List BlockValue} → AreFittingBlocks text form bs
+      → BlocksTooLong TooLong form bs → IsFirstTooLong Inner TooLong text (form ∷ forms)
+  later : {form : Form} {forms : List Form} {bs : List BlockValue} → AreFittingBlocks text form bs
+      → BlocksCount Inner form bs [] → IsFirstTooLong Inner TooLong text forms
+      → IsFirstTooLong Inner TooLong text (form ∷ forms)
 
 -- the forms in the order in which they are tried
 abbrev pub all_forms : List Form
@@ -192,6 +221,17 @@ pub data HasBlocks (Inner : List ℕ → List TakenValue → Type 0) (octets : L
 abbrev pub TextBlocks : ℕ → List ℕ → List TakenValue → Type 0
 TextBlocks zero octets ts = ts ≡ []
 TextBlocks (suc layers) octets ts = HasBlocks (TextBlocks layers) octets ts
+
+-- octets that are a text of which a block is too long
+pub record HasTooLong (Inner : List ℕ → List TakenValue → Type 0) (TooLong : List ℕ → Type 0) (octets : List ℕ)
+    : Type 0 where
+  pub no_control : has_controls (text_of octets) ≡ false
+  pub first : IsFirstTooLong Inner TooLong (text_of octets) all_forms
+
+-- the same, in at most this number of layers of base64
+abbrev pub TextTooLong : ℕ → List ℕ → Type 0
+TextTooLong zero octets = ⊥
+TextTooLong (suc layers) octets = HasTooLong (TextBlocks layers) (TextTooLong layers) octets
 
 -- ---- inputs
 
@@ -226,11 +266,16 @@ pub record IsTakenAs (form : Form) (octets : List ℕ) (ts : List TakenValue) : 
   pub are_blocks : AreBlocks (text_of octets) form blocks
   pub taken : ts ≡ map (taken_as (Text form)) blocks
 
--- why the blocks of an input cannot be returned: the blocks of its text in some form cannot, or the blocks of base64
--- in it cannot
-pub data IsTakingFault : List ℕ → TextFault → Type 0 where
-  here : {octets : List ℕ} {fault : TextFault} (form : Form) → IsBlocksFault (text_of octets) form fault
-      → IsTakingFault octets fault
-  inside : {octets : List ℕ} {fault : TextFault} (form : Form) (before after : List BlockValue) (b : BlockValue)
-      → AreBlocks (text_of octets) form (before ++ b ∷ after) → IsTakingFault b.octets fault
-      → IsTakingFault octets fault
+-- memory may be refused at any time; the other fault says this
+abbrev pub IsMemoryOr : Type 0 → TextFault → Type 0
+IsMemoryOr Says TooLong = Says
+IsMemoryOr Says Memory = Unit {0}
+
+-- an input is taken for a text of which a block is too long
+pub record IsTooLong (octets : List ℕ) : Type 0 where
+  pub unsure : AreSurelyEncodings octets → ⊥
+  pub text : TextTooLong 4 octets
+
+-- why the blocks of an input cannot be returned
+abbrev pub IsTakingFault : List ℕ → TextFault → Type 0
+IsTakingFault octets fault = IsMemoryOr (IsTooLong octets) fault

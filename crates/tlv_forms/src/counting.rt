@@ -1,13 +1,13 @@
 //! Which blocks of a text count.
 ghost use Rattle.std.specs.List.{list_any};
 ghost use Rattle.std.specs.Prelude.{◌≡◌, ◌+◌, ◌≤◌, All, IfErr, IfOk, Some, false, filter, map, true};
-ghost use Rattle.tlv_forms.specs.Private.Counting.{IsBounded, IsFaultAmong, IsFittingForm, IsTextFault, is_kept};
-ghost use Rattle.tlv_forms.specs.Taken.{AreFirstBlocks, BlocksCount, Counts, HasInner, IsTakingFault, RunsCount};
-ghost use Rattle.tlv_forms.specs.Taken.{TextBlocks, all_forms, begins_with_zeros, is_complete, is_whole_block};
-ghost use Rattle.tlv_forms.specs.Taken.{taken_as, taken_value};
+ghost use Rattle.tlv_forms.specs.Private.Counting.{IsBounded, IsFittingForm, is_kept};
+ghost use Rattle.tlv_forms.specs.Taken.{AreFirstBlocks, BlocksCount, BlocksTooLong, Counts, HasInner, HoldsTooLong};
+ghost use Rattle.tlv_forms.specs.Taken.{IsFirstTooLong, IsMemoryOr, RunsCount, TextBlocks, TextTooLong, all_forms};
+ghost use Rattle.tlv_forms.specs.Taken.{begins_with_zeros, is_complete, is_whole_block, taken_as, taken_value};
 ghost use Rattle.tlv_text.specs.Blocks.{IsBase64Alone, block_value, is_too_long};
 ghost use Rattle.tlv_text.specs.declared.block.Form.{Form};
-ghost use Rattle.tlv_text.specs.declared.block.Form.TheVariants.{Base64};
+ghost use Rattle.tlv_text.specs.declared.block.Form.TheVariants.{Base64, Runs};
 
 use crate::characters::{has_controls, text_in};
 use crate::encodings::are_taken_as_encodings;
@@ -37,7 +37,8 @@ pub(crate) fn first_blocks(alloc: Global, layers: u8, text: &[u8]) -> Result<Vec
     ensures taken { IfOk result
         (λ ts. AreFirstBlocks (TextBlocks layers) text.now all_forms (map taken_value ts.items)) }
     ensures bounded { IfOk result (λ ts. All (IsBounded (layers + 1)) ts.items) }
-    ensures fault { IfErr result (IsTextFault text.now) }
+    ensures fault { IfErr result
+        (IsMemoryOr (IsFirstTooLong (TextBlocks layers) (TextTooLong layers) text.now all_forms)) }
 {
     // A text of such pairs has no block of PEM and no row of a dump. Not to look for them takes less time.
     if let Some(block) = lone_hex_block(alloc, text)?
@@ -66,7 +67,8 @@ fn lone_base64_blocks(
     ensures taken { IfOk result
         (λ ts. AreFirstBlocks (TextBlocks layers) text.now all_forms (map taken_value ts.items)) }
     ensures bounded { IfOk result (λ ts. All (IsBounded (layers + 1)) ts.items) }
-    ensures fault { IfErr result (IsTextFault text.now) }
+    ensures fault { IfErr result
+        (IsMemoryOr (IsFirstTooLong (TextBlocks layers) (TextTooLong layers) text.now all_forms)) }
 {
     // Lines of tokens such as `0x30` are base64 too.
     let hexes = blocks_in_first_of(alloc, layers, &[Form::Hex], text)?;
@@ -92,7 +94,8 @@ fn blocks_in_first_of(
     ensures taken { IfOk result
         (λ ts. AreFirstBlocks (TextBlocks layers) text.now forms.now (map taken_value ts.items)) }
     ensures bounded { IfOk result (λ ts. All (IsBounded (layers + 1)) ts.items) }
-    ensures fault { IfErr result (IsTextFault text.now) }
+    ensures fault { IfErr result
+        (IsMemoryOr (IsFirstTooLong (TextBlocks layers) (TextTooLong layers) text.now forms.now)) }
 {
     for form in forms {
         let blocks = blocks_of(alloc, *form, text)?;
@@ -118,7 +121,8 @@ fn counted_blocks(
     ensures taken { IfOk result
         (λ ts. BlocksCount (TextBlocks layers) form (map block_value blocks.items) (map taken_value ts.items)) }
     ensures bounded { IfOk result (λ ts. All (IsBounded (layers + 1)) ts.items) }
-    ensures fault { IfErr result (IsFaultAmong (map block_value blocks.items)) }
+    ensures fault { IfErr result
+        (IsMemoryOr (BlocksTooLong (TextTooLong layers) form (map block_value blocks.items))) }
 {
     match form {
         Form::Base64 => counted_base64(alloc, layers, blocks),
@@ -140,7 +144,8 @@ fn counted_base64(
     ensures taken { IfOk result
         (λ ts. BlocksCount (TextBlocks layers) Base64 (map block_value blocks.items) (map taken_value ts.items)) }
     ensures bounded { IfOk result (λ ts. All (IsBounded (layers + 1)) ts.items) }
-    ensures fault { IfErr result (IsFaultAmong (map block_value blocks.items)) }
+    ensures fault { IfErr result
+        (IsMemoryOr (BlocksTooLong (TextTooLong layers) Base64 (map block_value blocks.items))) }
 {
     match blocks.pop() {
         Some(block) if is_complete(&block) => { counted(alloc, layers, Form::Base64, None, block) }
@@ -156,7 +161,8 @@ fn counted_runs(alloc: Global, layers: u8, blocks: Vec<Block>) -> Result<Vec<Tak
     ensures taken { IfOk result
         (λ ts. RunsCount (TextBlocks layers) (map block_value blocks.items) (map taken_value ts.items)) }
     ensures bounded { IfOk result (λ ts. All (IsBounded (layers + 1)) ts.items) }
-    ensures fault { IfErr result (IsFaultAmong (map block_value blocks.items)) }
+    ensures fault { IfErr result
+        (IsMemoryOr (BlocksTooLong (TextTooLong layers) Runs (map block_value blocks.items))) }
 {
     let mut taken = Vec::new(alloc);
     for block in blocks {
@@ -181,7 +187,7 @@ fn counted(
     ensures taken { IfOk result
         (λ ts. Counts (TextBlocks layers) form layer (block_value block) (map taken_value ts.items)) }
     ensures bounded { IfOk result (λ ts. All (IsBounded (layers + 1)) ts.items) }
-    ensures fault { IfErr result (IsTakingFault block.octets.items) }
+    ensures fault { IfErr result (IsMemoryOr (HoldsTooLong (TextTooLong layers) (block_value block))) }
 {
     if block.octets.is_empty() {
         return Ok(Vec::new(alloc));
@@ -202,7 +208,8 @@ fn inner_blocks(alloc: Global, layers: u8, block: &Block) -> Result<Vec<Taken>, 
         (λ ts. HasInner (TextBlocks layers) (is_whole_block block.now.state) block.now.octets.items
         (map taken_value ts.items)) }
     ensures bounded { IfOk result (λ ts. All (IsBounded layers) ts.items) }
-    ensures fault { IfErr result (IsTakingFault block.now.octets.items) }
+    ensures fault { IfErr result
+        (IsMemoryOr ((is_whole_block block.now.state ≡ true) × TextTooLong layers block.now.octets.items)) }
 {
     match block.state {
         BlockState::Whole => text_blocks(alloc, layers, block.octets.as_slice()),
@@ -217,7 +224,7 @@ fn text_blocks(alloc: Global, layers: u8, octets: &[u8]) -> Result<Vec<Taken>, T
     requires { layers ≤ 3 }
     ensures taken { IfOk result (λ ts. TextBlocks layers octets.now (map taken_value ts.items)) }
     ensures bounded { IfOk result (λ ts. All (IsBounded layers) ts.items) }
-    ensures fault { IfErr result (IsTakingFault octets.now) }
+    ensures fault { IfErr result (IsMemoryOr (TextTooLong layers octets.now)) }
 {
     if layers == 0 {
         return Ok(Vec::new(alloc));

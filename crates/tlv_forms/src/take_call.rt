@@ -1,8 +1,9 @@
 //! The blocks of an input.
 ghost use Rattle.std.specs.Prelude.{◌≡◌, ◌≤◌, [], ◌∷◌, All, IfErr, IfOk, length, map};
 ghost use Rattle.tlv_forms.specs.Private.Counting.{or_octets};
-ghost use Rattle.tlv_forms.specs.Taken.{IsTakenAs, IsTakenFor, IsTakingFault, taken_octets, taken_value};
+ghost use Rattle.tlv_forms.specs.Taken.{IsTakenAs, IsTakenFor, IsTakingFault, taken_octets, taken_value, text_of};
 ghost use Rattle.tlv_head.specs.Limits.{input_limit};
+ghost use Rattle.tlv_text.specs.Blocks.{IsBlocksFault};
 ghost use Rattle.tlv_text.specs.declared.text_fault.TextFault.TheVariants.{Memory};
 
 use crate::Taken;
@@ -24,7 +25,8 @@ const LAYERS: u8 = 3;
 ///
 /// # Errors
 ///
-/// `TextFault::TooLong` if a block has more than 2^30 octets, `TextFault::Memory` if memory is refused.
+/// `TextFault::TooLong` if the input is taken for a text, and a block has more than 2^30 octets: no block counts in a
+/// form before its form. `TextFault::Memory` if memory is refused.
 pub fn take_input(alloc: Global, octets: Vec<u8>) -> Result<Vec<Taken>, TextFault>
     requires { length octets.items ≤ input_limit }
     ensures taken { IfOk result (λ ts. IsTakenFor octets.items (map taken_value ts.items)) }
@@ -66,11 +68,11 @@ fn taken_from_text(alloc: Global, octets: &[u8]) -> Result<Vec<Taken>, TextFault
 ///
 /// # Errors
 ///
-/// The same as for `take_input`.
+/// `TextFault::TooLong` if a block in this form has more than 2^30 octets, `TextFault::Memory` if memory is refused.
 pub fn take_as(alloc: Global, form: Form, octets: &[u8]) -> Result<Vec<Taken>, TextFault>
     ensures taken { IfOk result (λ ts. IsTakenAs form octets.now (map taken_value ts.items)) }
     ensures within { IfOk result (λ ts. All (λ t. length t.block.octets.items ≤ input_limit) ts.items) }
-    ensures fault { IfErr result (IsTakingFault octets.now) }
+    ensures fault { IfErr result (IsBlocksFault (text_of octets.now) form) }
 {
     let ascii = ascii_of_utf16(alloc, octets)?;
     let blocks = blocks_of(alloc, form, text_in(&ascii, octets))?;

@@ -3,9 +3,10 @@ use Rattle.std.specs.Prelude.{◌≡◌, ℕ, Bool, false, nat_lt, List, [], ◌
 use Rattle.std.specs.Prelude.{length, map}
 use Rattle.tlv_io.specs.Device.{SourceState}
 use Rattle.tlv_run.specs.Report.{ReportValue}
+use Rattle.tlv_text.specs.Blocks.{IsBlocksFault}
 use Rattle.tlv_text.specs.declared.text_fault.TextFault.{TextFault}
 use Rattle.tlv_text.specs.declared.text_fault.TextFault.TheVariants as text
-use Rattle.tlv_forms.specs.Taken.{IsTakenAs, IsTakenFor, IsTakingFault, TakenValue, taken_octets}
+use Rattle.tlv_forms.specs.Taken.{IsTakenAs, IsTakenFor, IsTakingFault, TakenValue, taken_octets, text_of}
 use Rattle.tlv_view.specs.ReadWhole.{ReadsWhole, input_report}
 use Rattle.tlv_view.specs.declared.input.InputFault.{InputFault}
 use Rattle.tlv_view_words.specs.declared.request.InputForm.{InputForm}
@@ -40,10 +41,11 @@ blocks_taken file (Err fault) =
 -- what an input is taken for by the requested form, or why its blocks cannot be obtained
 abbrev pub TakesInput : InputForm → List ℕ → Result (List TakenValue) TextFault → Type 0
 TakesInput asked.Any octets (Ok ts) = IsTakenFor octets ts
+TakesInput asked.Any octets (Err fault) = IsTakingFault octets fault
 TakesInput asked.Octets octets (Ok ts) = ts ≡ taken_octets octets ∷ []
-TakesInput (asked.Text form) octets (Ok ts) = IsTakenAs form octets ts
 TakesInput asked.Octets octets (Err fault) = fault ≡ text.Memory
-TakesInput form octets (Err fault) = IsTakingFault octets fault
+TakesInput (asked.Text form) octets (Ok ts) = IsTakenAs form octets ts
+TakesInput (asked.Text form) octets (Err fault) = IsBlocksFault (text_of octets) form fault
 
 -- ---- files
 

@@ -1,14 +1,11 @@
 -- How the blocks of a text are counted.
-use Rattle.std.specs.Prelude.{◌≡◌, ℕ, ◌<◌, ◌≤◌, ◌&&◌, Bool, List, [], ◌∷◌, ◌++◌, length, not}
-use Rattle.tlv_forms.specs.Taken.{IsTakingFault, TakenValue, begins_with_zeros, is_complete, is_present}
-use Rattle.tlv_forms.specs.Taken.{taken_octets, text_of}
+use Rattle.std.specs.Prelude.{◌≡◌, ℕ, ◌<◌, ◌≤◌, ◌&&◌, Bool, List, [], ◌∷◌, length, not}
+use Rattle.tlv_forms.specs.Taken.{TakenValue, begins_with_zeros, is_complete, is_present, taken_octets}
 use Rattle.tlv_forms.specs.declared.taken.Taken.{Taken}
 use Rattle.tlv_head.specs.Limits.{input_limit}
 use Rattle.tlv_text.specs.Blocks.{BlockValue}
 use Rattle.tlv_text.specs.declared.block.Form.{Form}
 use Rattle.tlv_text.specs.declared.block.Form.TheVariants.{Hex, Pem, Runs}
-use Rattle.tlv_text.specs.declared.text_fault.TextFault.{TextFault}
-use Rattle.tlv_text.specs.declared.text_fault.TextFault.TheVariants.{Memory}
 
 -- a block is in fewer than `layers` layers of base64, and is no longer than an input may be
 pub record IsBounded (layers : ℕ) (t : Taken) : Type 0 where
@@ -26,16 +23,6 @@ abbrev pub is_kept : Form → BlockValue → Bool
 is_kept Pem b = is_present b.state
 is_kept Hex b = is_complete b && not (begins_with_zeros b.octets)
 is_kept form b = is_complete b
-
--- why the result for these blocks cannot be returned
-pub data IsFaultAmong (bs : List BlockValue) : TextFault → Type 0 where
-  no_memory : IsFaultAmong bs Memory
-  inside : {fault : TextFault} (before after : List BlockValue) (b : BlockValue) → bs ≡ before ++ b ∷ after
-      → IsTakingFault b.octets fault → IsFaultAmong bs fault
-
--- why the blocks of a text cannot be returned, whatever input has this text
-abbrev pub IsTextFault : List ℕ → TextFault → Type 0
-IsTextFault text fault = (octets : List ℕ) → text_of octets ≡ text → IsTakingFault octets fault
 
 -- the blocks, or the octets as they stand if there are no blocks
 abbrev pub or_octets : List ℕ → List TakenValue → List TakenValue

@@ -1,21 +1,23 @@
-use Rattle.std.proofs.Common.{◌≡◌, ◌+◌, ◌∷◌, ◌++◌, ◌∙◌, [], List, ap, append_assoc, arith, length, map, rules}
+use Rattle.std.proofs.Common.{◌≡◌, ◌+◌, ◌∷◌, ◌++◌, ◌∙◌, [], List, true, ap, append_assoc, arith, length, map, rules}
 use Rattle.std.proofs.Common.{subst, sym}
 use Rattle.std.specs.List.{All}
 use Rattle.std.specs.Vec.Iter.{into_iter_items}
 use Rattle.std.proofs.lemmas.List.{length-map, nil_from_length}
 use Rattle.std.proofs.lemmas.List.Elements.{All-append}
 use Rattle.std.proofs.lemmas.Result.{IfErr-weaker, IfOk-from_err, IfOk-weaker}
-use Rattle.tlv_forms.specs.Private.Counting.{IsBounded, IsFaultAmong}
-use Rattle.tlv_forms.specs.Taken.{BlocksCount, TextBlocks, in_layer, taken_value}
+use Rattle.tlv_forms.specs.Private.Counting.{IsBounded}
+use Rattle.tlv_forms.specs.Taken.{BlocksCount, TextBlocks, TextTooLong, in_layer, is_whole_block, taken_value}
 use Rattle.tlv_forms.specs.declared.taken.Taken.{Taken}
 use Rattle.tlv_forms.proofs.CountLemmas.{next-fit}
-use Rattle.tlv_forms.proofs.CountingLemmas.{among-text, base64-broken, base64-counts, base64-fault, blocks-text}
-use Rattle.tlv_forms.proofs.CountingLemmas.{counts-encodings, counts-nothing, counts-other, counts-text}
-use Rattle.tlv_forms.proofs.CountingLemmas.{memory-is_fault, next-among, octets-none, octets-some, returned-fault, written-back}
-use Rattle.tlv_forms.proofs.FormLemmas.{base64-first, base64-hex_first, base64-runs_first, first-here, first-later}
-use Rattle.tlv_forms.proofs.FormLemmas.{first-none, hex-first, inner-control, inner-text}
-use Rattle.tlv_forms.proofs.FormLemmas.{kept-count, more-bounded, runs-done, runs-next}
+use Rattle.tlv_forms.proofs.CountingLemmas.{base64-broken, base64-counts, counts-encodings, counts-nothing}
+use Rattle.tlv_forms.proofs.CountingLemmas.{counts-other, counts-text, fault-weaker, next-run, octets-none, octets-some}
+use Rattle.tlv_forms.proofs.CountingLemmas.{only-base64, returned-fault, written-back}
+use Rattle.tlv_forms.proofs.FormLemmas.{first-here, first-later, first-none, inner-control, inner-long, inner-text}
+use Rattle.tlv_forms.proofs.FormLemmas.{kept-count, long-here, long-inside, long-later, more-bounded}
+use Rattle.tlv_forms.proofs.FormLemmas.{runs-done, runs-next}
 use Rattle.tlv_forms.proofs.InputLemmas.{none-taken, text-is}
+use Rattle.tlv_forms.proofs.LoneForms.{base64-first, base64-hex_first, base64-hex_long, base64-long, base64-runs_first}
+use Rattle.tlv_forms.proofs.LoneForms.{base64-runs_long, hex-first}
 use Rattle.tlv_text.specs.Blocks.{IsHexAlone, block_value}
 use Rattle.tlv_text.specs.declared.block.Form.TheVariants.{Pem}
 use Rattle.tlv_text.specs.declared.text_fault.TextFault.TheVariants.{Memory}
@@ -30,7 +32,7 @@ counted-returns-then-is_empty-clause-taken t c =
 pub counted-returns-in_err-one_taken-clause-fault :
     goal.counted-returns-in_err-one_taken-clause-fault
 counted-returns-in_err-one_taken-clause-fault t c =
-    returned-fault _ Memory _ c.from_residual-in_err-one_taken.ensures.1 (memory-is_fault c.args.block.octets.items)
+    returned-fault _ Memory _ c.from_residual-in_err-one_taken.ensures.1 tt
 
 pub counted-returns-then-are_taken_as_encodings-clause-taken :
     goal.counted-returns-then-are_taken_as_encodings-clause-taken
@@ -85,7 +87,9 @@ pub counted_base64-returns-in-Some-clause-fault : goal.counted_base64-returns-in
 counted_base64-returns-in-Some-clause-fault t c =
     IfErr-weaker c.counted.result _ _
     (λ fault.
-    next-among c.pop.new.self.items [] c.args.blocks.items c.in-Some.block fault (sym c.in-Some.ensures.items))
+    fault-weaker fault
+    (only-base64 (TextTooLong c.args.layers) c.args.blocks.items c.pop.new.self.items c.in-Some.block
+    c.in-Some.ensures.items c.requires.fitting))
     c.counted.ensures.fault
 
 pub counted_base64-returns-clause-taken : goal.counted_base64-returns-clause-taken
@@ -107,7 +111,7 @@ pub counted_blocks-returns-in_err-kept_blocks-in-Pem :
 counted_blocks-returns-in_err-kept_blocks-in-Pem t c = record {
   taken = IfOk-from_err _ _ c.from_residual.ensures.0;
   bounded = IfOk-from_err _ _ c.from_residual.ensures.0;
-  fault = returned-fault _ Memory _ c.from_residual.ensures.1 IsFaultAmong.no_memory;
+  fault = returned-fault _ Memory _ c.from_residual.ensures.1 tt;
 }
 
 pub counted_blocks-returns-in-Runs-clause-taken : goal.counted_blocks-returns-in-Runs-clause-taken
@@ -133,14 +137,15 @@ counted_runs-returns-in_err-more-clause-fault t c =
     let passed : at.yielded ++ (c.in-Some.block ∷ into_iter_items c.next.new.self)
     ≡ into_iter_items c.into_iter-block-iterator.result = rw (← steps) at.invariant.passed in
     returned-fault _ c.in_err-more.field-0.0 _ c.from_residual.ensures.1
-    (next-among at.yielded _ c.args.blocks.items c.in-Some.block _
-    (passed ∙ c.into_iter-block-iterator.ensures.into_iter_gives.0)
+    (fault-weaker _
+    (next-run (TextTooLong c.args.layers) at.yielded _ c.args.blocks.items c.in-Some.block
+    (passed ∙ c.into_iter-block-iterator.ensures.into_iter_gives.0))
     c.in_err-more.ensures.fault)
 
 pub counted_runs-returns-in_err-append-clause-fault :
     goal.counted_runs-returns-in_err-append-clause-fault
 counted_runs-returns-in_err-append-clause-fault t c =
-    returned-fault _ Memory _ c.from_residual-in_err-append.ensures.1 IsFaultAmong.no_memory
+    returned-fault _ Memory _ c.from_residual-in_err-append.ensures.1 tt
 
 pub counted_runs-loop-block-preserved : goal.counted_runs-loop-block-preserved
 counted_runs-loop-block-preserved t c =
@@ -173,12 +178,12 @@ counted_runs-returns-clause-taken t c =
 pub first_blocks-returns-in_err-block-clause-fault :
     goal.first_blocks-returns-in_err-block-clause-fault
 first_blocks-returns-in_err-block-clause-fault t c =
-    returned-fault _ Memory _ c.from_residual.ensures.1 (λ octets is. memory-is_fault octets)
+    returned-fault _ Memory _ c.from_residual.ensures.1 tt
 
 pub first_blocks-returns-in_err-one_taken-clause-fault :
     goal.first_blocks-returns-in_err-one_taken-clause-fault
 first_blocks-returns-in_err-one_taken-clause-fault t c =
-    returned-fault _ Memory _ c.from_residual-in_err-one_taken.ensures.1 (λ octets is. memory-is_fault octets)
+    returned-fault _ Memory _ c.from_residual-in_err-one_taken.ensures.1 tt
 
 pub first_blocks-returns-clause-taken : goal.first_blocks-returns-clause-taken
 first_blocks-returns-clause-taken t c =
@@ -189,29 +194,43 @@ first_blocks-returns-clause-taken t c =
 pub first_blocks-returns-in_err-base64-clause-fault :
     goal.first_blocks-returns-in_err-base64-clause-fault
 first_blocks-returns-in_err-base64-clause-fault t c =
-    returned-fault _ Memory _ c.from_residual-in_err-base64.ensures.1 (λ octets is. memory-is_fault octets)
+    returned-fault _ Memory _ c.from_residual-in_err-base64.ensures.1 tt
+
+pub lone_base64_blocks-returns-in_err-hexes-clause-fault :
+    goal.lone_base64_blocks-returns-in_err-hexes-clause-fault
+lone_base64_blocks-returns-in_err-hexes-clause-fault t c =
+    returned-fault _ c.in_err-hexes.field-0.0 _ c.from_residual.ensures.1
+    (fault-weaker _
+    (base64-hex_long (TextBlocks c.args.layers) c.args.text.now (block_value c.args.block) c.requires.alone
+    (TextTooLong c.args.layers))
+    c.in_err-hexes.ensures.fault)
 
 pub lone_base64_blocks-returns-then-not-is_empty-clause-taken :
     goal.lone_base64_blocks-returns-then-not-is_empty-clause-taken
 lone_base64_blocks-returns-then-not-is_empty-clause-taken t c =
     let hexes = c.in_ok-hexes.hexes in
-    base64-hex_first (TextBlocks c.args.layers) c.args.text.now (block_value c.args.block) hexes.items _
-    c.requires.alone c.in_ok-hexes.ensures.taken hexes.ok.0 (sym c.is_empty.ensures ∙ c.if-not-is_empty.true)
+    base64-hex_first (TextBlocks c.args.layers) c.args.text.now (block_value c.args.block) c.requires.alone
+    hexes.items _ c.in_ok-hexes.ensures.taken hexes.ok.0 (sym c.is_empty.ensures ∙ c.if-not-is_empty.true)
 
 pub lone_base64_blocks-returns-in_err-taken-clause-fault :
     goal.lone_base64_blocks-returns-in_err-taken-clause-fault
 lone_base64_blocks-returns-in_err-taken-clause-fault t c =
+    let hexes = c.in_ok-hexes.hexes in
     returned-fault _ c.in_err-taken.field-0.0 _ c.from_residual-in_err-taken.ensures.1
-    (base64-fault c.args.text.now (block_value c.args.block) _ c.requires.alone.base64 c.in_err-taken.ensures.fault)
+    (fault-weaker _
+    (base64-long (TextBlocks c.args.layers) c.args.text.now (block_value c.args.block) c.requires.alone
+    c.requires.complete hexes.items _ c.in_ok-hexes.ensures.taken hexes.ok.0
+    (sym c.is_empty.ensures ∙ c.if-not-is_empty.false) (TextTooLong c.args.layers))
+    c.in_err-taken.ensures.fault)
 
 pub lone_base64_blocks-returns-then-not-is_empty-2-clause-taken :
     goal.lone_base64_blocks-returns-then-not-is_empty-2-clause-taken
 lone_base64_blocks-returns-then-not-is_empty-2-clause-taken t c =
     let hexes = c.in_ok-hexes.hexes in
     let taken = c.in_ok-taken.taken in
-    base64-first (TextBlocks c.args.layers) c.args.text.now (block_value c.args.block) hexes.items taken.items _ _
-    c.requires.alone c.requires.complete c.in_ok-hexes.ensures.taken hexes.ok.0
-    (sym c.is_empty.ensures ∙ c.if-not-is_empty.false) c.in_ok-taken.ensures.taken taken.ok.0
+    base64-first (TextBlocks c.args.layers) c.args.text.now (block_value c.args.block) c.requires.alone
+    c.requires.complete hexes.items _ c.in_ok-hexes.ensures.taken hexes.ok.0
+    (sym c.is_empty.ensures ∙ c.if-not-is_empty.false) taken.items _ c.in_ok-taken.ensures.taken taken.ok.0
     (sym c.is_empty-2.ensures ∙ c.if-not-is_empty-2.true)
 
 pub lone_base64_blocks-returns-clause-taken : goal.lone_base64_blocks-returns-clause-taken
@@ -220,46 +239,77 @@ lone_base64_blocks-returns-clause-taken t c =
     let taken = c.in_ok-taken.taken in
     IfOk-weaker c.blocks_in_first_of-2.result _ _
     (λ ts.
-    base64-runs_first (TextBlocks c.args.layers) c.args.text.now (block_value c.args.block) hexes.items taken.items _ _
-    _ c.requires.alone c.requires.complete c.in_ok-hexes.ensures.taken hexes.ok.0
-    (sym c.is_empty.ensures ∙ c.if-not-is_empty.false) c.in_ok-taken.ensures.taken taken.ok.0
+    base64-runs_first (TextBlocks c.args.layers) c.args.text.now (block_value c.args.block) c.requires.alone
+    c.requires.complete hexes.items _ c.in_ok-hexes.ensures.taken hexes.ok.0
+    (sym c.is_empty.ensures ∙ c.if-not-is_empty.false) taken.items _ c.in_ok-taken.ensures.taken taken.ok.0 _
     (sym c.is_empty-2.ensures ∙ c.if-not-is_empty-2.false))
     c.blocks_in_first_of-2.ensures.taken
+
+pub lone_base64_blocks-returns-clause-fault : goal.lone_base64_blocks-returns-clause-fault
+lone_base64_blocks-returns-clause-fault t c =
+    let hexes = c.in_ok-hexes.hexes in
+    let taken = c.in_ok-taken.taken in
+    IfErr-weaker c.blocks_in_first_of-2.result _ _
+    (λ fault.
+    fault-weaker fault
+    (base64-runs_long (TextBlocks c.args.layers) c.args.text.now (block_value c.args.block) c.requires.alone
+    c.requires.complete hexes.items _ c.in_ok-hexes.ensures.taken hexes.ok.0
+    (sym c.is_empty.ensures ∙ c.if-not-is_empty.false) taken.items _ c.in_ok-taken.ensures.taken taken.ok.0
+    (TextTooLong c.args.layers) (sym c.is_empty-2.ensures ∙ c.if-not-is_empty-2.false)))
+    c.blocks_in_first_of-2.ensures.fault
 
 pub blocks_in_first_of-returns-in_err-blocks-clause-fault :
     goal.blocks_in_first_of-returns-in_err-blocks-clause-fault
 blocks_in_first_of-returns-in_err-blocks-clause-fault t c =
     returned-fault _ c.in_err-blocks.field-0.0 _ c.from_residual.ensures.1
-    (blocks-text c.args.text.now _ _ c.in_err-blocks.ensures.fault)
+    (fault-weaker _ c.loop-form.invariant.long
+    (long-here (TextBlocks c.args.layers) (TextTooLong c.args.layers) c.args.text.now c.args.forms.now
+    c.loop-form.form-index Pem _ c.loop-form-test.true c.in_err-blocks.ensures.fault))
 
 pub blocks_in_first_of-returns-in_err-taken-clause-fault :
     goal.blocks_in_first_of-returns-in_err-taken-clause-fault
 blocks_in_first_of-returns-in_err-taken-clause-fault t c =
     returned-fault _ c.in_err-taken.field-0.0 _ c.from_residual-in_err-taken.ensures.1
-    (among-text c.args.text.now _ _ _ c.in_ok-blocks.ensures.blocks c.in_err-taken.ensures.fault)
+    (fault-weaker _
+    (λ long.
+    c.loop-form.invariant.long
+    (long-inside (TextBlocks c.args.layers) (TextTooLong c.args.layers) c.args.text.now c.args.forms.now
+    c.loop-form.form-index Pem _ c.loop-form-test.true c.in_ok-blocks.ensures.blocks c.in_ok-blocks.ensures.fit
+    long))
+    c.in_err-taken.ensures.fault)
 
 pub blocks_in_first_of-returns-then-not-is_empty-clause-taken :
     goal.blocks_in_first_of-returns-then-not-is_empty-clause-taken
 blocks_in_first_of-returns-then-not-is_empty-clause-taken t c =
     let taken = c.in_ok-taken.taken in
-    c.loop-form.invariant _
+    c.loop-form.invariant.first _
     (first-here (TextBlocks c.args.layers) c.args.text.now c.args.forms.now c.loop-form.form-index Pem
     _ taken.items _
-    c.loop-form-test.true c.in_ok-blocks.ensures.blocks c.in_ok-taken.ensures.taken taken.ok.0
-    (sym c.is_empty.ensures ∙ c.if-not-is_empty.true))
+    c.loop-form-test.true c.in_ok-blocks.ensures.blocks c.in_ok-blocks.ensures.fit c.in_ok-taken.ensures.taken
+    taken.ok.0 (sym c.is_empty.ensures ∙ c.if-not-is_empty.true))
 
 pub blocks_in_first_of-loop-form-preserved : goal.blocks_in_first_of-loop-form-preserved
-blocks_in_first_of-loop-form-preserved t c = λ others rests.
+blocks_in_first_of-loop-form-preserved t c =
     let taken = c.in_ok-taken.taken in
-    c.loop-form.invariant others
-    (first-later (TextBlocks c.args.layers) c.args.text.now c.args.forms.now c.loop-form.form-index Pem
-    _ taken.items _ others
-    c.loop-form-test.true c.in_ok-blocks.ensures.blocks c.in_ok-taken.ensures.taken taken.ok.0
-    (sym c.is_empty.ensures ∙ c.if-not-is_empty.false) rests)
+    let none = sym c.is_empty.ensures ∙ c.if-not-is_empty.false in
+    record {
+      first = λ others rests.
+          c.loop-form.invariant.first others
+          (first-later (TextBlocks c.args.layers) c.args.text.now c.args.forms.now c.loop-form.form-index Pem
+          _ taken.items _ others
+          c.loop-form-test.true c.in_ok-blocks.ensures.blocks c.in_ok-blocks.ensures.fit
+          c.in_ok-taken.ensures.taken taken.ok.0 none rests);
+      long = λ more.
+          c.loop-form.invariant.long
+          (long-later (TextBlocks c.args.layers) (TextTooLong c.args.layers) c.args.text.now c.args.forms.now
+          c.loop-form.form-index Pem _ taken.items _
+          c.loop-form-test.true c.in_ok-blocks.ensures.blocks c.in_ok-blocks.ensures.fit
+          c.in_ok-taken.ensures.taken taken.ok.0 none more);
+    }
 
 pub blocks_in_first_of-returns-clause-taken : goal.blocks_in_first_of-returns-clause-taken
 blocks_in_first_of-returns-clause-taken t c =
-    c.loop-form.invariant _
+    c.loop-form.invariant.first _
     (first-none (TextBlocks c.args.layers) c.args.text.now c.args.forms.now c.loop-form.form-index
     c.new.result.items
     c.loop-form-test.false c.new.ensures.items)
@@ -267,7 +317,7 @@ blocks_in_first_of-returns-clause-taken t c =
 pub text_blocks-returns-in_err-ascii-clause-fault :
     goal.text_blocks-returns-in_err-ascii-clause-fault
 text_blocks-returns-in_err-ascii-clause-fault t c =
-    returned-fault _ Memory _ c.from_residual.ensures.1 (memory-is_fault c.args.octets.now)
+    returned-fault _ Memory _ c.from_residual.ensures.1 tt
 
 pub text_blocks-returns-then-has_controls-clause-taken : goal.text_blocks-returns-then-has_controls-clause-taken
 text_blocks-returns-then-has_controls-clause-taken t c =
@@ -283,3 +333,25 @@ text_blocks-returns-clause-taken t c =
     (text-is c.args.octets.now _ _ c.text_in-text.ensures c.in_ok-ascii.ensures)
     (sym c.has_controls.ensures ∙ c.if-has_controls.false))
     c.first_blocks.ensures.taken
+
+pub text_blocks-returns-clause-fault : goal.text_blocks-returns-clause-fault
+text_blocks-returns-clause-fault t c =
+    IfErr-weaker c.first_blocks.result _ _
+    (λ fault.
+    fault-weaker fault
+    (inner-long c.args.layers c.args.octets.now c.text_in-text.result.now c.if-layers-eq0.false
+    (text-is c.args.octets.now _ _ c.text_in-text.ensures c.in_ok-ascii.ensures)
+    (sym c.has_controls.ensures ∙ c.if-has_controls.false)))
+    c.first_blocks.ensures.fault
+
+pub counted-returns-in_err-inner-clause-fault : goal.counted-returns-in_err-inner-clause-fault
+counted-returns-in_err-inner-clause-fault t c =
+    let b = c.args.block in
+    returned-fault _ c.in_err-inner.field-0.0 _ c.from_residual.ensures.1
+    (fault-weaker _
+    (λ (long : (is_whole_block b.state ≡ true) × TextTooLong c.args.layers b.octets.items). record {
+      some = octets-some _ b.octets.items b.octets.ok.0 (sym c.is_empty.ensures ∙ c.if-is_empty.false);
+      whole = long.0;
+      text = long.1;
+    })
+    c.in_err-inner.ensures.fault)

@@ -2,7 +2,8 @@ use Rattle.std.proofs.Common.{◌≡◌, ◌+◌, ◌*◌, ◌++◌, All, List, 
 use Rattle.std.specs.List.{list_any}
 use Rattle.std.specs.Vec.Iter.{into_iter_items, into_iter_len}
 use Rattle.tlv_forms.specs.Private.Counting.{IsBounded}
-use Rattle.tlv_forms.specs.Taken.{AreFirstBlocks, RunsCount, TakenValue, TextBlocks, taken_value}
+use Rattle.tlv_forms.specs.Taken.{AreFirstBlocks, IsFirstTooLong, RunsCount, TakenValue, TextBlocks, TextTooLong}
+use Rattle.tlv_forms.specs.Taken.{taken_value}
 use Rattle.tlv_text.specs.Blocks.{block_value, is_too_long}
 use Rattle.tlv_forms.proofs.counting.+layers.Given as goal
 
@@ -46,6 +47,9 @@ invariant-counted_runs-loop-block l = record {
 }
 
 abbrev pub invariant-blocks_in_first_of-loop-form : goal.invariant-blocks_in_first_of-loop-form
-invariant-blocks_in_first_of-loop-form l =
-    (ts : List TakenValue) → AreFirstBlocks (TextBlocks l.layers) l.text (drop l.form-index l.forms) ts
-    → AreFirstBlocks (TextBlocks l.layers) l.text l.forms ts
+invariant-blocks_in_first_of-loop-form l = record {
+  first : (ts : List TakenValue) → AreFirstBlocks (TextBlocks l.layers) l.text (drop l.form-index l.forms) ts
+      → AreFirstBlocks (TextBlocks l.layers) l.text l.forms ts;
+  long : IsFirstTooLong (TextBlocks l.layers) (TextTooLong l.layers) l.text (drop l.form-index l.forms)
+      → IsFirstTooLong (TextBlocks l.layers) (TextTooLong l.layers) l.text l.forms;
+}

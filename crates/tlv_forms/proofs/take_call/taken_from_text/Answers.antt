@@ -1,13 +1,13 @@
 use Rattle.std.proofs.Common.{◌∙◌, sym}
-use Rattle.tlv_forms.proofs.CountingLemmas.{memory-is_fault, returned-fault}
+use Rattle.tlv_forms.proofs.CountingLemmas.{fault-weaker, returned-fault}
 use Rattle.tlv_forms.proofs.InputLemmas.{control-taken, no_text-taken, none-taken, other-taken, sound-taken, text-is}
-use Rattle.tlv_forms.proofs.InputLemmas.{surely-taken, text-taken}
+use Rattle.tlv_forms.proofs.InputLemmas.{surely-taken, text-taken, too_long-taken}
 use Rattle.tlv_text.specs.declared.text_fault.TextFault.TheVariants.{Memory}
 use Rattle.tlv_forms.proofs.take_call.taken_from_text.Goals as goal
 
 pub returns-in_err-ascii-clause-fault : goal.returns-in_err-ascii-clause-fault
 returns-in_err-ascii-clause-fault c =
-    returned-fault _ Memory _ c.from_residual.ensures.1 (memory-is_fault c.args.octets.now)
+    returned-fault _ Memory _ c.from_residual.ensures.1 tt
 
 pub returns-then-has_controls-clause-taken : goal.returns-then-has_controls-clause-taken
 returns-then-has_controls-clause-taken c =
@@ -24,9 +24,18 @@ returns-then-are_surely_encodings-clause-taken c =
     surely-taken c.args.octets.now _ c.new-then-are_surely_encodings.ensures.items
     (c.are_surely_encodings.ensures.0 c.if-are_surely_encodings.true)
 
+pub returns-in_err-taken-clause-fault : goal.returns-in_err-taken-clause-fault
+returns-in_err-taken-clause-fault c =
+    let is = text-is c.args.octets.now _ _ c.text_in-text.ensures c.in_ok-ascii.ensures in
+    returned-fault _ c.in_err-taken.field-0.0 _ c.from_residual-in_err-taken.ensures.1
+    (fault-weaker _
+    (too_long-taken c.args.octets.now _ is (sym c.has_controls.ensures ∙ c.if-has_controls.false)
+    (λ surely. absurd (cc (c.are_surely_encodings.ensures.1 surely, c.if-are_surely_encodings.false))))
+    c.in_err-taken.ensures.fault)
+
 pub returns-in_err-one_taken-clause-fault : goal.returns-in_err-one_taken-clause-fault
 returns-in_err-one_taken-clause-fault c =
-    returned-fault _ Memory _ c.from_residual-in_err-one_taken.ensures.1 (memory-is_fault c.args.octets.now)
+    returned-fault _ Memory _ c.from_residual-in_err-one_taken.ensures.1 tt
 
 pub returns-then-not-are_encodings-clause-taken : goal.returns-then-not-are_encodings-clause-taken
 returns-then-not-are_encodings-clause-taken c =
