@@ -4,4 +4,5 @@ pub mod CountingLemmas
 pub mod FormLemmas
 pub mod InputLemmas
 pub mod LoneForms
+pub mod OneTaking
 pub mod TakenLemmas

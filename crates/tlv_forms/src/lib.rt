@@ -4,6 +4,7 @@
 mod characters;
 mod counting;
 mod encodings;
+pub mod laws;
 mod take_call;
 mod taken;
 mod values;

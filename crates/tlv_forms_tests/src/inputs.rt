@@ -1,7 +1,7 @@
 //! Tests of inputs that are taken as octets, and of texts whose form is unknown.
 use crate::rows::{Row, Want, expect_blocks, expect_rows};
 use std::test::Fail;
-use tlv_forms::{TakenFor, take_octets};
+use tlv_forms::{TakenFor, laws, take_octets};
 use tlv_text::BlockState;
 
 /// Inputs that are taken as octets: encodings, two of which contain a block of PEM, an encoding without control
@@ -189,4 +189,9 @@ fn octets_may_be_named(rt: HostRuntime) -> Result<(), Fail> {
     );
     expect_blocks(&rt, text, taken.as_slice(), &[want]);
     Ok(())
+}
+
+#[test]
+fn the_law_may_be_called() {
+    laws::inputs_are_taken_for_one_thing();
 }

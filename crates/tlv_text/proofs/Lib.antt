@@ -17,6 +17,7 @@ pub mod LoneLemmas
 pub mod MarkLemmas
 pub mod NumberLemmas
 pub mod NumberRows
+pub mod OneBlocks
 pub mod PairLemmas
 pub mod PairReadLemmas
 pub mod PairRows
