@@ -165,6 +165,15 @@ def of_numbers(text):
     return first
 
 
+def may_be_pairs(text):
+    """Returns whether the numbers of the list of a text that is not refused may be pairs of hexadecimal digits: none has
+    a minus or three digits, and one has two digits, of which the first is 0.
+    """
+    start = next(it.start() for it in re.finditer(rb"[\[{]", text) if len(of_list(text, it.start()).octets) > 1)
+    numbers = re.split(rb"[\]}]", text[start + 1 :])[0].replace(b",", b" ").split()
+    return all(re.fullmatch(rb"[0-9]{1,2}", it) for it in numbers) and any(re.fullmatch(rb"0[0-9]", it) for it in numbers)
+
+
 def of_list(text, start):
     """Returns the octets of the numbers after a bracket or a brace, and where the list breaks, or None if it is closed.
     """

@@ -143,7 +143,7 @@ def of_known_form(text, layers):
         return of_form("pem", text)
     blocks = sound("dump", text_dumps.decoded(text)) or sound("hex", text_forms.of_hexadecimal(text), OFFSET)
     numbers = text_forms.of_numbers(text)
-    if not blocks and numbers is not None and numbers.place is None:
+    if not blocks and numbers is not None and numbers.place is None and not text_forms.may_be_pairs(text):
         return of_form("numbers", text)
     return blocks or of_counting_base64(text, layers) or of_counting_runs(text, layers)
 

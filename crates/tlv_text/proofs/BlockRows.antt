@@ -16,7 +16,7 @@ use Rattle.tlv_text.specs.Blocks.{dump_block, hex_block, line_at, numbers_block,
 use Rattle.tlv_text.specs.Blocks.{state_with_end}
 use Rattle.tlv_text.specs.Pem.{BeginsBlock, HasNoBlock, IsFirstBlock, begin_marker, dashes}
 use Rattle.tlv_text.specs.declared.base64_text.Alphabet.TheVariants.{Standard, UrlSafe}
-use Rattle.tlv_text.specs.declared.block.BlockState.TheVariants.{Encrypted, Refused, Unended, Whole}
+use Rattle.tlv_text.specs.declared.block.BlockState.TheVariants.{Encrypted, MayBePairs, Refused, Unended, Whole}
 
 -- ---- lines
 
@@ -62,6 +62,9 @@ row-no_dump = refl
 
 row-numbers : numbers_block (codes "[48, -1]") ≡ only_block (48 ∷ 255 ∷ []) Whole
 row-numbers = refl
+
+row-pairs_of_numbers : numbers_block (codes "[30, 03]") ≡ only_block (30 ∷ 3 ∷ []) MayBePairs
+row-pairs_of_numbers = refl
 
 row-no_numbers : numbers_block (codes "[1]") ≡ absent_block
 row-no_numbers = refl

@@ -9,7 +9,7 @@ use Rattle.std.proofs.Math.Seq.{drop-drop}
 use Rattle.memchr.specs.Find.{IsFirstByte, is_byte2}
 use Rattle.tlv_text.proofs.Slices.{from-on, slice_from}
 use Rattle.tlv_text.specs.Numbers.{from_list, in_list_after, items_read, list_at, list_place_after, list_step_then}
-use Rattle.tlv_text.specs.Numbers.{alone_before, numbers_read, step_at}
+use Rattle.tlv_text.specs.Numbers.{alone_before, has_no_pair, has_zero_pair, numbers_read, step_at}
 use Rattle.tlv_text.specs.TextRead.{PartRead}
 use Rattle.tlv_text.specs.declared.numbers.Number.{Number}
 use Rattle.tlv_text.specs.declared.numbers.Place.{Place}
@@ -111,32 +111,36 @@ list-there (x ∷ text) e = by (is_some (list_at (x ∷ text))) refl (list-there
 
 -- ---- the only list of a text
 
-pub one-list : (text next : List ℕ) (list : PartRead) (second : Option PartRead) → Some list ≡ list_at (from_list text)
-    → next ≡ drop 1 (from_list text) → second ≡ list_at (from_list next) → is_some second ≡ false
-    → Some list ≡ numbers_read text
-one-list text next list second first rest e none =
-    let nothing : from_list next ≡ [] = list-there next (ap is_some (sym e) ∙ none) in
-    ap (λ (t : List ℕ). Some (alone_before t list)) (sym nothing)
-    ∙ ap (option_map (alone_before (from_list next))) first
-    ∙ ap (λ (t : List ℕ). option_map (alone_before (from_list t)) (list_at (from_list text))) rest
+-- no other list begins
+pub alone-before : (rest : List ℕ) (list : PartRead) (second : Option PartRead)
+    → second ≡ list_at (from_list rest) → is_some second ≡ false → list ≡ alone_before (from_list rest) list
+alone-before rest list second e none =
+    let nothing : from_list rest ≡ [] = list-there rest (ap is_some (sym e) ∙ none) in
+    ap (λ (t : List ℕ). alone_before t list) (sym nothing)
 
--- a second list begins with its opening, and the rest of the text comes after it
-second-size : (text rest : List ℕ) → is_some (list_at text) ≡ true → rest ≡ drop 1 text → (list : PartRead)
-    → alone_before text list
-    ≡ record list { left = option_or list.left (Some (length rest + 1)) }
-second-size [] rest some e list = absurd (cc)
-second-size (x ∷ text) rest some e list =
-    let size : suc (length text) ≡ length rest + 1 = omega (arith, ap length e) in
+-- a second list begins with its opening, and `after` comes after it
+second-size : (text after : List ℕ) → is_some (list_at text) ≡ true → after ≡ drop 1 text → (list : PartRead)
+    → record list { left = option_or list.left (Some (length after + 1)) } ≡ alone_before text list
+second-size [] after some e list = absurd (cc)
+second-size (x ∷ text) after some e list =
+    let size : length after + 1 ≡ suc (length text) = omega (arith, ap length e) in
     ap (λ (n : ℕ). record { octets = list.octets; left = option_or list.left (Some n) }) size
 
-pub two-lists : (text next rest : List ℕ) (list : PartRead) (second : Option PartRead)
-    → Some list ≡ list_at (from_list text) → next ≡ drop 1 (from_list text) → second ≡ list_at (from_list next)
-    → is_some second ≡ true → rest ≡ drop 1 (from_list next)
-    → Some (record { octets = list.octets; left = option_or list.left (Some (length rest + 1)) }) ≡ numbers_read text
-two-lists text next rest list second first e is some f =
-    ap Some (sym (second-size (from_list next) rest (ap is_some (sym is) ∙ some) f list))
-    ∙ ap (option_map (alone_before (from_list next))) first
-    ∙ ap (λ (t : List ℕ). option_map (alone_before (from_list t)) (list_at (from_list text))) e
+pub alone-refused : (rest after : List ℕ) (list : PartRead) (left : Option ℕ) (second : Option PartRead)
+    → left ≡ option_or list.left (Some (length after + 1)) → second ≡ list_at (from_list rest)
+    → is_some second ≡ true → after ≡ drop 1 (from_list rest)
+    → record list { left = left } ≡ alone_before (from_list rest) list
+alone-refused rest after list left second is e some f =
+    ap (λ (l : Option ℕ). record list { left = l }) is
+    ∙ second-size (from_list rest) after (ap is_some (sym e) ∙ some) f list
+
+-- what is read of a text, by its first list
+pub first-only : (text rest : List ℕ) (list only : PartRead) → Some list ≡ list_at (from_list text)
+    → rest ≡ drop 1 (from_list text) → only ≡ alone_before (from_list rest) list → numbers_read text ≡ Some only
+first-only text rest list only first next is =
+    ap (λ (t : List ℕ). option_map (alone_before (from_list t)) (list_at (from_list text))) (sym next)
+    ∙ ap (option_map (alone_before (from_list rest))) (sym first)
+    ∙ ap Some (sym is)
 
 -- ---- the first character that opens a list
 
@@ -170,3 +174,17 @@ list-not_there text n list f e none =
     openings-passed n text (none-before text n f)
     ∙ list-passed (drop n text) (ap is_some (sym here) ∙ none)
     ∙ ap from_list (next-on n text)
+
+-- ---- fewer than three characters
+
+pub few-zero_pair : (text : List ℕ) → length text < 3 → has_zero_pair text ≡ false
+few-zero_pair [] few = refl
+few-zero_pair (x ∷ []) few = refl
+few-zero_pair (x ∷ y ∷ []) few = refl
+few-zero_pair (x ∷ y ∷ z ∷ text) few = absurd (omega (arith, few))
+
+pub few-no_pair : (text : List ℕ) → length text < 3 → has_no_pair text ≡ false
+few-no_pair [] few = refl
+few-no_pair (x ∷ []) few = refl
+few-no_pair (x ∷ y ∷ []) few = refl
+few-no_pair (x ∷ y ∷ z ∷ text) few = absurd (omega (arith, few))

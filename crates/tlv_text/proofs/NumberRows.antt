@@ -1,7 +1,7 @@
 -- Texts, and what is read of the list of numbers in them.
-use Rattle.std.proofs.Common.{◌≡◌, ℕ, List, [], ◌∷◌, refl, Option, Some, None}
+use Rattle.std.proofs.Common.{◌≡◌, ℕ, true, false, List, [], ◌∷◌, refl, Option, Some, None}
 use Rattle.std.specs.Prelude.{codes}
-use Rattle.tlv_text.specs.Numbers.{numbers_read}
+use Rattle.tlv_text.specs.Numbers.{may_be_pairs, numbers_read}
 use Rattle.tlv_text.specs.TextRead.{PartRead}
 
 -- a list that is closed
@@ -95,3 +95,31 @@ inner-row = refl
 -- the first list breaks before
 both-row : numbers_read (codes "[1,2,x] [3,4]") ≡ broken (1 ∷ 2 ∷ []) 8
 both-row = refl
+
+-- numbers of two digits, one of which begins with 0
+pairs-row : may_be_pairs (codes "[30, 03, 02, 01, 05]") ≡ true
+pairs-row = refl
+
+last_pair-row : may_be_pairs (codes "{48,3,2,1,05}") ≡ true
+last_pair-row = refl
+
+-- no such number
+decimal-row : may_be_pairs (codes "[48, 3, 2, 1, 5]") ≡ false
+decimal-row = refl
+
+zeros-row : may_be_pairs (codes "[48, 0, 0, 10, 20]") ≡ false
+zeros-row = refl
+
+-- a number has three digits, or a minus
+three-row : may_be_pairs (codes "[048, 003, 002, 001, 005]") ≡ false
+three-row = refl
+
+mixed-row : may_be_pairs (codes "[30, 130, 02]") ≡ false
+mixed-row = refl
+
+minus-row : may_be_pairs (codes "[30, -1, 02]") ≡ false
+minus-row = refl
+
+-- what comes after the list does not count
+after-row : may_be_pairs (codes "[48, 3] 05,") ≡ false
+after-row = refl

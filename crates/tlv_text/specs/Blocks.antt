@@ -4,7 +4,7 @@ use Rattle.std.specs.Prelude.{List, [], ◌∷◌, length, take, Option, Some, N
 use Rattle.std.specs.List.{list_any}
 use Rattle.tlv_text.specs.Base64.{IsBase64, ReadsBase64}
 use Rattle.tlv_text.specs.Dump.{dump_limit, dump_read}
-use Rattle.tlv_text.specs.Numbers.{numbers_read}
+use Rattle.tlv_text.specs.Numbers.{may_be_pairs, numbers_read}
 use Rattle.tlv_text.specs.Pairs.{pairs_read}
 use Rattle.tlv_text.specs.Pem.{HasNoBlock, IsFirstBlock}
 use Rattle.tlv_text.specs.PemBody.{base64_part, is_encrypted}
@@ -16,7 +16,7 @@ use Rattle.tlv_text.specs.declared.base64_text.Alphabet.{Alphabet}
 use Rattle.tlv_text.specs.declared.base64_text.Alphabet.TheVariants.{Standard, UrlSafe}
 use Rattle.tlv_text.specs.declared.block.Block.{Block}
 use Rattle.tlv_text.specs.declared.block.BlockState.{BlockState}
-use Rattle.tlv_text.specs.declared.block.BlockState.TheVariants.{Whole, Unended, Encrypted, Refused, Absent}
+use Rattle.tlv_text.specs.declared.block.BlockState.TheVariants.{Whole, MayBePairs, Unended, Encrypted, Refused, Absent}
 use Rattle.tlv_text.specs.declared.block.Form.{Form}
 use Rattle.tlv_text.specs.declared.block.Form.TheVariants.{Pem, Dump, Hex, Numbers, Base64, Runs}
 use Rattle.tlv_text.specs.declared.text_fault.TextFault.{TextFault}
@@ -76,8 +76,14 @@ hex_block text = only_block (hex_read text).octets (state_at_place text 0 (refus
 abbrev pub dump_block : List ℕ → BlockValue
 dump_block text = only_block (dump_read text).octets (state_at_place text 0 (refused_in text (dump_read text).left))
 
+-- numbers of which nothing is refused, but which may be pairs of hexadecimal digits
+abbrev pub state_of_list : List ℕ → BlockState → BlockState
+state_of_list text Whole = if may_be_pairs text then MayBePairs else Whole
+state_of_list text state = state
+
 abbrev pub list_block : List ℕ → Option PartRead → BlockValue
-list_block text (Some list) = only_block list.octets (state_at_place text 0 (refused_in text list.left))
+list_block text (Some list) =
+    only_block list.octets (state_of_list text (state_at_place text 0 (refused_in text list.left)))
 list_block text None = absent_block
 
 abbrev pub numbers_block : List ℕ → BlockValue

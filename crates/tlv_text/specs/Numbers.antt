@@ -6,7 +6,7 @@
 --   items  = item *("," item) ["," *white]
 --   item   = *white number *white
 --   number = ["-"] 1*3digit                     from -128 to 255; white space, a comma or the end of the list follows
-use Rattle.std.specs.Prelude.{ℕ, zero, suc, ◌+◌, ◌-◌, ◌*◌, ◌%◌, ◌==◌, Bool, true, false, ◌&&◌, ◌||◌, nat_le}
+use Rattle.std.specs.Prelude.{ℕ, zero, suc, ◌+◌, ◌-◌, ◌*◌, ◌%◌, ◌==◌, Bool, true, false, ◌&&◌, ◌||◌, nat_le, not}
 use Rattle.std.specs.Prelude.{if◌then◌else◌}
 use Rattle.std.specs.Prelude.{List, [], ◌∷◌, Option, Some, None, drop, is_some, length, option_map}
 use Rattle.std.specs.Option.{option_or}
@@ -159,3 +159,35 @@ only_list text = option_map (alone_before (from_list (drop 1 text))) (list_at te
 -- what is read of the list of a text, if it has one
 abbrev pub numbers_read : List ℕ → Option PartRead
 numbers_read text = only_list (from_list text)
+
+-- ---- numbers that may be pairs of hexadecimal digits
+
+-- a bracket or a brace that closes a list
+abbrev pub is_closing : ℕ → Bool
+is_closing x = (x == 93) || (x == 125)
+
+-- three characters that no pair of digits has: a minus comes first, or there are three digits
+abbrev pub is_no_pair : ℕ → ℕ → ℕ → Bool
+is_no_pair x y z = (x == 45) || (is_decimal x && is_decimal y && is_decimal z)
+
+-- two digits, the first of them 0, and then another character
+abbrev pub is_zero_pair : ℕ → ℕ → ℕ → Bool
+is_zero_pair x y z = (x == 48) && is_decimal y && not (is_decimal z)
+
+-- the same somewhere in a list, after its opening
+abbrev pub has_no_pair : List ℕ → Bool
+has_no_pair [] = false
+has_no_pair (x ∷ []) = false
+has_no_pair (x ∷ y ∷ []) = false
+has_no_pair (x ∷ y ∷ z ∷ text) = not (is_closing x) && (is_no_pair x y z || has_no_pair (y ∷ z ∷ text))
+
+abbrev pub has_zero_pair : List ℕ → Bool
+has_zero_pair [] = false
+has_zero_pair (x ∷ []) = false
+has_zero_pair (x ∷ y ∷ []) = false
+has_zero_pair (x ∷ y ∷ z ∷ text) = not (is_closing x) && (is_zero_pair x y z || has_zero_pair (y ∷ z ∷ text))
+
+-- no number of the list of a text has a minus or three digits, and one has two digits, of which the first is 0: these
+-- are more likely pairs of hexadecimal digits, as in `[30, 03, 02, 01, 05]`
+abbrev pub may_be_pairs : List ℕ → Bool
+may_be_pairs text = has_zero_pair (drop 1 (from_list text)) && not (has_no_pair (drop 1 (from_list text)))

@@ -23,6 +23,9 @@ pub enum Form {
 pub enum BlockState {
     /// Nothing is wrong: all of the block is decoded.
     Whole,
+    /// All of the block is decoded: it is numbers that may be pairs of hexadecimal digits. No number has a minus or
+    /// three digits, and one has two digits, of which the first is 0.
+    MayBePairs,
     /// It is PEM, and the text ends before its end marker.
     Unended,
     /// It is PEM, and its headers say that it is encrypted. It has no octets.

@@ -1,8 +1,9 @@
 //! Octets as decimal numbers.
-ghost use Rattle.std.specs.Prelude.{◌≡◌, ◌≤◌, ◌+◌, ◌-◌, IfOk, MatchOption, None, Some, drop, length, option_map, true};
+ghost use Rattle.std.specs.Prelude.{◌≡◌, ◌≤◌, ◌+◌, ◌-◌, IfOk, IfSome, MatchOption, None, Some, drop, length, option_map, true};
 ghost use Rattle.tlv_text.specs.Characters.{is_white};
-ghost use Rattle.tlv_text.specs.Numbers.{after_number, before_number, digits_at, from_list, is_decimal, items_read};
-ghost use Rattle.tlv_text.specs.Numbers.{list_at, may_follow_number, number_at, numbers_read, step_at, two_or_more};
+ghost use Rattle.tlv_text.specs.Numbers.{after_number, alone_before, before_number, digits_at, from_list, has_no_pair};
+ghost use Rattle.tlv_text.specs.Numbers.{has_zero_pair, is_closing, is_decimal, items_read, list_at, may_be_pairs};
+ghost use Rattle.tlv_text.specs.Numbers.{may_follow_number, number_at, numbers_read, step_at, two_or_more};
 ghost use Rattle.tlv_text.specs.Private.NumberSteps.{IsWithinText, list_value};
 ghost use Rattle.tlv_text.specs.TextRead.{PartRead, refused_in};
 ghost use Rattle.tlv_text.specs.declared.numbers.Place.TheVariants.{AtStart};
@@ -64,6 +65,14 @@ pub(crate) struct ListRead {
     pub(crate) left: Option<usize>,
 }
 
+/// The octets of the only list of a text.
+#[derive(Debug, Drop)]
+pub(crate) struct NumbersRead {
+    pub(crate) decoded: Decoded,
+    /// Whether the numbers may be pairs of hexadecimal digits.
+    pub(crate) may_be_pairs: bool,
+}
+
 /// Decodes the only list in a text: two or more decimal numbers from -128 to 255, in brackets or in braces, with commas
 /// between them and perhaps one after the last. Anything may stand around the list. A text with such numbers is refused
 /// where their list breaks, or where a second list begins. Returns `None` for a text without a list. The time is
@@ -77,30 +86,89 @@ pub fn decode_numbers(alloc: Global, text: &[u8]) -> Result<Option<Decoded>, All
         (λ d. (list : PartRead) × (numbers_read text.now ≡ Some list) × (d.octets.items ≡ list.octets)
         × (d.refused ≡ refused_in text.now list.left))) }
 {
-    let Some(list) = read_numbers(alloc, text)? else {
-        return Ok(None);
-    };
-    Ok(Some(Decoded {
-        refused: refused_in(text, list.left),
-        octets: list.octets,
-    }))
+    match read_numbers(alloc, text)? {
+        Some(numbers) => Ok(Some(numbers.decoded)),
+        None => Ok(None),
+    }
 }
 
-/// Reads the first list of a text. It is refused where the next list begins, if it does not break before.
-fn read_numbers(alloc: Global, text: &[u8]) -> Result<Option<ListRead>, AllocError>
-    ensures { IfOk result (λ list. option_map list_value list ≡ numbers_read text.now) }
+/// Decodes the only list in a text, and says whether its numbers may be pairs of hexadecimal digits.
+pub(crate) fn read_numbers(alloc: Global, text: &[u8]) -> Result<Option<NumbersRead>, AllocError>
+    ensures list { IfOk result (λ numbers. MatchOption numbers (numbers_read text.now ≡ None)
+        (λ n. (list : PartRead) × (numbers_read text.now ≡ Some list) × (n.decoded.octets.items ≡ list.octets)
+        × (n.decoded.refused ≡ refused_in text.now list.left))) }
+    ensures pairs { IfOk result (λ numbers. IfSome numbers (λ n. n.may_be_pairs ≡ may_be_pairs text.now)) }
 {
     let mut rest = text;
     let Some(list) = first_list(alloc, &mut rest)? else {
         return Ok(None);
     };
-    if first_list(alloc, &mut rest)?.is_none() {
-        return Ok(Some(list));
-    }
-    Ok(Some(ListRead {
-        left: list.left.or(Some(rest.len() + 1)),
-        octets: list.octets,
+    let may_be_pairs = has_zero_pair(rest) && !has_no_pair(rest);
+    let list = only_list(alloc, list, rest)?;
+    Ok(Some(NumbersRead {
+        decoded: Decoded {
+            refused: refused_in(text, list.left),
+            octets: list.octets,
+        },
+        may_be_pairs,
     }))
+}
+
+/// The first list of a text. It is refused where the next list begins, if it does not break before. `rest` comes after
+/// its opening.
+fn only_list(alloc: Global, list: ListRead, rest: &[u8]) -> Result<ListRead, AllocError>
+    ensures { IfOk result (λ only. list_value only ≡ alone_before (from_list rest.now) (list_value list)) }
+{
+    let mut after = rest;
+    if first_list(alloc, &mut after)?.is_none() {
+        return Ok(list);
+    }
+    Ok(ListRead {
+        left: list.left.or(Some(after.len() + 1)),
+        octets: list.octets,
+    })
+}
+
+/// Whether two digits of a list, the first of them 0, come before another character. `text` comes after the opening of
+/// the list.
+fn has_zero_pair(text: &[u8]) -> bool
+    ensures { result ≡ has_zero_pair text.now }
+{
+    let mut rest = text;
+    while let [x, y, z, ..] = rest {
+        if is_closing(*x) {
+            return false;
+        }
+        if *x == b'0' && is_decimal(*y) && !is_decimal(*z) {
+            return true;
+        }
+        rest = &rest[1..];
+    }
+    false
+}
+
+/// Whether a number of a list has a minus or three digits. `text` comes after the opening of the list.
+fn has_no_pair(text: &[u8]) -> bool
+    ensures { result ≡ has_no_pair text.now }
+{
+    let mut rest = text;
+    while let [x, y, z, ..] = rest {
+        if is_closing(*x) {
+            return false;
+        }
+        if *x == b'-' || (is_decimal(*x) && is_decimal(*y) && is_decimal(*z)) {
+            return true;
+        }
+        rest = &rest[1..];
+    }
+    false
+}
+
+/// Whether this closes a list.
+fn is_closing(character: u8) -> bool
+    ensures { result ≡ is_closing character }
+{
+    matches!(character, b']' | b'}')
 }
 
 /// Reads the first list of a text. Leaves what comes after its opening, or nothing if there is no list.

@@ -3,7 +3,7 @@ use Rattle.std.specs.Prelude.{ℕ, Bool, true, false, List, [], ◌∷◌, ◌++
 use Rattle.std.specs.Prelude.{if◌then◌else◌}
 use Rattle.tlv_text.specs.Blocks.{BlockValue}
 use Rattle.tlv_text.specs.declared.block.BlockState.{BlockState}
-use Rattle.tlv_text.specs.declared.block.BlockState.TheVariants.{Whole, Unended, Encrypted, Refused, Absent}
+use Rattle.tlv_text.specs.declared.block.BlockState.TheVariants.{Whole, MayBePairs, Unended, Encrypted, Refused, Absent}
 use Rattle.tlv_text.specs.declared.block.Form.{Form}
 use Rattle.tlv_text.specs.declared.block.Form.TheVariants.{Pem, Dump, Hex, Numbers, Base64, Runs}
 use Rattle.tlv_text.specs.declared.text_fault.TextFault.{TextFault}
@@ -52,6 +52,7 @@ expected_words form = codes "base64"
 -- what is wrong with the text of a block
 abbrev pub state_words : Form → BlockState → List ℕ
 state_words form Whole = []
+state_words form MayBePairs = []
 state_words form Unended = codes "; its end marker is missing"
 state_words form Encrypted = codes "; X3 it is encrypted"
 state_words form (Refused line) =

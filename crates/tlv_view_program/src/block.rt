@@ -231,7 +231,10 @@ fn has_octets(block: &Block) -> bool
 fn is_undecoded(state: BlockState) -> bool
     ensures { result ≡ is_undecoded state }
 {
-    !matches!(state, BlockState::Whole | BlockState::Unended)
+    !matches!(
+        state,
+        BlockState::Whole | BlockState::MayBePairs | BlockState::Unended
+    )
 }
 
 /// The status of a block, from the status of what is shown of it.

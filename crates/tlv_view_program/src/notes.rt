@@ -162,7 +162,7 @@ fn state_words(form: Form, state: BlockState) -> ArrayVec<u8, 128>
 {
     let mut words = ArrayVec::new();
     match state {
-        BlockState::Whole | BlockState::Absent => {}
+        BlockState::Whole | BlockState::MayBePairs | BlockState::Absent => {}
         BlockState::Unended => {
             let _ = words.try_extend_from_slice(b"; its end marker is missing");
         }

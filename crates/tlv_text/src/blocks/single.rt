@@ -1,15 +1,17 @@
 //! Texts that are one block as a whole.
 ghost use Rattle.std.specs.Prelude.{◌≡◌, IfErr, IfOk, length};
 ghost use Rattle.tlv_text.specs.Blocks.{IsBase64Block, absent_block, alphabet_of, block_value, dump_block, hex_block};
-ghost use Rattle.tlv_text.specs.Blocks.{hex_read, numbers_block, only_block, state_at_place};
+ghost use Rattle.tlv_text.specs.Blocks.{hex_read, numbers_block, only_block, state_at_place, state_of_list};
 ghost use Rattle.tlv_text.specs.Dump.{IsFault};
+ghost use Rattle.tlv_text.specs.Numbers.{may_be_pairs};
 ghost use Rattle.tlv_text.specs.Private.BlockSteps.{IsRefusedWithin};
 ghost use Rattle.tlv_text.specs.TextRead.{refused_at};
 
 use super::lines::{TEXT_START, state_at_place};
+use crate::numbers::{NumbersRead, read_numbers};
 use crate::{
-    Alphabet, Block, BlockState, Decoded, TextFault, decode_base64, decode_dump, decode_numbers,
-    decode_pairs, decode_tokens, has_tokens,
+    Alphabet, Block, BlockState, Decoded, TextFault, decode_base64, decode_dump, decode_pairs,
+    decode_tokens, has_tokens,
 };
 use arrayvec::ArrayVec;
 use memchr::memchr2;
@@ -51,9 +53,26 @@ fn decode_hex(alloc: Global, text: &[u8]) -> Result<Decoded, AllocError>
 pub(super) fn numbers_block(alloc: Global, text: &[u8]) -> Result<Block, AllocError>
     ensures { IfOk result (λ b. block_value b ≡ numbers_block text.now) }
 {
-    match decode_numbers(alloc, text)? {
-        Some(decoded) => Ok(decoded_block(text, decoded)),
+    match read_numbers(alloc, text)? {
+        Some(numbers) => Ok(list_block(text, numbers)),
         None => Ok(absent_block(alloc)),
+    }
+}
+
+/// The block of a list of numbers.
+fn list_block(text: &[u8], numbers: NumbersRead) -> Block
+    requires refused { IsRefusedWithin (length text.now) numbers.decoded.refused }
+    requires pairs { numbers.may_be_pairs ≡ may_be_pairs text.now }
+    ensures { block_value result ≡ only_block numbers.decoded.octets.items
+        (state_of_list text.now (state_at_place text.now 0 numbers.decoded.refused)) }
+{
+    let block = decoded_block(text, numbers.decoded);
+    match block.state {
+        BlockState::Whole if numbers.may_be_pairs => only_block(
+            block.octets,
+            BlockState::MayBePairs,
+        ),
+        _ => block,
     }
 }
 
