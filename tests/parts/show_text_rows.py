@@ -73,8 +73,13 @@ TWO_LINES = element(0x30, element(4, bytes(59)))
 RUN = base64.b64encode(TWO_LINES[:45]) + b"\n" + base64.b64encode(TWO_LINES[45:])
 # An encoding that consists of printable characters.
 PRIVATE = element(0x41, b"cn=admin,dc=example,dc=org".ljust(40))
+# 43 elements of printable characters, more than 4096 in all, one of which holds a block of PEM; and an encoding after them.
+DECOY = b"".join(element(0x41, (pem(b"CMS", NULL) if at == 3 else b"").ljust(100, b"a")) for at in range(43))
+DECOY += b"\x30\x03\x02\x01\x05"
 # Words, a text, the status, the output of --raw, and the note.
 RAW = [
+    ([], DECOY, 0, DECOY, ""), (["--as=pem"], DECOY, 0, NULL, CMS),
+    ([], b"a" * 5000 + pem(b"CMS", NULL) + b"\x05", 0, NULL, CMS), ([], b"a" * 5000 + pem(b"CMS", NULL) + b"caf\xe9", 0, NULL, CMS),
     ([], SLASHES, 0, element(4, b"\xff" * 9), CMS),
     ([], b"let a = [0x30u8, 0x03, 0x02];", 2, b"", t1("let a = [0x30u8, 0x03, 0x02];")),
     (["--as=hex"], b"let a = [\n0x30, 0x03, 0x02u8];", 2, b"\x30\x03", t2("hexadecimal", 2, PAIR)),

@@ -112,8 +112,8 @@ def has_control(text):
 
 
 def has_rare(text):
-    """Returns whether one of the first characters is rarely typed."""
-    return bool(RARE.search(text[:MOST_LOOKED_AT]))
+    """Returns whether a character is rarely typed, wherever it stands."""
+    return bool(RARE.search(text))
 
 
 def is_encoding(octets, text):

@@ -39,9 +39,9 @@ has_controls text = list_any is_control (take 4096 text)
 abbrev pub is_rare : ℕ → Bool
 is_rare x = not (is_printable x || (x == 9) || (x == 10) || (x == 13))
 
--- such a character is among the first 4096
+-- there is such a character, wherever it stands
 abbrev pub has_rare : List ℕ → Bool
-has_rare text = list_any is_rare (take 4096 text)
+has_rare text = list_any is_rare text
 
 -- a visible character
 abbrev pub is_seen : ℕ → Bool

@@ -9,7 +9,8 @@ ghost use Rattle.tlv_text.specs.Marks.{after_mark};
 use arrayvec::ArrayVec;
 use tlv_text::after_mark;
 
-/// The number of characters of a text that are checked for control characters and for rare ones.
+/// The number of characters of a text that are checked for control characters, and that are looked at together for rare
+/// ones.
 const LOOKED_AT: usize = 4096;
 
 /// The number of characters of a text that are shown.
@@ -50,16 +51,30 @@ fn is_control(character: u8) -> bool
     }
 }
 
-/// Whether the first characters of a text include one that is rarely typed. Stops at the first one.
+/// Whether a text has a character that is rarely typed, wherever it stands. Stops after the piece that has the first one.
 pub(crate) fn has_rare(text: &[u8]) -> bool
     ensures { result ≡ has_rare text.now }
 {
-    for character in &text[..text.len().min(LOOKED_AT)] {
-        if is_rare(*character) {
+    let mut rest = text;
+    while !rest.is_empty() {
+        let (piece, more) = rest.split_at(rest.len().min(LOOKED_AT));
+        if is_any_rare(piece) {
             return true;
         }
+        rest = more;
     }
     false
+}
+
+/// Whether one of these characters is rarely typed. Looks at all of them, without a stop: that takes less time.
+fn is_any_rare(piece: &[u8]) -> bool
+    ensures { result ≡ list_any is_rare piece.now }
+{
+    let mut found = false;
+    for character in piece {
+        found = found || is_rare(*character);
+    }
+    found
 }
 
 /// Whether this character is rarely typed.
