@@ -75,7 +75,7 @@ module _ (Inner : List ℕ → List TakenValue → Type 0) (inner : ShowsInner I
       → AreFirstBlocks Inner text forms ts → All IsShownTaken ts
   first_blocks-shown text _ _ AreFirstBlocks.no_form = none-shown
   first_blocks-shown text _ _ (AreFirstBlocks.here {form} {forms} {bs} {t} {ts} are counts) =
-      blocks_count-shown form bs (t ∷ ts) (blocks-shown text form bs are) counts
+      blocks_count-shown form bs (t ∷ ts) (blocks-shown text form bs are.are) counts
   first_blocks-shown text _ _ (AreFirstBlocks.later {form} {forms} {bs} {ts} are counts others) =
       first_blocks-shown text forms ts others
 
