@@ -5,6 +5,7 @@ FILE is opened and read into memory, and then all are shown. After its messages 
 too. Further tests measure the memory of whole runs.
 """
 import base64
+import functools
 import os
 import re
 import resource
@@ -15,6 +16,7 @@ from parts.harness import Done
 from parts.memory_requests import LAST, Requests
 from parts.show_program import Program
 from second_opinion.findings import shortest
+from second_opinion.texts import TOO_LONG
 
 # A string that holds a string, a broken string, and an object identifier with a name.
 OCTETS = bytes.fromhex("0404040205 00 300b0603551d0f0404030305a0 0603550403".replace(" ", ""))
@@ -46,6 +48,9 @@ PRINTED = ["--help", "--version", "--limit", "--check --pure"]
 ALIKE = ["--nonsense", "--lim 1"]
 WORDS, NAMES, INPUT = "U3 out of memory", "N6 out of memory", "E8 out of memory"
 MB = 1_000_000
+# The most octets of an input, and what is said of more.
+LARGEST = 1 << 32
+TOO_LARGE = f"E3 input of more than {LARGEST} octets; tlvdump dump reads longer ones"
 
 
 def blocks_of(out):
@@ -208,11 +213,38 @@ def limited(part, program):
     """With a limit on all memory, the run ends with E8 or writes its lines."""
     part.write("large", b"\x04\x02\x05\x00" * 5 * MB)
 
-    def limit():
-        resource.setrlimit(resource.RLIMIT_AS, (16 * MB, 16 * MB))
-
-    got = program.run(["large"], stdin=subprocess.DEVNULL, preexec_fn=limit)
+    got = run_in(16 * MB, program, ["large"])
     part.same("a file of 20 MB in a space of 16 MB", got, Done(5, b"", f"large: {INPUT}\n".encode()))
+
+
+def run_in(space, program, words):
+    """Returns the result of a run that may take this much memory."""
+    limit = functools.partial(resource.setrlimit, resource.RLIMIT_AS, (space, space))
+    return program.run(words, stdin=subprocess.DEVNULL, preexec_fn=limit)
+
+
+def few_characters(part, program):
+    """A text whose line with `*` stands for nearly 2^30 octets is refused before they take memory."""
+    part.write("few", b"0000 " + b"00 " * 16 + b"\n*\n3ff00000\n")
+    got = run_in(48 * MB, program, ["--raw", "few"])
+    part.same("65 characters in a space of 48 MB", got, Done(4, b"", f"few: {TOO_LONG}\n".encode()))
+
+
+def too_large(part, program):
+    """An input of more than 2^32 octets is refused, and takes no more memory than these."""
+    if available() < 2 * LARGEST:
+        part.note("there is no memory for an input of more than 2^32 octets")
+        return
+    with open(part.path("sparse"), "wb") as file:
+        file.truncate(100_000 * MB)
+    got = run_in(LARGEST + 100 * MB, program, ["sparse"])
+    part.same("a sparse file of 100 GB", got, Done(3, b"", f"sparse: {TOO_LARGE}\n".encode()))
+
+
+def available():
+    """Returns how much memory the machine has left, in octets."""
+    with open("/proc/meminfo", encoding="ascii") as file:
+        return int(re.search(r"MemAvailable:\s*(\d+) kB", file.read())[1]) * 1024
 
 
 def test(part):
@@ -220,3 +252,5 @@ def test(part):
     requests(part, program)
     in_all(part, program)
     limited(part, program)
+    few_characters(part, program)
+    too_large(part, program)

@@ -23,6 +23,7 @@ HEX, OF_BASE64, CMS = "taken for hexadecimal", "taken for base64", "taken for PE
 NO_END = "its end marker is missing"
 KNOWN = "known are PEM, hex dumps, hexadecimal, decimal numbers and base64"
 NO_PEM, NO_BASE64 = "X2 there is no block of PEM", "X2 there is no base64"
+TOO_LONG = "X4 text of more than 1073741824 octets, or of 16777216 more octets than characters"
 NO_LIST = "X2 there is no list of decimal numbers"
 FORMS = "--as (octets, pem, dump, hex, numbers, base64 or runs)"
 
@@ -143,7 +144,12 @@ RAW = [
     ([], b"Dear Sir", 2, b"", t1("Dear Sir")), ([], b"caf\xc3\xa9\n", 2, b"", t1("caf???")),
     ([], b"The quick brown fox jumps over the lazy dog.", 2, b"", t1("The quick brown fox jumps over t")),
     ([], pem(b"\x1b[31mX", NULL), 2, b"", t1("-----BEGIN ?[31mX-----?BQA=?----")),
-    ([], b"0000 " + b"00 " * 16 + b"\n*\n40000010\n", 4, b"", "X4 text of more than 1073741824 octets"),
+    ([], b"0000 " + b"00 " * 16 + b"\n*\n40000010\n", 4, b"", TOO_LONG),
+    ([], b"0000 " + b"00 " * 16 + b"\n*\n1000000\n", 0, bytes(1 << 24), "taken for a hex dump"),
+    ([], b"0000 " + b"00 " * 16 + b"\n*\n1000040\n", 0, bytes((1 << 24) + 64), "taken for a hex dump"),
+    ([], b"0000 " + b"00 " * 16 + b"\n*\n1000050\n", 4, b"", TOO_LONG),
+    (["--as=dump"], b"0000 " + b"00 " * 16 + b"\n*\n1000050\n", 4, b"", TOO_LONG),
+    ([], (b"x: " + base64.b64encode(b"0000 " + b"00 " * 16 + b"\n*\n1000000\n") + b" y\n") * 65, 4, b"", TOO_LONG),
     ([], b"caf\xe9", 0, b"caf\xe9", ""), ([], b" \n", 0, b" \n", ""), ([], b"", 0, b"", ""),
     *((words, b"", 4, b"", f"U2 value out of range: {FORMS}") for words in (["--as=x"], ["--as="], ["--as=PEM"])),
 ]

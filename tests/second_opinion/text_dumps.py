@@ -2,7 +2,8 @@
 import re
 from dataclasses import dataclass
 
-MOST_OCTETS = 1 << 30
+# How many octets a text may have, and how many more than characters.
+MOST_OCTETS, MOST_MORE = 1 << 30, 1 << 24
 USUAL_WIDTH, MOST_WIDTH, WORD_SIZES = 16, 256, (2, 4, 8, 16)
 PAIR = rb"[0-9a-fA-F]{2}"
 OFFSET = rb"[ \t]*(?:0[xX])?(%s{4,16})"
@@ -25,7 +26,7 @@ OF_OD = re.compile(rb"[ \t]*(?:0[xX])?[0-7]{7}[ \t]")
 
 
 class TooLong(Exception):
-    """A block has more than 2^30 octets (X4)."""
+    """The blocks of a text have too many octets (X4)."""
 
 
 @dataclass
@@ -94,8 +95,8 @@ class Dump:
             self.place = len(text) if misfit is None else misfit
 
     def octets(self):
-        """Returns the octets of all pieces. Raises TooLong if they are more than 2^30."""
-        if sum(size for _, size in self.pieces) > MOST_OCTETS:
+        """Returns the octets of all pieces. Raises TooLong if they are more than 2^30, or 2^24 more than characters."""
+        if sum(size for _, size in self.pieces) > min(MOST_OCTETS, self.text_size + MOST_MORE):
             raise TooLong
         return b"".join((octets * (size // len(octets) + 1))[:size] for octets, size in self.pieces)
 

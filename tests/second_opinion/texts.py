@@ -15,7 +15,7 @@ NO_PEM = "X2 there is no block of PEM"
 NO_LIST = "X2 there is no list of decimal numbers"
 NO_BASE64 = "X2 there is no base64"
 ENCRYPTED, NO_END = "X3 it is encrypted", "its end marker is missing"
-TOO_LONG = f"X4 text of more than {text_dumps.MOST_OCTETS} octets"
+TOO_LONG = f"X4 text of more than {text_dumps.MOST_OCTETS} octets, or of {text_dumps.MOST_MORE} more octets than characters"
 KNOWN = "known are PEM, hex dumps, hexadecimal, decimal numbers and base64"
 MARK = b"\xef\xbb\xbf"
 WHITE_SPACE = b" \t\n\r"
@@ -238,4 +238,6 @@ def of_counting_runs(text, layers):
             blocks += in_layer(inner, line_of(text, run.start))
         elif counts(run.decoded.octets):
             blocks.append(of_run(text, run))
+        if sum(len(block.octets) for block in blocks) > text_dumps.MOST_OCTETS:
+            raise TooLong
     return blocks or None

@@ -1,16 +1,16 @@
 -- Blocks that are counted one after another.
 use Rattle.std.proofs.Common.{◌≡◌, ◌+◌, ◌≤◌, List, [], ◌∷◌, ◌++◌, ℕ, Bool, true, false, length, map, filter}
-use Rattle.std.proofs.Common.{ap, sym, ◌∙◌, arith, subst, append_assoc}
+use Rattle.std.proofs.Common.{◌||◌, ap, refl, sym, ◌∙◌, arith, subst, append_assoc}
 use Rattle.std.specs.List.{All, list_any}
-use Rattle.std.proofs.lemmas.Bool.{ltb-false, or_parts}
+use Rattle.std.proofs.lemmas.Bool.{le-ltb, ltb-false, or_parts}
 use Rattle.std.proofs.lemmas.List.{map-append}
 use Rattle.std.proofs.lemmas.List.Elements.{All-push}
-use Rattle.tlv_forms.specs.Private.Counting.{IsBounded}
+use Rattle.tlv_forms.specs.Private.Counting.{IsBounded, is_too_long}
 use Rattle.tlv_forms.specs.Taken.{TakenValue, taken_value}
 use Rattle.tlv_forms.specs.declared.taken.Taken.{Taken}
 use Rattle.tlv_head.specs.Limits.{input_limit}
-use Rattle.tlv_text.specs.Blocks.{block_value, is_too_long}
-use Rattle.tlv_text.specs.Dump.{dump_limit}
+use Rattle.tlv_text.specs.Blocks.{BlockValue, are_too_long, block_value, octet_count}
+use Rattle.tlv_text.specs.Dump.{dump_limit, text_limit}
 use Rattle.tlv_text.specs.declared.block.Block.{Block}
 
 -- the next block is not too long, nor are those after it
@@ -20,6 +20,22 @@ pub next-fit : (b : Block) (rest all : List Block) → all ≡ b ∷ rest
 next-fit b rest all next fit =
     or_parts (is_too_long (block_value b)) (list_any is_too_long (map block_value rest))
     (subst (λ (bs : List Block). list_any is_too_long (map block_value bs) ≡ false) next fit)
+
+-- each block is not too long if all are not
+blocks-fit : (limit : ℕ) (bs : List BlockValue) → limit ≤ dump_limit → octet_count bs ≤ limit
+    → list_any is_too_long bs ≡ false
+blocks-fit limit [] most few = refl
+blocks-fit limit (b ∷ bs) most few =
+    ap (λ (x : Bool). x || list_any is_too_long bs) (le-ltb dump_limit (length b.octets) (omega (arith, few, most)))
+    ∙ blocks-fit limit bs most (omega (arith, few))
+
+pub each-fits : (text : List ℕ) (bs : List BlockValue) → are_too_long text bs ≡ false
+    → list_any is_too_long bs ≡ false
+each-fits text bs fit =
+    blocks-fit (text_limit text) bs (omega arith) (ltb-false (text_limit text) (octet_count bs) fit)
+
+pub one-fits : (text : List ℕ) (b : BlockValue) → are_too_long text (b ∷ []) ≡ false → is_too_long b ≡ false
+one-fits text b fit = (or_parts (is_too_long b) false (each-fits text (b ∷ []) fit)).0
 
 -- what is not too long for a text is not too long for an input
 pub fit-within : (b : Block) → is_too_long (block_value b) ≡ false → length b.octets.items ≤ input_limit

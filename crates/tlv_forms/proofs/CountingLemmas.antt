@@ -51,19 +51,20 @@ first-fault Inner Deep text form forms TooLong (IsBlocksFault.too_long bs are lo
 first-fault Inner Deep text form forms Memory wrong = tt
 
 -- the next block holds a text that is too long
-pub next-run : (Deep : List ℕ → Type 0) (before rest all : List Block) (b : Block) → before ++ b ∷ rest ≡ all
-    → HoldsTooLong Deep (block_value b) → BlocksTooLong Deep Runs (map block_value all)
-next-run Deep before rest all b split holds =
-    subst (λ (bs : List BlockValue). BlocksTooLong Deep Runs bs)
+pub next-run : (Inner : List ℕ → List TakenValue → Type 0) (Deep : List ℕ → Type 0) (before rest all : List Block)
+    (b : Block) → before ++ b ∷ rest ≡ all → HoldsTooLong Deep (block_value b)
+    → BlocksTooLong Inner Deep Runs (map block_value all)
+next-run Inner Deep before rest all b split holds =
+    subst (λ (bs : List BlockValue). BlocksTooLong Inner Deep Runs bs)
     (sym (map-append block_value before (b ∷ rest)) ∙ ap (map block_value) split)
     (BlocksTooLong.run (map block_value before) (map block_value rest) holds)
 
 -- the only block does
-pub only-base64 : (Deep : List ℕ → Type 0) (all before : List Block) (b : Block) → all ≡ before ++ b ∷ []
-    → IsFittingForm Base64 (map block_value all) → HoldsTooLong Deep (block_value b)
-    → BlocksTooLong Deep Base64 (map block_value all)
-only-base64 Deep all before b is one holds =
-    subst (λ (bs : List Block). BlocksTooLong Deep Base64 (map block_value bs)) (sym (only-one all before b is one))
+pub only-base64 : (Inner : List ℕ → List TakenValue → Type 0) (Deep : List ℕ → Type 0) (all before : List Block)
+    (b : Block) → all ≡ before ++ b ∷ [] → IsFittingForm Base64 (map block_value all)
+    → HoldsTooLong Deep (block_value b) → BlocksTooLong Inner Deep Base64 (map block_value all)
+only-base64 Inner Deep all before b is one holds =
+    subst (λ (bs : List Block). BlocksTooLong Inner Deep Base64 (map block_value bs)) (sym (only-one all before b is one))
     (BlocksTooLong.base64 holds)
 
 -- ---- one block

@@ -1,23 +1,22 @@
 -- What the blocks of a text count as, form by form.
-use Rattle.std.proofs.Common.{◌≡◌, ◌==◌, ◌+◌, ◌-◌, ◌<◌, ◌≤◌, ◌≢◌, List, [], ◌∷◌, ◌++◌, Some, ℕ, zero, suc, true, false}
-use Rattle.std.proofs.Common.{◌∙◌, ◌⊎◌, ⊎_elim, add-one, append-nil, append_assoc, ap, arith, drop, filter, get_or}
+use Rattle.std.proofs.Common.{◌≡◌, ◌==◌, ◌+◌, ◌-◌, ◌<◌, ◌≤◌, ◌≢◌, List, [], ◌∷◌, ℕ, zero, suc, true, false}
+use Rattle.std.proofs.Common.{◌∙◌, ◌⊎◌, ⊎_elim, add-one, ap, arith, drop, filter, get_or}
 use Rattle.std.proofs.Common.{if◌then◌else◌, length, map, refl, subst, sym}
-use Rattle.std.specs.List.{All, list_any}
+use Rattle.std.specs.List.{All}
 use Rattle.std.proofs.Math.Seq.{drop-cons}
 use Rattle.std.proofs.lemmas.Bool.{cases_Bool, eqb-true}
-use Rattle.std.proofs.lemmas.List.{drop_all, map-append}
+use Rattle.std.proofs.lemmas.List.{drop_all}
 use Rattle.tlv_forms.specs.Private.Counting.{IsBounded, IsFittingForm, is_kept}
-use Rattle.tlv_forms.specs.Taken.{AreFirstBlocks, BlocksCount, BlocksTooLong, Counts, HasBlocks}
-use Rattle.tlv_forms.specs.Taken.{IsFirstTooLong, IsMemoryOr, RunsCount, TakenValue, TextBlocks}
+use Rattle.tlv_forms.specs.Taken.{AreFirstBlocks, BlocksCount, BlocksTooLong, HasBlocks}
+use Rattle.tlv_forms.specs.Taken.{IsFirstTooLong, IsMemoryOr, TakenValue, TextBlocks}
 use Rattle.tlv_forms.specs.Taken.{TextTooLong, all_forms, has_controls, taken_as, taken_value, text_of}
 use Rattle.tlv_forms.proofs.CountingLemmas.{first-fault}
 use Rattle.tlv_forms.specs.declared.taken.Taken.{Taken}
 use Rattle.tlv_forms.specs.declared.taken.TakenFor.TheVariants.{Text}
 use Rattle.tlv_text.specs.Blocks.{AreBlocks, BlockValue, IsBlocksFault}
-use Rattle.tlv_text.specs.Blocks.{block_value, is_too_long}
-use Rattle.tlv_text.specs.declared.block.Block.{Block}
+use Rattle.tlv_text.specs.Blocks.{are_too_long}
 use Rattle.tlv_text.specs.declared.block.Form.{Form}
-use Rattle.tlv_text.specs.declared.block.Form.TheVariants.{Pem, Dump, Hex, Numbers, Runs}
+use Rattle.tlv_text.specs.declared.block.Form.TheVariants.{Pem, Dump, Hex, Numbers}
 use Rattle.tlv_text.specs.declared.text_fault.TextFault.{TextFault}
 
 -- what is bounded is bounded more loosely
@@ -87,38 +86,10 @@ module _ (Inner : List ℕ → List TakenValue → Type 0) where
       (λ (e : form ≡ Numbers). rw e (numbers-count bs ts (rw e at fitting) (rw e at are)))))
       is
 
-  -- ---- runs of base64
-
-  pub runs-next : (now rest initial : List Block) (b : Block) (done more new : List Taken) → now ≡ b ∷ rest
-      → Counts Inner Runs (Some b.line) (block_value b) (map taken_value more) → new ≡ done ++ more
-      → ((others : List TakenValue) → RunsCount Inner (map block_value now) others
-      → RunsCount Inner (map block_value initial) (map taken_value done ++ others))
-      → (others : List TakenValue) → RunsCount Inner (map block_value rest) others
-      → RunsCount Inner (map block_value initial) (map taken_value new ++ others)
-  runs-next now rest initial b done more new next counts append onward others rests =
-      subst (λ (ts : List TakenValue). RunsCount Inner (map block_value initial) ts)
-      (sym
-      (ap (λ (ts : List Taken). map taken_value ts ++ others) append
-      ∙ ap (λ (ts : List TakenValue). ts ++ others) (map-append taken_value done more)
-      ∙ append_assoc (map taken_value done) (map taken_value more) others))
-      (onward (map taken_value more ++ others)
-      (subst (λ (bs : List Block). RunsCount Inner (map block_value bs) (map taken_value more ++ others)) (sym next)
-      (RunsCount.next counts rests)))
-
-  pub runs-done : (now initial all : List Block) (done : List Taken) → now ≡ [] → initial ≡ all
-      → ((others : List TakenValue) → RunsCount Inner (map block_value now) others
-      → RunsCount Inner (map block_value initial) (map taken_value done ++ others))
-      → RunsCount Inner (map block_value all) (map taken_value done)
-  runs-done now initial all done none same onward =
-      subst (λ (ts : List TakenValue). RunsCount Inner (map block_value all) ts) (append-nil (map taken_value done))
-      (subst (λ (bs : List Block). RunsCount Inner (map block_value bs) (map taken_value done ++ [])) same
-      (onward []
-      (subst (λ (bs : List Block). RunsCount Inner (map block_value bs) []) (sym none) RunsCount.no_more)))
-
   -- ---- the first form in which a block counts
 
   pub first-here : (text : List ℕ) (forms : List Form) (i : ℕ) (d : Form) (bs : List BlockValue) (ts : List Taken)
-      (n : ℕ) → i < length forms → AreBlocks text (get_or forms i d) bs → list_any is_too_long bs ≡ false
+      (n : ℕ) → i < length forms → AreBlocks text (get_or forms i d) bs → are_too_long text bs ≡ false
       → BlocksCount Inner (get_or forms i d) bs (map taken_value ts) → n ≡ length ts → (n == 0) ≡ false
       → AreFirstBlocks Inner text (drop i forms) (map taken_value ts)
   first-here text forms i d bs [] n within are fit counts size some =
@@ -130,7 +101,7 @@ module _ (Inner : List ℕ → List TakenValue → Type 0) where
 
   pub first-later : (text : List ℕ) (forms : List Form) (i : ℕ) (d : Form) (bs : List BlockValue) (ts : List Taken)
       (n : ℕ) (others : List TakenValue) → i < length forms → AreBlocks text (get_or forms i d) bs
-      → list_any is_too_long bs ≡ false → BlocksCount Inner (get_or forms i d) bs (map taken_value ts) → n ≡ length ts → (n == 0) ≡ true
+      → are_too_long text bs ≡ false → BlocksCount Inner (get_or forms i d) bs (map taken_value ts) → n ≡ length ts → (n == 0) ≡ true
       → AreFirstBlocks Inner text (drop (i + 1) forms) others → AreFirstBlocks Inner text (drop i forms) others
   first-later text forms i d bs [] n others within are fit counts size none rests =
       subst (λ (fs : List Form). AreFirstBlocks Inner text fs others) (sym (drop-cons forms i d within))
@@ -156,14 +127,14 @@ module _ (Inner : List ℕ → List TakenValue → Type 0) where
         (first-fault Inner Deep text (get_or forms i d) (drop (suc i) forms) fault wrong)
 
     pub long-inside : (text : List ℕ) (forms : List Form) (i : ℕ) (d : Form) (bs : List BlockValue)
-        → i < length forms → AreBlocks text (get_or forms i d) bs → list_any is_too_long bs ≡ false
-        → BlocksTooLong Deep (get_or forms i d) bs → IsFirstTooLong Inner Deep text (drop i forms)
+        → i < length forms → AreBlocks text (get_or forms i d) bs → are_too_long text bs ≡ false
+        → BlocksTooLong Inner Deep (get_or forms i d) bs → IsFirstTooLong Inner Deep text (drop i forms)
     long-inside text forms i d bs within are fit long =
         subst (λ (fs : List Form). IsFirstTooLong Inner Deep text fs) (sym (drop-cons forms i d within))
         (IsFirstTooLong.inside (record { are = are; fit = fit }) long)
 
     pub long-later : (text : List ℕ) (forms : List Form) (i : ℕ) (d : Form) (bs : List BlockValue) (ts : List Taken)
-        (n : ℕ) → i < length forms → AreBlocks text (get_or forms i d) bs → list_any is_too_long bs ≡ false
+        (n : ℕ) → i < length forms → AreBlocks text (get_or forms i d) bs → are_too_long text bs ≡ false
         → BlocksCount Inner (get_or forms i d) bs (map taken_value ts) → n ≡ length ts → (n == 0) ≡ true
         → IsFirstTooLong Inner Deep text (drop (i + 1) forms) → IsFirstTooLong Inner Deep text (drop i forms)
     long-later text forms i d bs [] n within are fit counts size none long =

@@ -5,4 +5,5 @@ pub mod FormLemmas
 pub mod InputLemmas
 pub mod LoneForms
 pub mod OneTaking
+pub mod RunCounts
 pub mod TakenLemmas

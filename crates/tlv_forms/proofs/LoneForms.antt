@@ -1,8 +1,8 @@
 -- What a text that is hexadecimal or base64 alone is taken for.
 use Rattle.std.proofs.Common.{◌≡◌, ◌==◌, List, [], ◌∷◌, ℕ, true, false, ◌∙◌, ap, arith, length, map, None, refl, subst}
 use Rattle.std.proofs.Common.{sym}
-use Rattle.std.specs.List.{list_any}
-use Rattle.std.proofs.lemmas.Bool.{eqb-true}
+use Rattle.std.proofs.lemmas.Bool.{eqb-true, le-ltb}
+use Rattle.std.specs.Prelude.{nat_lt}
 use Rattle.tlv_forms.specs.Private.Counting.{is_kept}
 use Rattle.tlv_forms.specs.Taken.{AreFirstBlocks, AreFittingBlocks, BlocksCount, BlocksTooLong, Counts, HoldsTooLong}
 use Rattle.tlv_forms.specs.Taken.{IsFirstTooLong, TakenValue, all_forms, is_complete, taken_as, taken_value}
@@ -10,13 +10,17 @@ use Rattle.tlv_forms.specs.declared.taken.Taken.{Taken}
 use Rattle.tlv_forms.specs.declared.taken.TakenFor.TheVariants.{Text}
 use Rattle.tlv_forms.proofs.FormLemmas.{dump-count, hex-count, numbers-count, only-long}
 use Rattle.tlv_text.specs.Blocks.{AreBlocks, ArePemBlocks, BlockValue, IsBase64Alone, IsHexAlone, absent_block}
-use Rattle.tlv_text.specs.Blocks.{dump_block, is_too_long, numbers_block}
-use Rattle.tlv_text.specs.Dump.{dump_read}
+use Rattle.tlv_text.specs.Blocks.{dump_block, numbers_block}
+use Rattle.tlv_text.specs.Dump.{dump_read, text_limit}
 use Rattle.tlv_text.specs.Numbers.{numbers_read}
 use Rattle.tlv_text.specs.Pem.{HasNoBlock}
 use Rattle.tlv_text.specs.TextRead.{refused_with}
 use Rattle.tlv_text.specs.declared.block.Form.{Form}
 use Rattle.tlv_text.specs.declared.block.Form.TheVariants.{Base64, Pem, Dump, Hex, Numbers, Runs}
+
+-- no octets are not too many
+nothing-fits : (text : List ℕ) → nat_lt (text_limit text) 0 ≡ false
+nothing-fits text = le-ltb (text_limit text) 0 (omega arith)
 
 module _ (Inner : List ℕ → List TakenValue → Type 0) where
   -- ---- forms that are passed over
@@ -50,7 +54,7 @@ module _ (Inner : List ℕ → List TakenValue → Type 0) where
   no-pem text none =
       OnlyForm.counted (absent_block ∷ []) (record {
         are = AreBlocks.pem (ArePemBlocks.no_more none);
-        fit = refl;
+        fit = nothing-fits text;
       })
       BlocksCount.pem
 
@@ -58,13 +62,13 @@ module _ (Inner : List ℕ → List TakenValue → Type 0) where
   no-dump : (text : List ℕ) → dump_read text ≡ refused_with 0 → OnlyForm text Dump []
   no-dump text none =
       let broken : is_complete (dump_block text) ≡ false = rw none refl in
-      OnlyForm.counted (dump_block text ∷ []) (record { are = AreBlocks.dump; fit = rw none refl })
+      OnlyForm.counted (dump_block text ∷ []) (record { are = AreBlocks.dump; fit = rw none (nothing-fits text) })
       (dump-count Inner (dump_block text ∷ []) [] refl (rw broken refl))
 
   -- a text without a list of numbers
   no-numbers : (text : List ℕ) → numbers_read text ≡ None → OnlyForm text Numbers []
   no-numbers text none =
-      OnlyForm.counted (numbers_block text ∷ []) (record { are = AreBlocks.numbers; fit = rw none refl })
+      OnlyForm.counted (numbers_block text ∷ []) (record { are = AreBlocks.numbers; fit = rw none (nothing-fits text) })
       (numbers-count Inner (numbers_block text ∷ []) [] refl (rw none refl))
 
   -- ---- a text that is hexadecimal, and of no form before it
@@ -75,12 +79,11 @@ module _ (Inner : List ℕ → List TakenValue → Type 0) where
   hex-first text b ts t alone kept one value =
       let are : AreBlocks text Hex (b ∷ []) =
       subst (λ (c : BlockValue). AreBlocks text Hex (c ∷ [])) alone.hex AreBlocks.hex in
-      let fits : list_any is_too_long (b ∷ []) ≡ false = rw alone.fits refl in
       subst (λ (us : List TakenValue). AreFirstBlocks Inner text all_forms us)
       (sym (ap (map taken_value) one ∙ ap (λ (u : TakenValue). u ∷ []) value))
       (pass text Pem _ _ (no-pem text alone.no_pem)
       (pass text Dump _ _ (no-dump text alone.no_row)
-      (AreFirstBlocks.here (record { are = are; fit = fits })
+      (AreFirstBlocks.here (record { are = are; fit = alone.fits })
       (hex-count Inner (b ∷ []) (taken_as (Text Hex) b ∷ []) refl (rw kept refl)))))
 
   -- ---- a text that is base64 alone
@@ -118,7 +121,7 @@ module _ (Inner : List ℕ → List TakenValue → Type 0) where
     base64-hex_long Deep long = after-dump-long Deep (only-long Inner Deep text Hex _ long)
 
     base64-fitting : AreFittingBlocks text Base64 (b ∷ [])
-    base64-fitting = record { are = AreBlocks.base64 alone.base64; fit = rw alone.fits refl }
+    base64-fitting = record { are = AreBlocks.base64 alone.base64; fit = alone.fits }
 
     module _ (complete : is_complete b ≡ true) (hexes : List Taken) (n : ℕ)
         (hex : AreFirstBlocks Inner text (Hex ∷ []) (map taken_value hexes)) (size : n ≡ length hexes)

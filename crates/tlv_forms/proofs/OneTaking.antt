@@ -7,9 +7,9 @@ use Rattle.std.proofs.lemmas.Bool.{and_parts}
 use Rattle.tlv_forms.specs.Laws.{InputsAreTakenForOneThing}
 use Rattle.tlv_forms.specs.Taken.{AreFirstBlocks, AreFittingBlocks, AreTakenAsEncodings, BlocksCount, Counts, HasBlocks}
 use Rattle.tlv_forms.specs.Taken.{HasInner, IsTakenFor, RunsCount, TakenValue, TextBlocks, all_forms, has_controls}
-use Rattle.tlv_forms.specs.Taken.{has_some, in_layer, is_complete, is_other_text, is_seen, text_of}
+use Rattle.tlv_forms.specs.Taken.{in_layer, is_other_text, is_seen, text_of}
 use Rattle.tlv_text.proofs.OneBlocks.{one-list_of_blocks}
-use Rattle.tlv_text.specs.Blocks.{AreBlocks, BlockValue}
+use Rattle.tlv_text.specs.Blocks.{BlockValue}
 use Rattle.tlv_text.specs.declared.block.Form.{Form}
 use Rattle.tlv_text.specs.declared.block.Form.TheVariants.{Base64, Runs}
 
@@ -78,7 +78,7 @@ module _ (Inner : List ℕ → List TakenValue → Type 0) (one : HaveOne Inner)
   one-form_count _ _ _ _ (BlocksCount.no_base64 broken) (BlocksCount.base64 {b} complete counts) =
       absurd (cc (complete, broken))
   one-form_count _ _ _ _ (BlocksCount.no_base64 broken) (BlocksCount.no_base64 also) = refl
-  one-form_count _ _ _ _ (BlocksCount.runs {bs} {ts} count) (BlocksCount.runs {ts = us} also) =
+  one-form_count _ _ _ _ (BlocksCount.runs {bs} {ts} count few) (BlocksCount.runs {ts = us} also same) =
       one-run_count bs ts us count also
 
   -- the blocks of a text in a form count as one list

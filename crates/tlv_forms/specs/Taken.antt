@@ -1,13 +1,14 @@
 -- What an input is taken for, and the blocks that it has.
-use Rattle.std.specs.Prelude.{◌≡◌, ℕ, zero, suc, ◌==◌, Bool, true, false, ◌&&◌, ◌||◌, not, nat_le, nat_lt}
-use Rattle.std.specs.Prelude.{List, [], ◌∷◌, ◌++◌, Option, Some, None, filter, if◌then◌else◌, map, take, unwrap_or}
+use Rattle.std.specs.Prelude.{◌≡◌, ℕ, zero, suc, ◌+◌, ◌==◌, Bool, true, false, ◌&&◌, ◌||◌, not, nat_le, nat_lt}
+use Rattle.std.specs.Prelude.{List, [], ◌∷◌, ◌++◌, Option, Some, None, filter, if◌then◌else◌, length, map, take, unwrap_or}
 use Rattle.std.specs.List.{list_any}
 use Rattle.std.specs.Str.{is_utf8}
 use Rattle.tlv_value.specs.Units.{is_printable}
 use Rattle.tlv_walk.specs.Reading.{IsSoundList}
 use Rattle.tlv_open.specs.Opens.{closed_framing}
-use Rattle.tlv_text.specs.Blocks.{AreBlocks, BlockValue, block_value, is_too_long, only_block}
+use Rattle.tlv_text.specs.Blocks.{AreBlocks, BlockValue, are_too_long, block_value, only_block}
 use Rattle.tlv_text.specs.Characters.{is_white}
+use Rattle.tlv_text.specs.Dump.{dump_limit}
 use Rattle.tlv_text.specs.Marks.{after_mark, ascii_of_utf16}
 use Rattle.tlv_text.specs.declared.block.BlockState.{BlockState}
 use Rattle.tlv_text.specs.declared.block.BlockState.TheVariants.{Whole, Absent}
@@ -88,6 +89,15 @@ taken_other_text text =
 abbrev pub in_layer : Option ℕ → TakenValue → TakenValue
 in_layer layer t = record t { layers = t.layers ++ layer ∷ [] }
 
+-- the number of octets in all blocks
+abbrev pub taken_count : List TakenValue → ℕ
+taken_count [] = 0
+taken_count (t ∷ ts) = length t.block.octets + taken_count ts
+
+-- these are more than the blocks of a text may have
+abbrev pub are_too_many : List TakenValue → Bool
+are_too_many ts = nat_lt dump_limit (taken_count ts)
+
 -- ---- blocks that count
 
 abbrev pub has_some : List ℕ → Bool
@@ -126,10 +136,10 @@ abbrev pub begins_with_zeros : List ℕ → Bool
 begins_with_zeros (x ∷ y ∷ octets) = (x == 0) && (y == 0)
 begins_with_zeros octets = false
 
--- these are the blocks of a text in a form, and none is too long
+-- these are the blocks of a text in a form, and they are not too long
 pub record AreFittingBlocks (text : List ℕ) (form : Form) (bs : List BlockValue) : Type 0 where
   pub are : AreBlocks text form bs
-  pub fit : list_any is_too_long bs ≡ false
+  pub fit : are_too_long text bs ≡ false
 
 module _ (Inner : List ℕ → List TakenValue → Type 0) where
   -- the blocks of the text that a block of base64 decodes to, if all of the block is decoded
@@ -173,7 +183,9 @@ module _ (Inner : List ℕ → List TakenValue → Type 0) where
     base64 : {b : BlockValue} {ts : List TakenValue} → is_complete b ≡ true → Counts Base64 None b ts
         → BlocksCount Base64 (b ∷ []) ts
     no_base64 : {b : BlockValue} → is_complete b ≡ false → BlocksCount Base64 (b ∷ []) []
-    runs : {bs : List BlockValue} {ts : List TakenValue} → RunsCount bs ts → BlocksCount Runs bs ts
+    -- what runs count as has not too many octets in all
+    runs : {bs : List BlockValue} {ts : List TakenValue} → RunsCount bs ts → are_too_many ts ≡ false
+        → BlocksCount Runs bs ts
 
   -- the blocks of a text in the first of these forms in which a block counts; none if there is no such form
   pub data AreFirstBlocks (text : List ℕ) : List Form → List TakenValue → Type 0 where
@@ -184,25 +196,30 @@ module _ (Inner : List ℕ → List TakenValue → Type 0) where
         → AreFittingBlocks text form bs → BlocksCount form bs [] → AreFirstBlocks text forms ts
         → AreFirstBlocks text (form ∷ forms) ts
 
-module _ (TooLong : List ℕ → Type 0) where
-  -- all of a block of base64 is decoded, and its octets are a text of which a block is too long
-  pub record HoldsTooLong (b : BlockValue) : Type 0 where
-    pub some : has_some b.octets ≡ true
-    pub whole : is_whole_block b.state ≡ true
-    pub text : TooLong b.octets
+-- all of a block of base64 is decoded, and its octets are a text that is too long
+pub record HoldsTooLong (TooLong : List ℕ → Type 0) (b : BlockValue) : Type 0 where
+  pub some : has_some b.octets ≡ true
+  pub whole : is_whole_block b.state ≡ true
+  pub text : TooLong b.octets
 
-  -- one of the blocks of a text in a form is base64 of such a text
-  pub data BlocksTooLong : Form → List BlockValue → Type 0 where
-    base64 : {b : BlockValue} → HoldsTooLong b → BlocksTooLong Base64 (b ∷ [])
-    run : {b : BlockValue} (before after : List BlockValue) → HoldsTooLong b → BlocksTooLong Runs (before ++ b ∷ after)
+-- the blocks of a text in base64 are too long: a line for each case
+pub data BlocksTooLong (Inner : List ℕ → List TakenValue → Type 0) (TooLong : List ℕ → Type 0)
+    : Form → List BlockValue → Type 0 where
+  -- one of them is base64 of a text that is too long
+  base64 : {b : BlockValue} → HoldsTooLong TooLong b → BlocksTooLong Inner TooLong Base64 (b ∷ [])
+  run : {b : BlockValue} (before after : List BlockValue) → HoldsTooLong TooLong b
+      → BlocksTooLong Inner TooLong Runs (before ++ b ∷ after)
+  -- what the runs count as, up to one of them, has too many octets in all
+  runs : {ts : List TakenValue} (before after : List BlockValue) → RunsCount Inner before ts
+      → are_too_many ts ≡ true → BlocksTooLong Inner TooLong Runs (before ++ after)
 
--- a block of a text is too long in one of these forms, and no block counts in a form before it: a line for each case
+-- a text is too long in one of these forms, and no block counts in a form before it: a line for each case
 pub data IsFirstTooLong (Inner : List ℕ → List TakenValue → Type 0) (TooLong : List ℕ → Type 0) (text : List ℕ)
     : List Form → Type 0 where
   here : {form : Form} {forms : List Form} {bs : List BlockValue} → AreBlocks text form bs
-      → list_any is_too_long bs ≡ true → IsFirstTooLong Inner TooLong text (form ∷ forms)
+      → are_too_long text bs ≡ true → IsFirstTooLong Inner TooLong text (form ∷ forms)
   inside : {form : Form} {forms : List Form} {bs : List BlockValue} → AreFittingBlocks text form bs
-      → BlocksTooLong TooLong form bs → IsFirstTooLong Inner TooLong text (form ∷ forms)
+      → BlocksTooLong Inner TooLong form bs → IsFirstTooLong Inner TooLong text (form ∷ forms)
   later : {form : Form} {forms : List Form} {bs : List BlockValue} → AreFittingBlocks text form bs
       → BlocksCount Inner form bs [] → IsFirstTooLong Inner TooLong text forms
       → IsFirstTooLong Inner TooLong text (form ∷ forms)
@@ -222,7 +239,7 @@ abbrev pub TextBlocks : ℕ → List ℕ → List TakenValue → Type 0
 TextBlocks zero octets ts = ts ≡ []
 TextBlocks (suc layers) octets ts = HasBlocks (TextBlocks layers) octets ts
 
--- octets that are a text of which a block is too long
+-- octets that are a text that is too long
 pub record HasTooLong (Inner : List ℕ → List TakenValue → Type 0) (TooLong : List ℕ → Type 0) (octets : List ℕ)
     : Type 0 where
   pub no_control : has_controls (text_of octets) ≡ false
@@ -271,7 +288,7 @@ abbrev pub IsMemoryOr : Type 0 → TextFault → Type 0
 IsMemoryOr Says TooLong = Says
 IsMemoryOr Says Memory = Unit {0}
 
--- an input is taken for a text of which a block is too long
+-- an input is taken for a text that is too long
 pub record IsTooLong (octets : List ℕ) : Type 0 where
   pub unsure : AreSurelyEncodings octets → ⊥
   pub text : TextTooLong 4 octets

@@ -1,11 +1,11 @@
 //! Which blocks of a text count.
 ghost use Rattle.std.specs.List.{list_any};
-ghost use Rattle.std.specs.Prelude.{◌≡◌, ◌+◌, ◌≤◌, All, IfErr, IfOk, Some, false, filter, map, true};
-ghost use Rattle.tlv_forms.specs.Private.Counting.{IsBounded, IsFittingForm, is_kept};
+ghost use Rattle.std.specs.Prelude.{◌≡◌, ◌+◌, ◌<◌, ◌≤◌, All, IfErr, IfOk, MatchOption, Some, false, filter, map, true};
+ghost use Rattle.tlv_forms.specs.Private.Counting.{IsBounded, IsFittingForm, is_kept, is_too_long};
 ghost use Rattle.tlv_forms.specs.Taken.{AreFirstBlocks, BlocksCount, BlocksTooLong, Counts, HasInner, HoldsTooLong};
-ghost use Rattle.tlv_forms.specs.Taken.{IsFirstTooLong, IsMemoryOr, RunsCount, TextBlocks, TextTooLong, all_forms};
+ghost use Rattle.tlv_forms.specs.Taken.{IsFirstTooLong, IsMemoryOr, TextBlocks, TextTooLong, all_forms, taken_count};
 ghost use Rattle.tlv_forms.specs.Taken.{begins_with_zeros, is_complete, is_whole_block, taken_as, taken_value};
-ghost use Rattle.tlv_text.specs.Blocks.{IsBase64Alone, block_value, is_too_long};
+ghost use Rattle.tlv_text.specs.Blocks.{IsBase64Alone, block_value};
 ghost use Rattle.tlv_text.specs.declared.block.Form.{Form};
 ghost use Rattle.tlv_text.specs.declared.block.Form.TheVariants.{Base64, Runs};
 
@@ -18,6 +18,9 @@ use tlv_text::{
     Block, BlockState, Form, TextFault, ascii_of_utf16, blocks_of, lone_base64_block,
     lone_hex_block,
 };
+
+/// The maximum number of octets in all blocks of a text.
+const LIMIT: usize = 1_073_741_824;
 
 /// The forms in the order in which they are tried.
 const FORMS: [Form; 6] = [
@@ -122,7 +125,8 @@ fn counted_blocks(
         (λ ts. BlocksCount (TextBlocks layers) form (map block_value blocks.items) (map taken_value ts.items)) }
     ensures bounded { IfOk result (λ ts. All (IsBounded (layers + 1)) ts.items) }
     ensures fault { IfErr result
-        (IsMemoryOr (BlocksTooLong (TextTooLong layers) form (map block_value blocks.items))) }
+        (IsMemoryOr (BlocksTooLong (TextBlocks layers) (TextTooLong layers) form
+        (map block_value blocks.items))) }
 {
     match form {
         Form::Base64 => counted_base64(alloc, layers, blocks),
@@ -145,7 +149,8 @@ fn counted_base64(
         (λ ts. BlocksCount (TextBlocks layers) Base64 (map block_value blocks.items) (map taken_value ts.items)) }
     ensures bounded { IfOk result (λ ts. All (IsBounded (layers + 1)) ts.items) }
     ensures fault { IfErr result
-        (IsMemoryOr (BlocksTooLong (TextTooLong layers) Base64 (map block_value blocks.items))) }
+        (IsMemoryOr (BlocksTooLong (TextBlocks layers) (TextTooLong layers) Base64
+        (map block_value blocks.items))) }
 {
     match blocks.pop() {
         Some(block) if is_complete(&block) => { counted(alloc, layers, Form::Base64, None, block) }
@@ -153,24 +158,46 @@ fn counted_base64(
     }
 }
 
-/// What runs of base64 count as.
+/// What runs of base64 count as. They have at most 2^30 octets in all.
 #[cycle(layers)]
 fn counted_runs(alloc: Global, layers: u8, blocks: Vec<Block>) -> Result<Vec<Taken>, TextFault>
     requires few { layers ≤ 3 }
     requires fit { list_any is_too_long (map block_value blocks.items) ≡ false }
     ensures taken { IfOk result
-        (λ ts. RunsCount (TextBlocks layers) (map block_value blocks.items) (map taken_value ts.items)) }
+        (λ ts. BlocksCount (TextBlocks layers) Runs (map block_value blocks.items) (map taken_value ts.items)) }
     ensures bounded { IfOk result (λ ts. All (IsBounded (layers + 1)) ts.items) }
     ensures fault { IfErr result
-        (IsMemoryOr (BlocksTooLong (TextTooLong layers) Runs (map block_value blocks.items))) }
+        (IsMemoryOr (BlocksTooLong (TextBlocks layers) (TextTooLong layers) Runs
+        (map block_value blocks.items))) }
 {
     let mut taken = Vec::new(alloc);
+    let mut left = LIMIT;
     for block in blocks {
         let line = block.line;
         let mut more = counted(alloc, layers, Form::Runs, Some(line), block)?;
+        let Some(room) = room_after(left, more.as_slice()) else {
+            return Err(TextFault::TooLong);
+        };
+        left = room;
         taken.append(&mut more)?;
     }
     Ok(taken)
+}
+
+/// How many octets fewer than `left` the blocks have; `None` if they have more.
+fn room_after(left: usize, taken: &[Taken]) -> Option<usize>
+    ensures { MatchOption result (left < taken_count (map taken_value taken.now))
+        (λ room. room + taken_count (map taken_value taken.now) ≡ left) }
+{
+    let mut room = left;
+    for block in taken {
+        let count = block.block.octets.len();
+        if count > room {
+            return None;
+        }
+        room -= count;
+    }
+    Some(room)
 }
 
 /// What a block of base64 counts as: the blocks of the text that it decodes to, or the block itself.

@@ -25,8 +25,8 @@ const LAYERS: u8 = 3;
 ///
 /// # Errors
 ///
-/// `TextFault::TooLong` if the input is taken for a text, and a block has more than 2^30 octets: no block counts in a
-/// form before its form. `TextFault::Memory` if memory is refused.
+/// `TextFault::TooLong` if the input is taken for a text whose blocks have more than 2^30 octets in all, or 2^24 more
+/// than the text has characters: no block counts in a form before its form. `TextFault::Memory` if memory is refused.
 pub fn take_input(alloc: Global, octets: Vec<u8>) -> Result<Vec<Taken>, TextFault>
     requires { length octets.items ≤ input_limit }
     ensures taken { IfOk result (λ ts. IsTakenFor octets.items (map taken_value ts.items)) }
@@ -68,7 +68,8 @@ fn taken_from_text(alloc: Global, octets: &[u8]) -> Result<Vec<Taken>, TextFault
 ///
 /// # Errors
 ///
-/// `TextFault::TooLong` if a block in this form has more than 2^30 octets, `TextFault::Memory` if memory is refused.
+/// `TextFault::TooLong` if the blocks in this form have more octets than that, `TextFault::Memory` if memory is
+/// refused.
 pub fn take_as(alloc: Global, form: Form, octets: &[u8]) -> Result<Vec<Taken>, TextFault>
     ensures taken { IfOk result (λ ts. IsTakenAs form octets.now (map taken_value ts.items)) }
     ensures within { IfOk result (λ ts. All (λ t. length t.block.octets.items ≤ input_limit) ts.items) }

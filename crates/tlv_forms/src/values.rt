@@ -1,9 +1,9 @@
 //! Blocks, and what they were taken for.
 ghost use Rattle.std.specs.List.{list_any};
 ghost use Rattle.std.specs.Prelude.{◌≡◌, [], ◌∷◌, ◌+◌, All, IfOk, false, map, ℕ};
-ghost use Rattle.tlv_forms.specs.Private.Counting.{IsBounded};
+ghost use Rattle.tlv_forms.specs.Private.Counting.{IsBounded, is_too_long};
 ghost use Rattle.tlv_forms.specs.Taken.{in_layer, taken_as, taken_octets, taken_other_text, taken_value};
-ghost use Rattle.tlv_text.specs.Blocks.{block_value, is_too_long};
+ghost use Rattle.tlv_text.specs.Blocks.{block_value};
 
 use crate::characters::first_words;
 use crate::{Taken, TakenFor};

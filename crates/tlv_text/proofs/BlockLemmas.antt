@@ -1,7 +1,9 @@
 -- Blocks that follow one another, and their places.
 use Rattle.std.proofs.Common.{◌≡◌, ℕ, suc, ◌+◌, ◌-◌, ◌==◌, ◌<◌, ◌≤◌, Bool, true, false, List, [], ◌∷◌, ◌++◌}
 use Rattle.std.proofs.Common.{Option, Some, None, Result, Ok, Err, refl, sym, ap, ◌∙◌, arith, drop, length, lt-ltb}
-use Rattle.std.proofs.Common.{inl, inr, map, nat_le, subst}
+use Rattle.std.proofs.Common.{inl, inr, le-ltb, map, nat_le, subst}
+use Rattle.std.specs.Prelude.{nat_lt}
+use Rattle.std.proofs.lemmas.Bool.Decides.{nat_tests}
 use Rattle.std.specs.List.{list_any}
 use Rattle.std.specs.Prelude.{IfErr, if◌then◌else◌, is_some}
 use Rattle.std.specs.Result.{IsErrAnd}
@@ -14,9 +16,9 @@ use Rattle.tlv_text.specs.Blocks.{AreBlocks, ArePemBlocks, AreRunBlocks, BlockVa
 use Rattle.tlv_text.specs.Blocks.{IsPemBlock, alphabet_of, block_value, dump_block, hex_block, hex_read}
 use Rattle.tlv_text.specs.Pairs.{pairs_read}
 use Rattle.tlv_text.proofs.TokenPlaceLemmas.{no-token-in_pairs}
-use Rattle.tlv_text.specs.Blocks.{is_too_long, is_url_symbol, line_at, only_block}
+use Rattle.tlv_text.specs.Blocks.{are_too_long, is_url_symbol, line_at, only_block}
 use Rattle.tlv_text.specs.Blocks.{numbers_block, or_absent, place_in_text, state_at_place, state_with_end}
-use Rattle.tlv_text.specs.Dump.{IsFault, dump_limit, dump_read}
+use Rattle.tlv_text.specs.Dump.{IsFault, dump_read, text_limit}
 use Rattle.tlv_text.specs.Pem.{HasNoBlock, IsFirstBlock, begin_marker, dashes}
 use Rattle.tlv_text.specs.PemBody.{after_line, base64_part, has_more_than_headers, is_encrypted, is_escaped_line_feed}
 use Rattle.tlv_text.specs.PemBody.{size_of_headers}
@@ -250,20 +252,32 @@ base64-found text alphabet octets refused b of reads is =
 
 -- ---- all blocks
 
+-- the octets of blocks that are counted down from a limit
+pub counted-down : (left count rest : ℕ) → count ≤ left → nat_lt left (count + rest) ≡ nat_lt (left - count) rest
+counted-down left count rest within = grind (arith, nat_tests)
+
+pub counted-over : (left count rest : ℕ) → left < count → nat_lt left (count + rest) ≡ true
+counted-over left count rest more = lt-ltb left (count + rest) (omega (arith, more))
+
 pub too-long : (text : List ℕ) (form : Form) (blocks all : List Block) → AreBlocks text form (map block_value blocks)
-    → all ≡ blocks → true ≡ list_any is_too_long (map block_value all) → IsBlocksFault text form TooLong
+    → all ≡ blocks → true ≡ are_too_long text (map block_value all) → IsBlocksFault text form TooLong
 too-long text form blocks all are same long =
     IsBlocksFault.too_long (map block_value blocks) are
-    (ap (λ (l : List Block). list_any is_too_long (map block_value l)) (sym same) ∙ sym long)
+    (ap (λ (l : List Block). are_too_long text (map block_value l)) (sym same) ∙ sym long)
 
 pub memory-fault : {T : Type 0} (text : List ℕ) (form : Form) (r : Result T TextFault) → IsErrAnd r (λ f. f ≡ Memory)
     → IfErr r (IsBlocksFault text form)
 memory-fault text form (Ok x) is = absurd is
 memory-fault text form (Err f) is = subst (IsBlocksFault text form) (sym is) IsBlocksFault.no_memory
 
-dump-over : (octets : List ℕ) (state : BlockState) → dump_limit < length octets
-    → list_any is_too_long (only_block octets state ∷ []) ≡ true
-dump-over octets state over = rw (lt-ltb dump_limit (length octets) over) refl
+-- a text of one block
+pub one-fits : (text octets : List ℕ) → length octets ≤ text_limit text
+    → nat_lt (text_limit text) (length octets + 0) ≡ false
+one-fits text octets short = le-ltb (text_limit text) (length octets + 0) (omega (arith, short))
+
+pub one-too_long : (text octets : List ℕ) → text_limit text < length octets
+    → nat_lt (text_limit text) (length octets + 0) ≡ true
+one-too_long text octets long = lt-ltb (text_limit text) (length octets + 0) (omega (arith, long))
 
 -- a dump with too many octets is a block with too many
 pub dump-fault : (text : List ℕ) (form : Form) (f g : TextFault) → form ≡ Dump → f ≡ g → IsFault text g
@@ -273,7 +287,7 @@ dump-fault text form f TooLong of same over =
     subst (IsBlocksFault text form) (sym same)
     (IsBlocksFault.too_long (dump_block text ∷ [])
     (subst (λ (n : Form). AreBlocks text n (dump_block text ∷ [])) (sym of) AreBlocks.dump)
-    (dump-over (dump_read text).octets (dump_block text).state over))
+    (one-too_long text (dump_read text).octets over))
 
 pub dump-refused : {T : Type 0} (text : List ℕ) (form : Form) (g : TextFault) (r : Result T TextFault) → form ≡ Dump
     → IsErrAnd r (λ f. f ≡ g) → IsFault text g → IfErr r (IsBlocksFault text form)

@@ -2,7 +2,7 @@
 use Rattle.std.proofs.Common.{◌≡◌, ◌⊎◌, ℕ, zero, suc, ◌+◌, ◌*◌, ◌≤◌, ◌<◌, true, false, List, [], ◌++◌, length, refl}
 use Rattle.std.proofs.Common.{ap, sym, ◌∙◌, append_assoc, arith, inl, inr, subst}
 use Rattle.std.proofs.lemmas.List.{append-nil, length-append}
-use Rattle.tlv_text.specs.Dump.{dump_limit, octets_repeated}
+use Rattle.tlv_text.specs.Dump.{octets_repeated}
 use Rattle.tlv_text.specs.Private.DumpSteps.{RowHolds, IsAdded}
 use Rattle.tlv_text.specs.declared.dump.output.Output.{Output}
 
@@ -33,50 +33,59 @@ repeated-once octets = append-nil octets
 
 -- ---- what an output holds
 
-nothing-more : (out : Output) (octets : List ℕ) → RowHolds out octets → RowHolds out (octets ++ [])
-nothing-more out octets h = subst (RowHolds out) (sym (append-nil octets)) h
+nothing-more : (limit : ℕ) (out : Output) (octets : List ℕ) → RowHolds limit out octets
+    → RowHolds limit out (octets ++ [])
+nothing-more limit out octets h = subst (RowHolds limit out) (sym (append-nil octets)) h
 
-over-more : (out : Output) (more octets : List ℕ) → out.over ≡ true → RowHolds out octets → RowHolds out (octets ++ more)
-over-more out more octets e h =
-    let many : dump_limit < length octets = h.too_many e in
+over-more : (limit : ℕ) (out : Output) (more octets : List ℕ) → out.over ≡ true → RowHolds limit out octets
+    → RowHolds limit out (octets ++ more)
+over-more limit out more octets e h =
+    let many : limit < length octets = h.too_many e in
     record {
+      limit_is = h.limit_is;
       are = λ w. cc (sym e ∙ w);
       fit = λ w. cc (sym e ∙ w);
       too_many = λ w. omega (arith, many, length-append octets more);
     }
 
 pub stays : (out : Output) (n : ℕ) (row : List ℕ) → (out.over ≡ true) ⊎ (n ≡ 0) → IsAdded (octets_repeated n row) out out
-stays out n row (inl e) octets h = over-more out (octets_repeated n row) octets e h
-stays out n row (inr e) octets h =
-    subst (λ (m : ℕ). RowHolds out (octets ++ octets_repeated m row)) (sym e) (nothing-more out octets h)
+stays out n row (inl e) limit octets h = over-more limit out (octets_repeated n row) octets e h
+stays out n row (inr e) limit octets h =
+    subst (λ (m : ℕ). RowHolds limit out (octets ++ octets_repeated m row)) (sym e) (nothing-more limit out octets h)
 
 pub becomes-over : (old new : Output) (n : ℕ) (row : List ℕ) → old.over ≡ false → new.over ≡ true
-    → (length old.octets.items + n * length row ≤ dump_limit → ⊥) → IsAdded (octets_repeated n row) old new
-becomes-over old new n row e over many octets h =
+    → new.limit ≡ old.limit → (length old.octets.items + n * length row ≤ old.limit → ⊥)
+    → IsAdded (octets_repeated n row) old new
+becomes-over old new n row e over kept many limit octets h =
     let same : old.octets.items ≡ octets = h.are e in
     let size : length old.octets.items ≡ length octets = ap length same in
+    let most : old.limit ≡ limit = h.limit_is in
     record {
+      limit_is = kept ∙ most;
       are = λ w. cc (sym over ∙ w);
       fit = λ w. cc (sym over ∙ w);
-      too_many = λ w. omega (arith, many, size, length-append octets (octets_repeated n row), length-repeated n row);
+      too_many = λ w. omega (arith, many, most, size, length-append octets (octets_repeated n row), length-repeated n row);
     }
 
 pub is-added : (old new : Output) (n : ℕ) (row : List ℕ) → old.over ≡ false → new.over ≡ false
-    → new.octets.items ≡ old.octets.items ++ octets_repeated n row → length old.octets.items + n * length row ≤ dump_limit
-    → IsAdded (octets_repeated n row) old new
-is-added old new n row e within added few octets h =
+    → new.limit ≡ old.limit → new.octets.items ≡ old.octets.items ++ octets_repeated n row
+    → length old.octets.items + n * length row ≤ old.limit → IsAdded (octets_repeated n row) old new
+is-added old new n row e within kept added few limit octets h =
     let same : old.octets.items ≡ octets = h.are e in
     let size : length old.octets.items ≡ length octets = ap length same in
+    let most : old.limit ≡ limit = h.limit_is in
     record {
+      limit_is = kept ∙ most;
       are = λ w. added ∙ ap (λ (before : List ℕ). before ++ octets_repeated n row) same;
-      fit = λ w. omega (arith, few, size, length-append octets (octets_repeated n row), length-repeated n row);
+      fit = λ w. omega (arith, few, most, size, length-append octets (octets_repeated n row), length-repeated n row);
       too_many = λ w. cc (sym within ∙ w);
     }
 
 -- ---- one after another
 
 pub added-both : (a b : List ℕ) (x y z : Output) → IsAdded a x y → IsAdded b y z → IsAdded (a ++ b) x z
-added-both a b x y z p q octets h = subst (RowHolds z) (append_assoc octets a b) (q (octets ++ a) (p octets h))
+added-both a b x y z p q limit octets h =
+    subst (RowHolds limit z) (append_assoc octets a b) (q limit (octets ++ a) (p limit octets h))
 
 pub added-more : (all others more rest : List ℕ) (x y z : Output) → IsAddedSoFar all others x y → IsAdded more y z
     → others ≡ more ++ rest → IsAddedSoFar all rest x z
@@ -93,7 +102,7 @@ added-all all others more x y z i a e =
     (added-both i.so_far more x y z i.added a)
 
 pub none-added : (all : List ℕ) (x : Output) → IsAddedSoFar all all x x
-none-added all x = record { so_far = []; added = λ octets h. nothing-more x octets h; are = refl }
+none-added all x = record { so_far = []; added = λ limit octets h. nothing-more limit x octets h; are = refl }
 
 -- an output and a row after those that were added
 pub row-more : (old before after : List ℕ) (n : ℕ) (row : List ℕ) → before ≡ old ++ octets_repeated n row

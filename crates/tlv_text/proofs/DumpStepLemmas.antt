@@ -5,11 +5,11 @@ use Rattle.std.specs.List.{list_all}
 use Rattle.std.specs.Prelude.{if◌then◌else◌}
 use Rattle.std.proofs.lemmas.Bool.{eq-eqb, ne_eqb}
 use Rattle.std.proofs.lemmas.List.{append-nil}
-use Rattle.tlv_text.proofs.DumpOutputLemmas.{added-both}
+use Rattle.tlv_text.proofs.DumpOutputLemmas.{added-both, repeated-once}
 use Rattle.tlv_text.specs.Dump.{DumpPlace, Step, first_then, dump_place_after, dump_place_at, rows_read}
 use Rattle.tlv_text.specs.TextRead.{PartRead, refused_with}
 use Rattle.tlv_text.specs.Dump.{dump_line_step, dump_row_step, dump_step_then, is_full, octets_repeated, times_before}
-use Rattle.tlv_text.specs.Dump.{times_in, with_row}
+use Rattle.tlv_text.specs.Dump.{octets_or_none, times_in, with_row}
 use Rattle.tlv_text.specs.DumpLines.{LineKind, RowRead, TextLine, is_dump_blank, line_kind, new_text_line}
 use Rattle.tlv_text.specs.DumpPairs.{dump_row_octets, octets_if}
 use Rattle.tlv_text.specs.Private.DumpSteps.{IsAdded, IsFirstRow, IsTaken, RowHolds, Reads, dump_place_of}
@@ -143,22 +143,38 @@ pub first-added : (fits : Bool) (octets : List ℕ) (old new : Output) → IsAdd
 first-added true octets old new added = added
 first-added false octets old new added = record {}
 
-pub first-refused : (first : Option (List ℕ)) (fits : Bool) (x y : Output) (left : ℕ) (more : PartRead)
-    (reading : Reading) → fits ≡ false → IsFirstRow first fits x y → Reads (refused_with left) reading
-    → Reads (first_then first left more) reading
-first-refused (Some octets) true x y left more reading e t r = cc e
-first-refused (Some octets) false x y left more reading e t r = absurd t
-first-refused None true x y left more reading e t r = absurd t
-first-refused None false x y left more reading e t r = r
+pub first-refused : (limit : ℕ) (first : Option (List ℕ)) (fits : Bool) (x y : Output) (left : ℕ) (more : PartRead)
+    (reading : Reading) → fits ≡ false → IsFirstRow first fits x y → Reads limit (refused_with left) reading
+    → Reads limit (first_then first left more) reading
+first-refused limit (Some octets) true x y left more reading e t r = cc e
+first-refused limit (Some octets) false x y left more reading e t r = absurd t
+first-refused limit None true x y left more reading e t r = absurd t
+first-refused limit None false x y left more reading e t r = r
 
-pub first-read : (first : Option (List ℕ)) (fits : Bool) (x y : Output) (left : ℕ) (more : PartRead)
-    (reading : Reading) → fits ≡ true → IsFirstRow first fits x y → RowHolds x [] → IsAdded more.octets y reading.output
-    → reading.left ≡ more.left → Reads (first_then first left more) reading
-first-read (Some octets) true x y left more reading e t h a l =
-    record { output = a octets (t [] h); left = l }
-first-read (Some octets) false x y left more reading e t h a l = absurd t
-first-read None true x y left more reading e t h a l = absurd t
-first-read None false x y left more reading e t h a l = cc e
+pub first-read : (limit : ℕ) (first : Option (List ℕ)) (fits : Bool) (x y : Output) (left : ℕ) (more : PartRead)
+    (reading : Reading) → fits ≡ true → IsFirstRow first fits x y → RowHolds limit x []
+    → IsAdded more.octets y reading.output → reading.left ≡ more.left → Reads limit (first_then first left more) reading
+first-read limit (Some octets) true x y left more reading e t h a l =
+    record { output = a limit octets (t limit [] h); left = l }
+first-read limit (Some octets) false x y left more reading e t h a l = absurd t
+first-read limit None true x y left more reading e t h a l = absurd t
+first-read limit None false x y left more reading e t h a l = cc e
+
+-- the same for a row among others, whose octets are the first ones
+pub first-among : (limit : ℕ) (found : Option (List ℕ)) (row : List ℕ) (x y : Output) (left offset : ℕ)
+    (read : DumpPlace → PartRead) (reading : Reading) → Some row ≡ found → RowHolds limit x []
+    → IsAdded (octets_repeated 1 row) x y → IsAdded (read (dump_place_at Phase.Row offset row)).octets y reading.output
+    → reading.left ≡ (read (dump_place_at Phase.Row offset row)).left
+    → Reads limit (first_then found left (read (dump_place_at Phase.Row offset (octets_or_none found)))) reading
+first-among limit found row x y left offset read reading is h t a l =
+    subst
+    (λ (f : Option (List ℕ)).
+    Reads limit (first_then f left (read (dump_place_at Phase.Row offset (octets_or_none f)))) reading)
+    is
+    (record {
+      output = a limit row (subst (λ (o : List ℕ). RowHolds limit y o) (repeated-once row) (t limit [] h));
+      left = l;
+    })
 
 -- the place of a row without digits
 pub place-of_none : (phase : Phase) (offset : ℕ) (digits : List ℕ) → digits ≡ []

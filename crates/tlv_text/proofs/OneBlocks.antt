@@ -1,5 +1,5 @@
 -- A text has one list of blocks in a form.
-use Rattle.std.proofs.Common.{◌≡◌, ◌+◌, ◌-◌, ◌<◌, ◌≤◌, ℕ, List, [], ◌∷◌, ◌++◌, Option, Some, None, Result, Ok, Err}
+use Rattle.std.proofs.Common.{◌≡◌, ◌+◌, ◌-◌, ◌<◌, ℕ, List, [], ◌∷◌, ◌++◌, Option, Result, Ok, Err}
 use Rattle.std.proofs.Common.{◌∙◌, ap, arith, drop, false, inl, inr, length, refl, slice_index, subst, sym, take, true}
 use Rattle.std.specs.List.{list_all}
 use Rattle.std.proofs.lemmas.Bool.{and_parts, cases_order}
@@ -9,7 +9,6 @@ use Rattle.base64.specs.Engines.{standard_no_pad, url_safe_no_pad}
 use Rattle.base64.specs.GeneralPurpose.{IsBytes, decode_of}
 use Rattle.base64.specs.declared.decode.DecodeError.{DecodeError}
 use Rattle.base64.proofs.EngineFacts.{decode_of-encode_of}
-use Rattle.memchr.specs.Find.{OccursAt}
 use Rattle.tlv_text.specs.Base64.{ReadsBase64, base64_of}
 use Rattle.tlv_text.specs.Blocks.{AreBlocks, ArePemBlocks, AreRunBlocks, BlockValue, IsBase64Block, IsPemBlock}
 use Rattle.tlv_text.specs.Blocks.{alphabet_of, line_at, only_block, or_absent, place_in_text, state_at_place}
@@ -17,7 +16,7 @@ use Rattle.tlv_text.specs.Blocks.{state_with_end}
 use Rattle.tlv_text.specs.Pem.{BeginsBlock, EndsBody, IsFirstBlock, begin_marker, dashes, is_label}
 use Rattle.tlv_text.specs.Pem.{is_label_character}
 use Rattle.tlv_text.specs.PemBody.{base64_part}
-use Rattle.tlv_text.specs.Runs.{IsFirstRun, leading_symbols}
+use Rattle.tlv_text.specs.Runs.{IsFirstRun}
 use Rattle.tlv_text.specs.declared.base64_text.Alphabet.{Alphabet}
 use Rattle.tlv_text.specs.declared.base64_text.Alphabet.TheVariants.{Standard, UrlSafe}
 use Rattle.tlv_text.specs.declared.block.Form.{Form}

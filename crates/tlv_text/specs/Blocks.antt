@@ -3,7 +3,7 @@ use Rattle.std.specs.Prelude.{◌≡◌, ℕ, ◌+◌, ◌-◌, ◌==◌, Bool, 
 use Rattle.std.specs.Prelude.{List, [], ◌∷◌, length, take, Option, Some, None}
 use Rattle.std.specs.List.{list_any}
 use Rattle.tlv_text.specs.Base64.{IsBase64, ReadsBase64}
-use Rattle.tlv_text.specs.Dump.{dump_limit, dump_read}
+use Rattle.tlv_text.specs.Dump.{dump_read, text_limit}
 use Rattle.tlv_text.specs.Numbers.{may_be_pairs, numbers_read}
 use Rattle.tlv_text.specs.Pairs.{pairs_read}
 use Rattle.tlv_text.specs.Pem.{HasNoBlock, IsFirstBlock}
@@ -158,13 +158,18 @@ pub data AreBlocks (text : List ℕ) : Form → List BlockValue → Type 0 where
   base64 : {b : BlockValue} → IsBase64Block text b → AreBlocks text Base64 (b ∷ [])
   runs : {bs : List BlockValue} → AreRunBlocks text text bs → AreBlocks text Runs (or_absent bs)
 
--- a block has more octets than a text may have
-abbrev pub is_too_long : BlockValue → Bool
-is_too_long b = nat_lt dump_limit (length b.octets)
+-- the number of octets in all blocks
+abbrev pub octet_count : List BlockValue → ℕ
+octet_count [] = 0
+octet_count (b ∷ bs) = length b.octets + octet_count bs
 
--- why the blocks of a text cannot be returned: a block has too many octets, or memory is refused
+-- the blocks have more octets in all than a text may have
+abbrev pub are_too_long : List ℕ → List BlockValue → Bool
+are_too_long text bs = nat_lt (text_limit text) (octet_count bs)
+
+-- why the blocks of a text cannot be returned: they have too many octets, or memory is refused
 pub data IsBlocksFault (text : List ℕ) (form : Form) : TextFault → Type 0 where
-  too_long : (bs : List BlockValue) → AreBlocks text form bs → list_any is_too_long bs ≡ true
+  too_long : (bs : List BlockValue) → AreBlocks text form bs → are_too_long text bs ≡ true
       → IsBlocksFault text form TooLong
   no_memory : IsBlocksFault text form Memory
 
@@ -174,11 +179,11 @@ pub record IsHexAlone (text : List ℕ) (b : BlockValue) : Type 0 where
   pub no_pem : HasNoBlock text
   pub no_row : dump_read text ≡ refused_with 0
   pub hex : hex_block text ≡ b
-  pub fits : is_too_long b ≡ false
+  pub fits : are_too_long text (b ∷ []) ≡ false
 
 -- the text is not lone pairs, or not pairs to its end, or its block of hexadecimal is too long
 abbrev pub HasNoLoneHex : List ℕ → Type 0
-HasNoLoneHex text = are_lone_pairs text ≡ true → (pairs_read text).rest ≡ [] → is_too_long (hex_block text) ≡ true
+HasNoLoneHex text = are_lone_pairs text ≡ true → (pairs_read text).rest ≡ [] → are_too_long text (hex_block text ∷ []) ≡ true
 
 -- a text is base64 and has no form before it but perhaps hexadecimal: it has no block of PEM, no row of a dump and no
 -- list of numbers; and this is its block, which is whole and not too long
@@ -188,9 +193,9 @@ pub record IsBase64Alone (text : List ℕ) (b : BlockValue) : Type 0 where
   pub no_list : numbers_read text ≡ None
   pub base64 : IsBase64Block text b
   pub whole : b.state ≡ Whole
-  pub fits : is_too_long b ≡ false
+  pub fits : are_too_long text (b ∷ []) ≡ false
 
 -- the text has a character that is not plain, or is not base64, or its block is too long
 abbrev pub HasNoLoneBase64 : List ℕ → Type 0
 HasNoLoneBase64 text = is_plain_text Standard text ≡ true → (octets : List ℕ) → IsBase64 Standard text octets
-    → is_too_long (only_block octets Whole) ≡ true
+    → are_too_long text (only_block octets Whole ∷ []) ≡ true

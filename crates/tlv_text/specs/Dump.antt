@@ -15,7 +15,8 @@
 --   others = *(blank / character)              not more characters than the row has octets, and two more: bars; and not
 --                                              a colon first, nor the row after it, behind blanks. After pairs with "0x"
 --                                              there are blanks alone
-use Rattle.std.specs.Prelude.{◌<◌, ℕ, zero, suc, ◌+◌, ◌-◌, ◌/◌, ◌%◌, ◌==◌, Bool, true, false, ◌&&◌, nat_le, nat_lt}
+use Rattle.std.specs.Prelude.{◌<◌, ℕ, zero, suc, ◌+◌, ◌-◌, ◌/◌, ◌%◌, ◌==◌, Bool, true, false, ◌&&◌, min, nat_le}
+use Rattle.std.specs.Prelude.{nat_lt}
 use Rattle.std.specs.Prelude.{if◌then◌else◌, List, [], ◌∷◌, ◌++◌, length, Option, Some, None}
 use Rattle.std.specs.List.{list_all}
 use Rattle.tlv_text.specs.declared.text_fault.TextFault.{TextFault}
@@ -200,11 +201,15 @@ dump_read text =
     dump_in Octal text
     else dump_in Hexadecimal text
 
--- the maximum number of octets in a dump
+-- the maximum number of octets in all blocks of a text: 2^30
 abbrev pub dump_limit : ℕ
 dump_limit = 1073741824
 
+-- they are at most 2^24 more than the text has characters, since repeats in a dump may stand for many octets
+abbrev pub text_limit : List ℕ → ℕ
+text_limit text = min dump_limit (length text + 16777216)
+
 -- why a text is not decoded: it has too many octets, or memory is refused
 abbrev pub IsFault : List ℕ → TextFault → Type 0
-IsFault text TooLong = dump_limit < length (dump_read text).octets
+IsFault text TooLong = text_limit text < length (dump_read text).octets
 IsFault text Memory = Unit {0}

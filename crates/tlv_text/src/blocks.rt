@@ -1,14 +1,14 @@
 //! The blocks of a text in a form.
-ghost use Rattle.std.specs.List.{list_any};
 ghost use Rattle.std.specs.Prelude.{◌≡◌, [], ◌∷◌, IfErr, IfOk, MatchOption, false, map};
 ghost use Rattle.tlv_text.specs.Blocks.{AreBlocks, HasNoLoneBase64, HasNoLoneHex, IsBase64Alone};
-ghost use Rattle.tlv_text.specs.Blocks.{IsBlocksFault, IsHexAlone, block_value, is_too_long, or_absent};
+ghost use Rattle.tlv_text.specs.Blocks.{IsBlocksFault, IsHexAlone, are_too_long, block_value, or_absent};
 
 mod lines;
 mod pem;
 mod runs;
 mod single;
 
+use crate::dump::text_limit;
 use crate::pairs::lone_octets;
 use crate::plain::plain_octets;
 use crate::{Block, BlockState, Form, TextFault};
@@ -17,23 +17,21 @@ use runs::run_blocks;
 use single::{absent_block, base64_block, dump_block, hex_block, numbers_block, only_block};
 use std::alloc::{AllocError, Global};
 
-/// The maximum number of octets in a block.
-const LIMIT: usize = 1_073_741_824;
-
 /// Returns the blocks of a text in a form, in order, each with its octets decoded. A dump, hexadecimal, numbers and
 /// base64 have one block. If a text has no block of PEM, no run of base64 or no list of numbers, there is one block
 /// that says so.
 ///
 /// # Errors
 ///
-/// `TextFault::TooLong` if a block has more than 2^30 octets, `TextFault::Memory` if memory is refused.
+/// `TextFault::TooLong` if the blocks have more than 2^30 octets in all, or 2^24 more than the text has characters.
+/// `TextFault::Memory` if memory is refused.
 pub fn blocks_of(alloc: Global, form: Form, text: &[u8]) -> Result<Vec<Block>, TextFault>
     ensures blocks { IfOk result (λ blocks. AreBlocks text.now form (map block_value blocks.items)) }
-    ensures fit { IfOk result (λ blocks. list_any is_too_long (map block_value blocks.items) ≡ false) }
+    ensures fit { IfOk result (λ blocks. are_too_long text.now (map block_value blocks.items) ≡ false) }
     ensures fault { IfErr result (IsBlocksFault text.now form) }
 {
     let blocks = decoded_blocks(alloc, form, text)?;
-    if is_any_too_long(blocks.as_slice()) {
+    if are_too_long(text, blocks.as_slice()) {
         return Err(TextFault::TooLong);
     }
     Ok(blocks)
@@ -41,7 +39,7 @@ pub fn blocks_of(alloc: Global, form: Form, text: &[u8]) -> Result<Vec<Block>, T
 
 /// Returns the block of hexadecimal of a text of pairs, if the text has nothing but digits and line ends, or if no
 /// digit follows a pair at once. Such a text has no block of PEM and no row of a dump. `None` for another text, or if
-/// the block has more than 2^30 octets.
+/// the block has more octets than `blocks_of` returns.
 ///
 /// # Errors
 ///
@@ -53,7 +51,7 @@ pub fn lone_hex_block(alloc: Global, text: &[u8]) -> Result<Option<Block>, Alloc
     let Some(octets) = lone_octets(alloc, text)? else {
         return Ok(None);
     };
-    if octets.len() > LIMIT {
+    if octets.len() > text_limit(text) {
         return Ok(None);
     }
     Ok(Some(only_block(octets, BlockState::Whole)))
@@ -61,7 +59,7 @@ pub fn lone_hex_block(alloc: Global, text: &[u8]) -> Result<Option<Block>, Alloc
 
 /// Returns the block of a text that is base64 and has nothing but symbols (with `+` and `/`), padding and line ends.
 /// Such a text has no block of PEM, no row of a dump and no list of numbers. `None` for another text, or if the block
-/// has more than 2^30 octets.
+/// has more octets than `blocks_of` returns.
 ///
 /// # Errors
 ///
@@ -73,7 +71,7 @@ pub fn lone_base64_block(alloc: Global, text: &[u8]) -> Result<Option<Block>, Al
     let Some(octets) = plain_octets(alloc, text)? else {
         return Ok(None);
     };
-    if octets.len() > LIMIT {
+    if octets.len() > text_limit(text) {
         return Ok(None);
     }
     Ok(Some(only_block(octets, BlockState::Whole)))
@@ -115,14 +113,17 @@ fn one_block(alloc: Global, block: Block) -> Result<Vec<Block>, AllocError>
     Ok(blocks)
 }
 
-/// Whether a block has more octets than a text may have.
-fn is_any_too_long(blocks: &[Block]) -> bool
-    ensures { result ≡ list_any is_too_long (map block_value blocks.now) }
+/// Whether blocks have more octets in all than a text may have.
+fn are_too_long(text: &[u8], blocks: &[Block]) -> bool
+    ensures { result ≡ are_too_long text.now (map block_value blocks.now) }
 {
+    let mut left = text_limit(text);
     for block in blocks {
-        if block.octets.len() > LIMIT {
+        let count = block.octets.len();
+        if count > left {
             return true;
         }
+        left -= count;
     }
     false
 }

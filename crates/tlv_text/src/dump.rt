@@ -1,7 +1,7 @@
 //! Octets of a hex dump with offsets.
 ghost use Rattle.std.specs.Prelude.{◌≡◌, ◌<◌, ◌≤◌, IfErr, IfOk, OnOk, Some, None, length, true};
-ghost use Rattle.tlv_text.specs.Dump.{IsFault, dump_in, dump_limit, dump_read, goes_further, left_in, read_from};
-ghost use Rattle.tlv_text.specs.Dump.{read_in_order, rows_read, size_in};
+ghost use Rattle.tlv_text.specs.Dump.{IsFault, dump_in, dump_read, goes_further, left_in, read_from, read_in_order};
+ghost use Rattle.tlv_text.specs.Dump.{rows_read, size_in, text_limit};
 ghost use Rattle.tlv_text.specs.DumpLines.{dump_lines};
 ghost use Rattle.tlv_text.specs.DumpPairs.{begins_pair, has_single_offset, pairs_at, single_row_octets};
 ghost use Rattle.tlv_text.specs.Private.DumpSteps.{IsAdded, IsFirstRow, Reads, dump_place_of, row_seen};
@@ -30,6 +30,12 @@ use rows::{LastRow, Phase, take_line};
 use std::alloc::{AllocError, Global};
 use words::has_other_octets;
 
+/// The maximum number of octets in all blocks of a text.
+const LIMIT: usize = 1_073_741_824;
+
+/// How many octets more than characters a text may have.
+const MORE: usize = 16_777_216;
+
 /// The octets of a dump, and where it is refused.
 #[derive(Debug, Drop)]
 pub(crate) struct Reading {
@@ -48,14 +54,15 @@ pub(crate) struct Reading {
 ///
 /// # Errors
 ///
-/// `TextFault::TooLong` if there are more than 2^30 octets, `TextFault::Memory` if memory for them is refused.
+/// `TextFault::TooLong` if there are more than 2^30 octets, or if they are 2^24 more than the text has characters, as
+/// repeats may make them; `TextFault::Memory` if memory for them is refused.
 pub fn decode_dump(alloc: Global, text: &[u8]) -> Result<Decoded, TextFault>
     ensures octets { IfOk result (λ d. d.octets.items ≡ (dump_read text.now).octets) }
     ensures refused { IfOk result (λ d. d.refused ≡ refused_in text.now (dump_read text.now).left) }
-    ensures fits { IfOk result (λ d. length (dump_read text.now).octets ≤ dump_limit) }
+    ensures fits { IfOk result (λ d. length (dump_read text.now).octets ≤ text_limit text.now) }
     ensures too_long { IfErr result (IsFault text.now) }
 {
-    let Ok(reading) = read_dump(alloc, text) else {
+    let Ok(reading) = read_dump(alloc, text_limit(text), text) else {
         return Err(TextFault::Memory);
     };
     if reading.output.over {
@@ -67,19 +74,26 @@ pub fn decode_dump(alloc: Global, text: &[u8]) -> Result<Decoded, TextFault>
     })
 }
 
-/// Reads a dump, with hexadecimal offsets or octal ones.
-fn read_dump(alloc: Global, text: &[u8]) -> Result<Reading, AllocError>
-    ensures { IfOk result (Reads (dump_read text.now)) }
+/// The maximum number of octets in all blocks of a text: 2^30, and 2^24 more than the text has characters.
+pub(crate) fn text_limit(text: &[u8]) -> usize
+    ensures { result ≡ text_limit text.now }
+{
+    (text.len().min(LIMIT) + MORE).min(LIMIT)
+}
+
+/// Reads a dump, with hexadecimal offsets or octal ones. At most `limit` octets are kept.
+fn read_dump(alloc: Global, limit: usize, text: &[u8]) -> Result<Reading, AllocError>
+    ensures { IfOk result (Reads limit (dump_read text.now)) }
 {
     let rest = from_first_row(text);
     if !is_octal_first(rest) {
-        return read_lines(alloc, Radix::Hexadecimal, rest);
+        return read_lines(alloc, limit, Radix::Hexadecimal, rest);
     }
-    let octal = read_lines(alloc, Radix::Octal, text)?;
+    let octal = read_lines(alloc, limit, Radix::Octal, text)?;
     if octal.left.is_none() {
         return Ok(octal);
     }
-    let hexadecimal = read_lines(alloc, Radix::Hexadecimal, rest)?;
+    let hexadecimal = read_lines(alloc, limit, Radix::Hexadecimal, rest)?;
     if goes_further(octal.left, hexadecimal.left) {
         Ok(octal)
     } else {
@@ -100,8 +114,8 @@ fn goes_further(left: Option<usize>, other: Option<usize>) -> bool
 }
 
 /// Reads a dump with offsets of this radix.
-fn read_lines(alloc: Global, radix: Radix, text: &[u8]) -> Result<Reading, AllocError>
-    ensures { IfOk result (Reads (dump_in radix text.now)) }
+fn read_lines(alloc: Global, limit: usize, radix: Radix, text: &[u8]) -> Result<Reading, AllocError>
+    ensures { IfOk result (Reads limit (dump_in radix text.now)) }
 {
     let mut rest = text;
     while !rest.is_empty() {
@@ -109,21 +123,21 @@ fn read_lines(alloc: Global, radix: Radix, text: &[u8]) -> Result<Reading, Alloc
         let (line, after) = split_line(rest);
         match line_of(radix, line) {
             DumpLine::Row(row) if has_pair(row) => {
-                return read_in_order(alloc, radix, row, left, after);
+                return read_in_order(alloc, limit, radix, row, left, after);
             }
-            DumpLine::Repeat => return Ok(refused(alloc, left)),
+            DumpLine::Repeat => return Ok(refused(alloc, limit, left)),
             _ => rest = after,
         }
     }
-    Ok(refused(alloc, 0))
+    Ok(refused(alloc, limit, 0))
 }
 
 /// The reading of a refused text: nothing is read, and `left` characters are left.
-fn refused(alloc: Global, left: usize) -> Reading
-    ensures { Reads (refused_with left) result }
+fn refused(alloc: Global, limit: usize, left: usize) -> Reading
+    ensures { Reads limit (refused_with left) result }
 {
     Reading {
-        output: no_octets(alloc),
+        output: no_octets(alloc, limit),
         left: Some(left),
     }
 }
@@ -132,39 +146,42 @@ fn refused(alloc: Global, left: usize) -> Reading
 /// comes after the row, and `left` is the number of characters from the row on.
 fn read_in_order(
     alloc: Global,
+    limit: usize,
     radix: Radix,
     row: RowLine<'_>,
     left: usize,
     rest: &[u8],
 ) -> Result<Reading, AllocError>
-    ensures { IfOk result (Reads (read_in_order radix (row_seen row.entry) left (dump_lines rest.now))) }
+    ensures { IfOk result (Reads limit (read_in_order radix (row_seen row.entry) left (dump_lines rest.now))) }
 {
     if has_other_octets(row) {
-        return Ok(refused(alloc, left));
+        return Ok(refused(alloc, limit, left));
     }
-    read_from(alloc, radix, row, left, rest)
+    read_from(alloc, limit, radix, row, left, rest)
 }
 
 /// Reads a dump from its first row on, whatever its words are.
 fn read_from(
     alloc: Global,
+    limit: usize,
     radix: Radix,
     row: RowLine<'_>,
     left: usize,
     rest: &[u8],
 ) -> Result<Reading, AllocError>
-    ensures { IfOk result (Reads (read_from radix (row_seen row.entry) left (dump_lines rest.now)
+    ensures { IfOk result (Reads limit (read_from radix (row_seen row.entry) left (dump_lines rest.now)
         (size_in radix row.entry.offset (dump_lines rest.now)))) }
 {
     match size_in(radix, row.offset, rest) {
-        Some(size) => read_among(alloc, radix, size, row, left, rest),
-        None => read_alone(alloc, radix, row, left, rest),
+        Some(size) => read_among(alloc, limit, radix, size, row, left, rest),
+        None => read_alone(alloc, limit, radix, row, left, rest),
     }
 }
 
 /// Reads a dump, whose rows have `size` octets, from its first row on.
 fn read_among(
     alloc: Global,
+    limit: usize,
     radix: Radix,
     size: usize,
     row: RowLine<'_>,
@@ -173,12 +190,12 @@ fn read_among(
 ) -> Result<Reading, AllocError>
     requires some { 0 < size }
     requires few { size ≤ 256 }
-    ensures { IfOk result (Reads (read_from radix (row_seen row.entry) left (dump_lines rest.now) (Some size))) }
+    ensures { IfOk result (Reads limit (read_from radix (row_seen row.entry) left (dump_lines rest.now) (Some size))) }
 {
-    let mut output = no_octets(alloc);
+    let mut output = no_octets(alloc, limit);
     let mut digits = ArrayVec::new();
     if !row_digits(size, row, &mut digits) {
-        return Ok(refused(alloc, left));
+        return Ok(refused(alloc, limit, left));
     }
     add_octets(alloc, digits.as_slice(), 1, &mut output)?;
     let last = LastRow {
@@ -193,16 +210,17 @@ fn read_among(
 /// Reads a dump that is a single row.
 fn read_alone(
     alloc: Global,
+    limit: usize,
     radix: Radix,
     row: RowLine<'_>,
     left: usize,
     rest: &[u8],
 ) -> Result<Reading, AllocError>
-    ensures { IfOk result (Reads (read_from radix (row_seen row.entry) left (dump_lines rest.now) None)) }
+    ensures { IfOk result (Reads limit (read_from radix (row_seen row.entry) left (dump_lines rest.now) None)) }
 {
-    let mut output = no_octets(alloc);
+    let mut output = no_octets(alloc, limit);
     if !add_single(alloc, row, &mut output)? {
-        return Ok(refused(alloc, left));
+        return Ok(refused(alloc, limit, left));
     }
     let last = LastRow {
         phase: Phase::End,

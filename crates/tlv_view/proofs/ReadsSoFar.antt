@@ -5,19 +5,18 @@ use Rattle.std.specs.Prelude.{Ok, Err}
 use Rattle.std.specs.List.{concat}
 use Rattle.std.proofs.KnownBytes.{Consumes-kept, Consumes-nil}
 use Rattle.std.proofs.lemmas.List.{length-take-le}
-use Rattle.tlv_head.specs.Limits.{input_limit}
 use Rattle.tlv_io.specs.declared.source.ReadFault.{ReadFault}
 use Rattle.tlv_io.specs.Device.{Pieces, ReadsOnce, SourceState, gave, next_count}
 use Rattle.tlv_io.proofs.Pieces.{pieces_so_far_more, pieces_all, together_more}
 use Rattle.tlv_value.proofs.NamesLemmas.Reads.{OctetsSoFar}
-use Rattle.tlv_view.specs.ReadWhole.{ReadsWhole}
+use Rattle.tlv_view.specs.ReadWhole.{ReadsWhole, whole_limit}
 use Rattle.tlv_view.specs.declared.input.InputFault.TheVariants.{ReadFailed, TooLong, Memory}
 
 module _ (old middle new : SourceState) (octets : List ℕ) (x : OctetsSoFar old middle octets)
-    (most : length octets ≤ input_limit) (failures : middle.failures ≡ old.failures) (piece : List ℕ)
+    (most : length octets ≤ whole_limit) (failures : middle.failures ≡ old.failures) (piece : List ℕ)
     (room : length piece ≡ 4096) where
-  in_limit_so_far : length (concat x.gathered.pieces) ≤ input_limit
-  in_limit_so_far = subst (λ (l : List ℕ). length l ≤ input_limit) (sym x.are) most
+  in_limit_so_far : length (concat x.gathered.pieces) ≤ whole_limit
+  in_limit_so_far = subst (λ (l : List ℕ). length l ≤ whole_limit) (sym x.are) most
 
   -- a read that failed
   pub whole-failed : (e : ReadFault) → ReadsOnce middle new (Err e) piece → ReadsWhole old new (Err ReadFailed)
@@ -65,7 +64,7 @@ module _ (old middle new : SourceState) (octets : List ℕ) (x : OctetsSoFar old
       failures = no_failure;
     }
 
-    pub whole-too_long : input_limit < length octets + n → ReadsWhole old new (Err TooLong)
+    pub whole-too_long : whole_limit < length octets + n → ReadsWhole old new (Err TooLong)
     whole-too_long more = record {
       pieces = read_pieces;
       within = in_limit_so_far;
@@ -73,7 +72,7 @@ module _ (old middle new : SourceState) (octets : List ℕ) (x : OctetsSoFar old
       failures = no_failure;
     }
 
-    pub whole-no_memory : (n ≡ 0 → ⊥) → length octets + n ≤ input_limit → ReadsWhole old new (Err Memory)
+    pub whole-no_memory : (n ≡ 0 → ⊥) → length octets + n ≤ whole_limit → ReadsWhole old new (Err Memory)
     whole-no_memory some less = record {
       pieces = read_pieces;
       within = in_limit_so_far;

@@ -1,20 +1,22 @@
 //! A whole input in memory.
 ghost use Rattle.std.specs.Prelude.{◌≡◌, ◌≤◌, IfOk, length};
 ghost use Rattle.std.specs.Result.{result_map_both};
-ghost use Rattle.tlv_head.specs.Limits.{input_limit};
 ghost use Rattle.tlv_run.specs.Report.{report_value_of};
-ghost use Rattle.tlv_view.specs.ReadWhole.{ReadsWhole, input_report};
+ghost use Rattle.tlv_view.specs.ReadWhole.{ReadsWhole, input_report, whole_limit};
 
 use std::alloc::Allocator;
 use tlv_run::{Report, device_report};
-use tlv_walk::{DeviceFault, INPUT_LIMIT, Source};
+use tlv_walk::{DeviceFault, Source};
+
+/// The maximum number of octets of an input that is read into memory.
+pub const WHOLE_LIMIT: u64 = 4_294_967_296;
 
 /// Why an input cannot be read into memory.
 #[derive(Clone, Copy, Debug, PartialEq, Eq)]
 pub enum InputFault {
     /// E1: a read failed.
     ReadFailed,
-    /// E3: there are more than 2^40 octets.
+    /// E3: there are more than 2^32 octets.
     TooLong,
     /// E8: memory for the octets was refused.
     Memory,
@@ -25,7 +27,8 @@ pub enum InputFault {
 ///
 /// # Errors
 ///
-/// `ReadFailed` if and only if a read failed. `TooLong` once the source gave more than 2^40 octets. `Memory` after
+/// `ReadFailed` if and only if a read failed. `TooLong` once the source gave more than 2^32 octets
+/// ([`WHOLE_LIMIT`]). `Memory` after
 /// any read that gave octets, if memory for them is refused. Reads nothing after an error or after the end.
 pub fn read_whole<A: Allocator, S: Source>(
     alloc: A,
@@ -33,7 +36,7 @@ pub fn read_whole<A: Allocator, S: Source>(
 ) -> Result<Vec<u8, A>, InputFault>
     ensures reads { ReadsWhole (S.state source.old) (S.state source.new)
         (result_map_both (λ octets. octets.items) (λ fault. fault) result) }
-    ensures within { IfOk result (λ octets. length octets.items ≤ input_limit) }
+    ensures within { IfOk result (λ octets. length octets.items ≤ whole_limit) }
 {
     let mut octets = Vec::new(alloc);
     let mut piece = [0u8; 4096];
@@ -44,7 +47,7 @@ pub fn read_whole<A: Allocator, S: Source>(
         if count == 0 {
             return Ok(octets);
         }
-        if octets.len() as u64 + count as u64 > INPUT_LIMIT {
+        if octets.len() as u64 + count as u64 > WHOLE_LIMIT {
             return Err(InputFault::TooLong);
         }
         if octets.extend_from_slice(&piece[..count]).is_err() {
@@ -59,7 +62,10 @@ pub fn input_report(fault: InputFault) -> Report
 {
     match fault {
         InputFault::ReadFailed => device_report(DeviceFault::ReadFailed),
-        InputFault::TooLong => device_report(DeviceFault::InputTooLong),
+        InputFault::TooLong => Report::with_message(
+            3,
+            b"E3 input of more than 4294967296 octets; tlvdump dump reads longer ones",
+        ),
         InputFault::Memory => Report::with_message(5, b"E8 out of memory"),
     }
 }

@@ -6,6 +6,6 @@ mod input;
 mod offsets;
 mod view_call;
 
-pub use input::{InputFault, input_report, read_whole};
+pub use input::{InputFault, WHOLE_LIMIT, input_report, read_whole};
 pub use offsets::write_offsets;
 pub use view_call::{View, Viewed, view_octets};

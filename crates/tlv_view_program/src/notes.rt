@@ -34,7 +34,10 @@ pub(crate) fn text_report(fault: TextFault) -> Report
     ensures { report_value_of result ≡ text_report fault }
 {
     match fault {
-        TextFault::TooLong => Report::with_message(4, b"X4 text of more than 1073741824 octets"),
+        TextFault::TooLong => Report::with_message(
+            4,
+            b"X4 text of more than 1073741824 octets, or of 16777216 more octets than characters",
+        ),
         TextFault::Memory => input_report(InputFault::Memory),
     }
 }

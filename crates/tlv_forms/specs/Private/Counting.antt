@@ -1,9 +1,10 @@
 -- How the blocks of a text are counted.
-use Rattle.std.specs.Prelude.{◌≡◌, ℕ, ◌<◌, ◌≤◌, ◌&&◌, Bool, List, [], ◌∷◌, length, not}
+use Rattle.std.specs.Prelude.{◌≡◌, ℕ, ◌<◌, ◌≤◌, ◌&&◌, Bool, List, [], ◌∷◌, length, nat_lt, not}
 use Rattle.tlv_forms.specs.Taken.{TakenValue, begins_with_zeros, is_complete, is_present, taken_octets}
 use Rattle.tlv_forms.specs.declared.taken.Taken.{Taken}
 use Rattle.tlv_head.specs.Limits.{input_limit}
 use Rattle.tlv_text.specs.Blocks.{BlockValue}
+use Rattle.tlv_text.specs.Dump.{dump_limit}
 use Rattle.tlv_text.specs.declared.block.Form.{Form}
 use Rattle.tlv_text.specs.declared.block.Form.TheVariants.{Hex, Pem, Runs}
 
@@ -11,6 +12,10 @@ use Rattle.tlv_text.specs.declared.block.Form.TheVariants.{Hex, Pem, Runs}
 pub record IsBounded (layers : ℕ) (t : Taken) : Type 0 where
   pub few : length t.layers.items < layers
   pub within : length t.block.octets.items ≤ input_limit
+
+-- a block has more octets than any text may have
+abbrev pub is_too_long : BlockValue → Bool
+is_too_long b = nat_lt dump_limit (length b.octets)
 
 -- a text has one block in each form but PEM and runs of base64
 abbrev pub IsFittingForm : Form → List BlockValue → Type 0

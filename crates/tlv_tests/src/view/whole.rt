@@ -90,7 +90,11 @@ fn refused_memory_is_reported(rt: HostRuntime) {
 fn faults_have_reports(rt: HostRuntime) {
     for (fault, status, message) in [
         (InputFault::ReadFailed, 3, b"E1 read failed".as_slice()),
-        (InputFault::TooLong, 3, b"E3 input too long"),
+        (
+            InputFault::TooLong,
+            3,
+            b"E3 input of more than 4294967296 octets; tlvdump dump reads longer ones",
+        ),
         (InputFault::Memory, 5, b"E8 out of memory"),
     ] {
         let report = input_report(fault);

@@ -1,7 +1,7 @@
 -- What the values in the code of dumps stand for.
 use Rattle.std.specs.Prelude.{◌≡◌, ◌<◌, ◌≤◌, ℕ, Bool, true, false, ◌&&◌, ◌||◌, ◌==◌, nat_le, List, ◌++◌, length}
 use Rattle.std.specs.Prelude.{Option, Some, None}
-use Rattle.tlv_text.specs.Dump.{DumpPlace, Step, dump_limit}
+use Rattle.tlv_text.specs.Dump.{DumpPlace, Step}
 use Rattle.tlv_text.specs.TextRead.{PartRead}
 use Rattle.tlv_text.specs.DumpLines.{LineKind, OffsetRead, RowRead, ends_offset, is_dump_blank, offset_read}
 use Rattle.tlv_text.specs.Private.PairSteps.{pair_octets}
@@ -38,15 +38,16 @@ dump_kind_of DumpLine.Other = LineKind.other
 abbrev pub dump_place_of : LastRow → DumpPlace
 dump_place_of row = record { phase = row.phase; offset = row.offset; octets = pair_octets row.digits.items }
 
--- the output is these octets, or there are too many of them
-pub record RowHolds (out : Output) (octets : List ℕ) : Type 0 where
+-- the output is these octets, or there are more of them than this limit
+pub record RowHolds (limit : ℕ) (out : Output) (octets : List ℕ) : Type 0 where
+  pub limit_is : out.limit ≡ limit
   pub are : out.over ≡ false → out.octets.items ≡ octets
-  pub fit : out.over ≡ false → length octets ≤ dump_limit
-  pub too_many : out.over ≡ true → dump_limit < length octets
+  pub fit : out.over ≡ false → length octets ≤ limit
+  pub too_many : out.over ≡ true → limit < length octets
 
 -- the octets are added after the octets of the output
 abbrev pub IsAdded : List ℕ → Output → Output → Type 0
-IsAdded more old new = (octets : List ℕ) → RowHolds old octets → RowHolds new (octets ++ more)
+IsAdded more old new = (limit : ℕ) (octets : List ℕ) → RowHolds limit old octets → RowHolds limit new (octets ++ more)
 
 -- the step is taken, if there is one; otherwise the output stays
 abbrev pub IsTaken : Option Step → Bool → LastRow → Output → Output → Type 0
@@ -63,6 +64,6 @@ IsFirstRow None true old new = ⊥
 IsFirstRow None false old new = Unit {0}
 
 -- a reading has what is read
-pub record Reads (read : PartRead) (reading : Reading) : Type 0 where
-  pub output : RowHolds reading.output read.octets
+pub record Reads (limit : ℕ) (read : PartRead) (reading : Reading) : Type 0 where
+  pub output : RowHolds limit reading.output read.octets
   pub left : reading.left ≡ read.left

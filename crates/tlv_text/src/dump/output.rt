@@ -6,25 +6,25 @@ ghost use Rattle.tlv_text.specs.Private.PairSteps.{AreWholePairs, pair_octets};
 
 use std::alloc::{AllocError, Global};
 
-/// The maximum number of octets in a dump.
-const LIMIT: usize = 1_073_741_824;
-
-/// The octets so far, unless there are more than 2^30.
+/// The octets so far, unless there are more than a limit.
 #[derive(Debug, Drop)]
 pub(crate) struct Output {
     /// The octets.
     pub(crate) octets: Vec<u8>,
     /// Whether there are too many octets; then `octets` does not have all of them.
     pub(crate) over: bool,
+    /// The maximum number of octets.
+    pub(crate) limit: usize,
 }
 
-/// No octets.
-pub(super) fn no_octets(alloc: Global) -> Output
-    ensures { RowHolds result [] }
+/// No octets, of which there may be at most `limit`.
+pub(super) fn no_octets(alloc: Global, limit: usize) -> Output
+    ensures { RowHolds limit result [] }
 {
     Output {
         octets: Vec::new(alloc),
         over: false,
+        limit,
     }
 }
 
@@ -41,7 +41,8 @@ pub(super) fn add_octets(
     if output.over || times == 0 {
         return Ok(());
     }
-    if !fits(output.octets.as_slice().len(), digits.len() / 2, times) {
+    let count = output.octets.as_slice().len();
+    if !fits(output.limit, count, digits.len() / 2, times) {
         output.over = true;
         return Ok(());
     }
@@ -55,9 +56,9 @@ pub(super) fn add_octets(
     Ok(())
 }
 
-/// Whether a dump may have `count` octets and then, `times` times, a row of `row` octets.
-fn fits(count: usize, row: usize, times: u64) -> bool
-    ensures { IsTrue result ↔ (count + times * row ≤ 1073741824) }
+/// Whether `count` octets and then, `times` times, a row of `row` octets are at most `limit` octets.
+fn fits(limit: usize, count: usize, row: usize, times: u64) -> bool
+    ensures { IsTrue result ↔ (count + times * row ≤ limit) }
 {
-    count <= LIMIT && (row == 0 || times <= (LIMIT - count) as u64 / row as u64)
+    count <= limit && (row == 0 || times <= (limit - count) as u64 / row as u64)
 }

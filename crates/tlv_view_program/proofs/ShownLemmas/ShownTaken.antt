@@ -69,7 +69,7 @@ module _ (Inner : List ℕ → List TakenValue → Type 0) (inner : ShowsInner I
   blocks_count-shown _ _ _ all (BlocksCount.base64 {b} {ts} complete counts) =
       counts-shown _ _ b ts (All-head HasShownLabel b [] all) counts
   blocks_count-shown _ _ _ all (BlocksCount.no_base64 {b} not) = none-shown
-  blocks_count-shown _ _ _ all (BlocksCount.runs {bs} {ts} counts) = runs-shown bs ts all counts
+  blocks_count-shown _ _ _ all (BlocksCount.runs {bs} {ts} counts few) = runs-shown bs ts all counts
 
   first_blocks-shown : (text : List ℕ) (forms : List Form) (ts : List TakenValue)
       → AreFirstBlocks Inner text forms ts → All IsShownTaken ts

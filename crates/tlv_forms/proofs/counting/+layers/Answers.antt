@@ -1,4 +1,4 @@
-use Rattle.std.proofs.Common.{◌≡◌, ◌+◌, ◌∷◌, ◌++◌, ◌∙◌, [], List, true, ap, append_assoc, arith, length, map, rules}
+use Rattle.std.proofs.Common.{◌≡◌, ◌+◌, ◌∷◌, ◌++◌, ◌∙◌, [], List, true, ap, append_assoc, arith, length, map, refl, rules}
 use Rattle.std.proofs.Common.{subst, sym}
 use Rattle.std.specs.List.{All}
 use Rattle.std.specs.Vec.Iter.{into_iter_items}
@@ -6,15 +6,16 @@ use Rattle.std.proofs.lemmas.List.{length-map, nil_from_length}
 use Rattle.std.proofs.lemmas.List.Elements.{All-append}
 use Rattle.std.proofs.lemmas.Result.{IfErr-weaker, IfOk-from_err, IfOk-weaker}
 use Rattle.tlv_forms.specs.Private.Counting.{IsBounded}
-use Rattle.tlv_forms.specs.Taken.{BlocksCount, TextBlocks, TextTooLong, in_layer, is_whole_block, taken_value}
+use Rattle.tlv_forms.specs.Taken.{RunsCount, TextBlocks, TextTooLong, in_layer, is_whole_block}
+use Rattle.tlv_forms.specs.Taken.{taken_value}
 use Rattle.tlv_forms.specs.declared.taken.Taken.{Taken}
-use Rattle.tlv_forms.proofs.CountLemmas.{next-fit}
+use Rattle.tlv_forms.proofs.CountLemmas.{each-fits, next-fit, one-fits}
 use Rattle.tlv_forms.proofs.CountingLemmas.{base64-broken, base64-counts, counts-encodings, counts-nothing}
 use Rattle.tlv_forms.proofs.CountingLemmas.{counts-other, counts-text, fault-weaker, next-run, octets-none, octets-some}
 use Rattle.tlv_forms.proofs.CountingLemmas.{only-base64, returned-fault, written-back}
 use Rattle.tlv_forms.proofs.FormLemmas.{first-here, first-later, first-none, inner-control, inner-long, inner-text}
 use Rattle.tlv_forms.proofs.FormLemmas.{kept-count, long-here, long-inside, long-later, more-bounded}
-use Rattle.tlv_forms.proofs.FormLemmas.{runs-done, runs-next}
+use Rattle.tlv_forms.proofs.RunCounts.{count-more, runs-all, runs-more, runs-too_many}
 use Rattle.tlv_forms.proofs.InputLemmas.{none-taken, text-is}
 use Rattle.tlv_forms.proofs.LoneForms.{base64-first, base64-hex_first, base64-hex_long, base64-long, base64-runs_first}
 use Rattle.tlv_forms.proofs.LoneForms.{base64-runs_long, hex-first}
@@ -88,7 +89,7 @@ counted_base64-returns-in-Some-clause-fault t c =
     IfErr-weaker c.counted.result _ _
     (λ fault.
     fault-weaker fault
-    (only-base64 (TextTooLong c.args.layers) c.args.blocks.items c.pop.new.self.items c.in-Some.block
+    (only-base64 (TextBlocks c.args.layers) (TextTooLong c.args.layers) c.args.blocks.items c.pop.new.self.items c.in-Some.block
     c.in-Some.ensures.items c.requires.fitting))
     c.counted.ensures.fault
 
@@ -115,9 +116,7 @@ counted_blocks-returns-in_err-kept_blocks-in-Pem t c = record {
 }
 
 pub counted_blocks-returns-in-Runs-clause-taken : goal.counted_blocks-returns-in-Runs-clause-taken
-counted_blocks-returns-in-Runs-clause-taken t c =
-    rw c.in-Runs.is
-    (IfOk-weaker c.counted_runs.result _ _ (λ ts runs. BlocksCount.runs runs) c.counted_runs.ensures.taken)
+counted_blocks-returns-in-Runs-clause-taken t c = rw c.in-Runs.is c.counted_runs.ensures.taken
 
 pub counted_blocks-returns-in_ok-kept_blocks-in-Pem :
     goal.counted_blocks-returns-in_ok-kept_blocks-in-Pem
@@ -138,7 +137,7 @@ counted_runs-returns-in_err-more-clause-fault t c =
     ≡ into_iter_items c.into_iter-block-iterator.result = rw (← steps) at.invariant.passed in
     returned-fault _ c.in_err-more.field-0.0 _ c.from_residual.ensures.1
     (fault-weaker _
-    (next-run (TextTooLong c.args.layers) at.yielded _ c.args.blocks.items c.in-Some.block
+    (next-run (TextBlocks c.args.layers) (TextTooLong c.args.layers) at.yielded _ c.args.blocks.items c.in-Some.block
     (passed ∙ c.into_iter-block-iterator.ensures.into_iter_gives.0))
     c.in_err-more.ensures.fault)
 
@@ -147,17 +146,30 @@ pub counted_runs-returns-in_err-append-clause-fault :
 counted_runs-returns-in_err-append-clause-fault t c =
     returned-fault _ Memory _ c.from_residual-in_err-append.ensures.1 tt
 
+pub counted_runs-returns-in_default-clause-fault : goal.counted_runs-returns-in_default-clause-fault
+counted_runs-returns-in_default-clause-fault t c =
+    let at = c.loop-block in
+    let steps : into_iter_items at.block-iterator ≡ c.in-Some.block ∷ into_iter_items c.next.new.self =
+    c.in-Some.ensures.steps.0 in
+    let passed : at.yielded ++ (c.in-Some.block ∷ into_iter_items c.next.new.self)
+    ≡ into_iter_items c.into_iter-block-iterator.result = rw (← steps) at.invariant.passed in
+    runs-too_many (TextBlocks c.args.layers) (TextTooLong c.args.layers) at.yielded _ c.args.blocks.items
+    c.in-Some.block at.taken.items c.in_ok-more.more.items at.left at.invariant.counts c.in_ok-more.ensures.taken
+    (passed ∙ c.into_iter-block-iterator.ensures.into_iter_gives.0) at.invariant.room
+    (rw c.as_slice.ensures.value at c.in_default.ensures)
+
 pub counted_runs-loop-block-preserved : goal.counted_runs-loop-block-preserved
 counted_runs-loop-block-preserved t c =
     let at = c.loop-block in
     let b = c.in-Some.block in
+    let more = c.in_ok-more.more.items in
     let steps : into_iter_items at.block-iterator ≡ b ∷ into_iter_items c.next.new.self = c.in-Some.ensures.steps.0 in
     let append = c.in_ok-append.ensures.items in
     record {
-      onward = runs-next (TextBlocks c.args.layers) _ _ _ b at.taken.items c.in_ok-more.more.items _ steps
-          c.in_ok-more.ensures.taken append at.invariant.onward;
+      counts = runs-more (TextBlocks c.args.layers) at.yielded b at.taken.items more _ at.invariant.counts
+          c.in_ok-more.ensures.taken append;
       bounded = subst (λ (ts : List Taken). All (IsBounded (c.args.layers + 1)) ts) (sym append)
-          (All-append (IsBounded (c.args.layers + 1)) at.taken.items c.in_ok-more.more.items at.invariant.bounded
+          (All-append (IsBounded (c.args.layers + 1)) at.taken.items more at.invariant.bounded
           c.in_ok-more.ensures.bounded);
       fit = (next-fit _ _ _ steps at.invariant.fit).1;
       passed = append_assoc at.yielded (b ∷ []) _ ∙ rw (← steps) at.invariant.passed;
@@ -165,6 +177,9 @@ counted_runs-loop-block-preserved t c =
           let gone = c.in-Some.ensures.steps.1 in
           let short = ap length steps in
           omega arith;
+      room = let was = at.invariant.room in
+          let fewer = rw c.as_slice.ensures.value at c.in-Some-room_after.ensures in
+          omega (arith, was, fewer, count-more at.taken.items more _ append);
     }
 
 pub counted_runs-returns-clause-taken : goal.counted_runs-returns-clause-taken
@@ -172,8 +187,8 @@ counted_runs-returns-clause-taken t c =
     let at = c.loop-block in
     let none = c.in-None.ensures.steps in
     let empty : into_iter_items at.block-iterator ≡ [] = nil_from_length _ (sym at.invariant.left ∙ none.0) in
-    runs-done (TextBlocks c.args.layers) _ _ c.args.blocks.items at.taken.items empty
-    c.into_iter-block-iterator.ensures.into_iter_gives.0 at.invariant.onward
+    runs-all (TextBlocks c.args.layers) at.yielded _ c.args.blocks.items at.taken.items at.left at.invariant.counts
+    (at.invariant.passed ∙ c.into_iter-block-iterator.ensures.into_iter_gives.0) empty at.invariant.room
 
 pub first_blocks-returns-in_err-block-clause-fault :
     goal.first_blocks-returns-in_err-block-clause-fault
@@ -355,3 +370,25 @@ counted-returns-in_err-inner-clause-fault t c =
       text = long.1;
     })
     c.in_err-inner.ensures.fault)
+
+pub blocks_in_first_of-counted_blocks-requires : goal.blocks_in_first_of-counted_blocks-requires
+blocks_in_first_of-counted_blocks-requires t c =
+    let fit = each-fits c.args.text.now _ c.in_ok-blocks.ensures.fit in
+    search (rules, arith)
+
+pub lone_base64_blocks-counted-requires : goal.lone_base64_blocks-counted-requires
+lone_base64_blocks-counted-requires t c =
+    let fit = one-fits c.args.text.now (block_value c.args.block) c.requires.alone.fits in
+    search (rules, arith)
+
+pub counted_runs-loop-block-init : goal.counted_runs-loop-block-init
+counted_runs-loop-block-init t c =
+    let none = c.new-taken.ensures.items in
+    record {
+      counts = rw none RunsCount.no_more;
+      bounded = rw none (λ k d less. absurd (omega (arith, less)));
+      fit = search rules;
+      passed = refl;
+      left = search rules;
+      room = rw none (omega arith);
+    }

@@ -1,10 +1,11 @@
 use Rattle.std.proofs.Common.{◌≡◌, ◌+◌, ◌*◌, ◌++◌, All, List, drop, false, length, map}
 use Rattle.std.specs.List.{list_any}
 use Rattle.std.specs.Vec.Iter.{into_iter_items, into_iter_len}
-use Rattle.tlv_forms.specs.Private.Counting.{IsBounded}
+use Rattle.tlv_forms.specs.Private.Counting.{IsBounded, is_too_long}
 use Rattle.tlv_forms.specs.Taken.{AreFirstBlocks, IsFirstTooLong, RunsCount, TakenValue, TextBlocks, TextTooLong}
-use Rattle.tlv_forms.specs.Taken.{taken_value}
-use Rattle.tlv_text.specs.Blocks.{block_value, is_too_long}
+use Rattle.tlv_forms.specs.Taken.{taken_count, taken_value}
+use Rattle.tlv_text.specs.Blocks.{block_value}
+use Rattle.tlv_text.specs.Dump.{dump_limit}
 use Rattle.tlv_forms.proofs.counting.+layers.Given as goal
 
 abbrev pub decreases-text_blocks : goal.decreases-text_blocks
@@ -36,14 +37,12 @@ decreases-first_blocks l = 8 * l.layers + 7
 
 abbrev pub invariant-counted_runs-loop-block : goal.invariant-counted_runs-loop-block
 invariant-counted_runs-loop-block l = record {
-  onward : (more : List TakenValue)
-      → RunsCount (TextBlocks l.layers) (map block_value (into_iter_items l.block-iterator)) more
-      → RunsCount (TextBlocks l.layers) (map block_value (into_iter_items l.initial.block-iterator))
-      (map taken_value l.taken.items ++ more);
+  counts : RunsCount (TextBlocks l.layers) (map block_value l.yielded) (map taken_value l.taken.items);
   bounded : All (IsBounded (l.layers + 1)) l.taken.items;
   fit : list_any is_too_long (map block_value (into_iter_items l.block-iterator)) ≡ false;
   passed : l.yielded ++ into_iter_items l.block-iterator ≡ into_iter_items l.initial.block-iterator;
   left : into_iter_len l.block-iterator ≡ length (into_iter_items l.block-iterator);
+  room : l.left + taken_count (map taken_value l.taken.items) ≡ dump_limit;
 }
 
 abbrev pub invariant-blocks_in_first_of-loop-form : goal.invariant-blocks_in_first_of-loop-form

@@ -1,5 +1,6 @@
 use Rattle.std.proofs.Common.{ℕ, List, subst}
 use Rattle.tlv_text.specs.Blocks.{IsBlocksFault}
+use Rattle.tlv_forms.proofs.CountLemmas.{each-fits}
 use Rattle.tlv_forms.proofs.CountingLemmas.{returned-fault}
 use Rattle.tlv_forms.proofs.InputLemmas.{text-is}
 use Rattle.tlv_text.specs.declared.text_fault.TextFault.TheVariants.{Memory}
@@ -19,3 +20,6 @@ returns-in_err-blocks-clause-fault c =
 pub returns-in_err-all_taken_as-clause-fault : goal.returns-in_err-all_taken_as-clause-fault
 returns-in_err-all_taken_as-clause-fault c =
     returned-fault _ Memory _ c.from_residual-in_err-all_taken_as.ensures.1 IsBlocksFault.no_memory
+
+pub all_taken_as-requires : goal.all_taken_as-requires
+all_taken_as-requires c = each-fits _ _ c.in_ok-blocks.ensures.fit

@@ -1,10 +1,10 @@
 use Rattle.std.proofs.Common.{◌≡◌, ◌++◌, All, false, length, map}
 use Rattle.std.specs.List.{list_any}
 use Rattle.std.specs.Vec.Iter.{into_iter_items, into_iter_len}
-use Rattle.tlv_forms.specs.Private.Counting.{IsBounded}
+use Rattle.tlv_forms.specs.Private.Counting.{IsBounded, is_too_long}
 use Rattle.tlv_forms.specs.Taken.{taken_as, taken_value}
 use Rattle.tlv_forms.specs.declared.taken.TakenFor.TheVariants.{Text}
-use Rattle.tlv_text.specs.Blocks.{block_value, is_too_long}
+use Rattle.tlv_text.specs.Blocks.{block_value}
 use Rattle.tlv_forms.proofs.values.all_taken_as.Given as goal
 
 abbrev pub invariant-loop-block : goal.invariant-loop-block

@@ -1,7 +1,7 @@
-use Rattle.std.proofs.Common.{◌≡◌, ◌+◌, ◌-◌, ◌∙◌, List, ℕ, ap, arith, length, subst}
+use Rattle.std.proofs.Common.{◌≡◌, ◌+◌, ◌-◌, ◌∙◌, ◌++◌, List, ℕ, ap, arith, length, subst}
 use Rattle.std.proofs.lemmas.List.{length-append}
 use Rattle.tlv_text.proofs.DumpLemmas.{pair_octets-length}
-use Rattle.tlv_text.proofs.DumpOutputLemmas.{IsAddedSoFar, added-more, none-added}
+use Rattle.tlv_text.proofs.DumpOutputLemmas.{IsAddedSoFar, added-all, added-more, none-added}
 use Rattle.tlv_text.proofs.DumpPairLemmas.{no-pairs_whole, one-pair, pairs-from_first, pairs-left, some-read, two-first}
 use Rattle.tlv_text.proofs.DumpPairLemmas.{two-taken}
 use Rattle.tlv_text.specs.Dump.{octets_repeated}
@@ -86,3 +86,13 @@ overflow_sub-result c = omega (arith, all-counted c)
 
 pub returns-then-len-lt-DIGITS-clause-count : goal.returns-then-len-lt-DIGITS-clause-count
 returns-then-len-lt-DIGITS-clause-count c = omega (arith, all-counted c)
+
+pub returns-then-len-lt-DIGITS-clause-octets : goal.returns-then-len-lt-DIGITS-clause-octets
+returns-then-len-lt-DIGITS-clause-octets c =
+    let t = c.take_pairs-left.ensures in
+    let digits : List ℕ = c.take_pairs-left.new.digits.items in
+    added-all _ _ (octets_repeated 1 (pair_octets digits)) c.args.output.now c.loop-digits.output
+    c.add_octets.new.output c.loop-digits.invariant.added (rw c.as_slice.ensures.value at c.in_ok-add_octets.ensures)
+    (ap (λ (r : TextRead). r.octets) t.read
+    ∙ ap (λ (r : TextRead). pair_octets digits ++ r.octets)
+    (t.last (omega (arith, c.if-len-lt-DIGITS.true, c.len.ensures.value))))

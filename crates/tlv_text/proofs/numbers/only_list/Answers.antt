@@ -1,4 +1,4 @@
-use Rattle.std.proofs.Common.{◌∙◌, ap, sym}
+use Rattle.std.proofs.Common.{◌∙◌}
 use Rattle.tlv_text.proofs.NumberLemmas.{alone-before, alone-refused, some-mapped}
 use Rattle.tlv_text.specs.Private.NumberSteps.{list_value}
 use Rattle.tlv_text.proofs.numbers.only_list.Goals as goal

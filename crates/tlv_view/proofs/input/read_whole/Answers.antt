@@ -34,14 +34,14 @@ returns-then-count-eq0-clause-reads g c =
     whole-ended _ _ _ _ i.given i.most i.failures c.read.new.to (search rules) c.in-Ok.count c.in-Ok.ensures
     (search rules)
 
-pub returns-then-len-count-gt-INPUT_LIMIT-clause-reads : goal.returns-then-len-count-gt-INPUT_LIMIT-clause-reads
-returns-then-len-count-gt-INPUT_LIMIT-clause-reads g c =
+pub returns-then-len-count-gt-WHOLE_LIMIT-clause-reads : goal.returns-then-len-count-gt-WHOLE_LIMIT-clause-reads
+returns-then-len-count-gt-WHOLE_LIMIT-clause-reads g c =
     let i = c.loop-count.invariant in
     whole-too_long _ _ _ _ i.given i.most i.failures c.read.new.to (search rules) c.in-Ok.count c.in-Ok.ensures
-    (omega (arith, c.len.ensures, c.if-len-count-gt-INPUT_LIMIT.true))
+    (omega (arith, c.len.ensures, c.if-len-count-gt-WHOLE_LIMIT.true))
 
 pub returns-then-is_err-clause-reads : goal.returns-then-is_err-clause-reads
 returns-then-is_err-clause-reads g c =
     let i = c.loop-count.invariant in
     whole-no_memory _ _ _ _ i.given i.most i.failures c.read.new.to (search rules) c.in-Ok.count c.in-Ok.ensures
-    (search rules) (omega (arith, c.len.ensures, c.if-len-count-gt-INPUT_LIMIT.false))
+    (search rules) (omega (arith, c.len.ensures, c.if-len-count-gt-WHOLE_LIMIT.false))

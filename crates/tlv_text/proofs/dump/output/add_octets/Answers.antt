@@ -19,12 +19,14 @@ pub returns-then-not-fits : goal.returns-then-not-fits
 returns-then-not-fits c =
     let size = pair_octets-length c.args.digits.now in
     becomes-over c.args.output.now _ c.args.times (pair_octets c.args.digits.now) c.if-output.false (search rules)
-    (λ few. cc (c.if-not-fits.ensures.1 (rw (size, ← c.as_slice.ensures.value) at few)))
+    (search rules)
+    (λ few. cc (c.if-not-fits.ensures.1 (rw (size, ← c.as_slice-count.ensures.value) at few)))
 
 pub loop-preserved : goal.loop-preserved
 loop-preserved c =
     let pushed : c.extend_from_slice.new.self.items ≡ c.loop.output.octets.items ++ c.in-Ok.row.items = search rules in
     record {
+      kept = c.loop.invariant.kept;
       added = row-more _ _ _ c.loop.counter c.in-Ok.row.items c.loop.invariant.added pushed;
       within = search rules;
     }
@@ -36,5 +38,5 @@ returns c =
     let all : c.loop.counter ≡ c.args.times = search rules in
     let size = pair_octets-length c.args.digits.now in
     is-added c.args.output.now c.loop.output c.args.times (pair_octets c.args.digits.now) c.if-output.false
-    c.loop.invariant.within (rw (row, all) at c.loop.invariant.added)
-    (rw (← size, c.as_slice.ensures.value) at (c.if-not-fits.ensures.0 (search rules)))
+    c.loop.invariant.within c.loop.invariant.kept (rw (row, all) at c.loop.invariant.added)
+    (rw (← size, c.as_slice-count.ensures.value) at (c.if-not-fits.ensures.0 (search rules)))
