@@ -179,6 +179,15 @@ HINTS = [
 ]
 # Octets for which no other start may be suggested: those after whole encodings, and the last record.
 NO_START = [BODY + b"garbage\n", BODY + b"\x41\x82\x13\x04\x30", BODY + DAMAGED]
+# Octets that refuse every walk up to them. Between a damaged record and these, each record that stands there is tried.
+WALL = b"\x05\xff"
+
+
+def behind_many(count):
+    """Returns octets in which the last record is the next one, behind a damaged one, so many others, and a wall."""
+    return RECORD + b"\x30\x04\x05\x05\0\0" + b"\x30\0" * count + WALL + b"\x30\0"
+
+
 # A header that is named: "the header at offset 2", "the INTEGER at offset 2", "the [1] at offset 2".
 NAMED = re.compile(r"(?:eader|[A-Z][A-Za-z0-9-]*|\]) at offset (\d+)")
 # The number of headers of each encoding that are changed, and the step by which certificates of the machine are taken.
@@ -234,6 +243,23 @@ def hints(why):
         why.part.expect(f"no other start after whole encodings, {octets.hex()}", fine, *lines)
     got = why.program.run([], (b"\0\0\0" + BODY)[3:])
     why.part.expect("after the wrong start", got.status == 0, *got.lines())
+
+
+def many_tries(why):
+    """The tries for the next record read 16 octets for each octet of the input, and then no other is made.
+
+    With N records in front of the wall, the first of these is tried twice: as the end of the damaged one, and after its
+    start. A walk from a record reads its two octets, those of the records behind it, and one of the wall. So all walks
+    read N * N + 4 * N + 1 octets: of an input of 2 * N + 15 octets, fewer than 16 times as many for 34, and more for 35.
+    """
+    for count, is_found in ((33, True), (34, True), (35, False), (36, False), (1000, False)):
+        octets = behind_many(count)
+        last = len(octets) - 2
+        read = count * count + 4 * count + 1
+        status, lines = why.said(octets)
+        fine = status == 2 and is_found == (read < 16 * len(octets)) and (NEXT.format(last, last + 1) in lines) == is_found
+        fine = fine and ("From offset" in "\n".join(lines)) == is_found
+        why.part.expect(f"the next record, behind {count} that break", fine, *lines)
 
 
 def cuts(why):
@@ -349,6 +375,7 @@ def test(part):
     why = Why(part)
     faults(why)
     hints(why)
+    many_tries(why)
     cuts(why)
     texts(why)
     if part.has("openssl"):

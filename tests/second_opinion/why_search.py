@@ -1,7 +1,7 @@
 """Looks for changes that would make an input parse: docs/WHY.md from "Another length" on."""
 from second_opinion.reading import Element, Reading
 
-MOST_SEARCHED, MOST_OFF, LAST_START, MOST_TRIED = 1 << 20, 5, 64, 1024
+MOST_SEARCHED, MOST_OFF, LAST_START, MOST_TRIED, MOST_READ = 1 << 20, 5, 64, 1024, 16
 UTF_16 = "It begins as text in UTF-16 does. Try: iconv -f UTF-16 -t UTF-8 FILE | tlvdump-show"
 CAPTURE = "It begins as a capture of packets (pcap) does: export the octets of a packet first."
 MORE = "If one octet more stood after the header at offset {}, all would parse: an octet of its contents may be missing."
@@ -149,10 +149,14 @@ def next_record(octets, padding, top, changed):
             return []
         if end < len(octets):
             tried = [it for it in (end, end - 1, end + 1) if it in alike] + tried
+    left = MOST_READ * len(octets)
     for offset in tried:
         element = header_at(octets, offset)
-        if element and element.constructed and parses(octets[offset:], padding):
-            return [RECORD.format(offset, offset + 1)]
+        if left > 0 and element and element.constructed:
+            fault = Reading(octets[offset:], (), padding).fault
+            if fault is None:
+                return [RECORD.format(offset, offset + 1)]
+            left -= fault.offset
     return []
 
 

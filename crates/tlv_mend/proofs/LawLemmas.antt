@@ -14,7 +14,7 @@ use Rattle.tlv_head.specs.Header.{HeaderValue, IsHeader, IsLength, IsLongForm, a
 use Rattle.tlv_walk.specs.declared.framing.Framing.{Framing}
 use Rattle.tlv_mend.proofs.LengthLemmas.{begun-one}
 use Rattle.tlv_mend.specs.declared.lengths.WrongLength.{WrongLength}
-use Rattle.tlv_mend.specs.FirstOf.{IsFirstOf}
+use Rattle.tlv_mend.specs.FirstOf.{IsFirstOf, IsFirstWithin}
 use Rattle.tlv_mend.specs.FirstOf as first
 use Rattle.tlv_mend.specs.WrongLength.{IsFirstWrongLength, WouldBeSound, base_256, length_bound, length_octets_saying}
 use Rattle.tlv_mend.specs.WrongLength.{other_lengths, with_length}
@@ -27,6 +27,26 @@ first-one (first.here p) (first.here q) = refl
 first-one (first.here p) (first.later n g) = absurd (n p)
 first-one (first.later n f) (first.here q) = absurd (n q)
 first-one (first.later n f) (first.later m g) = first-one f g
+
+-- so with a budget, if each number has one cost
+pub within-one : {P : ℕ → Type 0} {Costs : ℕ → ℕ → Type 0} {budget : ℕ} {xs : List ℕ} {a b : Option ℕ}
+    → ((x c d : ℕ) → Costs x c → Costs x d → c ≡ d) → IsFirstWithin P Costs budget xs a
+    → IsFirstWithin P Costs budget xs b → a ≡ b
+within-one one first.all_tried first.all_tried = refl
+within-one one first.all_tried first.all_spent = refl
+within-one one first.all_spent first.all_tried = refl
+within-one one first.all_spent first.all_spent = refl
+within-one one first.all_spent (first.tried_well some p) = absurd (omega (arith, some))
+within-one one first.all_spent (first.tried_in_vain some n c f) = absurd (omega (arith, some))
+within-one one (first.tried_well some p) first.all_spent = absurd (omega (arith, some))
+within-one one (first.tried_well some p) (first.tried_well other q) = refl
+within-one one (first.tried_well some p) (first.tried_in_vain other n c f) = absurd (n p)
+within-one one (first.tried_in_vain some n c f) first.all_spent = absurd (omega (arith, some))
+within-one one (first.tried_in_vain some n c f) (first.tried_well other p) = absurd (n p)
+within-one {P} {Costs} {b = r} one (first.tried_in_vain {budget} {cost = i} {x} {more} some n c f)
+    (first.tried_in_vain {cost = j} other m d g) =
+    let same : j ≡ i = one x j i d c in
+    within-one one f (subst (λ (k : ℕ). IsFirstWithin P Costs (budget - k) more r) same g)
 
 first-at : (framing : Framing) (octets : List ℕ) (h g : HeaderValue) (a : Option ℕ) → h ≡ g
     → IsFirstOf (WouldBeSound framing octets h) (other_lengths h) a

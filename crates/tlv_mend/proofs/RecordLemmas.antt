@@ -1,7 +1,8 @@
 -- The offsets at which the next record is looked for, one after another.
-use Rattle.std.proofs.Common.{◌≡◌, ℕ, zero, suc, ◌+◌, ◌-◌, ◌<◌, ◌≤◌, Bool, true, false, List, [], ◌∷◌, ◌++◌, length}
+use Rattle.std.proofs.Common.{◌≡◌, ℕ, zero, suc, ◌+◌, ◌-◌, ◌*◌, ◌<◌, ◌≤◌, Bool, true, false, List, [], ◌∷◌, ◌++◌}
+use Rattle.std.proofs.Common.{append_assoc, append-nil, length, not}
 use Rattle.std.proofs.Common.{drop, take, ap, arith, get_or, length-append, length-drop, refl, subst, sym, ◌∙◌}
-use Rattle.std.specs.Prelude.{Option, Some, None, slice_index}
+use Rattle.std.specs.Prelude.{Option, Some, None}
 use Rattle.std.proofs.lemmas.List.{drop_all, take_rest}
 use Rattle.tlv_head.proofs.ReaderLemmas.Prefix.{header-two}
 use Rattle.tlv_head.specs.declared.header.HeaderFields.{HeaderFields}
@@ -10,118 +11,168 @@ use Rattle.tlv_head.specs.Header.{HeaderValue, definite_length, octets_of}
 use Rattle.tlv_head.specs.HeaderFields.{new_header}
 use Rattle.tlv_head.specs.ReadHeader.{BeginsWithFields}
 use Rattle.tlv_head.specs.Refusal.{BeginsWithNoHeader}
+use Rattle.tlv_head.specs.declared.fault.Fault.{Fault}
+use Rattle.tlv_walk.proofs.GrammarLemmas.Endings.{done-sound, sound-done}
+use Rattle.tlv_walk.proofs.GrammarLemmas.OneEnding.{ending-unique}
+use Rattle.tlv_head.specs.declared.fault.FaultCode.{FaultCode}
+use Rattle.tlv_walk.specs.declared.ending.Ending.{Ending}
+use Rattle.tlv_walk.specs.declared.framing.Framing.{Framing}
+use Rattle.tlv_walk.specs.declared.ending.Ending.TheVariants.{Done}
+use Rattle.tlv_walk.specs.declared.ending.Ending.TheVariants as ending
+use Rattle.tlv_walk.specs.Ending.{IsEnding, fault_ending}
+use Rattle.tlv_open.specs.Opens.{closed_framing}
 use Rattle.tlv_mend.proofs.FirstLemmas.{from-next}
-use Rattle.tlv_mend.proofs.LawLemmas.{first-one}
+use Rattle.tlv_mend.proofs.LawLemmas.{within-one}
 use Rattle.tlv_mend.proofs.LengthLemmas.{begun-one}
 use Rattle.tlv_mend.proofs.OctetLemmas.{starts-at}
 use Rattle.tlv_mend.specs.OneOctet.{contents_start}
 use Rattle.tlv_mend.specs.declared.lengths.WrongLength.{WrongLength}
-use Rattle.tlv_mend.specs.FirstOf.{IsFirstOf, no_more}
-use Rattle.tlv_mend.specs.FirstOf as first
-use Rattle.tlv_mend.specs.NextRecord.{EndsNear, IsNextRecord, another_length, another_start, at, none_in_front}
-use Rattle.tlv_mend.specs.NextRecord.{IsRecordAfter, alike_offsets, ends_near_input, is_alike, near_end, not_searched}
-use Rattle.tlv_mend.specs.NextRecord.{nowhere}
-use Rattle.tlv_mend.specs.NextRecord.{offsets_where, searched, tried_offsets}
-use Rattle.std.specs.List.{filter}
+use Rattle.tlv_mend.specs.FirstOf.{IsFirstWithin, all_spent, all_tried, tried_in_vain, tried_well}
+use Rattle.tlv_mend.specs.NextRecord.{EndsNear, IsNextRecord, ReadsInVain, another_length, another_start, at}
+use Rattle.tlv_mend.specs.NextRecord.{IsRecordAfter, none_in_front, not_searched, nothing, nowhere, offsets_where}
+use Rattle.tlv_mend.specs.NextRecord.{reads_for_each, searched, tried_offsets, up_to_fault}
 use Rattle.tlv_mend.specs.NextStart.{IsStart}
 
 -- ---- offsets of octets for which p holds
 
-module _ (P : ℕ → Type 0) (octets : List ℕ) (p : ℕ → Bool) (n : ℕ) where
-  -- the first of this many offsets, from n on, for which P holds
-  abbrev pub Among : ℕ → Option ℕ → Type 0
-  Among tries found = IsFirstOf P (take tries (offsets_where p n (drop n octets))) found
+module _ (octets : List ℕ) (p : ℕ → Bool) (n : ℕ) where
+  -- the first of these offsets, from n on
+  abbrev pub From : ℕ → List ℕ
+  From tries = take tries (offsets_where p n (drop n octets))
 
-  -- the same after n
-  abbrev pub AmongNext : ℕ → Option ℕ → Type 0
-  AmongNext tries found = IsFirstOf P (take tries (offsets_where p (n + 1) (drop (n + 1) octets))) found
+  -- the first of them after n
+  abbrev pub FromNext : ℕ → List ℕ
+  FromNext tries = take tries (offsets_where p (n + 1) (drop (n + 1) octets))
 
-  pub alike-here : (tries more : ℕ) → tries ≡ suc more → n < length octets → p (get_or octets n 0) ≡ true → P n
-      → Among tries (Some n)
-  alike-here tries more t h e holds = rw (from-next octets n h, e, t) (first.here holds)
+  pub alike-here : (tries more : ℕ) → tries ≡ suc more → n < length octets → p (get_or octets n 0) ≡ true
+      → From tries ≡ n ∷ FromNext more
+  alike-here tries more t h e = rw (from-next octets n h, e, t) refl
 
-  pub alike-later : (tries more : ℕ) (found : Option ℕ) → tries ≡ suc more → n < length octets
-      → p (get_or octets n 0) ≡ true → (P n → ⊥) → AmongNext more found → Among tries found
-  alike-later tries more found t h e none f = rw (from-next octets n h, e, t) (first.later none f)
+  pub other-here : (tries : ℕ) → n < length octets → p (get_or octets n 0) ≡ false → From tries ≡ FromNext tries
+  other-here tries h e = rw (from-next octets n h, e) refl
 
-  pub other-later : (tries : ℕ) (found : Option ℕ) → n < length octets → p (get_or octets n 0) ≡ false
-      → AmongNext tries found → Among tries found
-  other-later tries found h e f = rw (from-next octets n h, e) f
+  none : List ℕ
+  none = []
 
-  none-taken : (tries : ℕ) → IsFirstOf P (take tries []) None
-  none-taken zero = no_more
-  none-taken (suc tries) = no_more
+  none-taken : (tries : ℕ) → take tries none ≡ []
+  unfolding none
+  none-taken zero = refl
+  none-taken (suc tries) = refl
 
-  pub alike-end : (tries : ℕ) → length octets ≤ n → Among tries None
+  pub alike-end : (tries : ℕ) → length octets ≤ n → From tries ≡ []
+  unfolding none
   alike-end tries h = rw (drop_all n octets h) (none-taken tries)
 
--- ---- offsets near an end
+  -- one more of them is put behind others
+  pub one-more : (tried all : List ℕ) (tries more : ℕ) → tries ≡ suc more → n < length octets
+      → p (get_or octets n 0) ≡ true → tried ++ From tries ≡ all → (tried ++ n ∷ []) ++ FromNext more ≡ all
+  one-more tried all tries more t h e k =
+      append_assoc tried (n ∷ []) (FromNext more) ∙ ap (λ (l : List ℕ). tried ++ l) (sym (alike-here tries more t h e)) ∙ k
 
-module _ (P : ℕ → Type 0) (t : ℕ → Bool) (n : ℕ) (ns xs : List ℕ) where
-  pub near-here : t n ≡ true → P n → IsFirstOf P (filter t (n ∷ ns) ++ xs) (Some n)
-  near-here e holds = rw e (first.here holds)
+  pub last-one : (tried all : List ℕ) (tries : ℕ) → tries ≡ 1 → n < length octets → p (get_or octets n 0) ≡ true
+      → tried ++ From tries ≡ all → tried ++ n ∷ [] ≡ all
+  last-one tried all tries t h e k = sym (append-nil (tried ++ n ∷ [])) ∙ one-more tried all tries 0 t h e k
 
-  pub near-later : (found : Option ℕ) → ((t n ≡ true) × P n → ⊥) → IsFirstOf P (filter t ns ++ xs) found
-      → IsFirstOf P (filter t (n ∷ ns) ++ xs) found
-  near-later found none f = by (t n) refl
-    where
-      by : (b : Bool) → t n ≡ b → IsFirstOf P (filter t (n ∷ ns) ++ xs) found
-      by true e = rw e (first.later (λ holds. none (e, holds)) f)
-      by false e = rw e f
+  pub none-more : (tried all : List ℕ) (tries : ℕ) → n < length octets → p (get_or octets n 0) ≡ false
+      → tried ++ From tries ≡ all → tried ++ FromNext tries ≡ all
+  none-more tried all tries h e k = ap (λ (l : List ℕ). tried ++ l) (sym (other-here tries h e)) ∙ k
 
--- ---- the record after the damaged element
+-- ---- tries
 
-pub last-record : (padding : Bool) (octets : List ℕ) (offset end : ℕ) → EndsNear octets offset (Some end)
-    → ends_near_input octets end ≡ true → IsRecordAfter padding octets offset None
-last-record padding octets offset end ends last = record { end = Some end; ends = ends; first = rw last no_more }
+-- an input is sound from an offset inside it
+pub start-within : (padding : Bool) (octets : List ℕ) (offset : ℕ) → IsStart padding octets offset
+    → offset ≤ length octets
+start-within padding octets offset s =
+    let two : 2 ≤ length (octets_of s.header) = header-two s.header s.begins.valid in
+    let all : length (drop offset octets) ≡ length (octets_of s.header ++ s.begins.rest) = ap length s.begins.octets_are in
+    omega (arith, two, all, length-drop offset octets, length-append (octets_of s.header) s.begins.rest)
 
-module _ (padding : Bool) (octets : List ℕ) (offset end : ℕ) (ends : EndsNear octets offset (Some end))
-    (more : ends_near_input octets end ≡ false) where
-  -- the octet at the start of the damaged element, or of the input, stands at this offset
-  abbrev stands : ℕ → Bool
-  stands n = is_alike octets offset (slice_index octets n)
+-- what is read in vain is no start
+pub vain-no_start : (padding : Bool) (octets : List ℕ) (offset count : ℕ) → ReadsInVain padding octets offset count
+    → IsStart padding octets offset → ⊥
+vain-no_start padding octets offset count (up_to_fault h x e code ends) s =
+    let other : fault_ending code count ≡ Done =
+    ending-unique (closed_framing padding) (drop offset octets) (fault_ending code count) Done ends
+    (sound-done (closed_framing padding) (drop offset octets) s.sound) in
+    cc (other)
+vain-no_start padding octets offset count (nothing none) s =
+    let other : true ≡ false = sym s.constructed ∙ none s.header s.begins in cc (other)
 
-  -- a record may begin at this offset
-  abbrev pub IsAlikeStart : ℕ → Type 0
-  IsAlikeStart n = (stands n ≡ true) × IsStart padding octets n
+pub not-false : (b : Bool) → not b ≡ true → b ≡ false
+not-false true e = absurd (cc (e))
+not-false false e = refl
 
-  -- this is the first of the offsets from here on
-  abbrev IsFirstFrom : List ℕ → Option ℕ → Type 0
-  IsFirstFrom near found = IsFirstOf (IsStart padding octets) (filter stands near ++ alike_offsets octets offset) found
+pub not-true : (b : Bool) → not b ≡ false → b ≡ true
+not-true true e = refl
+not-true false e = absurd (cc (e))
 
-  tried : (found : Option ℕ) → IsFirstFrom (near_end end) found → IsRecordAfter padding octets offset found
-  tried found f = record { end = Some end; ends = ends; first = rw more f }
+module _ (padding : Bool) (octets : List ℕ) where
+  -- the first of these offsets is found with this budget
+  abbrev pub IsFirstTried : ℕ → List ℕ → Option ℕ → Type 0
+  IsFirstTried budget offsets found =
+      IsFirstWithin (IsStart padding octets) (ReadsInVain padding octets) budget offsets found
 
-  here : (n : ℕ) (ns : List ℕ) → IsAlikeStart n → IsFirstFrom (n ∷ ns) (Some n)
-  here n ns s = near-here (IsStart padding octets) stands n ns (alike_offsets octets offset) s.0 s.1
+  pub tried-here : (budget : ℕ) (offsets : List ℕ) (i : ℕ) → i < length offsets → (budget ≡ 0 → ⊥)
+      → IsStart padding octets (get_or offsets i 0) → IsFirstTried budget (drop i offsets) (Some (get_or offsets i 0))
+  tried-here budget offsets i h some s = rw (from-next offsets i h) (tried_well {budget = budget} (omega (arith, some)) s)
 
-  later : (n : ℕ) (ns : List ℕ) (found : Option ℕ) → (IsAlikeStart n → ⊥) → IsFirstFrom ns found
-      → IsFirstFrom (n ∷ ns) found
-  later n ns found none f =
-      near-later (IsStart padding octets) stands n ns (alike_offsets octets offset) found none f
+  pub tried-later : (budget count : ℕ) (offsets : List ℕ) (i : ℕ) (found : Option ℕ) → i < length offsets
+      → (budget ≡ 0 → ⊥) → ReadsInVain padding octets (get_or offsets i 0) count
+      → IsFirstTried (budget - count) (drop (i + 1) offsets) found → IsFirstTried budget (drop i offsets) found
+  tried-later budget count offsets i found h some vain f =
+      rw (from-next offsets i h)
+      (tried_in_vain {budget = budget} (omega (arith, some)) (vain-no_start padding octets (get_or offsets i 0) count vain) vain f)
 
-  pub near-first : IsAlikeStart end → IsRecordAfter padding octets offset (Some end)
-  near-first s = tried (Some end) (here end ((end - 1) ∷ (end + 1) ∷ []) s)
+  pub tried-spent : (budget : ℕ) (offsets : List ℕ) → budget ≡ 0 → IsFirstTried budget offsets None
+  tried-spent budget offsets none = rw none all_spent
 
-  pub near-second : (IsAlikeStart end → ⊥) → IsAlikeStart (end - 1)
-      → IsRecordAfter padding octets offset (Some (end - 1))
-  near-second none s =
-      tried (Some (end - 1)) (later end ((end - 1) ∷ (end + 1) ∷ []) (Some (end - 1)) none
-      (here (end - 1) ((end + 1) ∷ []) s))
+  pub tried-all : (budget : ℕ) (offsets : List ℕ) (i : ℕ) → length offsets ≤ i
+      → IsFirstTried budget (drop i offsets) None
+  tried-all budget offsets i h = rw (drop_all i offsets h) all_tried
 
-  pub near-third : (IsAlikeStart end → ⊥) → (IsAlikeStart (end - 1) → ⊥) → IsAlikeStart (end + 1)
-      → IsRecordAfter padding octets offset (Some (end + 1))
-  near-third none before s =
-      tried (Some (end + 1)) (later end ((end - 1) ∷ (end + 1) ∷ []) (Some (end + 1)) none
-      (later (end - 1) ((end + 1) ∷ []) (Some (end + 1)) before (here (end + 1) [] s)))
+  module _ (offset : ℕ) where
+    pub vain-past : length octets < offset → ReadsInVain padding octets offset 0
+    vain-past past =
+        nothing (λ h p.
+        let two : 2 ≤ length (octets_of h) = header-two h p.valid in
+        let all : length (drop offset octets) ≡ length (octets_of h ++ p.rest) = ap length p.octets_are in
+        absurd (omega (arith, past, two, all, length-drop offset octets, length-append (octets_of h) p.rest)))
 
-  pub near-later_first : (found : Option ℕ) → (IsAlikeStart end → ⊥) → (IsAlikeStart (end - 1) → ⊥)
-      → (IsAlikeStart (end + 1) → ⊥)
-      → IsFirstOf (IsStart padding octets) (alike_offsets octets offset) found
-      → IsRecordAfter padding octets offset found
-  near-later_first found none before behind f =
-      tried found (later end ((end - 1) ∷ (end + 1) ∷ []) found none
-      (later (end - 1) ((end + 1) ∷ []) found before (later (end + 1) [] found behind f)))
+    -- an ending of the octets from there on
+    pub ends-there : (framing : Framing) (e d : Ending) → framing ≡ closed_framing padding → e ≡ d
+        → IsEnding framing (take (length octets - offset) (drop offset octets)) e
+        → IsEnding (closed_framing padding) (drop offset octets) d
+    ends-there framing e d same is ends =
+        subst (λ (f : Framing). IsEnding f (drop offset octets) d) same
+        (subst (λ (xs : List ℕ). IsEnding framing xs d) (take_rest octets offset)
+        (subst (λ (y : Ending). IsEnding framing (take (length octets - offset) (drop offset octets)) y) is ends))
+
+    pub vain-no_header : BeginsWithNoHeader (take (length octets - offset) (drop offset octets))
+        → ReadsInVain padding octets offset 0
+    vain-no_header none =
+        nothing (λ h p. absurd (none h p.rest p.valid (take_rest octets offset ∙ p.octets_are)))
+
+    module _ (count : ℕ) (fields : HeaderFields)
+        (b : BeginsWithFields (drop offset octets) offset false fields count) where
+      pub vain-primitive : fields.constructed ≡ false → ReadsInVain padding octets offset 0
+      vain-primitive e =
+          nothing (λ h p.
+          let one : new_header fields (take count (drop offset octets)) ≡ h = begun-one _ h b.begins p in
+          ap (λ (x : HeaderValue). x.constructed) (sym one) ∙ e)
+
+      pub vain-fault : (fault : Fault) → fields.constructed ≡ true
+          → IsEnding (closed_framing padding) (drop offset octets) (ending.Fault fault)
+          → ReadsInVain padding octets offset fault.offset
+      vain-fault fault e ends = up_to_fault (new_header fields (take count (drop offset octets))) b.begins e fault.code ends
+
+      pub start-there : fields.constructed ≡ true → IsEnding (closed_framing padding) (drop offset octets) Done
+          → IsStart padding octets offset
+      start-there e ends = record {
+        header = new_header fields (take count (drop offset octets));
+        begins = b.begins;
+        constructed = e;
+        sound = done-sound (closed_framing padding) (drop offset octets) ends;
+      }
 
 -- ---- where the damaged element ends
 
@@ -187,12 +238,34 @@ ends-one octets offset a b (at h n x e near) (nowhere none) = absurd (omega (ari
 ends-one octets offset a b (nowhere none) (at h n x e near) = absurd (omega (arith, near, none h n x e))
 ends-one octets offset a b (nowhere none) (nowhere other) = refl
 
+-- equal endings with a fault have it at the same offset
+offset-of : Ending → ℕ
+offset-of Done = 0
+offset-of (ending.Fault fault) = fault.offset
+
+fault-offset-of : {code other : FaultCode} {a b : ℕ} → fault_ending code a ≡ fault_ending other b → a ≡ b
+unfolding offset-of
+fault-offset-of same = ap offset-of same
+
+vain-one : (padding : Bool) (octets : List ℕ) (offset a b : ℕ) → ReadsInVain padding octets offset a
+    → ReadsInVain padding octets offset b → a ≡ b
+vain-one padding octets offset a b (up_to_fault h x e code ends) (up_to_fault g y d other final) =
+    let same : fault_ending code a ≡ fault_ending other b =
+    ending-unique (closed_framing padding) (drop offset octets) (fault_ending code a) (fault_ending other b) ends final in
+    fault-offset-of same
+vain-one padding octets offset a b (up_to_fault h x e code ends) (nothing none) =
+    let other : true ≡ false = sym e ∙ none h x in absurd (cc (other))
+vain-one padding octets offset a b (nothing none) (up_to_fault h x e code ends) =
+    let other : true ≡ false = sym e ∙ none h x in absurd (cc (other))
+vain-one padding octets offset a b (nothing none) (nothing other) = refl
+
 record-one : (padding : Bool) (octets : List ℕ) (offset : ℕ) (a b : Option ℕ) → IsRecordAfter padding octets offset a
     → IsRecordAfter padding octets offset b → a ≡ b
 record-one padding octets offset a b x y =
     let same : y.end ≡ x.end = ends-one octets offset y.end x.end y.ends x.ends in
-    first-one x.first (subst (λ (e : Option ℕ). IsFirstOf (IsStart padding octets) (tried_offsets octets offset e) b)
-    same y.first)
+    within-one (vain-one padding octets) x.first
+    (subst (λ (e : Option ℕ). IsFirstTried padding octets (reads_for_each * length octets)
+    (tried_offsets octets offset e) b) same y.first)
 
 pub next-one : (padding : Bool) (octets : List ℕ) (top : ℕ) (wrong : Option WrongLength) (start a b : Option ℕ)
     → IsNextRecord padding octets top wrong start a → IsNextRecord padding octets top wrong start b → a ≡ b

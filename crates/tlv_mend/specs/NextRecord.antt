@@ -1,14 +1,17 @@
 -- Where the next record begins in a file of records, one of which is damaged: X.690 8.1.1.
-use Rattle.std.specs.Prelude.{◌≡◌, ◌==◌, ℕ, ◌+◌, ◌-◌, ◌<◌, ◌≤◌, Bool, true, false, ◌||◌, if◌then◌else◌, List, [], ◌∷◌}
-use Rattle.std.specs.Prelude.{◌++◌, length, take, drop, Option, None, Some, slice_index}
+use Rattle.std.specs.Prelude.{◌≡◌, ◌==◌, ℕ, ◌+◌, ◌-◌, ◌*◌, ◌<◌, ◌≤◌, Bool, true, false, ◌||◌, if◌then◌else◌, List, []}
+use Rattle.std.specs.Prelude.{◌∷◌, ◌++◌, length, take, drop, Option, None, Some, slice_index}
 use Rattle.std.specs.List.{filter, list_any}
+use Rattle.tlv_head.specs.declared.fault.FaultCode.{FaultCode}
 use Rattle.tlv_head.specs.Header.{HeaderValue, definite_length}
 use Rattle.tlv_head.specs.Refusal.{BeginsWith}
 use Rattle.tlv_mend.specs.declared.lengths.WrongLength.{WrongLength}
-use Rattle.tlv_mend.specs.FirstOf.{IsFirstOf}
+use Rattle.tlv_mend.specs.FirstOf.{IsFirstWithin}
 use Rattle.tlv_mend.specs.NextStart.{IsStart}
 use Rattle.tlv_mend.specs.OneOctet.{contents_start}
 use Rattle.tlv_mend.specs.WrongLength.{search_limit}
+use Rattle.tlv_open.specs.Opens.{closed_framing}
+use Rattle.tlv_walk.specs.Ending.{IsEnding, fault_ending}
 
 -- ---- the damaged element
 
@@ -61,14 +64,31 @@ tried_offsets octets offset None = alike_offsets octets offset
 tried_offsets octets offset (Some end) =
     if ends_near_input octets end then [] else alike_near octets offset end ++ alike_offsets octets offset
 
+-- ---- how much is read for that
+
+-- the number of octets that a try at this offset reads in vain: those up to the fault of what stands there, if a
+-- constructed element begins there; else none
+pub data ReadsInVain (padding : Bool) (octets : List ℕ) (offset : ℕ) : ℕ → Type 0 where
+  up_to_fault : {count : ℕ} → (h : HeaderValue) → BeginsWith (drop offset octets) offset false h → h.constructed ≡ true
+      → (code : FaultCode) → IsEnding (closed_framing padding) (drop offset octets) (fault_ending code count)
+      → ReadsInVain padding octets offset count
+  nothing : ((h : HeaderValue) → BeginsWith (drop offset octets) offset false h → h.constructed ≡ false)
+      → ReadsInVain padding octets offset 0
+
+-- for each octet of the input the tries may read so many in vain: a limit of our own
+abbrev pub reads_for_each : ℕ
+reads_for_each = 16
+
 -- ---- the next record
 
 -- where the record after the damaged element begins, which is at this offset: at the first of the tried offsets at
--- which a constructed element begins, and from which on the input is sound
+-- which a constructed element begins, and from which on the input is sound. Once the tries have read that much in vain,
+-- no other is made
 pub record IsRecordAfter (padding : Bool) (octets : List ℕ) (offset : ℕ) (found : Option ℕ) : Type 0 where
   pub end : Option ℕ
   pub ends : EndsNear octets offset end
-  pub first : IsFirstOf (IsStart padding octets) (tried_offsets octets offset end) found
+  pub first : IsFirstWithin (IsStart padding octets) (ReadsInVain padding octets) (reads_for_each * length octets)
+      (tried_offsets octets offset end) found
 
 -- another length is named for the element at this offset
 abbrev pub is_length_of : ℕ → Option WrongLength → Bool

@@ -1,27 +1,38 @@
 //! Where the next record begins in an input, one of whose records is damaged.
-ghost use Rattle.std.specs.Prelude.{◌≡◌, ◌<◌, ◌≤◌, ◌+◌, ◌↔◌, IfSome, IsTrue, None, length, slice_index, true};
+ghost use Rattle.std.specs.List.{filter};
+ghost use Rattle.std.specs.Prelude.{◌≡◌, ◌<◌, ◌≤◌, ◌+◌, ◌++◌, [], ◌∷◌, IfSome, MatchOption, None, Option, length};
+ghost use Rattle.std.specs.Prelude.{slice_index, ℕ};
 ghost use Rattle.tlv_head.specs.Limits.{input_limit};
-ghost use Rattle.tlv_mend.specs.FirstOf.{IsFirstOf};
-ghost use Rattle.tlv_mend.specs.NextRecord.{EndsNear, IsNextRecord, IsRecordAfter, alike_offsets, ends_near_input};
-ghost use Rattle.tlv_mend.specs.NextRecord.{is_alike, is_length_of};
+ghost use Rattle.tlv_mend.specs.FirstOf.{IsFirstWithin};
+ghost use Rattle.tlv_mend.specs.NextRecord.{EndsNear, IsNextRecord, IsRecordAfter, ReadsInVain, alike_offsets};
+ghost use Rattle.tlv_mend.specs.NextRecord.{ends_near_input, is_alike, is_length_of, tried_offsets};
 ghost use Rattle.tlv_mend.specs.NextStart.{IsStart};
 ghost use Rattle.tlv_mend.specs.WrongLength.{search_limit};
 
 use crate::lengths::{SEARCH_LIMIT, WrongLength};
-use crate::start::is_start;
+use crate::sound::{closed_framing, ending_in};
+use arrayvec::ArrayVec;
 use tlv_head::{Size, read_header};
+use tlv_walk::Ending;
 
-/// The number of offsets that are tried.
+/// The number of offsets that are tried after the start of the damaged element.
 const RECORD_TRIES: usize = 1024;
+
+/// The number of all offsets that are tried: three near the end of the damaged element, and those.
+const ALL_TRIES: usize = 1027;
+
+/// The number of octets that the tries may read in vain for each octet of the input.
+const READS_FOR_EACH: u64 = 16;
 
 /// The offset at which the next record begins, in octets from the start of the input, if one of several records is
 /// damaged. A constructed element begins there, and from there on the input is sound. The octet there is that at the
 /// start of the damaged record, or of the input. The damaged record begins at `top`, after whole elements. Its end is
 /// tried first, and the offsets one octet before and after that; then the first 1024 offsets after `top` with such an
-/// octet. `None` if there is no such offset, if no whole element stands in front, if the input ends near the end of the
-/// damaged record, if another length is named for that record (`wrong`), if another start was found (`start`), or if
-/// the input has more than [`SEARCH_LIMIT`] octets. With `padding`, octets `00` are allowed between encodings and after
-/// them.
+/// octet. A try reads up to the fault of what stands there. Once the tries have read 16 octets for each octet of the
+/// input, no other is made. `None` if there is no such offset, if no whole element stands in front, if the input ends
+/// near the end of the damaged record, if another length is named for that record (`wrong`), if another start was found
+/// (`start`), or if the input has more than [`SEARCH_LIMIT`] octets. With `padding`, octets `00` are allowed between
+/// encodings and after them.
 pub fn next_record(
     octets: &[u8],
     padding: bool,
@@ -76,22 +87,108 @@ fn record_after(octets: &[u8], padding: bool, offset: usize) -> Option<usize>
     ensures record { IsRecordAfter padding octets.now offset result }
     ensures within { IfSome result (λ n. n ≤ length octets.now) }
 {
-    let Some(end) = end_near(octets, offset) else {
-        return first_alike(octets, padding, offset);
+    let offsets = tried_offsets(octets, offset);
+    first_within(
+        octets,
+        padding,
+        offsets.as_slice(),
+        READS_FOR_EACH * octets.len() as u64,
+    )
+}
+
+/// The first of these offsets at which a constructed element begins, and from which on the input is sound, if the tries
+/// before it read fewer octets in vain than `budget`.
+fn first_within(octets: &[u8], padding: bool, offsets: &[usize], budget: u64) -> Option<usize>
+    requires { length octets.now ≤ search_limit }
+    ensures first { IsFirstWithin (IsStart padding octets.now) (ReadsInVain padding octets.now) budget offsets.now result }
+    ensures within { IfSome result (λ n. n ≤ length octets.now) }
+{
+    let mut left = budget;
+    for &offset in offsets {
+        if left == 0 {
+            return None;
+        }
+        match reads_in_vain(octets, padding, offset) {
+            Some(count) => left = left.saturating_sub(count),
+            None => return Some(offset),
+        }
+    }
+    None
+}
+
+/// The number of octets that a try at this offset reads in vain: those up to the fault of what stands there, if a
+/// constructed element begins there; else none. `None` if the try is not in vain: from the offset on the input is sound.
+fn reads_in_vain(octets: &[u8], padding: bool, offset: usize) -> Option<u64>
+    requires { length octets.now ≤ search_limit }
+    ensures { MatchOption result (IsStart padding octets.now offset) (ReadsInVain padding octets.now offset) }
+{
+    if offset > octets.len() {
+        return Some(0);
+    }
+    let rest = &octets[offset..];
+    let Some((fields, _)) = read_header(offset as u64, false, rest) else {
+        return Some(0);
     };
-    if ends_near_input(octets, end) {
-        return None;
+    if !fields.constructed {
+        return Some(0);
     }
-    if is_alike_start(octets, padding, offset, end) {
-        return Some(end);
+    match ending_in(rest, &closed_framing(padding)) {
+        Ending::Done => None,
+        Ending::Fault(fault) => Some(fault.offset),
     }
-    if is_alike_start(octets, padding, offset, end - 1) {
-        return Some(end - 1);
+}
+
+/// The offsets that are tried, after the damaged element at this offset.
+fn tried_offsets(octets: &[u8], offset: usize) -> ArrayVec<usize, ALL_TRIES>
+    requires { length octets.now ≤ search_limit }
+    ensures { (end : Option ℕ) × EndsNear octets.now offset end × (result.items ≡ tried_offsets octets.now offset end) }
+{
+    let mut tried = ArrayVec::new();
+    if let Some(end) = end_near(octets, offset) {
+        if ends_near_input(octets, end) {
+            return tried;
+        }
+        add_alike(octets, offset, end, &mut tried);
+        add_alike(octets, offset, end - 1, &mut tried);
+        add_alike(octets, offset, end + 1, &mut tried);
     }
-    if is_alike_start(octets, padding, offset, end + 1) {
-        return Some(end + 1);
+    add_alike_offsets(octets, offset, &mut tried);
+    tried
+}
+
+/// Adds this place, if an octet stands there with which records begin.
+fn add_alike(octets: &[u8], offset: usize, place: usize, tried: &mut ArrayVec<usize, ALL_TRIES>)
+    requires offset { offset < length octets.now }
+    requires place { place < length octets.now }
+    requires room { length tried.old.items < 3 }
+    ensures added { tried.new.items ≡ tried.old.items
+        ++ filter (λ n. is_alike octets.now offset (slice_index octets.now n)) (place ∷ []) }
+    ensures room { length tried.new.items ≤ length tried.old.items + 1 }
+{
+    if is_alike(octets, offset, octets[place]) {
+        tried.push(place);
     }
-    first_alike(octets, padding, offset)
+}
+
+/// Adds the offsets after this one at which such an octet stands.
+fn add_alike_offsets(octets: &[u8], offset: usize, tried: &mut ArrayVec<usize, ALL_TRIES>)
+    requires limit { length octets.now ≤ search_limit }
+    requires room { length tried.old.items ≤ 3 }
+    ensures { tried.new.items ≡ tried.old.items ++ alike_offsets octets.now offset }
+{
+    if offset >= octets.len() {
+        return;
+    }
+    let mut tries = 0;
+    for place in offset + 1..octets.len() {
+        if is_alike(octets, offset, octets[place]) {
+            tried.push(place);
+            tries += 1;
+            if tries == RECORD_TRIES {
+                return;
+            }
+        }
+    }
 }
 
 /// Whether the input ends near the end of the damaged element.
@@ -124,47 +221,10 @@ fn end_near(octets: &[u8], offset: usize) -> Option<usize>
     Some(offset + count + size as usize)
 }
 
-/// Whether at the offset `place` the octet stands with which the element at this offset begins, or the input; and a
-/// constructed element begins there, and from there on the input is sound.
-fn is_alike_start(octets: &[u8], padding: bool, offset: usize, place: usize) -> bool
-    requires limit { length octets.now ≤ search_limit }
-    requires offset { offset < length octets.now }
-    requires place { place < length octets.now }
-    ensures { IsTrue result ↔ (is_alike octets.now offset (slice_index octets.now place) ≡ true)
-        × IsStart padding octets.now place }
-{
-    is_alike(octets, offset, octets[place]) && is_start(octets, place, padding)
-}
-
 /// Whether the element at this offset begins with this octet, or the input does.
 fn is_alike(octets: &[u8], offset: usize, octet: u8) -> bool
     requires { offset < length octets.now }
     ensures { result ≡ is_alike octets.now offset octet }
 {
     octet == octets[offset] || octet == octets[0]
-}
-
-/// The first of the offsets after this one at which such an octet stands, a constructed element begins, and from which
-/// on the input is sound.
-fn first_alike(octets: &[u8], padding: bool, offset: usize) -> Option<usize>
-    requires { length octets.now ≤ search_limit }
-    ensures first { IsFirstOf (IsStart padding octets.now) (alike_offsets octets.now offset) result }
-    ensures within { IfSome result (λ n. n ≤ length octets.now) }
-{
-    if offset >= octets.len() {
-        return None;
-    }
-    let mut tries = 0;
-    for place in offset + 1..octets.len() {
-        if is_alike(octets, offset, octets[place]) {
-            if is_start(octets, place, padding) {
-                return Some(place);
-            }
-            tries += 1;
-            if tries == RECORD_TRIES {
-                return None;
-            }
-        }
-    }
-    None
 }

@@ -2,6 +2,7 @@
 ghost use Rattle.std.specs.Prelude.{◌≡◌, ◌≤◌, ◌↔◌, IsTrue, length};
 ghost use Rattle.tlv_head.specs.Limits.{input_limit};
 ghost use Rattle.tlv_open.specs.Opens.{closed_framing};
+ghost use Rattle.tlv_walk.specs.Ending.{IsEnding};
 ghost use Rattle.tlv_walk.specs.Reading.{IsSoundList};
 
 use crate::silence::{Nowhere, Silent};
@@ -32,10 +33,18 @@ pub(crate) fn is_sound_list(octets: &[u8], framing: &Framing<'_>) -> bool
     requires { length octets.now ≤ input_limit }
     ensures { IsTrue result ↔ IsSoundList framing.now octets.now }
 {
+    matches!(ending_in(octets, framing), Ending::Done)
+}
+
+/// How an input of these octets ends, read with this framing.
+pub(crate) fn ending_in(octets: &[u8], framing: &Framing<'_>) -> Ending
+    requires { length octets.now ≤ input_limit }
+    ensures { IsEnding framing.now octets.now result }
+{
     // `drive` takes whole elements at once, where `Walker::step` goes event by event: that is much slower.
     let mut source = UnfailingSource::new(octets, &[]);
     match drive(&mut source, &mut Silent, &mut Nowhere, framing) {
-        Ok(run) => matches!(run.ending, Ending::Done),
-        Err(_) => false,
+        Ok(run) => run.ending,
+        Err(_) => unreachable!(),
     }
 }

@@ -49,7 +49,7 @@ fn first_start(octets: &[u8], padding: bool) -> Option<usize>
 }
 
 /// Whether the input is sound from this offset on, and a constructed element begins there.
-pub(crate) fn is_start(octets: &[u8], offset: usize, padding: bool) -> bool
+fn is_start(octets: &[u8], offset: usize, padding: bool) -> bool
     requires limit { length octets.now ≤ input_limit }
     requires within { offset ≤ length octets.now }
     ensures { IsTrue result ↔ IsStart padding octets.now offset }
