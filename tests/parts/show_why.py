@@ -165,17 +165,24 @@ HINTS = [
     ("a text with marks", element(0x30, b"\x02\x01\x05\xef\xbf\xbd") + b"\xff", REPLACED, 2),
     ("a string with marks, and CR", element(0x30, string(b"\x0a\xef\xbf\xbd")).replace(b"\x0a", b"\r\n"),
      "octets 0d were put in front of 0a", 2),
-    ("gzip", b"\x1f\x8b\x08\x00\x00\x00", "a file of gzip", 2),
-    ("ZIP", b"PK\x03\x04\x14\x00", "a ZIP file", 2),
-    ("PDF", b"%PDF-1.7", "a PDF file", 2),
-    ("XML", b"<?xml version", "the character <", 2),
-    ("OpenSSH", b"openssh-key-v1\0", "a key of OpenSSH", 2),
-    ("UTF-16", b"\xff\xfe\xe9\x00", UTF_16, 2),
-    ("UTF-16, high octets first", b"\xfe\xff\x00\x30", UTF_16, 2),
-    ("pcap", b"\xd4\xc3\xb2\xa1\x02\x00\x04\x00", "a capture of packets (pcap)", 2),
-    ("pcap with nanoseconds", b"\x4d\x3c\xb2\xa1\x02\x00\x04\x00", "a capture of packets (pcap)", 2),
-    ("pcapng", b"\x0a\x0d\x0d\x0a\x1c\x00\x00\x00", "a capture of packets (pcap)", 2),
-    ("a key store of Java", b"\xfe\xed\xfe\xed\x00\x00\x00\x02", "a key store of Java (JKS)", 2),
+]
+PCAP = "It begins as a capture of packets (pcap) does: export the octets of a packet first."
+# Files of other kinds, and the line that is the only reason why they do not parse. Behind some of the first octets stand
+# octets for which there would be lines of left-over octets, another length, line ends, or another start.
+KINDS = [
+    (b"\x1f\x8b\x08\0\0\0\0\0\0\x03" + BODY, "It begins as a file of gzip does. Try: gzip -dc FILE | tlvdump-show"),
+    (b"PK\x03\x04" + BODY, "It begins as a ZIP file does: unpack it first."),
+    (b"BZh91AY&SY\r\n", "It begins as a file of bzip2 does. Try: bzip2 -dc FILE | tlvdump-show"),
+    (b"%PDF-1.7\r\n%\xe2\xe3\xcf\xd3\r\n", "It begins as a PDF file does."),
+    (b"<?xml version='1.0'?>\n\xef\xbf\xbd", "It begins with the character <, as XML and HTML do."),
+    (b"<" + b"\x04" + b"a" * 5, "It begins with the character <, as XML and HTML do."),
+    (b"openssh-key-v1\0\0\0\0\x04none", "It is a key of OpenSSH, which is no encoding by X.690."),
+    (b"\xff\xfe\xe9\x00", UTF_16),
+    (b"\xfe\xff\x00\x30", UTF_16),
+    (b"\xd4\xc3\xb2\xa1\x02\x00\x04\x00" + BODY, PCAP),
+    (b"\x4d\x3c\xb2\xa1\x02\x00\x04\x00", PCAP),
+    (b"\x0a\x0d\x0d\x0a\x1c\x00\x00\x00", PCAP),
+    (b"\xfe\xed\xfe\xed\x00\x00\x00\x02", "It begins as a key store of Java (JKS) does: export what you need first."),
 ]
 # Octets for which no other start may be suggested: those after whole encodings, and the last record.
 NO_START = [BODY + b"garbage\n", BODY + b"\x41\x82\x13\x04\x30", BODY + DAMAGED]
@@ -243,6 +250,22 @@ def hints(why):
         why.part.expect(f"no other start after whole encodings, {octets.hex()}", fine, *lines)
     got = why.program.run([], (b"\0\0\0" + BODY)[3:])
     why.part.expect("after the wrong start", got.status == 0, *got.lines())
+
+
+def kinds(why):
+    """Of a file of another kind, its message and the line of its kind are all that is said."""
+    for octets, wanted in KINDS:
+        message = why.part.run(["dump"], octets).err.decode().strip()
+        status, lines = why.said(octets)
+        fine = (status, lines) == (2, [f"It does not parse: {message}.", wanted])
+        why.part.expect(f"a file of another kind, {octets[:8].hex()}", fine, *lines)
+        got = why.program.run(["--as=octets"], octets)
+        fine = (got.status, got.err.decode().splitlines()) == (2, [message, wanted])
+        why.part.expect(f"a dump of such a file, {octets[:8].hex()}", fine, *got.lines())
+    # An element that begins so, and parses: 3c is the constructed form of the universal number 28.
+    octets = b"\x3c\x04\x04\x02aa"
+    _, lines = why.said(octets)
+    why.part.expect("what parses is of no other kind", lines[:1] == [sound(octets)], *lines)
 
 
 def many_tries(why):
@@ -375,6 +398,7 @@ def test(part):
     why = Why(part)
     faults(why)
     hints(why)
+    kinds(why)
     many_tries(why)
     cuts(why)
     texts(why)

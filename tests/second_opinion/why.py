@@ -66,6 +66,9 @@ def lines_of(octets, padding):
     if stand.fault is None:
         return ()
     first = f"It does not parse: {fault_text(stand.fault)}."
+    kind = why_search.other_kind(octets)
+    if kind:
+        return (first, *kind)
     return (first, *reasons(stand), *why_search.remedies(octets, padding, stand.candidates(), stand.top))
 
 

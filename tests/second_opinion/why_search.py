@@ -36,7 +36,7 @@ def remedies(octets, padding, candidates, top):
     """
     changed = other_length(octets, padding, candidates) or other_count(octets, padding, candidates)
     start = other_start(octets, padding) or next_record(octets, padding, top, changed)
-    return [*changed, *text_change(octets, padding), *other_kind(octets), *start]
+    return [*changed, *text_change(octets, padding), *start]
 
 
 def parses(octets, padding, inside=()):

@@ -65,7 +65,7 @@ change_line-shown (Some Utf8) = refl
 change_line-shown (Some LineEnds) = refl
 change_line-shown (Some Replaced) = refl
 
-kind_line-shown : (octets : List ℕ) → AreShown (kind_line octets)
+pub kind_line-shown : (octets : List ℕ) → AreShown (kind_line octets)
 kind_line-shown octets = simp (either-all, either-true)
 
 reason-shown : AreShown start_reason

@@ -19,6 +19,7 @@ pub use lengths::{SEARCH_LIMIT, WrongLength, wrong_length};
 pub use octet_changes::{OctetChange, octet_change};
 pub use records::next_record;
 pub use remedies::{write_remedies, write_wrong_length};
+pub use remedy_texts::kind_line;
 pub use start::next_start;
 pub use text_changes::{TextChange, text_change};
 pub use text_copies::{latin1_of_utf8, undone_line_ends, undone_utf8};

@@ -95,8 +95,9 @@ pub(crate) fn change_line(change: Option<TextChange>) -> &'static [u8]
     }
 }
 
-/// The line about another kind of file, by the first octets of the input; empty if they are of no such kind.
-pub(crate) fn kind_line(octets: &[u8]) -> &'static [u8]
+/// Returns the line about another kind of file, by the first octets of the input: ASCII, with a line feed at its end. It
+/// is empty if no such file begins with them.
+pub fn kind_line(octets: &[u8]) -> &'static [u8]
     ensures { result.now ≡ kind_line octets.now }
 {
     if octets.starts_with(b"PK\x03\x04") {

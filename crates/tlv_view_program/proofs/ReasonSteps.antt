@@ -1,5 +1,6 @@
 -- Lines that are sent, and then others for which memory is needed.
-use Rattle.std.proofs.Common.{◌≡◌, ℕ, List, refl, subst, sym}
+use Rattle.std.proofs.Common.{◌≡◌, ◌≢◌, ◌==◌, ℕ, Bool, true, false, List, [], ◌∷◌, length, refl}
+use Rattle.std.proofs.Common.{arith, eqb-true, subst, sym, ◌∙◌}
 use Rattle.std.specs.Prelude.{IfOk, OnErr, Option, Ok, Err, ⊤}
 use Rattle.tlv_io.specs.Device.{DrainState}
 use Rattle.tlv_io.specs.Out.{Sends}
@@ -10,6 +11,18 @@ use Rattle.tlv_mend.specs.Remedies.{length_line}
 use Rattle.tlv_mend.specs.WrongLength.{IsWrongLength}
 use Rattle.tlv_mend.specs.declared.lengths.WrongLength.{WrongLength}
 use Rattle.tlv_view_program.specs.WritesReasons.{IsLengthLine, Outcome, SendsThen, no_memory, sent}
+
+-- there is a line of another kind of file, or there is none
+pub kind-some : (line kind : List ℕ) (empty : Bool) → line ≡ kind → empty ≡ (length line == 0) → empty ≡ false
+    → kind ≢ []
+kind-some [] kind empty same e f none = cc (e, f)
+kind-some (x ∷ line) kind empty same e f none = cc (same, none)
+
+pub kind-none : (line kind : List ℕ) (empty : Bool) → line ≡ kind → empty ≡ (length line == 0) → empty ≡ true
+    → kind ≡ []
+kind-none [] kind empty same e t = sym same
+kind-none (x ∷ line) kind empty same e t =
+    let zero : length (x ∷ line) ≡ 0 = eqb-true (length (x ∷ line)) 0 (sym e ∙ t) in absurd (omega (arith, zero))
 
 module _ {D : Type 0} (state_of : D → DrainState) where
   -- the first lines are sent

@@ -1,6 +1,6 @@
 -- Why octets do not parse, or a string in them, and what may be done: what is written about it.
-use Rattle.std.specs.Prelude.{◌≡◌, ◌<◌, ◌++◌, ⊤, ℕ, Bool, true, false, eqb, if◌then◌else◌, nat_lt, List, []}
-use Rattle.std.specs.Prelude.{◌∷◌, Option, Some, None, Result, Ok, Err, codes, map}
+use Rattle.std.specs.Prelude.{◌≡◌, ◌≢◌, ◌<◌, ◌++◌, ⊤, ℕ, Bool, true, false, eqb, if◌then◌else◌, nat_le, nat_lt}
+use Rattle.std.specs.Prelude.{List, [], ◌∷◌, Option, Some, None, Result, Ok, Err, codes, map}
 use Rattle.std.specs.List.{filter}
 use Rattle.std.specs.declared.alloc.AllocError.{AllocError}
 use Rattle.tlv_head.specs.Limits.{input_limit}
@@ -12,7 +12,7 @@ use Rattle.tlv_open.specs.BrokenLine.{broken_line}
 use Rattle.tlv_open.specs.Laws.{opened_framing}
 use Rattle.tlv_open.specs.Opens.{AreOpened, closed_framing}
 use Rattle.tlv_open.specs.declared.strings.BrokenString.{BrokenString}
-use Rattle.tlv_mend.specs.Remedies.{AreRemedies, length_line}
+use Rattle.tlv_mend.specs.Remedies.{AreRemedies, kind_line, length_line}
 use Rattle.tlv_mend.specs.WrongLength.{IsWrongLength}
 use Rattle.tlv_mend.specs.declared.lengths.WrongLength.{WrongLength}
 use Rattle.tlv_why.specs.Facts.{AreFacts}
@@ -95,11 +95,15 @@ pub data ExplainsFirst (padding : Bool) (octets : List ℕ) (old new : DrainStat
 
 -- ---- octets that do not parse
 
--- these lines about octets, and what may be done
-abbrev pub ExplainsOctets
-    : Bool → List ℕ → Facts → List ℕ → DrainState → DrainState → Outcome → Type 0
-ExplainsOctets padding octets facts lines old new outcome =
-    SendsThen lines (AreRemedies padding octets (suspect_offsets facts) facts.top) old new outcome
+-- why octets do not parse. If they begin as another kind of file does, these are the line `first` and the line of that
+-- kind; otherwise the lines `lines`, and what may be done
+pub data ExplainsOctets (padding : Bool) (octets : List ℕ) (facts : Facts) (first lines : List ℕ) (old new : DrainState)
+    : Outcome → Type 0 where
+  another_kind : (result : Result ⊤ WriteFault) → kind_line octets ≢ [] → Sends old new (first ++ kind_line octets) result
+      → ExplainsOctets padding octets facts first lines old new (Ok result)
+  no_kind : (outcome : Outcome) → kind_line octets ≡ []
+      → SendsThen lines (AreRemedies padding octets (suspect_offsets facts) facts.top) old new outcome
+      → ExplainsOctets padding octets facts first lines old new outcome
 
 -- ---- after messages
 
@@ -117,7 +121,7 @@ explained_by has_failed status broken =
 pub data WritesReasons (padding : Bool) (octets : List ℕ) (old new : DrainState) : Explained → Outcome → Type 0 where
   of_nothing : (unit : ⊤) → new ≡ old → WritesReasons padding octets old new what.Nothing (Ok (Ok unit))
   of_octets : (facts : Facts) (outcome : Outcome) → AreFacts (closed_framing padding) octets facts
-      → ExplainsOctets padding octets facts (reasons_of octets facts) old new outcome
+      → ExplainsOctets padding octets facts [] (reasons_of octets facts) old new outcome
       → WritesReasons padding octets old new what.Octets outcome
   of_string : (x : BrokenString) (outcome : Outcome)
       → ExplainsString padding octets x (heading false x) old new outcome

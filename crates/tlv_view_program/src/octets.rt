@@ -92,7 +92,7 @@ fn write_raw<D: Drain>(alloc: Global, request: &Request, octets: &[u8], drain: &
 
 /// Writes octets.
 #[tactic(auto, using(tlv_io::proofs::Sends::sends))]
-fn write_octets<D: Drain>(octets: &[u8], drain: &mut D) -> Result<(), WriteFault>
+pub(crate) fn write_octets<D: Drain>(octets: &[u8], drain: &mut D) -> Result<(), WriteFault>
     ensures { Sends (D.state drain.old) (D.state drain.new) octets.now result }
 {
     let mut out = Out::new(drain);

@@ -4,7 +4,7 @@ ghost use Rattle.tlv_head.specs.Limits.{input_limit};
 ghost use Rattle.tlv_io.specs.Out.{Puts, Sends};
 ghost use Rattle.tlv_open.specs.Opens.{AreOpened, closed_framing};
 ghost use Rattle.tlv_why.specs.Facts.{AreFacts};
-ghost use Rattle.tlv_why.specs.Why.{reasons_of, why_lines};
+ghost use Rattle.tlv_why.specs.Why.{first_line, reasons_of, why_lines};
 ghost use Rattle.tlv_walk.specs.Inside.{are_rising};
 ghost use Rattle.tlv_walk.specs.Reading.{AreOctets};
 ghost use Rattle.tlv_view_program.specs.WritesReasons.{ExplainsFirst, ExplainsOctets, ExplainsString, WritesReasons};
@@ -12,12 +12,13 @@ ghost use Rattle.tlv_view_program.specs.WritesReasons.{element_offset, explained
 ghost use Rattle.tlv_view_program.specs.WritesReasons.{suspect_offsets};
 ghost use Rattle.tlv_view_program.specs.declared.reasons.Explained.TheVariants.{Octets};
 
+use crate::octets::write_octets;
 use arrayvec::ArrayVec;
 use std::alloc::{AllocError, Global};
-use tlv_mend::{write_remedies, write_wrong_length};
+use tlv_mend::{kind_line, write_remedies, write_wrong_length};
 use tlv_open::{BrokenString, broken_line, laws, opened};
 use tlv_walk::{Drain, Framing, INPUT_LIMIT, Inside, Out, WriteFault};
-use tlv_why::{Element, Facts, facts_of, write_reasons, write_why};
+use tlv_why::{Element, Facts, facts_of, write_first_line, write_reasons, write_why};
 
 /// The most headers to look at: the refused header, and the headers of open elements and of elements before.
 const SUSPECTS: usize = 154;
@@ -71,8 +72,8 @@ pub(crate) fn write_explained<D: Drain>(
     }
 }
 
-/// Writes the reasons of a fault, and what may be done. A function of its own: each call clears its facts, and most
-/// blocks have no fault.
+/// Writes the line of another kind of file, or else the reasons of a fault, and what may be done. A function of its own:
+/// each call clears its facts, and most blocks have no fault.
 #[inline(never)]
 fn write_fault_reasons<D: Drain>(
     alloc: Global,
@@ -84,6 +85,10 @@ fn write_fault_reasons<D: Drain>(
     ensures { WritesReasons padding octets.now (D.state drain.old) (D.state drain.new) Octets result }
 {
     let facts = closed_facts(octets, padding);
+    let kind = kind_line(octets);
+    if !kind.is_empty() {
+        return Ok(write_octets(kind, drain));
+    }
     match write_reasons(octets, &facts, drain) {
         Ok(()) => write_remedies(
             alloc,
@@ -109,7 +114,8 @@ pub(crate) fn closed_facts(octets: &[u8], padding: bool) -> Facts
     facts_of(octets, &framing)
 }
 
-/// Writes all lines about octets that do not parse, and what may be done.
+/// Writes the message of a fault and the line of another kind of file, or else all lines about octets that do not parse,
+/// and what may be done.
 pub(crate) fn explain_octets<D: Drain>(
     alloc: Global,
     padding: bool,
@@ -118,9 +124,13 @@ pub(crate) fn explain_octets<D: Drain>(
     drain: &mut D,
 ) -> Result<Result<(), WriteFault>, AllocError>
     requires { length octets.now ≤ input_limit }
-    ensures { ExplainsOctets padding octets.now facts.now (why_lines octets.now facts.now)
-        (D.state drain.old) (D.state drain.new) result }
+    ensures { ExplainsOctets padding octets.now facts.now (first_line octets.now facts.now)
+        (why_lines octets.now facts.now) (D.state drain.old) (D.state drain.new) result }
 {
+    let kind = kind_line(octets);
+    if !kind.is_empty() {
+        return Ok(write_first_and_kind(octets, facts, kind, drain));
+    }
     match write_why(octets, facts, drain) {
         Ok(()) => write_remedies(
             alloc,
@@ -132,6 +142,19 @@ pub(crate) fn explain_octets<D: Drain>(
         ),
         Err(fault) => Ok(Err(fault)),
     }
+}
+
+/// Writes the message of a fault, and the line of another kind of file.
+fn write_first_and_kind<D: Drain>(
+    octets: &[u8],
+    facts: &Facts,
+    kind: &[u8],
+    drain: &mut D,
+) -> Result<(), WriteFault>
+    ensures { Sends (D.state drain.old) (D.state drain.new) (first_line octets.now facts.now ++ kind.now) result }
+{
+    write_first_line(octets, facts, drain)?;
+    write_octets(kind, drain)
 }
 
 /// Explains the first broken string, if there is one.

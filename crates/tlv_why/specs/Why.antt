@@ -94,7 +94,15 @@ why_by (Some fault) octets facts = fault_lines fault octets facts
 abbrev pub why_lines : List ℕ → Facts → List ℕ
 why_lines octets facts = why_by facts.fault octets facts
 
--- the same without the first line
+-- the first of these lines alone
+unfoldable pub first_line_by : Option Fault → List ℕ → List ℕ
+first_line_by None octets = parses_line (length octets)
+first_line_by (Some fault) octets = no_parse_line fault
+
+abbrev pub first_line : List ℕ → Facts → List ℕ
+first_line octets facts = first_line_by facts.fault octets
+
+-- the others
 unfoldable pub reasons_by : Option Fault → List ℕ → Facts → List ℕ
 reasons_by None octets facts = []
 reasons_by (Some fault) octets facts = later_lines fault octets facts

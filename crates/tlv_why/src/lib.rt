@@ -20,4 +20,4 @@ mod zeros;
 pub use element::Element;
 pub use facts::{Facts, Unfinished};
 pub use facts_call::facts_of;
-pub use why_call::{write_reasons, write_why};
+pub use why_call::{write_first_line, write_reasons, write_why};

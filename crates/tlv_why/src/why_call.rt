@@ -1,8 +1,8 @@
 //! Writes why octets do not parse, in sentences.
 ghost use Rattle.std.specs.Prelude.{◌≡◌};
 ghost use Rattle.tlv_io.specs.Out.{Puts, Sends};
-ghost use Rattle.tlv_why.specs.Why.{code_lines, no_parse_line, no_parse_line_of, fault_lines, front_lines};
-ghost use Rattle.tlv_why.specs.Why.{is_mostly_whole, later_lines, parses_line, reason_lines, reason_lines_in};
+ghost use Rattle.tlv_why.specs.Why.{code_lines, first_line, no_parse_line, no_parse_line_of, fault_lines};
+ghost use Rattle.tlv_why.specs.Why.{front_lines, is_mostly_whole, later_lines, parses_line, reason_lines, reason_lines_in};
 ghost use Rattle.tlv_why.specs.Why.{reasons_of, says_rest, why_lines};
 
 use crate::Facts;
@@ -29,6 +29,25 @@ pub fn write_why<D: Drain>(octets: &[u8], facts: &Facts, drain: &mut D) -> Resul
 {
     let mut out = Out::new(drain);
     put_why_lines(octets, facts, &mut out)?;
+    out.flush()?;
+    Ok(())
+}
+
+/// Writes the first of these lines alone: that octets with these facts parse, or the message of the fault.
+///
+/// # Errors
+///
+/// `WriteFault` if a write failed. What was written is then a prefix of the line.
+#[tactic(auto, using(tlv_io::proofs::Sends::sends))]
+pub fn write_first_line<D: Drain>(
+    octets: &[u8],
+    facts: &Facts,
+    drain: &mut D,
+) -> Result<(), WriteFault>
+    ensures { Sends (D.state drain.old) (D.state drain.new) (first_line octets.now facts.now) result }
+{
+    let mut out = Out::new(drain);
+    put_first_line(octets, facts, &mut out)?;
     out.flush()?;
     Ok(())
 }
@@ -63,6 +82,20 @@ fn put_why_lines<D: Drain>(
     match facts.fault {
         None => put_parses_line(octets.len() as u64, out),
         Some(fault) => put_fault_lines(fault, octets, facts, out),
+    }
+}
+
+#[tactic(auto, unfolding(crate::specs::Why::first_line_by))]
+fn put_first_line<D: Drain>(
+    octets: &[u8],
+    facts: &Facts,
+    out: &mut Out<'_, D>,
+) -> Result<(), WriteFault>
+    ensures { Puts D.state out.old out.new (first_line octets.now facts.now) result }
+{
+    match facts.fault {
+        None => put_parses_line(octets.len() as u64, out),
+        Some(fault) => put_no_parse_line(fault, out),
     }
 }
 

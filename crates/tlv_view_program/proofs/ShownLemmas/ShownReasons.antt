@@ -11,12 +11,12 @@ use Rattle.tlv_value.specs.Names.{NamesValue}
 use Rattle.tlv_open.specs.Laws.{opened_framing}
 use Rattle.tlv_open.specs.Opens.{closed_framing}
 use Rattle.tlv_open.specs.declared.strings.BrokenString.{BrokenString}
-use Rattle.tlv_mend.specs.Remedies.{AreRemedies}
-use Rattle.tlv_mend.proofs.ShownLemmas.{length_line-shown, remedies-shown}
+use Rattle.tlv_mend.specs.Remedies.{AreRemedies, kind_line}
+use Rattle.tlv_mend.proofs.ShownLemmas.{kind_line-shown, length_line-shown, remedies-shown}
 use Rattle.tlv_run.specs.Report.{ReportValue}
 use Rattle.tlv_view.specs.declared.input.InputFault.TheVariants as input
 use Rattle.tlv_why.specs.Laws.{AreShown}
-use Rattle.tlv_why.specs.Why.{reasons_of, why_lines}
+use Rattle.tlv_why.specs.Why.{first_line, reasons_of, why_lines}
 use Rattle.tlv_why.specs.declared.facts.Facts.{Facts}
 use Rattle.tlv_why.proofs.ShownLemmas.ShownWhy.{lines_shown}
 use Rattle.tlv_view_program.specs.Reasons.{ExplainsParsing, ShowsReasons, explained_report, findings_line}
@@ -79,9 +79,12 @@ then-shown first AreOthers a b _ shown each (SendsThen.sent others result are se
 -- ---- reasons of octets
 
 module _ (padding : Bool) (octets : List ℕ) where
-  octets-shown : (facts : Facts) (lines : List ℕ) (a b : DrainState) (outcome : Outcome) → AreShown lines
-      → ExplainsOctets padding octets facts lines a b outcome → TakesShown a b
-  octets-shown facts lines a b outcome shown sends =
+  octets-shown : (facts : Facts) (first lines : List ℕ) (a b : DrainState) (outcome : Outcome) → AreShown first
+      → AreShown lines → ExplainsOctets padding octets facts first lines a b outcome → TakesShown a b
+  octets-shown facts first lines a b _ f shown (ExplainsOctets.another_kind result some sends) =
+      sends-shown a b (first ++ kind_line octets) result (joined-shown first (kind_line octets) f (kind_line-shown octets))
+      sends
+  octets-shown facts first lines a b outcome f shown (ExplainsOctets.no_kind _ none sends) =
       then-shown lines (AreRemedies padding octets (suspect_offsets facts) facts.top) a b outcome shown
       (remedies-shown padding octets (suspect_offsets facts) facts.top) sends
 
@@ -124,7 +127,7 @@ module _ (padding : Bool) (octets : List ℕ) where
         → WritesReasons padding octets a b what outcome → TakesShown a b
     writes-shown _ a b _ (WritesReasons.of_nothing unit same) = same-takes a b same
     writes-shown _ a b _ (WritesReasons.of_octets facts outcome are explains) =
-        octets-shown facts (reasons_of octets facts) a b outcome
+        octets-shown facts [] (reasons_of octets facts) a b outcome refl
         (lines_shown (closed_framing padding) octets facts o are).1 explains
     writes-shown _ a b _ (WritesReasons.of_string x outcome explains) =
         string-shown x (heading false x) a b outcome (heading-shown false x) explains
@@ -133,7 +136,8 @@ module _ (padding : Bool) (octets : List ℕ) where
 
 pub reasons-shown : ReasonsAreShown
 reasons-shown closed padding table octets old new _ _ o (ShowsReasons.refused facts outcome are some explains) =
-    octets-shown padding octets facts (why_lines octets facts) old new outcome
+    octets-shown padding octets facts (first_line octets facts) (why_lines octets facts) old new outcome
+    (lines_shown (closed_framing padding) octets facts o are).2
     (lines_shown (closed_framing padding) octets facts o are).0 explains
 reasons-shown closed padding table octets old new _ _ o
     (ShowsReasons.parses facts ber der broken outcome are none b d breaks explains) =

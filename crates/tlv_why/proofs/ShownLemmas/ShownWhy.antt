@@ -18,7 +18,7 @@ use Rattle.tlv_why.specs.Leftovers.{are_blank_octets, blanks_line, blanks_lines,
 use Rattle.tlv_why.specs.Leftovers.{following_lines, is_followed_by_filler, left_over_lines, whole_line, whole_lines_of}
 use Rattle.tlv_why.specs.Leftovers.{whole_try_line}
 use Rattle.tlv_why.specs.OpenHolders.{innermost_holder}
-use Rattle.tlv_why.specs.Why.{code_lines, no_parse_line_of, fault_lines, front_lines, is_mostly_whole}
+use Rattle.tlv_why.specs.Why.{code_lines, fault_lines, first_line_by, front_lines, is_mostly_whole, no_parse_line_of}
 use Rattle.tlv_why.specs.Why.{later_lines, parses_line, reason_lines, reason_lines_in, reasons_by, says_rest, why_by}
 use Rattle.tlv_why.proofs.ShownLemmas.ShownCuts.{cut_lines-shown, empty_lines-shown}
 use Rattle.tlv_why.proofs.ShownLemmas.ShownEnds.{bad_end_lines-shown, missing_end_lines-shown, stray_lines-shown}
@@ -191,6 +191,12 @@ unfolding why_by
 why_by-shown None octets facts o = parses_line-shown (length octets)
 why_by-shown (Some f) octets facts o = fault_lines-shown f octets facts o
 
+first_line_by-shown : (found : Option Fault) (octets : List ℕ) → AreShown (first_line_by found octets)
+unfolding first_line_by
+first_line_by-shown None octets = parses_line-shown (length octets)
+first_line_by-shown (Some f) octets =
+    no_parse_line_of-shown f.offset (fault_code f.code) (fault_text f.code) (code-shown f.code) (fault_text-shown f.code)
+
 reasons_by-shown : (found : Option Fault) (octets : List ℕ) (facts : Facts) → AreOctets octets
     → AreShown (reasons_by found octets facts)
 unfolding reasons_by
@@ -199,4 +205,8 @@ reasons_by-shown (Some f) octets facts o = later_lines-shown f octets facts o
 
 pub lines_shown : LinesAreShown
 lines_shown framing octets facts o are =
-    (why_by-shown facts.fault octets facts o, reasons_by-shown facts.fault octets facts o)
+    (
+      why_by-shown facts.fault octets facts o,
+      reasons_by-shown facts.fault octets facts o,
+      first_line_by-shown facts.fault octets,
+    )
