@@ -46,8 +46,7 @@ STRINGS = [
      ["The input ends inside the SEQUENCE at offset 9. " + header(9, "30 80", INDEFINITE),
       "The SEQUENCE at offset 0 ends with the input, at offset 14: its length leaves no room for what is missing.",
       "Elements with an indefinite length that are not ended: 1; each needs two octets 00.",
-      "Try: look for a length that is too small, or fetch the input anew, in binary.", in_front("INTEGER", 11, "02 01", "1 octet"),
-      "If the header at offset 2 said 6 octets and not 3, all would parse."]),
+      "Try: look for a length that is too small, or fetch the input anew, in binary.", in_front("INTEGER", 11, "02 01", "1 octet")]),
 ]
 # Runs in which the reasons of a fault follow its message.
 JOBS = ([], ["--closed"], ["--check"], ["--offsets"], ["--offset", "1099511627776"])

@@ -78,7 +78,8 @@ def lines_of_string(octets, padding, inside):
     The strings at the others are opened.
     """
     stand = Stand(octets, padding, inside)
-    return (*reasons(stand), *why_search.other_length(octets, padding, stand.candidates(), inside))
+    candidates = [it for it in stand.candidates() if it.offset >= inside[-1]]
+    return (*reasons(stand), *why_search.other_length(octets, padding, candidates, inside))
 
 
 def sound_lines(octets, ber, der):

@@ -37,6 +37,10 @@ abbrev pub suspect_offsets : Facts → List ℕ
 suspect_offsets facts =
     (offset_there facts.there ++ facts.nearest.items) ++ map element_offset facts.holders.items
 
+-- those of them from this offset on
+abbrev pub suspects_from : ℕ → Facts → List ℕ
+suspects_from offset facts = filter (λ o. nat_le offset o) (suspect_offsets facts)
+
 -- ---- what was sent
 
 -- the result of sending lines, some of which need memory: all are sent, a write failed, or memory is refused
@@ -66,7 +70,8 @@ pub record IsLengthLine (framing : Framing) (octets candidates lines : List ℕ)
   pub is_wrong : IsWrongLength framing octets candidates found
   pub lines_are : lines ≡ length_line found
 
--- this line, the reasons why a string breaks, and the length that would mend it: a line for each case
+-- this line, the reasons why a string breaks, and the length that would mend it. No header in front of the string is
+-- said to have the wrong length. A line for each case
 pub data ExplainsString (padding : Bool) (octets : List ℕ) (x : BrokenString) (line : List ℕ) (old new : DrainState)
     : Outcome → Type 0 where
   -- it is not a string of an input: no input has such an offset
@@ -77,8 +82,8 @@ pub data ExplainsString (padding : Bool) (octets : List ℕ) (x : BrokenString) 
   explained : (opened : List ℕ) (facts : Facts) (outcome : Outcome) → AreOpened padding octets opened
       → AreFacts (opened_framing padding (offsets_up_to x.offset opened)) octets facts
       → SendsThen (line ++ reasons_of octets facts)
-      (IsLengthLine (opened_framing padding (offsets_up_to x.offset opened)) octets (suspect_offsets facts)) old new
-      outcome
+      (IsLengthLine (opened_framing padding (offsets_up_to x.offset opened)) octets (suspects_from x.offset facts)) old
+      new outcome
       → ExplainsString padding octets x line old new outcome
 
 -- the line before the reasons why a string breaks, where no message says it

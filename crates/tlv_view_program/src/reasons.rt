@@ -9,7 +9,7 @@ ghost use Rattle.tlv_walk.specs.Inside.{are_rising};
 ghost use Rattle.tlv_walk.specs.Reading.{AreOctets};
 ghost use Rattle.tlv_view_program.specs.WritesReasons.{ExplainsFirst, ExplainsOctets, ExplainsString, WritesReasons};
 ghost use Rattle.tlv_view_program.specs.WritesReasons.{element_offset, explained_by, heading, offsets_up_to};
-ghost use Rattle.tlv_view_program.specs.WritesReasons.{suspect_offsets};
+ghost use Rattle.tlv_view_program.specs.WritesReasons.{suspect_offsets, suspects_from};
 ghost use Rattle.tlv_view_program.specs.declared.reasons.Explained.TheVariants.{Octets};
 
 use crate::octets::write_octets;
@@ -202,7 +202,7 @@ fn explain_string<D: Drain>(
             alloc,
             octets,
             &framing,
-            suspect_offsets(&facts).as_slice(),
+            suspects_from(string.offset as usize, &facts).as_slice(),
             drain,
         ),
         Err(fault) => Ok(Err(fault)),
@@ -305,6 +305,20 @@ fn suspect_offsets(facts: &Facts) -> ArrayVec<usize, SUSPECTS>
     }
     add_offsets(facts.holders.as_slice(), &mut offsets);
     offsets
+}
+
+/// Those of them from this offset on.
+fn suspects_from(offset: usize, facts: &Facts) -> ArrayVec<usize, SUSPECTS>
+    ensures { result.items ≡ suspects_from offset facts.now }
+{
+    let mut kept = ArrayVec::new();
+    let all = suspect_offsets(facts);
+    for &each in all.as_slice() {
+        if offset <= each {
+            kept.push(each);
+        }
+    }
+    kept
 }
 
 /// Adds the offsets of elements to a list that has room for them.

@@ -24,6 +24,7 @@ use Rattle.tlv_view_program.specs.Reasons.{findings_words}
 use Rattle.tlv_view_program.specs.ShownLines.{FindingsLinesAreShown, ReasonsAreShown, TakesShown}
 use Rattle.tlv_view_program.specs.WritesReasons.{ExplainsFirst, ExplainsOctets, ExplainsString, IsLengthLine, Outcome}
 use Rattle.tlv_view_program.specs.WritesReasons.{SendsThen, WritesReasons, heading, offsets_up_to, suspect_offsets}
+use Rattle.tlv_view_program.specs.WritesReasons.{suspects_from}
 use Rattle.tlv_view_program.specs.declared.reasons.Explained.{Explained}
 use Rattle.tlv_view_program.proofs.ShownLemmas.ShownLabels.{front-shown, joined-shown}
 use Rattle.tlv_view_program.proofs.ShownLemmas.ShownReports.{IsShownReport, broken_line-shown, device_report-shown}
@@ -100,9 +101,9 @@ module _ (padding : Bool) (octets : List ℕ) where
     string-shown x line a b _ shown (ExplainsString.no_list error same) = same-takes a b same
     string-shown x line a b _ shown (ExplainsString.explained opened facts outcome opens are sends) =
         let framing : Framing = opened_framing padding (offsets_up_to x.offset opened) in
-        then-shown (line ++ reasons_of octets facts) (IsLengthLine framing octets (suspect_offsets facts)) a b outcome
-        (joined-shown line (reasons_of octets facts) shown (lines_shown framing octets facts o are).1)
-        (length-shown framing (suspect_offsets facts)) sends
+        then-shown (line ++ reasons_of octets facts) (IsLengthLine framing octets (suspects_from x.offset facts)) a b
+        outcome (joined-shown line (reasons_of octets facts) shown (lines_shown framing octets facts o are).1)
+        (length-shown framing (suspects_from x.offset facts)) sends
 
     heading-shown : (has_heading : Bool) (x : BrokenString) → AreShown (heading has_heading x)
     heading-shown true x = simp (list_all-append, broken_line-shown x)

@@ -19,7 +19,7 @@ returns-in-Ok g c =
     (rw named at c.facts_of-facts.ensures)
     (then-length g.D.Drain.state _ c.write_headed_reasons.new.drain c.write_wrong_length.new.drain _ _ _ _ _ _
     c.in-Ok.ensures
-    (rw (c.as_slice-in-Ok.ensures.value, c.suspect_offsets.ensures, named) at c.write_wrong_length.ensures.written)
+    (rw (c.as_slice-in-Ok.ensures.value, c.suspects_from.ensures, named) at c.write_wrong_length.ensures.written)
     c.write_wrong_length.ensures.refused)
 
 pub returns : goal.returns
