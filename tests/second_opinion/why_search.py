@@ -62,7 +62,7 @@ def other_length(octets, padding, candidates, inside=()):
         return []
     for it in candidates:
         first = it.offset + len(it.identifier)
-        for length in lengths_near(it.length):
+        for length in lengths_tried(octets, it):
             said = spelled(it.length_octets, length)
             if said and parses(octets[:first] + said + octets[it.start :], padding, inside):
                 word = "octet" if length == 1 else "octets"
@@ -87,13 +87,19 @@ def other_count(octets, padding, candidates):
     return []
 
 
-def lengths_near(length):
-    """Yields the lengths that differ by 1 to 5, in the order in which they are tried. The indefinite form has none."""
-    if length is not None:
-        for off in range(1, MOST_OFF + 1):
-            yield length + off
-            if length >= off:
-                yield length - off
+def lengths_tried(octets, it):
+    """Yields the other lengths that are tried for an element, in their order: those that differ by 1 to 5, and for the
+    outermost element the one to the end of the octets. The indefinite form has none.
+    """
+    if it.length is None:
+        return
+    for off in range(1, MOST_OFF + 1):
+        yield it.length + off
+        if it.length >= off:
+            yield it.length - off
+    rest = len(octets) - it.start
+    if rest != it.length and it.constructed and it.offset == 0:
+        yield rest
 
 
 def spelled(length_octets, length):
