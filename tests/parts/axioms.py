@@ -1,7 +1,7 @@
 """Checks which functions of C the verdict on a program rests on.
 
 The functions that the prover lists must be those in tests/axioms. docs/TRUST.md must name those of tlvdump, and say
-which of them the program calls.
+which of them the program calls. It must also name all symbols that each program takes from the C library.
 
 For a proved program the list comes from `rt check`, which starts from the results of earlier runs. After `rt ci` alone
 only the built libraries are kept, in crates/*/out. Then the prover is run over these libraries, so that it proves only
@@ -88,6 +88,23 @@ def page(part):
     symbols = subprocess.run(["nm", part.program], capture_output=True, text=True).stdout
     there = {name for name in wanted if re.search(rf" [TU] {name.split('::')[-1]}(?:@.*)?$", symbols, re.M)}
     part.expect("functions that the program calls", called == there, *sorted(called ^ there))
+    stated = symbols_in(text, "Symbols of the C library")
+    compare_symbols(part, "tlvdump", part.program, stated)
+    compare_symbols(part, "tlvdump-show", part.suite.show_program, stated | symbols_in(text, "Of tlvdump-show"))
+
+
+def symbols_in(text, heading):
+    """Returns the symbols that the tables of a section of docs/TRUST.md name, without those that a contract names."""
+    section = text.partition(f"\n### {heading}\n")[2].partition("\n#")[0]
+    rows = "\n".join(line.split("|")[1] for line in section.splitlines() if line.startswith("| `"))
+    return set(re.findall(r"`(\w+)`", rows))
+
+
+def compare_symbols(part, name, program, stated):
+    """The page names each symbol that the program takes from a library, and no other."""
+    listed = subprocess.run(["nm", "-D", "--undefined-only", program], capture_output=True, text=True).stdout
+    there = {line.split()[-1].partition("@")[0] for line in listed.splitlines()}
+    part.expect(f"symbols that {name} takes from the C library", stated == there, *sorted(stated ^ there))
 
 
 def is_of_readme(part):
