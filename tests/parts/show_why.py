@@ -249,6 +249,25 @@ def faults(why):
         part.expect(f"why {octets.hex()}", got == (wanted, [sound(octets), findings(ber, der)]), str(got))
 
 
+def open_elements(number):
+    """Returns 18 elements, each inside the one before and with a NULL behind it, and the offset of the one with this
+    number, of which the length is 1 too great. In the innermost one are 26 elements, read after all these headers.
+    """
+    octets = NULL * 26
+    for level in range(18, 0, -1):
+        octets = bytes([0x30, len(octets) + (level == number)]) + octets + NULL
+    return octets, 2 * (number - 1)
+
+
+def outermost(why):
+    """Of the open elements 16 are tried, from the outermost one on."""
+    for number, is_named in ((1, True), (16, True), (17, False), (18, False)):
+        octets, offset = open_elements(number)
+        _, lines = why.said(octets)
+        fine = any(f"header at offset {offset} said" in line for line in lines) == is_named
+        why.part.expect(f"a wrong length in open element {number}", fine, *lines)
+
+
 def no_length(why):
     """No primitive, and no element behind others, is said to end with the input. Nor is a length named for which there is
     no room in the length octets.
@@ -418,6 +437,7 @@ def texts(why):
 def test(part):
     why = Why(part)
     faults(why)
+    outermost(why)
     no_length(why)
     hints(why)
     kinds(why)

@@ -5,7 +5,7 @@ from second_opinion import why_lines, why_search
 from second_opinion.commands import fault_text
 from second_opinion.reading import Element, Reading
 
-MOST_BEFORE = 25
+MOST_BEFORE, MOST_OPEN = 25, 16
 BLANK = b" \t\n\r\x1a"
 
 
@@ -45,7 +45,7 @@ class Stand:
         """Returns the elements whose length may be wrong, in the order in which they are tried."""
         read = [it for it in self.reading.elements() if it is not self.primitive]
         recent = read[: -MOST_BEFORE - 1 : -1]
-        return [it for it in [self.there, *recent, *self.open] if it is not None]
+        return [it for it in [self.there, *recent, *self.open[:MOST_OPEN]] if it is not None]
 
 
 def elements_of(items):

@@ -1,6 +1,6 @@
 -- Why octets do not parse, or a string in them, and what may be done: what is written about it.
 use Rattle.std.specs.Prelude.{◌≡◌, ◌≢◌, ◌<◌, ◌++◌, ⊤, ℕ, Bool, true, false, eqb, if◌then◌else◌, nat_le, nat_lt}
-use Rattle.std.specs.Prelude.{List, [], ◌∷◌, Option, Some, None, Result, Ok, Err, codes, map}
+use Rattle.std.specs.Prelude.{List, [], ◌∷◌, Option, Some, None, Result, Ok, Err, codes, map, take}
 use Rattle.std.specs.List.{filter}
 use Rattle.std.specs.declared.alloc.AllocError.{AllocError}
 use Rattle.tlv_head.specs.Limits.{input_limit}
@@ -31,11 +31,15 @@ offset_there (Some e) = e.offset ∷ []
 abbrev pub element_offset : Element → ℕ
 element_offset e = e.offset
 
+-- so many of the open elements are among them: a limit of our own
+abbrev pub open_tries : ℕ
+open_tries = 16
+
 -- the offsets of headers whose length may be wrong, in the order in which they are tried: the refused header; the
--- headers of the elements before, the nearest first; the headers of open elements, outermost first
+-- headers of the elements before, the nearest first; the headers of the outermost open elements, outermost first
 abbrev pub suspect_offsets : Facts → List ℕ
 suspect_offsets facts =
-    (offset_there facts.there ++ facts.nearest.items) ++ map element_offset facts.holders.items
+    (offset_there facts.there ++ facts.nearest.items) ++ map element_offset (take open_tries facts.holders.items)
 
 -- those of them from this offset on
 abbrev pub suspects_from : ℕ → Facts → List ℕ

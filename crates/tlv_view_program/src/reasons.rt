@@ -1,5 +1,5 @@
 //! Why octets do not parse, or a string in them, and what may be done.
-ghost use Rattle.std.specs.Prelude.{◌≡◌, ◌≤◌, ◌+◌, ◌++◌, IfOk, List, length, map, true, ℕ};
+ghost use Rattle.std.specs.Prelude.{◌≡◌, ◌≤◌, ◌+◌, ◌++◌, IfOk, List, length, map, take, true, ℕ};
 ghost use Rattle.tlv_head.specs.Limits.{input_limit};
 ghost use Rattle.tlv_io.specs.Out.{Puts, Sends};
 ghost use Rattle.tlv_open.specs.Opens.{AreOpened, closed_framing};
@@ -9,7 +9,7 @@ ghost use Rattle.tlv_walk.specs.Inside.{are_rising};
 ghost use Rattle.tlv_walk.specs.Reading.{AreOctets};
 ghost use Rattle.tlv_view_program.specs.WritesReasons.{ExplainsFirst, ExplainsOctets, ExplainsString, WritesReasons};
 ghost use Rattle.tlv_view_program.specs.WritesReasons.{element_offset, explained_by, heading, offsets_up_to};
-ghost use Rattle.tlv_view_program.specs.WritesReasons.{suspect_offsets, suspects_from};
+ghost use Rattle.tlv_view_program.specs.WritesReasons.{open_tries, suspect_offsets, suspects_from};
 ghost use Rattle.tlv_view_program.specs.declared.reasons.Explained.TheVariants.{Octets};
 
 use crate::octets::write_octets;
@@ -20,8 +20,11 @@ use tlv_open::{BrokenString, broken_line, laws, opened};
 use tlv_walk::{Drain, Framing, INPUT_LIMIT, Inside, Out, WriteFault};
 use tlv_why::{Element, Facts, facts_of, write_first_line, write_reasons, write_why};
 
-/// The most headers to look at: the refused header, and the headers of open elements and of elements before.
-const SUSPECTS: usize = 154;
+/// The most headers to look at: the refused header, 25 headers of elements before, and those of open elements.
+const SUSPECTS: usize = 42;
+
+/// The most open elements to look at.
+const OPEN_TRIES: usize = 16;
 
 /// What is explained after the messages of a block.
 #[derive(Clone, Copy)]
@@ -303,7 +306,7 @@ fn suspect_offsets(facts: &Facts) -> ArrayVec<usize, SUSPECTS>
     for offset in facts.nearest.as_slice() {
         offsets.push(*offset as usize);
     }
-    add_offsets(facts.holders.as_slice(), &mut offsets);
+    add_offsets(outermost(facts.holders.as_slice()), &mut offsets);
     offsets
 }
 
@@ -321,9 +324,21 @@ fn suspects_from(offset: usize, facts: &Facts) -> ArrayVec<usize, SUSPECTS>
     kept
 }
 
+/// The outermost of these open elements, as many as are looked at.
+fn outermost(holders: &[Element]) -> &[Element]
+    ensures outermost { result.now ≡ take open_tries holders.now }
+    ensures few { length result.now ≤ 16 }
+{
+    if holders.len() > OPEN_TRIES {
+        &holders[..OPEN_TRIES]
+    } else {
+        holders
+    }
+}
+
 /// Adds the offsets of elements to a list that has room for them.
 fn add_offsets(elements: &[Element], offsets: &mut ArrayVec<usize, SUSPECTS>)
-    requires { length offsets.old.items + length elements.now ≤ 154 }
+    requires { length offsets.old.items + length elements.now ≤ 42 }
     ensures { offsets.new.items ≡ offsets.old.items ++ map element_offset elements.now }
 {
     for element in elements {
