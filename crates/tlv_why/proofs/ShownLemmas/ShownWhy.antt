@@ -204,9 +204,8 @@ reasons_by-shown None octets facts o = refl
 reasons_by-shown (Some f) octets facts o = later_lines-shown f octets facts o
 
 pub lines_shown : LinesAreShown
-lines_shown framing octets facts o are =
-    (
-      why_by-shown facts.fault octets facts o,
-      reasons_by-shown facts.fault octets facts o,
-      first_line_by-shown facts.fault octets,
-    )
+lines_shown framing octets facts o are = (
+  why_by-shown facts.fault octets facts o,
+  reasons_by-shown facts.fault octets facts o,
+  first_line_by-shown facts.fault octets,
+)
