@@ -51,7 +51,7 @@ fn is_control(character: u8) -> bool
     }
 }
 
-/// Whether a text has a character that is rarely typed, wherever it stands. Stops after the piece that has the first one.
+/// Whether a text has a character that is rarely typed, wherever it stands. Stops after the piece with the first one.
 pub(crate) fn has_rare(text: &[u8]) -> bool
     ensures { result ≡ has_rare text.now }
 {

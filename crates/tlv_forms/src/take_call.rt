@@ -18,10 +18,11 @@ use tlv_text::{Form, TextFault, ascii_of_utf16, blocks_of};
 const LAYERS: u8 = 3;
 
 /// Returns the blocks of an input, as its octets decide: octets as they stand, or the blocks of a text. A text has no
-/// control character among its first 4096 characters. It is not sound encodings with a character, wherever it stands, that
-/// is neither printable ASCII nor a tab, a line feed or a carriage return. Its form is the first in which a block counts,
-/// in this order: PEM, dumps, hexadecimal, numbers, base64, runs of base64. If there is no such form, the input is
-/// octets if it is sound encodings or not a text; otherwise it is a text of no form. There is at least one block.
+/// control character among its first 4096 characters. It is not sound encodings with a character, wherever it stands,
+/// that is neither printable ASCII nor a tab, a line feed or a carriage return. Its form is the first in which a block
+/// counts, in this order: PEM, dumps, hexadecimal, numbers, base64, runs of base64. If there is no such form, the
+/// input is octets if it is sound encodings or not a text; otherwise it is a text of no form. There is at least one
+/// block.
 ///
 /// # Errors
 ///
