@@ -33,8 +33,8 @@ length_bound count = if eqb count 1 then 128 else 256 ^ (count - 1)
 abbrev pub count_after : List ℕ → HeaderValue → ℕ
 count_after octets h = length octets - (h.offset + length (octets_of h))
 
--- 8.1.2.5: the element is the first of the input, and constructed. A primitive could take up whatever follows, and behind
--- other elements another record may follow
+-- 8.1.2.5: the element is the first of the input, and constructed. A primitive could take up whatever follows, and
+-- behind other elements another record may follow
 abbrev pub is_outermost : Bool → ℕ → Bool
 is_outermost constructed offset = constructed && eqb offset 0
 

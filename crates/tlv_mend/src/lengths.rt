@@ -29,11 +29,12 @@ pub struct WrongLength {
 }
 
 /// Finds which of the headers at these offsets, in octets from the start of the input, has a wrong length: the first
-/// for which another length would make the input sound: one that is at most 5 octets more or fewer, or the one with which
-/// the element would end with the input, if it is constructed and the first of the input. Tries nearer lengths first, of
-/// two that are equally near the greater first, and the one to the end of the input last. The other length takes as many length
-/// octets as before. `None` if there is no such header, or if the input has more than [`SEARCH_LIMIT`] octets. `framing` says how the input is
-/// read: which strings hold encodings, and whether octets `00` are allowed at the top level.
+/// for which another length would make the input sound. Another length is one that is at most 5 octets more or fewer,
+/// or, if the element is constructed and the first of the input, the one with which it would end with the input. Tries
+/// nearer lengths first, of two that are equally near the greater first, and the one to the end of the input last. The
+/// other length takes as many length octets as before. `None` if there is no such header, or if the input has more than
+/// [`SEARCH_LIMIT`] octets. `framing` says how the input is read: which strings hold encodings, and whether octets `00`
+/// are allowed at the top level.
 ///
 /// # Errors
 ///

@@ -183,7 +183,8 @@ pub record IsHexAlone (text : List ℕ) (b : BlockValue) : Type 0 where
 
 -- the text is not lone pairs, or not pairs to its end, or its block of hexadecimal is too long
 abbrev pub HasNoLoneHex : List ℕ → Type 0
-HasNoLoneHex text = are_lone_pairs text ≡ true → (pairs_read text).rest ≡ [] → are_too_long text (hex_block text ∷ []) ≡ true
+HasNoLoneHex text = are_lone_pairs text ≡ true → (pairs_read text).rest ≡ []
+    → are_too_long text (hex_block text ∷ []) ≡ true
 
 -- a text is base64 and has no form before it but perhaps hexadecimal: it has no block of PEM, no row of a dump and no
 -- list of numbers; and this is its block, which is whole and not too long

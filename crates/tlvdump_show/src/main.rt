@@ -38,8 +38,8 @@ fn words_and_places(rt: &HostRuntime) -> (Result<Words, NoWords>, FileNames) {
     }
 }
 
-/// Where the names file is looked for. There are no such places if the program does not know where it is itself. Beside the
-/// sources it is looked for only by the program that lies there: elsewhere others may write in that folder.
+/// Where the names file is looked for. There are no such places if the program does not know where it is itself. Beside
+/// the sources it is looked for only by the program that lies there: elsewhere others may write in that folder.
 fn places_of(rt: &HostRuntime) -> Result<FileNames, NoWords> {
     let mut places = FileNames::new(rt.alloc());
     let program = match env::current_exe(rt) {
