@@ -5,7 +5,7 @@ use Rattle.std.proofs.lemmas.Bool.{eqb-true}
 use Rattle.std.proofs.lemmas.List.{nil_from_length}
 use Rattle.tlv_forms.specs.Private.Counting.{or_octets}
 use Rattle.tlv_forms.specs.Taken.{AreEncodings, AreFirstBlocks, AreSurelyEncodings, HasBlocks, IsFirstTooLong}
-use Rattle.tlv_forms.specs.Taken.{IsTakenFor, IsTooLong, TakenValue, TextBlocks, TextTooLong}
+use Rattle.tlv_forms.specs.Taken.{IsTakenFor, IsTooLongText, TakenValue, TextBlocks, TextTooLong}
 use Rattle.tlv_forms.specs.Taken.{all_forms, has_controls, is_other_text, taken_other_text, taken_value, text_of}
 use Rattle.tlv_forms.specs.declared.taken.Taken.{Taken}
 use Rattle.tlv_text.specs.Marks.{after_mark, ascii_of_utf16}
@@ -79,7 +79,7 @@ text-taken octets text is no_control unsure (t ∷ ts) first n size some =
 -- a block is too long
 pub too_long-taken : (octets text : List ℕ) → text ≡ text_of octets → has_controls text ≡ false
     → (AreSurelyEncodings octets → ⊥) → IsFirstTooLong (TextBlocks 3) (TextTooLong 3) text all_forms
-    → IsTooLong octets
+    → IsTooLongText octets
 too_long-taken octets text is no_control unsure long = record {
   unsure = unsure;
   text = record {

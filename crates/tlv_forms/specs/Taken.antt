@@ -289,10 +289,10 @@ IsMemoryOr Says TooLong = Says
 IsMemoryOr Says Memory = Unit {0}
 
 -- an input is taken for a text that is too long
-pub record IsTooLong (octets : List ℕ) : Type 0 where
+pub record IsTooLongText (octets : List ℕ) : Type 0 where
   pub unsure : AreSurelyEncodings octets → ⊥
   pub text : TextTooLong 4 octets
 
 -- why the blocks of an input cannot be returned
 abbrev pub IsTakingFault : List ℕ → TextFault → Type 0
-IsTakingFault octets fault = IsMemoryOr (IsTooLong octets) fault
+IsTakingFault octets fault = IsMemoryOr (IsTooLongText octets) fault

@@ -28,7 +28,7 @@ use Rattle.tlv_mend.specs.FirstOf.{IsFirstOf, no_more}
 use Rattle.tlv_mend.specs.Private.Lengths.{SoundWithOctets, sayable, with_octets_saying}
 use Rattle.tlv_mend.specs.WrongLength.{IsFirstWrongLength, WouldBeSound, here, input_with_length, length_bound}
 use Rattle.tlv_mend.specs.WrongLength as wrong
-use Rattle.tlv_mend.specs.WrongLength.{count_after, is_outermost, length_octets_saying, other_lengths}
+use Rattle.tlv_mend.specs.WrongLength.{count_behind, is_outermost, length_octets_saying, other_lengths}
 use Rattle.tlv_mend.specs.WrongLength.{tried_lengths}
 
 -- two headers with which an input begins are the same
@@ -123,10 +123,10 @@ first-with framing octets offset start count fields said lengths r within b s si
     λ n. subst (λ (i : ℕ). with_octets_saying i (offset + count) n octets ≡ input_with_length octets h n) (sym s)
     (changed-with n octets b.begins.rest h offset fields.id_len count within b.begins.offset id all
     b.begins.octets_are) in
-    let after : count_after octets h ≡ (length octets - offset) - count = omega (arith, b.begins.offset, all) in
+    let after : count_behind octets h ≡ (length octets - offset) - count = omega (arith, b.begins.offset, all) in
     let others : other_lengths octets h ≡ sayable ((offset + count) - start) lengths =
     others-are (length h.length_octets) ((offset + count) - start) fields.size (is_outermost h.constructed h.offset)
-    (is_outermost fields.constructed offset) said (count_after octets h) ((length octets - offset) - count) lengths room
+    (is_outermost fields.constructed offset) said (count_behind octets h) ((length octets - offset) - count) lengths room
     size (ap (is_outermost fields.constructed) b.begins.offset) after l in
     subst (λ (xs : List ℕ). IsFirstOf (WouldBeSound framing octets h) xs r) (sym others)
     (first-along (λ n. subst (λ (xs : List ℕ). IsSoundList framing xs) (same n))
@@ -180,7 +180,7 @@ pub indefinite-none : (framing : Framing) (octets : List ℕ) (offset count : �
 indefinite-none framing octets offset count fields b k h p =
     let g : HeaderValue = new_header fields (take count (drop offset octets)) in
     let e : g ≡ h = begun-one g h b.begins p in
-    no-others (WouldBeSound framing octets h) (length h.length_octets) (count_after octets h)
+    no-others (WouldBeSound framing octets h) (length h.length_octets) (count_behind octets h)
     (is_outermost h.constructed h.offset) h.size
     (λ n s. k n (ap (λ (x : HeaderValue). x.size) e ∙ s))
 

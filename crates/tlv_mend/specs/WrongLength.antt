@@ -30,8 +30,8 @@ abbrev pub length_bound : ℕ → ℕ
 length_bound count = if eqb count 1 then 128 else 256 ^ (count - 1)
 
 -- the number of octets of the input after this header
-abbrev pub count_after : List ℕ → HeaderValue → ℕ
-count_after octets h = length octets - (h.offset + length (octets_of h))
+abbrev pub count_behind : List ℕ → HeaderValue → ℕ
+count_behind octets h = length octets - (h.offset + length (octets_of h))
 
 -- 8.1.2.5: the element is the first of the input, and constructed. A primitive could take up whatever follows, and
 -- behind other elements another record may follow
@@ -50,7 +50,7 @@ tried_lengths outermost said after = lengths_within said 5 ++ length_to_end oute
 abbrev pub other_lengths : List ℕ → HeaderValue → List ℕ
 other_lengths octets h =
     filter (λ n. nat_lt n (length_bound (length h.length_octets)))
-    (option_map_or (λ said. tried_lengths (is_outermost h.constructed h.offset) said (count_after octets h))
+    (option_map_or (λ said. tried_lengths (is_outermost h.constructed h.offset) said (count_behind octets h))
     (definite_length h.size) [])
 
 -- 8.1.3.5: octets, as many as the first argument says, that state n in base 256, the most significant first

@@ -194,14 +194,14 @@ abbrev pub is_of_form : RealCheck → Bool
 is_of_form s = ends_form s.part
 
 -- 8.5.2: they are a number
-abbrev pub ends_number : RealPart → Bool
-ends_number (Mantissa last) = true
-ends_number (Decimal form place canonical) = is_whole_number form place
-ends_number part = false
+abbrev pub is_number_end : RealPart → Bool
+is_number_end (Mantissa last) = true
+is_number_end (Decimal form place canonical) = is_whole_number form place
+is_number_end part = false
 
 -- they are a number, and it is zero
 abbrev pub is_zero : RealCheck → Bool
-is_zero s = s.is_zero_so_far && ends_number s.part
+is_zero s = s.is_zero_so_far && is_number_end s.part
 
 abbrev pub ends_canonical : RealPart → Bool
 ends_canonical Nothing = true

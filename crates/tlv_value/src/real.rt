@@ -7,7 +7,7 @@ ghost use Rattle.tlv_value.specs.ContentsOctets.{is_padded_integer};
 ghost use Rattle.tlv_value.specs.Real.{has_size_octet};
 ghost use Rattle.tlv_value.specs.RealState.{begin_binary, begin_decimal, begin_real, ends_canonical, ends_form};
 ghost use Rattle.tlv_value.specs.RealState.{is_canonical, is_of_form, may_be_canonical, new_real_check, next_part};
-ghost use Rattle.tlv_value.specs.RealState.{ends_number, is_zero, may_be_zero, real_check_after, real_check_next};
+ghost use Rattle.tlv_value.specs.RealState.{is_number_end, is_zero, may_be_zero, real_check_after, real_check_next};
 
 mod canonical_place;
 mod decimal_place;
@@ -133,7 +133,7 @@ impl RealCheck {
     pub(crate) fn is_zero(self) -> bool
         ensures { result ≡ is_zero self }
     {
-        self.is_zero_so_far && ends_number(self.part)
+        self.is_zero_so_far && is_number_end(self.part)
     }
 
     /// Whether they are of a form, canonical, and no number that is zero.
@@ -332,8 +332,8 @@ fn ends_form(part: RealPart) -> bool
 }
 
 /// Whether a number in binary or decimal may end here.
-fn ends_number(part: RealPart) -> bool
-    ensures { result ≡ ends_number part }
+fn is_number_end(part: RealPart) -> bool
+    ensures { result ≡ is_number_end part }
 {
     match part {
         RealPart::Mantissa { .. } => true,

@@ -11,7 +11,7 @@ use Rattle.tlv_open.specs.Opens.{closed_framing}
 use Rattle.tlv_open.specs.declared.strings.BrokenString.{BrokenString}
 use Rattle.tlv_run.specs.Report.{ReportValue, device_report, report_with}
 use Rattle.tlv_why.specs.Facts.{AreFacts}
-use Rattle.tlv_why.specs.Why.{first_line, why_lines}
+use Rattle.tlv_why.specs.Why.{first_why_line, why_lines}
 use Rattle.tlv_why.specs.declared.facts.Facts.{Facts}
 use Rattle.tlv_view.specs.ReadWhole.{input_report}
 use Rattle.tlv_view.specs.declared.input.InputFault.TheVariants.{Memory}
@@ -67,7 +67,7 @@ pub data ShowsReasons (closed padding : Bool) (table : NamesValue) (octets : Lis
   -- done
   refused : (facts : Facts) (outcome : Outcome) → AreFacts (closed_framing padding) octets facts
       → facts.fault ≢ None
-      → ExplainsOctets padding octets facts (first_line octets facts) (why_lines octets facts) old new outcome
+      → ExplainsOctets padding octets facts (first_why_line octets facts) (why_lines octets facts) old new outcome
       → ShowsReasons closed padding table octets old new (explained_report 2 outcome) []
   -- they parse: that they do, the findings, and why the first of the broken strings breaks
   parses : (facts : Facts) (ber der : ReportValue) (broken : List BrokenString) (outcome : Outcome)

@@ -4,7 +4,7 @@ ghost use Rattle.tlv_head.specs.Limits.{input_limit};
 ghost use Rattle.tlv_io.specs.Out.{Puts, Sends};
 ghost use Rattle.tlv_open.specs.Opens.{AreOpened, closed_framing};
 ghost use Rattle.tlv_why.specs.Facts.{AreFacts};
-ghost use Rattle.tlv_why.specs.Why.{first_line, reasons_of, why_lines};
+ghost use Rattle.tlv_why.specs.Why.{first_why_line, reasons_of, why_lines};
 ghost use Rattle.tlv_walk.specs.Inside.{are_rising};
 ghost use Rattle.tlv_walk.specs.Reading.{AreOctets};
 ghost use Rattle.tlv_view_program.specs.WritesReasons.{ExplainsFirst, ExplainsOctets, ExplainsString, WritesReasons};
@@ -127,7 +127,7 @@ pub(crate) fn explain_octets<D: Drain>(
     drain: &mut D,
 ) -> Result<Result<(), WriteFault>, AllocError>
     requires { length octets.now ≤ input_limit }
-    ensures { ExplainsOctets padding octets.now facts.now (first_line octets.now facts.now)
+    ensures { ExplainsOctets padding octets.now facts.now (first_why_line octets.now facts.now)
         (why_lines octets.now facts.now) (D.state drain.old) (D.state drain.new) result }
 {
     let kind = kind_line(octets);
@@ -154,7 +154,7 @@ fn write_first_and_kind<D: Drain>(
     kind: &[u8],
     drain: &mut D,
 ) -> Result<(), WriteFault>
-    ensures { Sends (D.state drain.old) (D.state drain.new) (first_line octets.now facts.now ++ kind.now) result }
+    ensures { Sends (D.state drain.old) (D.state drain.new) (first_why_line octets.now facts.now ++ kind.now) result }
 {
     write_first_line(octets, facts, drain)?;
     write_octets(kind, drain)

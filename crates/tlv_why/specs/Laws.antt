@@ -5,7 +5,7 @@ use Rattle.tlv_walk.specs.declared.framing.Framing.{Framing}
 use Rattle.tlv_walk.specs.Reading.{AreOctets}
 use Rattle.tlv_why.specs.declared.facts.Facts.{Facts}
 use Rattle.tlv_why.specs.Facts.{AreFacts}
-use Rattle.tlv_why.specs.Why.{first_line, reasons_of, why_lines}
+use Rattle.tlv_why.specs.Why.{first_why_line, reasons_of, why_lines}
 
 -- a line feed, or a printable character of ASCII
 abbrev pub is_shown_octet : ℕ → Bool
@@ -18,4 +18,4 @@ AreShown text = list_all is_shown_octet text ≡ true
 -- the lines about octets are printable ASCII: all lines, all except the first, and the first
 abbrev pub LinesAreShown : Type 0
 LinesAreShown = (framing : Framing) (octets : List ℕ) (facts : Facts) → AreOctets octets → AreFacts framing octets facts
-    → AreShown (why_lines octets facts) × AreShown (reasons_of octets facts) × AreShown (first_line octets facts)
+    → AreShown (why_lines octets facts) × AreShown (reasons_of octets facts) × AreShown (first_why_line octets facts)

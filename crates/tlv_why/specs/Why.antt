@@ -99,8 +99,8 @@ unfoldable pub first_line_by : Option Fault → List ℕ → List ℕ
 first_line_by None octets = parses_line (length octets)
 first_line_by (Some fault) octets = no_parse_line fault
 
-abbrev pub first_line : List ℕ → Facts → List ℕ
-first_line octets facts = first_line_by facts.fault octets
+abbrev pub first_why_line : List ℕ → Facts → List ℕ
+first_why_line octets facts = first_line_by facts.fault octets
 
 -- the others
 unfoldable pub reasons_by : Option Fault → List ℕ → Facts → List ℕ

@@ -1,7 +1,7 @@
 //! Writes why octets do not parse, in sentences.
 ghost use Rattle.std.specs.Prelude.{◌≡◌};
 ghost use Rattle.tlv_io.specs.Out.{Puts, Sends};
-ghost use Rattle.tlv_why.specs.Why.{code_lines, first_line, no_parse_line, no_parse_line_of, fault_lines};
+ghost use Rattle.tlv_why.specs.Why.{code_lines, first_why_line, no_parse_line, no_parse_line_of, fault_lines};
 ghost use Rattle.tlv_why.specs.Why.{front_lines, is_mostly_whole, later_lines, parses_line, reason_lines, reason_lines_in};
 ghost use Rattle.tlv_why.specs.Why.{reasons_of, says_rest, why_lines};
 
@@ -44,7 +44,7 @@ pub fn write_first_line<D: Drain>(
     facts: &Facts,
     drain: &mut D,
 ) -> Result<(), WriteFault>
-    ensures { Sends (D.state drain.old) (D.state drain.new) (first_line octets.now facts.now) result }
+    ensures { Sends (D.state drain.old) (D.state drain.new) (first_why_line octets.now facts.now) result }
 {
     let mut out = Out::new(drain);
     put_first_line(octets, facts, &mut out)?;
@@ -91,7 +91,7 @@ fn put_first_line<D: Drain>(
     facts: &Facts,
     out: &mut Out<'_, D>,
 ) -> Result<(), WriteFault>
-    ensures { Puts D.state out.old out.new (first_line octets.now facts.now) result }
+    ensures { Puts D.state out.old out.new (first_why_line octets.now facts.now) result }
 {
     match facts.fault {
         None => put_parses_line(octets.len() as u64, out),

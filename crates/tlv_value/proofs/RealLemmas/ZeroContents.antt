@@ -10,7 +10,7 @@ use Rattle.tlv_value.specs.Real.{base_bits, before_exponent, has_size_octet, is_
 use Rattle.tlv_value.specs.Real.{is_zero_number, mantissa_octets}
 use Rattle.tlv_value.specs.RealState.{after_digits, after_fraction, begin_binary, begin_decimal, begin_number}
 use Rattle.tlv_value.specs.RealState.{ends_form, is_canonical, is_of_form, is_whole_number}
-use Rattle.tlv_value.specs.RealState.{ends_number, exponent_digit, in_exponent, is_decimal_mark, is_exponent_mark}
+use Rattle.tlv_value.specs.RealState.{is_number_end, exponent_digit, in_exponent, is_decimal_mark, is_exponent_mark}
 use Rattle.tlv_value.specs.RealState.{is_nonzero_digit, is_sign, is_zero, may_be_zero, new_real_check, next_part}
 use Rattle.tlv_value.specs.RealState.{next_place, real_check_after, real_check_next}
 use Rattle.tlv_value.specs.declared.real.RealCheck.{RealCheck}
@@ -255,7 +255,7 @@ number-end true true = refl
 number-end true false = refl
 number-end false begun = refl
 
-part-end : (part : RealPart) → (ends_form part && zero_of part []) ≡ ends_number part
+part-end : (part : RealPart) → (ends_form part && zero_of part []) ≡ is_number_end part
 part-end Nothing = refl
 part-end Special = refl
 part-end ExponentSize = refl
@@ -266,7 +266,7 @@ part-end (Mantissa last) = refl
 part-end (Decimal form place canonical) = number-end (is_whole_number form place) (in_exponent place)
 part-end Formless = refl
 
-zero-end : (part : RealPart) → (part_form part [] && zero_of part []) ≡ ends_number part
+zero-end : (part : RealPart) → (part_form part [] && zero_of part []) ≡ is_number_end part
 zero-end part = ap (λ (f : Bool). f && zero_of part []) (form-end part) ∙ part-end part
 
 and-assoc : (a b c : Bool) → ((a && b) && c) ≡ (a && (b && c))

@@ -16,7 +16,7 @@ use Rattle.tlv_mend.proofs.ShownLemmas.{kind_line-shown, length_line-shown, reme
 use Rattle.tlv_run.specs.Report.{ReportValue}
 use Rattle.tlv_view.specs.declared.input.InputFault.TheVariants as input
 use Rattle.tlv_why.specs.Laws.{AreShown}
-use Rattle.tlv_why.specs.Why.{first_line, reasons_of, why_lines}
+use Rattle.tlv_why.specs.Why.{first_why_line, reasons_of, why_lines}
 use Rattle.tlv_why.specs.declared.facts.Facts.{Facts}
 use Rattle.tlv_why.proofs.ShownLemmas.ShownWhy.{lines_shown}
 use Rattle.tlv_view_program.specs.Reasons.{ExplainsParsing, ShowsReasons, explained_report, findings_line}
@@ -137,7 +137,7 @@ module _ (padding : Bool) (octets : List ℕ) where
 
 pub reasons-shown : ReasonsAreShown
 reasons-shown closed padding table octets old new _ _ o (ShowsReasons.refused facts outcome are some explains) =
-    octets-shown padding octets facts (first_line octets facts) (why_lines octets facts) old new outcome
+    octets-shown padding octets facts (first_why_line octets facts) (why_lines octets facts) old new outcome
     (lines_shown (closed_framing padding) octets facts o are).2
     (lines_shown (closed_framing padding) octets facts o are).0 explains
 reasons-shown closed padding table octets old new _ _ o
