@@ -39,7 +39,6 @@ START = "No encoding begins so. Try: file FILE, which knows files of other kinds
 MORE = "If one octet more stood after the header at offset {0}, all would parse: an octet of its contents may be missing."
 FEWER = "If one octet fewer stood after the header at offset {0}, all would parse: an octet may have been put in there."
 WHOLE = "Try: head -c {0} FILE, for the whole encodings."
-OUTERMOST = "If the header at offset 0 said {} octets and not {}, all would parse."
 # For each fault: the code, the octets, the words, and the sentences after "It does not parse".
 FAULTS = [
     ("F01", "", [], ["The input is empty.", "Try: look whether the program that should write it failed."]),
@@ -51,11 +50,6 @@ FAULTS = [
     ("F02", "30 82 01", [], ["The input ends inside the header at offset 0: 30 82 01.", CUT]),
     ("F02", "04 20 aa", [],
      ["The input ends inside the OCTET STRING at offset 0. " + header(0, "04 20", "32 octets"), "Missing there: 31 octets.", CUT]),
-    # Whole elements inside one whose length is much too great.
-    ("F02", "30 20 02 01 05 02 01 06", [],
-     ["The input ends inside the SEQUENCE at offset 0. " + header(0, "30 20", "32 octets"),
-      "The outermost element of definite length that is not whole, the SEQUENCE at offset 0, would end at offset 34. Missing up to there: 26 octets.", CUT,
-      in_front("INTEGER", 5, "02 01", "1 octet"), OUTERMOST.format(6, 32)]),
     ("F02", "30 80 02 01 05", [],
      ["The input ends inside the SEQUENCE at offset 0. " + header(0, "30 80", INDEFINITE),
       "Elements with an indefinite length that are not ended: 1; each needs two octets 00.", CUT,
@@ -133,11 +127,6 @@ FAULTS = [
      ["The octet at offset 6 completes the header of the ObjectDescriptor at offset 5. " + header(5, "07 05", "5 octets"),
       "It would end at offset 12, but the SEQUENCE at offset 0 ends at offset 7. Missing there: 5 octets. "
       + header(0, "30 05", "5 octets"), WRONG, ANEW, in_front("INTEGER", 2, "02 01", "1 octet"), FEWER.format(2)]),
-    # The length of the outermost element is too small, by 10.
-    ("F11", "30 09 02 01 05 04 0e" + " 61" * 14, [],
-     ["The octet at offset 6 completes the header of the OCTET STRING at offset 5. " + header(5, "04 0e", "14 octets"),
-      "It would end at offset 21, but the SEQUENCE at offset 0 ends at offset 11. Missing there: 10 octets. "
-      + header(0, "30 09", "9 octets"), WRONG, ANEW, in_front("INTEGER", 2, "02 01", "1 octet"), OUTERMOST.format(19, 9)]),
     ("F11", "30 02 30 82 01 01", [],
      ["The header at offset 2 runs past the end of the SEQUENCE at offset 0, which ends at offset 4. "
       + header(0, "30 02", "2 octets"),
@@ -261,7 +250,7 @@ def open_elements(number):
 
 def outermost(why):
     """Of the open elements 16 are tried, from the outermost one on."""
-    for number, is_named in ((1, True), (16, True), (17, False), (18, False)):
+    for number, is_named in ((2, True), (16, True), (17, False), (18, False)):
         octets, offset = open_elements(number)
         _, lines = why.said(octets)
         fine = any(f"header at offset {offset} said" in line for line in lines) == is_named
@@ -269,13 +258,20 @@ def outermost(why):
 
 
 def no_length(why):
-    """No primitive, and no element behind others, is said to end with the input. Nor is a length named for which there is
-    no room in the length octets.
-    """
-    for octets in (b"\x04\x20\xaa\xbb", element(0x30, b"\x02\x01\x05") + b"\x30\x20" + NULL,
-                   b"\x02\x01\x05\x1f" + b"\xff" * 7, b"\x30\x20" + b"\x02\x02\x05" * 2, b"\x30\x10" + element(2, b"\x05" * 144)):
+    """No other length is named if octets are missing or left over by an outermost length, though one would mend the input."""
+    numbers = b"".join(element(2, bytes([number])) for number in range(5))
+    missing = element(0x30, numbers)[:-3]
+    behind = element(0x31, NULL) + missing
+    left = element(0x30, numbers)[:-1] + b"\x01\x7f"
+    longer = b"\x30" + bytes([len(numbers) + 1]) + numbers
+    inside = open_elements(1)[0]
+    for octets in (missing, behind, left, longer, inside, b"\x04\x20\xaa\xbb", b"\x30\x10" + element(2, b"\x05" * 144)):
         _, lines = why.said(octets)
         why.part.expect(f"no other length, {octets[:12].hex()}", "If the header" not in "\n".join(lines), *lines)
+    # A later record is whole, and an element of indefinite length does not say where it ends.
+    for octets in (element(0x30, b"\x02\x02\x05") + element(0x30, NULL), b"\x30\x80\x30\x04\x02\x02\x05\x05\0\0\0"):
+        _, lines = why.said(octets)
+        why.part.expect(f"another length, {octets.hex()}", "If the header" in "\n".join(lines), *lines)
 
 
 def hints(why):

@@ -34,7 +34,8 @@ def remedies(octets, padding, candidates, top):
     """Returns the lines about changes that would make an input parse.
     The candidates are elements whose length may be wrong. `top` is the top end.
     """
-    changed = other_length(octets, padding, candidates) or other_count(octets, padding, candidates)
+    changed = other_length(octets, padding, candidates) if sizes_agree(octets, padding, top) else []
+    changed = changed or other_count(octets, padding, candidates)
     start = other_start(octets, padding) or next_record(octets, padding, top, changed)
     return [*changed, *text_change(octets, padding), *start]
 
@@ -54,6 +55,21 @@ def header_at(octets, offset):
     return element
 
 
+def sizes_agree(octets, padding, offset):
+    """Returns whether the outermost elements from an offset on end with the input, by what their headers say."""
+    while offset < len(octets):
+        element = header_at(octets, offset)
+        if padding and octets[offset] == 0:
+            offset += 1
+        elif element is None:
+            return False
+        elif element.length is None:
+            return True
+        else:
+            offset = element.start + element.length
+    return offset == len(octets)
+
+
 def other_length(octets, padding, candidates, inside=()):
     """Returns the line about the first candidate whose length can be
     changed so that everything parses, with these strings as wrappers.
@@ -62,7 +78,7 @@ def other_length(octets, padding, candidates, inside=()):
         return []
     for it in candidates:
         first = it.offset + len(it.identifier)
-        for length in lengths_tried(octets, it):
+        for length in lengths_near(it.length):
             said = spelled(it.length_octets, length)
             if said and parses(octets[:first] + said + octets[it.start :], padding, inside):
                 word = "octet" if length == 1 else "octets"
@@ -87,19 +103,13 @@ def other_count(octets, padding, candidates):
     return []
 
 
-def lengths_tried(octets, it):
-    """Yields the other lengths that are tried for an element, in their order: those that differ by 1 to 5, and for the
-    outermost element the one to the end of the octets. The indefinite form has none.
-    """
-    if it.length is None:
-        return
-    for off in range(1, MOST_OFF + 1):
-        yield it.length + off
-        if it.length >= off:
-            yield it.length - off
-    rest = len(octets) - it.start
-    if rest != it.length and it.constructed and it.offset == 0:
-        yield rest
+def lengths_near(length):
+    """Yields the lengths that differ by 1 to 5, in the order in which they are tried. The indefinite form has none."""
+    if length is not None:
+        for off in range(1, MOST_OFF + 1):
+            yield length + off
+            if length >= off:
+                yield length - off
 
 
 def spelled(length_octets, length):

@@ -49,10 +49,10 @@ within-one {P} {Costs} {b = r} one (first.tried_in_vain {budget} {cost = i} {x} 
     within-one one f (subst (λ (k : ℕ). IsFirstWithin P Costs (budget - k) more r) same g)
 
 first-at : (framing : Framing) (octets : List ℕ) (h g : HeaderValue) (a : Option ℕ) → h ≡ g
-    → IsFirstOf (WouldBeSound framing octets h) (other_lengths octets h) a
-    → IsFirstOf (WouldBeSound framing octets g) (other_lengths octets g) a
+    → IsFirstOf (WouldBeSound framing octets h) (other_lengths h) a
+    → IsFirstOf (WouldBeSound framing octets g) (other_lengths g) a
 first-at framing octets h g a e f =
-    subst (λ (x : HeaderValue). IsFirstOf (WouldBeSound framing octets x) (other_lengths octets x) a) e f
+    subst (λ (x : HeaderValue). IsFirstOf (WouldBeSound framing octets x) (other_lengths x) a) e f
 
 pub wrong-one : (framing : Framing) (octets : List ℕ) {candidates : List ℕ} {a b : Option WrongLength}
     → IsFirstWrongLength framing octets candidates a → IsFirstWrongLength framing octets candidates b → a ≡ b

@@ -1,7 +1,7 @@
 -- Length octets that are changed in place are those of another header.
 use Rattle.std.proofs.Common.{◌≡◌, ℕ, ◌+◌, ◌-◌, ◌^◌, ◌<◌, ◌≤◌, false, List, [], ◌∷◌, ◌++◌, length, drop, take}
 use Rattle.std.proofs.Common.{◌∙◌, inl, inr, sym, subst, append_assoc, arith, length-append, length-drop, ap, refl}
-use Rattle.std.proofs.Common.{Bool, get_or, take-append-drop}
+use Rattle.std.proofs.Common.{get_or, take-append-drop}
 use Rattle.std.specs.Prelude.{Option, Some, None, slice_range, nat_lt}
 use Rattle.std.specs.List.{filter}
 use Rattle.std.specs.Option.{option_map_or}
@@ -28,8 +28,7 @@ use Rattle.tlv_mend.specs.FirstOf.{IsFirstOf, no_more}
 use Rattle.tlv_mend.specs.Private.Lengths.{SoundWithOctets, sayable, with_octets_saying}
 use Rattle.tlv_mend.specs.WrongLength.{IsFirstWrongLength, WouldBeSound, here, input_with_length, length_bound}
 use Rattle.tlv_mend.specs.WrongLength as wrong
-use Rattle.tlv_mend.specs.WrongLength.{count_behind, is_outermost, length_octets_saying, other_lengths}
-use Rattle.tlv_mend.specs.WrongLength.{tried_lengths}
+use Rattle.tlv_mend.specs.WrongLength.{length_octets_saying, lengths_within, other_lengths}
 
 -- two headers with which an input begins are the same
 pub begun-one : {input : List ℕ} {offset : ℕ} (h g : HeaderValue) → BeginsWith input offset false h
@@ -89,27 +88,24 @@ changed-with n octets rest h offset id count within o i k d =
     (subst (λ (s : ℕ). with_octets_saying (length front + length h.identifier_octets) s n (front ++ (octets_of h ++ rest))
     ≡ input_with_length (front ++ (octets_of h ++ rest)) h n) end e))
 
-others-are : (w v : ℕ) (size : Size) (outermost outer : Bool) (said a b : ℕ) (lengths : List ℕ) → w ≡ v
-    → size ≡ Definite said → outermost ≡ outer → a ≡ b → lengths ≡ tried_lengths outer said b
-    → filter (λ n. nat_lt n (length_bound w))
-    (option_map_or (λ s. tried_lengths outermost s a) (definite_length size) []) ≡ sayable v lengths
-others-are w v size outermost outer said a b lengths e s o after l =
+others-are : (w v : ℕ) (size : Size) (said : ℕ) (lengths : List ℕ) → w ≡ v → size ≡ Definite said
+    → lengths ≡ lengths_within said 5
+    → filter (λ n. nat_lt n (length_bound w)) (option_map_or (λ s. lengths_within s 5) (definite_length size) [])
+    ≡ sayable v lengths
+others-are w v size said lengths e s l =
     ap (λ (x : Size). filter (λ n. nat_lt n (length_bound w))
-    (option_map_or (λ s. tried_lengths outermost s a) (definite_length x) [])) s
-    ∙ ap (λ (x : ℕ). sayable x (tried_lengths outermost said a)) e
-    ∙ ap (λ (x : Bool). sayable v (tried_lengths x said a)) o
-    ∙ ap (λ (x : ℕ). sayable v (tried_lengths outer said x)) after
+    (option_map_or (λ s. lengths_within s 5) (definite_length x) [])) s
+    ∙ ap (λ (x : ℕ). sayable x (lengths_within said 5)) e
     ∙ ap (λ (xs : List ℕ). sayable v xs) (sym l)
 
 -- the first length that does if its octets are changed in place is the first that does if the header says it
 first-with : (framing : Framing) (octets : List ℕ) (offset start count : ℕ) (fields : HeaderFields) (said : ℕ)
     (lengths : List ℕ) (r : Option ℕ) → offset ≤ length octets
     → BeginsWithFields (drop offset octets) offset false fields count → start ≡ offset + fields.id_len
-    → fields.size ≡ Definite said
-    → lengths ≡ tried_lengths (is_outermost fields.constructed offset) said ((length octets - offset) - count)
+    → fields.size ≡ Definite said → lengths ≡ lengths_within said 5
     → IsFirstOf (SoundWithOctets framing start (offset + count) octets) (sayable ((offset + count) - start) lengths) r
     → IsFirstOf (WouldBeSound framing octets (new_header fields (take count (drop offset octets))))
-    (other_lengths octets (new_header fields (take count (drop offset octets)))) r
+    (other_lengths (new_header fields (take count (drop offset octets)))) r
 first-with framing octets offset start count fields said lengths r within b s size l f =
     let raw : List ℕ = take count (drop offset octets) in
     let h : HeaderValue = new_header fields raw in
@@ -123,11 +119,8 @@ first-with framing octets offset start count fields said lengths r within b s si
     λ n. subst (λ (i : ℕ). with_octets_saying i (offset + count) n octets ≡ input_with_length octets h n) (sym s)
     (changed-with n octets b.begins.rest h offset fields.id_len count within b.begins.offset id all
     b.begins.octets_are) in
-    let after : count_behind octets h ≡ (length octets - offset) - count = omega (arith, b.begins.offset, all) in
-    let others : other_lengths octets h ≡ sayable ((offset + count) - start) lengths =
-    others-are (length h.length_octets) ((offset + count) - start) fields.size (is_outermost h.constructed h.offset)
-    (is_outermost fields.constructed offset) said (count_behind octets h) ((length octets - offset) - count) lengths room
-    size (ap (is_outermost fields.constructed) b.begins.offset) after l in
+    let others : other_lengths h ≡ sayable ((offset + count) - start) lengths =
+    others-are (length h.length_octets) ((offset + count) - start) fields.size said lengths room size l in
     subst (λ (xs : List ℕ). IsFirstOf (WouldBeSound framing octets h) xs r) (sym others)
     (first-along (λ n. subst (λ (xs : List ℕ). IsSoundList framing xs) (same n))
     (λ n. subst (λ (xs : List ℕ). IsSoundList framing xs) (sym (same n))) f)
@@ -136,8 +129,7 @@ first-with framing octets offset start count fields said lengths r within b s si
 pub found-at : (framing : Framing) (octets : List ℕ) (offset start count : ℕ) (fields : HeaderFields) (said would : ℕ)
     (lengths more : List ℕ) → offset ≤ length octets
     → BeginsWithFields (drop offset octets) offset false fields count → start ≡ offset + fields.id_len
-    → fields.size ≡ Definite said
-    → lengths ≡ tried_lengths (is_outermost fields.constructed offset) said ((length octets - offset) - count)
+    → fields.size ≡ Definite said → lengths ≡ lengths_within said 5
     → IsFirstOf (SoundWithOctets framing start (offset + count) octets) (sayable ((offset + count) - start) lengths)
     (Some would)
     → IsFirstWrongLength framing octets (offset ∷ more)
@@ -154,40 +146,38 @@ found-at framing octets offset start count fields said would lengths more within
 pub none-at : (framing : Framing) (octets : List ℕ) (offset start count : ℕ) (fields : HeaderFields) (said : ℕ)
     (lengths : List ℕ) → offset ≤ length octets
     → BeginsWithFields (drop offset octets) offset false fields count → start ≡ offset + fields.id_len
-    → fields.size ≡ Definite said
-    → lengths ≡ tried_lengths (is_outermost fields.constructed offset) said ((length octets - offset) - count)
+    → fields.size ≡ Definite said → lengths ≡ lengths_within said 5
     → IsFirstOf (SoundWithOctets framing start (offset + count) octets) (sayable ((offset + count) - start) lengths)
     None
     → (h : HeaderValue) → BeginsWith (drop offset octets) offset false h
-    → IsFirstOf (WouldBeSound framing octets h) (other_lengths octets h) None
+    → IsFirstOf (WouldBeSound framing octets h) (other_lengths h) None
 none-at framing octets offset start count fields said lengths within b s size l f h p =
     let g : HeaderValue = new_header fields (take count (drop offset octets)) in
-    subst (λ (x : HeaderValue). IsFirstOf (WouldBeSound framing octets x) (other_lengths octets x) None)
+    subst (λ (x : HeaderValue). IsFirstOf (WouldBeSound framing octets x) (other_lengths x) None)
     (begun-one g h b.begins p)
     (first-with framing octets offset start count fields said lengths None within b s size l f)
 
-no-others : (P : ℕ → Type 0) (w after : ℕ) (outermost : Bool) (size : Size) → ((n : ℕ) → size ≡ Definite n → ⊥)
+no-others : (P : ℕ → Type 0) (w : ℕ) (size : Size) → ((n : ℕ) → size ≡ Definite n → ⊥)
     → IsFirstOf P (filter (λ n. nat_lt n (length_bound w))
-    (option_map_or (λ s. tried_lengths outermost s after) (definite_length size) [])) None
-no-others P w after outermost (Definite n) k = absurd (k n refl)
-no-others P w after outermost Indefinite k = no_more
+    (option_map_or (λ s. lengths_within s 5) (definite_length size) [])) None
+no-others P w (Definite n) k = absurd (k n refl)
+no-others P w Indefinite k = no_more
 
 -- of a header in the indefinite form there are no other lengths
 pub indefinite-none : (framing : Framing) (octets : List ℕ) (offset count : ℕ) (fields : HeaderFields)
     → BeginsWithFields (drop offset octets) offset false fields count
     → ((n : ℕ) → fields.size ≡ Definite n → ⊥) → (h : HeaderValue) → BeginsWith (drop offset octets) offset false h
-    → IsFirstOf (WouldBeSound framing octets h) (other_lengths octets h) None
+    → IsFirstOf (WouldBeSound framing octets h) (other_lengths h) None
 indefinite-none framing octets offset count fields b k h p =
     let g : HeaderValue = new_header fields (take count (drop offset octets)) in
     let e : g ≡ h = begun-one g h b.begins p in
-    no-others (WouldBeSound framing octets h) (length h.length_octets) (count_behind octets h)
-    (is_outermost h.constructed h.offset) h.size
+    no-others (WouldBeSound framing octets h) (length h.length_octets) h.size
     (λ n s. k n (ap (λ (x : HeaderValue). x.size) e ∙ s))
 
 -- offsets that are searched one after another
 pub candidate-later : (framing : Framing) (octets xs : List ℕ) (i : ℕ) {found : Option WrongLength} → i < length xs
     → ((h : HeaderValue) → BeginsWith (drop (get_or xs i 0) octets) (get_or xs i 0) false h
-    → IsFirstOf (WouldBeSound framing octets h) (other_lengths octets h) None)
+    → IsFirstOf (WouldBeSound framing octets h) (other_lengths h) None)
     → IsFirstWrongLength framing octets (drop (i + 1) xs) found → IsFirstWrongLength framing octets (drop i xs) found
 candidate-later framing octets xs i h none f = rw (from-next xs i h) (wrong.later none f)
 

@@ -5,7 +5,6 @@ use Rattle.tlv_head.specs.declared.header.Size.{Size}
 use Rattle.tlv_head.specs.declared.header.Size.TheVariants.{Definite, Indefinite}
 use Rattle.tlv_head.specs.Header.{HeaderValue}
 use Rattle.tlv_mend.specs.WrongLength.{input_with_length, length_octets_saying, lengths_within, other_lengths}
-use Rattle.tlv_mend.specs.WrongLength.{tried_lengths}
 
 -- a header of a SEQUENCE at the offset 1
 a_sequence : Size → List ℕ → HeaderValue
@@ -23,42 +22,21 @@ a_sequence size lengths = record {
 near-row : lengths_within 3 5 ≡ 4 ∷ 2 ∷ 5 ∷ 1 ∷ 6 ∷ 0 ∷ 7 ∷ 8 ∷ []
 near-row = refl
 
--- octets of which 7 come after a header of two octets at the offset 0, and 6 after one at the offset 1
-nine_octets : List ℕ
-nine_octets = 0x30 ∷ 0x7e ∷ 5 ∷ 0 ∷ 5 ∷ 0 ∷ 5 ∷ 0 ∷ 5 ∷ []
-
 -- the short form says no length above 127
-short-row : other_lengths nine_octets (a_sequence (Definite 126) (0x7e ∷ []))
-    ≡ 127 ∷ 125 ∷ 124 ∷ 123 ∷ 122 ∷ 121 ∷ []
-unfolding a_sequence nine_octets
+short-row : other_lengths (a_sequence (Definite 126) (0x7e ∷ [])) ≡ 127 ∷ 125 ∷ 124 ∷ 123 ∷ 122 ∷ 121 ∷ []
+unfolding a_sequence
 short-row = refl
 
--- the last length that is tried for the outermost element is the one to the end of the input
-outermost-row : other_lengths nine_octets (record (a_sequence (Definite 126) (0x7e ∷ [])) { offset = 0 })
-    ≡ 127 ∷ 125 ∷ 124 ∷ 123 ∷ 122 ∷ 121 ∷ 7 ∷ []
-unfolding a_sequence nine_octets
-outermost-row = refl
-
--- it is not tried for a primitive, or if it is what the header states
-primitive-row : other_lengths nine_octets
-    (record (a_sequence (Definite 126) (0x7e ∷ [])) { offset = 0; constructed = false })
-    ≡ 127 ∷ 125 ∷ 124 ∷ 123 ∷ 122 ∷ 121 ∷ []
-unfolding a_sequence nine_octets
-primitive-row = refl
-
-stated-row : tried_lengths true 7 7 ≡ lengths_within 7 5
-stated-row = refl
-
 -- two octets say no length above 255, and may say one below 128
-long-row : other_lengths [] (a_sequence (Definite 255) (0x81 ∷ 0xff ∷ [])) ≡ 254 ∷ 253 ∷ 252 ∷ 251 ∷ 250 ∷ []
+long-row : other_lengths (a_sequence (Definite 255) (0x81 ∷ 0xff ∷ [])) ≡ 254 ∷ 253 ∷ 252 ∷ 251 ∷ 250 ∷ []
 unfolding a_sequence
 long-row = refl
 
-padded-row : other_lengths [] (a_sequence (Definite 0) (0x82 ∷ 0 ∷ 0 ∷ [])) ≡ 1 ∷ 2 ∷ 3 ∷ 4 ∷ 5 ∷ []
+padded-row : other_lengths (a_sequence (Definite 0) (0x82 ∷ 0 ∷ 0 ∷ [])) ≡ 1 ∷ 2 ∷ 3 ∷ 4 ∷ 5 ∷ []
 unfolding a_sequence
 padded-row = refl
 
-indefinite-row : other_lengths [] (a_sequence Indefinite (0x80 ∷ [])) ≡ []
+indefinite-row : other_lengths (a_sequence Indefinite (0x80 ∷ [])) ≡ []
 unfolding a_sequence
 indefinite-row = refl
 

@@ -1,6 +1,7 @@
 pub mod FirstLemmas
 pub mod LengthLemmas
 pub mod OctetLemmas
+pub mod OutermostLemmas
 pub mod RecordLemmas
 pub mod LengthRows
 pub mod MovedElements

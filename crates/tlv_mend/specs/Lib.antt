@@ -3,6 +3,7 @@ pub mod WrongLength
 pub mod OneOctet
 pub mod NextStart
 pub mod NextRecord
+pub mod OutermostSizes
 pub mod TextCopies
 pub mod Remedies
 pub mod Laws

@@ -11,6 +11,7 @@ use Rattle.tlv_mend.specs.declared.text_changes.TextChange.TheVariants.{LineEnds
 use Rattle.tlv_mend.specs.NextRecord.{IsNextRecord}
 use Rattle.tlv_mend.specs.NextStart.{IsNextStart}
 use Rattle.tlv_mend.specs.OneOctet.{IsOctetChange}
+use Rattle.tlv_mend.specs.OutermostSizes.{SizesAgree}
 use Rattle.tlv_mend.specs.TextCopies.{IsSoundWithLfAlone, IsSoundWithoutUtf8, has_replacement}
 use Rattle.tlv_mend.specs.WrongLength.{IsWrongLength}
 
@@ -146,11 +147,19 @@ abbrev pub remedy_lines
     : List ℕ → Option WrongLength → Option OctetChange → Option TextChange → Option ℕ → Option ℕ → List ℕ
 remedy_lines octets wrong octet change start next = changes_lines wrong octet change ++ other_lines octets start next
 
+-- the other length that is named: the wrong length, if the sizes of the outermost elements agree with that of the input,
+-- from the offset `top` on. Otherwise octets are missing or left over, and none is named
+pub data IsNamedLength (padding : Bool) (octets candidates : List ℕ) (top : ℕ) : Option WrongLength → Type 0 where
+  in_agreement : {found : Option WrongLength} → SizesAgree padding octets top
+      → IsWrongLength (closed_framing padding) octets candidates found
+      → IsNamedLength padding octets candidates top found
+  in_disagreement : (SizesAgree padding octets top → ⊥) → IsNamedLength padding octets candidates top None
+
 -- the lines about an input, with the headers at these offsets as candidates; `top` is the offset after its whole
 -- elements at the top level
 pub record AreRemedies (padding : Bool) (octets candidates : List ℕ) (top : ℕ) (lines : List ℕ) : Type 0 where
   pub wrong : Option WrongLength
-  pub is_wrong : IsWrongLength (closed_framing padding) octets candidates wrong
+  pub is_wrong : IsNamedLength padding octets candidates top wrong
   pub octet : Option OctetChange
   pub is_octet : IsOctetChange (closed_framing padding) octets candidates wrong octet
   pub change : Option TextChange

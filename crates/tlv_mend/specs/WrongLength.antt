@@ -1,6 +1,6 @@
--- Which single length, changed a little or to the end of the input, would make an input sound: X.690 8.1.3.
-use Rattle.std.specs.Prelude.{◌≡◌, ℕ, ◌+◌, ◌-◌, ◌/◌, ◌%◌, ◌^◌, ◌<◌, ◌≤◌, Bool, false, ◌&&◌, not, eqb, nat_le}
-use Rattle.std.specs.Prelude.{nat_lt, if◌then◌else◌, List, [], ◌∷◌, ◌++◌, length, take, drop, Option, Some, None, zero, suc}
+-- Which single length, changed a little, would make an input sound: X.690 8.1.3.
+use Rattle.std.specs.Prelude.{◌≡◌, ℕ, ◌+◌, ◌-◌, ◌/◌, ◌%◌, ◌^◌, ◌<◌, ◌≤◌, false, eqb, nat_le, nat_lt}
+use Rattle.std.specs.Prelude.{if◌then◌else◌, List, [], ◌∷◌, ◌++◌, length, take, drop, Option, Some, None, zero, suc}
 use Rattle.std.specs.List.{filter}
 use Rattle.std.specs.Option.{option_map_or}
 use Rattle.tlv_head.specs.declared.header.Size.TheVariants.{Definite}
@@ -29,29 +29,11 @@ lengths_within said (suc k) = lengths_within said k ++ lengths_at_distance said 
 abbrev pub length_bound : ℕ → ℕ
 length_bound count = if eqb count 1 then 128 else 256 ^ (count - 1)
 
--- the number of octets of the input after this header
-abbrev pub count_behind : List ℕ → HeaderValue → ℕ
-count_behind octets h = length octets - (h.offset + length (octets_of h))
-
--- 8.1.2.5: the element is the first of the input, and constructed. A primitive could take up whatever follows, and
--- behind other elements another record may follow
-abbrev pub is_outermost : Bool → ℕ → Bool
-is_outermost constructed offset = constructed && eqb offset 0
-
--- the length with which the outermost element would end with the input, if its header states another
-abbrev pub length_to_end : Bool → ℕ → ℕ → List ℕ
-length_to_end outermost said after = if outermost && not (eqb after said) then after ∷ [] else []
-
--- the lengths that are tried for a header that states this one: those near it, and then the one to the end of the input
-abbrev pub tried_lengths : Bool → ℕ → ℕ → List ℕ
-tried_lengths outermost said after = lengths_within said 5 ++ length_to_end outermost said after
-
--- those of them that the header could state in as many octets, in the order in which they are tried
-abbrev pub other_lengths : List ℕ → HeaderValue → List ℕ
-other_lengths octets h =
+-- the other lengths that a header could state in as many octets, in the order in which they are tried
+abbrev pub other_lengths : HeaderValue → List ℕ
+other_lengths h =
     filter (λ n. nat_lt n (length_bound (length h.length_octets)))
-    (option_map_or (λ said. tried_lengths (is_outermost h.constructed h.offset) said (count_behind octets h))
-    (definite_length h.size) [])
+    (option_map_or (λ said. lengths_within said 5) (definite_length h.size) [])
 
 -- 8.1.3.5: octets, as many as the first argument says, that state n in base 256, the most significant first
 abbrev pub base_256 : ℕ → ℕ → List ℕ
@@ -82,13 +64,13 @@ WouldBeSound framing octets h n = IsSoundList framing (input_with_length octets 
 pub data IsFirstWrongLength (framing : Framing) (octets : List ℕ) : List ℕ → Option WrongLength → Type 0 where
   no_more : IsFirstWrongLength framing octets [] None
   here : {offset would : ℕ} {more : List ℕ} → (h : HeaderValue) → BeginsWith (drop offset octets) offset false h
-      → IsFirstOf (WouldBeSound framing octets h) (other_lengths octets h) (Some would)
+      → IsFirstOf (WouldBeSound framing octets h) (other_lengths h) (Some would)
       → IsFirstWrongLength framing octets (offset ∷ more)
       (Some (record { offset = offset; said = announced_length h.size; would = would }))
   -- there is no header, or none of its other lengths would make the input sound
   later : {offset : ℕ} {more : List ℕ} {found : Option WrongLength}
       → ((h : HeaderValue) → BeginsWith (drop offset octets) offset false h
-      → IsFirstOf (WouldBeSound framing octets h) (other_lengths octets h) None)
+      → IsFirstOf (WouldBeSound framing octets h) (other_lengths h) None)
       → IsFirstWrongLength framing octets more found → IsFirstWrongLength framing octets (offset ∷ more) found
 
 -- which of the headers at these offsets has a wrong length: the first, if the input is searched

@@ -1,12 +1,12 @@
-//! Which single length, changed a little or to the end of the input, would make an input sound.
+//! Which single length, changed a little, would make an input sound.
 ghost use Rattle.std.specs.Prelude.{◌≡◌, ◌<◌, ◌≤◌, ◌+◌, ◌-◌, ◌^◌, All, IfOk, List, MatchOption, drop, false};
 ghost use Rattle.std.specs.Prelude.{length, ◌∷◌, ℕ};
 ghost use Rattle.tlv_head.specs.Header.{HeaderValue};
 ghost use Rattle.tlv_head.specs.Refusal.{BeginsWith};
 ghost use Rattle.tlv_mend.specs.FirstOf.{IsFirstOf};
 ghost use Rattle.tlv_mend.specs.Private.Lengths.{SoundWithOctets, sayable};
-ghost use Rattle.tlv_mend.specs.WrongLength.{IsFirstWrongLength, IsWrongLength, WouldBeSound, is_outermost};
-ghost use Rattle.tlv_mend.specs.WrongLength.{lengths_within, other_lengths, search_limit, tried_lengths};
+ghost use Rattle.tlv_mend.specs.WrongLength.{IsFirstWrongLength, IsWrongLength, WouldBeSound, lengths_within};
+ghost use Rattle.tlv_mend.specs.WrongLength.{other_lengths, search_limit};
 
 use crate::length_octets::{LengthPlace, can_say, is_sound_with};
 use arrayvec::ArrayVec;
@@ -29,12 +29,10 @@ pub struct WrongLength {
 }
 
 /// Finds which of the headers at these offsets, in octets from the start of the input, has a wrong length: the first
-/// for which another length would make the input sound. Another length is one that is at most 5 octets more or fewer,
-/// or, if the element is constructed and the first of the input, the one with which it would end with the input. Tries
-/// nearer lengths first, of two that are equally near the greater first, and the one to the end of the input last. The
-/// other length takes as many length octets as before. `None` if there is no such header, or if the input has more than
-/// [`SEARCH_LIMIT`] octets. `framing` says how the input is read: which strings hold encodings, and whether octets `00`
-/// are allowed at the top level.
+/// for which another length, at most 5 octets more or fewer, would make the input sound. Tries nearer lengths first,
+/// and of two that are equally near the greater first. The other length takes as many length octets as before. `None`
+/// if there is no such header, or if the input has more than [`SEARCH_LIMIT`] octets. `framing` says how the input is
+/// read: which strings hold encodings, and whether octets `00` are allowed at the top level.
 ///
 /// # Errors
 ///
@@ -86,7 +84,7 @@ fn wrong_length_at(
     ensures copied { copy.new ≡ octets.now }
     ensures found { (more : List ℕ) → MatchOption result
         ((h : HeaderValue) → BeginsWith (drop offset octets.now) offset false h
-        → IsFirstOf (WouldBeSound framing.now octets.now h) (other_lengths octets.now h) None)
+        → IsFirstOf (WouldBeSound framing.now octets.now h) (other_lengths h) None)
         (λ w. IsFirstWrongLength framing.now octets.now (offset ∷ more) (Some w)) }
 {
     if offset > octets.len() {
@@ -100,8 +98,7 @@ fn wrong_length_at(
         start: offset + usize::from(fields.id_len),
         end: offset + count,
     };
-    let after = (octets.len() - offset - count) as u64;
-    let lengths = tried_lengths(fields.constructed, offset, said, after);
+    let lengths = near_lengths(said);
     match first_right_length(octets, copy, framing, place, lengths.as_slice()) {
         Some(would) => Some(WrongLength {
             offset,
@@ -112,27 +109,10 @@ fn wrong_length_at(
     }
 }
 
-/// The lengths that are tried for a header at this offset that states this length: those near it, and then the one with
-/// which the element would end with the input, if it is constructed and the first of the input. `after` octets come after
-/// the header.
-fn tried_lengths(constructed: bool, offset: usize, said: u64, after: u64) -> ArrayVec<u64, 11>
-    requires said { said < 2 ^ 40 }
-    requires after { after ≤ search_limit }
-    ensures lengths { result.items ≡ tried_lengths (is_outermost constructed offset) said after }
-    ensures below { All (λ n. n < 2 ^ 41) result.items }
-{
-    let mut lengths = near_lengths(said);
-    if constructed && offset == 0 && after != said {
-        lengths.push(after);
-    }
-    lengths
-}
-
 /// The lengths at distances from 1 to 5 from this one: nearer ones first, and of two that are equally near the greater.
-fn near_lengths(said: u64) -> ArrayVec<u64, 11>
+fn near_lengths(said: u64) -> ArrayVec<u64, 10>
     requires { said < 2 ^ 40 }
     ensures lengths { result.items ≡ lengths_within said 5 }
-    ensures room { length result.items ≤ 10 }
     ensures below { All (λ n. n < 2 ^ 41) result.items }
 {
     let mut lengths = ArrayVec::new();

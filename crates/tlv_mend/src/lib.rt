@@ -6,6 +6,7 @@ pub mod laws;
 mod length_octets;
 mod lengths;
 mod octet_changes;
+mod outermost;
 mod records;
 mod remedies;
 mod remedy_texts;

@@ -5,7 +5,8 @@ ghost use Rattle.tlv_io.specs.Out.{Puts, Sends};
 ghost use Rattle.tlv_mend.specs.NextRecord.{IsNextRecord};
 ghost use Rattle.tlv_mend.specs.NextStart.{IsNextStart};
 ghost use Rattle.tlv_mend.specs.OneOctet.{IsOctetChange};
-ghost use Rattle.tlv_mend.specs.Remedies.{AreRemedies, IsTextChange, change_line, changes_lines, count_lines};
+ghost use Rattle.tlv_mend.specs.Remedies.{AreRemedies, IsNamedLength, IsTextChange, change_line, changes_lines};
+ghost use Rattle.tlv_mend.specs.Remedies.{count_lines};
 ghost use Rattle.tlv_mend.specs.Remedies.{kind_line, length_line, octet_line, offset_lines, other_lines, record_line};
 ghost use Rattle.tlv_mend.specs.Remedies.{remedy_lines, start_line};
 ghost use Rattle.tlv_mend.specs.WrongLength.{IsWrongLength};
@@ -13,6 +14,7 @@ ghost use Rattle.tlv_open.specs.Opens.{closed_framing};
 
 use crate::lengths::{WrongLength, wrong_length};
 use crate::octet_changes::{OctetChange, octet_change};
+use crate::outermost::sizes_agree;
 use crate::records::next_record;
 use crate::remedy_texts::{
     change_line, kind_line, length_line, octet_line, record_line, start_line,
@@ -102,6 +104,25 @@ fn write_length_line<D: Drain>(wrong: Option<WrongLength>, drain: &mut D) -> Res
     Ok(())
 }
 
+/// The header whose length is wrong; `None` if the sizes of the outermost elements do not agree with that of the input,
+/// since octets are then missing or left over.
+fn named_length(
+    alloc: Global,
+    octets: &[u8],
+    padding: bool,
+    candidates: &[usize],
+    top: usize,
+) -> Result<Option<WrongLength>, AllocError>
+    requires { length octets.now ≤ input_limit }
+    ensures { IfOk result (λ found. IsNamedLength padding octets.now candidates.now top found) }
+{
+    if sizes_agree(octets, padding, top) {
+        wrong_length(alloc, octets, &closed_framing(padding), candidates)
+    } else {
+        Ok(None)
+    }
+}
+
 /// Looks for each in turn.
 fn findings_of(
     alloc: Global,
@@ -111,13 +132,13 @@ fn findings_of(
     top: usize,
 ) -> Result<Findings, AllocError>
     requires { length octets.now ≤ input_limit }
-    ensures { IfOk result (λ f. IsWrongLength (closed_framing padding) octets.now candidates.now f.wrong
+    ensures { IfOk result (λ f. IsNamedLength padding octets.now candidates.now top f.wrong
         × IsOctetChange (closed_framing padding) octets.now candidates.now f.wrong f.octet
         × IsTextChange padding octets.now f.change × IsNextStart padding octets.now f.start
         × IsNextRecord padding octets.now top f.wrong f.start f.next × IfSome f.next (λ n. n ≤ length octets.now)) }
 {
     let framing = closed_framing(padding);
-    let wrong = wrong_length(alloc, octets, &framing, candidates)?;
+    let wrong = named_length(alloc, octets, padding, candidates, top)?;
     let octet = octet_change(alloc, octets, &framing, candidates, wrong)?;
     let change = text_change(alloc, octets, padding)?;
     let start = next_start(octets, padding);

@@ -14,7 +14,7 @@ returns-in-Some-clause-found c = λ more.
     c.in-Definite.said c.in-Some.would c.as_slice.result.now more c.if-offset-octets.false
     (begins-there c.args.octets.now c.args.offset c.in_ok-fields.count c.in_ok-fields.fields c.in_ok-fields.ensures)
     (start-is c.args.offset _ _ c.from.ensures) c.in-Definite.is
-    (c.as_slice.ensures.value ∙ c.tried_lengths-lengths.ensures.lengths) c.in-Some.ensures.first
+    (c.as_slice.ensures.value ∙ c.near_lengths-lengths.ensures.lengths) c.in-Some.ensures.first
 
 pub returns-in-None-clause-found : goal.returns-in-None-clause-found
 returns-in-None-clause-found c = λ more.
@@ -22,4 +22,4 @@ returns-in-None-clause-found c = λ more.
     c.in-Definite.said c.as_slice.result.now c.if-offset-octets.false
     (begins-there c.args.octets.now c.args.offset c.in_ok-fields.count c.in_ok-fields.fields c.in_ok-fields.ensures)
     (start-is c.args.offset _ _ c.from.ensures) c.in-Definite.is
-    (c.as_slice.ensures.value ∙ c.tried_lengths-lengths.ensures.lengths) c.in-None.ensures.first
+    (c.as_slice.ensures.value ∙ c.near_lengths-lengths.ensures.lengths) c.in-None.ensures.first
