@@ -71,7 +71,7 @@ def check_tables(part):
     of_show = part.suite.show_program
     check_table(part, OF_BOTH, 31, part.program, "check")
     check_table(part, OF_BOTH, 31, of_show, "--check")
-    check_table(part, OF_SHOW, 12, of_show, "--check")
+    check_table(part, OF_SHOW, 13, of_show, "--check")
     codes = [row[0] for row in rows_of(part, OF_SHOW)]
     for _, text, _, examples, *_ in rows_of(part, OF_SHOW):
         for example in examples.split(" \u00b7 "):
@@ -99,9 +99,10 @@ UNSEEN = [
     ("TIME or DURATION", "1f 22 01 ff", "ber der cer"),
     ("labels of an OID-IRI", "1f 23 02 2f 20", "ber der cer"),
     ("labels of an OID-IRI", "1f 24 03 61 20 62", "ber der cer"),
-    ("EXTERNAL", "28 02 05 00", "ber der"),
-    ("EMBEDDED PDV", "2b 02 05 00", "ber der"),
-    ("CHARACTER STRING", "3d 02 05 00", "ber der"),
+    ("EXTERNAL", "28 06 81 01 05 06 01 2a", "ber der"),
+    ("EXTERNAL", "28 03 02 01 05", "ber der"),
+    ("EMBEDDED PDV", "2b 06 80 01 05 80 01 05", "ber der"),
+    ("CHARACTER STRING", "3d 03 81 01 05", "ber der"),
     ("escape sequences", "1b 02 1b 1b", "ber der cer"),
     ("constructed UTF8String", "2c 03 04 01 ff", "ber"),
     ("constructed UTF8String", "3e 04 04 02 d8 00", "ber"),
@@ -126,6 +127,7 @@ UNSEEN_BY_TLVDUMP = [
     ("EXTERNAL", "28 00", "ber der"),
     ("EMBEDDED PDV", "2b 00", "ber der"),
     ("CHARACTER STRING", "3d 00", "ber der"),
+    ("EXTERNAL", "28 02 05 00", "ber der"),
     ("RELATIVE-OID without", "0d 00", "ber der cer"),
     ("surrogates", "1e 02 d8 00", "ber der cer"),
     ("day that its month", "17 0d" + "230230120000Z".encode().hex(), "ber der cer"),

@@ -15,7 +15,7 @@ NULL = b"\x05\x00"
 DATA = {"certificate.der": 4, "signed.ber": 20, "keys.p12": 4, "revoked.der": 4, "snmp.ber": 13, "ldap.ber": 7, "tap.ber": 58}
 # The codes in docs/USE.md and docs/FINDINGS.md, as the programs write them.
 MESSAGES = [f"F{number:02}" for number in range(1, 13)] + [f"E{number}" for number in (1, 2, 3, 4, 5, 7, 8)]
-MESSAGES += [f"B{number:02}" for number in range(1, 30)] + [f"S{number:02}" for number in range(1, 7)]
+MESSAGES += [f"B{number:02}" for number in range(1, 31)] + [f"S{number:02}" for number in range(1, 7)]
 MESSAGES += ["D01", "D02"] + [f"C{number:02}" for number in range(1, 7)]
 MESSAGES += [f"N{number}" for number in range(1, 7)] + [f"{letter}{number}" for letter in "UX" for number in (1, 2, 3, 4)]
 

@@ -160,10 +160,22 @@ def leaf(rng):
     return whole(rng, number, contents_of(rng, number))
 
 
+def part(rng):
+    """Returns an element with a tag that a component of an EXTERNAL may have, or nearly such a tag."""
+    choice = rng.random()
+    if choice < 0.15:
+        return leaf(rng)
+    if choice < 0.25:
+        return with_parts(rng)
+    number = rng.choice([0, 0, 1, 1, 2, 2, 3, 6, 7, 8, 128])
+    octets = rng.choice([b"", b"\x05\0", b"\x02\x01\x05", rng.randbytes(3)])
+    return whole(rng, number, octets, rng.random() < 0.3, rng.choice([0, 0, 1, 2, 2, 2, 3]))
+
+
 def with_parts(rng):
     """Returns an EXTERNAL, EMBEDDED PDV or CHARACTER STRING, or a type that must be primitive, constructed and often empty."""
-    number = rng.choice(OF_PARTS + LATE)
-    held = b"" if rng.random() < 0.6 else leaf(rng)
+    number = rng.choice(OF_PARTS * 4 + LATE)
+    held = b"" if rng.random() < 0.4 else b"".join(part(rng) for _ in range(rng.choice([1, 1, 2, 3])))
     return whole(rng, number, held) if rng.random() < 0.1 else holder(rng, number, held)
 
 

@@ -4,6 +4,7 @@ docs/FINDINGS.md.
 import re
 
 from second_opinion import findings, values
+from second_opinion.reading import CONTEXT
 
 # The texts of the findings of tlvdump-show alone.
 MORE = {
@@ -17,12 +18,15 @@ MORE = {
     "B27": "components are missing",
     "B28": "segments have characters not of the type",
     "B29": "REAL zero with contents",
+    "B30": "element is no component of it",
     "S05": "element of a SET is out of order",
     "S06": "REAL is not canonical",
 }
 TEXTS = {**findings.TEXTS, **MORE}
-EXTERNAL, REAL, EMBEDDED_PDV, TIME, SET, CHARACTER_STRING = 8, 9, 11, 14, 17, 29
+OBJECT_DESCRIPTOR, EXTERNAL, REAL, EMBEDDED_PDV, TIME, SET, CHARACTER_STRING = 7, 8, 9, 11, 14, 17, 29
 DATE, TIME_OF_DAY, DATE_TIME, DURATION, OID_IRI, RELATIVE_OID_IRI = range(31, 37)
+# The universal types that components of an EXTERNAL have, and the largest context-specific number of a component.
+PARTS_OF_EXTERNAL, LAST_PART = (values.INTEGER, values.OBJECT_IDENTIFIER, OBJECT_DESCRIPTOR), 2
 # The largest number of octets of an element that are compared for S05.
 MOST_COMPARED = 64
 
@@ -32,7 +36,20 @@ def of_header(element, parent, previous, rules):
     conditions = findings.header_conditions(element, parent, previous)
     late = TIME, DATE, TIME_OF_DAY, DATE_TIME, DURATION, OID_IRI, RELATIVE_OID_IRI
     conditions["B22"] = element.constructed and element.is_universal(*late)
+    conditions["B30"] = parent is not None and has_parts(parent) and not is_part(element, parent)
     return findings.codes_by(conditions, rules)
+
+
+def has_parts(element):
+    """Returns whether an element is a constructed EXTERNAL, EMBEDDED PDV or CHARACTER STRING."""
+    return element.constructed and element.is_universal(EXTERNAL, EMBEDDED_PDV, CHARACTER_STRING)
+
+
+def is_part(element, parent):
+    """Returns whether an element has a tag that a component of its parent has, which is one of these types."""
+    if parent.number == EXTERNAL and element.is_universal(*PARTS_OF_EXTERNAL):
+        return True
+    return element.tag_class == CONTEXT and element.number <= LAST_PART
 
 
 def of_end(octets, element, parent, previous, rules):
@@ -50,11 +67,10 @@ def of_end(octets, element, parent, previous, rules):
 
 def of_held(octets, element):
     """B27 and B28: conditions on the elements that a constructed element holds."""
-    has_parts = element.is_universal(EXTERNAL, EMBEDDED_PDV, CHARACTER_STRING)
     has_alphabet = element.is_universal(*findings.ALPHABETS)
     segments = [it for it in element.children if not it.constructed]
     return {
-        "B27": has_parts and not element.children,
+        "B27": has_parts(element) and not element.children,
         "B28": has_alphabet and not all(
             findings.has_its_characters(element.number, octets[it.start : it.end]) for it in segments),
     }

@@ -161,49 +161,96 @@ an_external_that_holds_nothing_with_a_definite_length_cer = refl
 
 -- 28 80 05 00 00 00: an EXTERNAL that holds a primitive
 an_external_that_holds_a_primitive_ber : check_all plain_framing Ber (40 ∷ 128 ∷ 5 ∷ 0 ∷ 0 ∷ 0 ∷ [])
-    ≡ lines 0 []
+    ≡ lines 1 (codes "2 B30 element is no component of it" ∷ [])
+unfolding digits
 an_external_that_holds_a_primitive_ber = refl
 
 -- 28 80 05 00 00 00: an EXTERNAL that holds a primitive
 an_external_that_holds_a_primitive_der : check_all plain_framing Der (40 ∷ 128 ∷ 5 ∷ 0 ∷ 0 ∷ 0 ∷ [])
-    ≡ lines 1 (codes "0 D01 indefinite length" ∷ [])
+    ≡ lines 2 (codes "0 D01 indefinite length" ∷ codes "2 B30 element is no component of it" ∷ [])
 unfolding digits
 an_external_that_holds_a_primitive_der = refl
 
 -- 28 80 30 80 00 00 00 00: an EXTERNAL that holds a SEQUENCE
 an_external_that_holds_a_sequence_ber : check_all plain_framing Ber (40 ∷ 128 ∷ 48 ∷ 128 ∷ 0 ∷ 0 ∷ 0 ∷ 0 ∷ [])
-    ≡ lines 0 []
+    ≡ lines 1 (codes "2 B30 element is no component of it" ∷ [])
+unfolding digits
 an_external_that_holds_a_sequence_ber = refl
 
 -- 28 80 30 80 00 00 00 00: an EXTERNAL that holds a SEQUENCE
 an_external_that_holds_a_sequence_der : check_all plain_framing Der (40 ∷ 128 ∷ 48 ∷ 128 ∷ 0 ∷ 0 ∷ 0 ∷ 0 ∷ [])
-    ≡ lines 2 (codes "0 D01 indefinite length" ∷ codes "2 D01 indefinite length" ∷ [])
+    ≡ lines 3 (codes "0 D01 indefinite length" ∷ codes "2 B30 element is no component of it" ∷ codes "2 D01 indefinite length" ∷ [])
 unfolding digits
 an_external_that_holds_a_sequence_der = refl
 
 -- 28 80 01 00 00 00: an EXTERNAL that holds a primitive with a finding
 an_external_that_holds_a_primitive_with_a_finding_ber : check_all plain_framing Ber (40 ∷ 128 ∷ 1 ∷ 0 ∷ 0 ∷ 0 ∷ [])
-    ≡ lines 1 (codes "2 B06 BOOLEAN is not one octet" ∷ [])
+    ≡ lines 2 (codes "2 B30 element is no component of it" ∷ codes "2 B06 BOOLEAN is not one octet" ∷ [])
 unfolding digits
 an_external_that_holds_a_primitive_with_a_finding_ber = refl
 
 -- 28 80 01 00 00 00: an EXTERNAL that holds a primitive with a finding
 an_external_that_holds_a_primitive_with_a_finding_der : check_all plain_framing Der (40 ∷ 128 ∷ 1 ∷ 0 ∷ 0 ∷ 0 ∷ [])
-    ≡ lines 2 (codes "0 D01 indefinite length" ∷ codes "2 B06 BOOLEAN is not one octet" ∷ [])
+    ≡ lines 3 (codes "0 D01 indefinite length" ∷ codes "2 B30 element is no component of it" ∷ codes "2 B06 BOOLEAN is not one octet" ∷ [])
 unfolding digits
 an_external_that_holds_a_primitive_with_a_finding_der = refl
 
 -- 28 80 28 80 00 00 00 00: an EXTERNAL in an EXTERNAL
 an_external_in_an_external_ber : check_all plain_framing Ber (40 ∷ 128 ∷ 40 ∷ 128 ∷ 0 ∷ 0 ∷ 0 ∷ 0 ∷ [])
-    ≡ lines 1 (codes "2 B27 components are missing" ∷ [])
+    ≡ lines 2 (codes "2 B30 element is no component of it" ∷ codes "2 B27 components are missing" ∷ [])
 unfolding digits
 an_external_in_an_external_ber = refl
 
 -- 28 80 28 80 00 00 00 00: an EXTERNAL in an EXTERNAL
 an_external_in_an_external_der : check_all plain_framing Der (40 ∷ 128 ∷ 40 ∷ 128 ∷ 0 ∷ 0 ∷ 0 ∷ 0 ∷ [])
-    ≡ lines 3 (codes "0 D01 indefinite length" ∷ codes "2 D01 indefinite length" ∷ codes "2 B27 components are missing" ∷ [])
+    ≡ lines 4 (codes "0 D01 indefinite length" ∷ codes "2 B30 element is no component of it" ∷ codes "2 D01 indefinite length" ∷ codes "2 B27 components are missing" ∷ [])
 unfolding digits
 an_external_in_an_external_der = refl
+
+-- 28 80 02 01 05 00 00: an EXTERNAL that holds an INTEGER
+an_external_that_holds_an_integer_ber : check_all plain_framing Ber (40 ∷ 128 ∷ 2 ∷ 1 ∷ 5 ∷ 0 ∷ 0 ∷ [])
+    ≡ lines 0 []
+an_external_that_holds_an_integer_ber = refl
+
+-- 28 80 02 01 05 00 00: an EXTERNAL that holds an INTEGER
+an_external_that_holds_an_integer_der : check_all plain_framing Der (40 ∷ 128 ∷ 2 ∷ 1 ∷ 5 ∷ 0 ∷ 0 ∷ [])
+    ≡ lines 1 (codes "0 D01 indefinite length" ∷ [])
+unfolding digits
+an_external_that_holds_an_integer_der = refl
+
+-- 2b 80 02 01 05 00 00: an EMBEDDED PDV that holds an INTEGER
+an_embedded_pdv_that_holds_an_integer_ber : check_all plain_framing Ber (43 ∷ 128 ∷ 2 ∷ 1 ∷ 5 ∷ 0 ∷ 0 ∷ [])
+    ≡ lines 1 (codes "2 B30 element is no component of it" ∷ [])
+unfolding digits
+an_embedded_pdv_that_holds_an_integer_ber = refl
+
+-- 2b 80 02 01 05 00 00: an EMBEDDED PDV that holds an INTEGER
+an_embedded_pdv_that_holds_an_integer_der : check_all plain_framing Der (43 ∷ 128 ∷ 2 ∷ 1 ∷ 5 ∷ 0 ∷ 0 ∷ [])
+    ≡ lines 2 (codes "0 D01 indefinite length" ∷ codes "2 B30 element is no component of it" ∷ [])
+unfolding digits
+an_embedded_pdv_that_holds_an_integer_der = refl
+
+-- 3d 80 82 00 00 00: a CHARACTER STRING that holds [2]
+a_character_string_that_holds_2_ber : check_all plain_framing Ber (61 ∷ 128 ∷ 130 ∷ 0 ∷ 0 ∷ 0 ∷ [])
+    ≡ lines 0 []
+a_character_string_that_holds_2_ber = refl
+
+-- 3d 80 82 00 00 00: a CHARACTER STRING that holds [2]
+a_character_string_that_holds_2_der : check_all plain_framing Der (61 ∷ 128 ∷ 130 ∷ 0 ∷ 0 ∷ 0 ∷ [])
+    ≡ lines 1 (codes "0 D01 indefinite length" ∷ [])
+unfolding digits
+a_character_string_that_holds_2_der = refl
+
+-- 28 80 a0 80 05 00 00 00 00 00: an EXTERNAL that holds a NULL in [0]
+an_external_that_holds_a_null_in_0_ber : check_all plain_framing Ber (40 ∷ 128 ∷ 160 ∷ 128 ∷ 5 ∷ 0 ∷ 0 ∷ 0 ∷ 0 ∷ 0 ∷ [])
+    ≡ lines 0 []
+an_external_that_holds_a_null_in_0_ber = refl
+
+-- 28 80 a0 80 05 00 00 00 00 00: an EXTERNAL that holds a NULL in [0]
+an_external_that_holds_a_null_in_0_der : check_all plain_framing Der (40 ∷ 128 ∷ 160 ∷ 128 ∷ 5 ∷ 0 ∷ 0 ∷ 0 ∷ 0 ∷ 0 ∷ [])
+    ≡ lines 2 (codes "0 D01 indefinite length" ∷ codes "2 D01 indefinite length" ∷ [])
+unfolding digits
+an_external_that_holds_a_null_in_0_der = refl
 
 -- 2b 80 00 00 3d 80 00 00: an EMBEDDED PDV and a CHARACTER STRING
 an_embedded_pdv_and_a_character_string_ber : check_all plain_framing Ber (43 ∷ 128 ∷ 0 ∷ 0 ∷ 61 ∷ 128 ∷ 0 ∷ 0 ∷ [])

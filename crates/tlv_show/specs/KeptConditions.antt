@@ -7,13 +7,13 @@ use Rattle.tlv_head.specs.Header.{HeaderValue, announced_length}
 use Rattle.tlv_head.specs.UniversalTypes as universal
 use Rattle.tlv_head.specs.declared.type_table.Encodings.TheVariants as encodings
 use Rattle.tlv_value.specs.declared.finding.Finding.{Finding}
-use Rattle.tlv_value.specs.declared.finding.Finding.TheVariants.{B01, B02, B03, B04, B05, B16, B17, B27}
+use Rattle.tlv_value.specs.declared.finding.Finding.TheVariants.{B01, B02, B03, B04, B05, B16, B17, B22, B27, B30}
 use Rattle.tlv_value.specs.declared.finding.Finding.TheVariants.{S01, D01, D02, C01, C02, C03, C04, C05, C06}
 use Rattle.tlv_value.specs.Types.{has_encodings, has_segments, is_a, has_primitive_form, is_string, is_unassigned}
 use Rattle.tlv_walk.specs.Place.{is_indefinite}
 use Rattle.tlv_show.specs.declared.wanted.Wanted.{Wanted}
 use Rattle.tlv_show.specs.Conditions.{has_high_form}
-use Rattle.tlv_show.specs.AllConditions.{later_basic_conditions}
+use Rattle.tlv_show.specs.AllConditions.{is_component, is_constructed_time_or_iri}
 use Rattle.tlv_show.specs.ShownFindings.{shown_findings}
 
 -- ---- What a header says
@@ -58,6 +58,9 @@ pub record Surroundings : Type 0 where
   pub after_unused_bits : Bool
   -- right before this segment is one that is not a primitive of 1000 contents octets
   pub after_not_full : Bool
+  -- it is in an element of a type with components. And whether this is an EXTERNAL
+  pub in_components : Bool
+  pub in_external : Bool
 
 abbrev pub first_basic_conditions_in : Surroundings → HeaderValue → List (Finding × Bool)
 first_basic_conditions_in s h =
@@ -70,8 +73,14 @@ first_basic_conditions_in s h =
     ∷ (B17, s.in_string && not (is_a (segment_type s.in_bit_string) h))
     ∷ []
 
+abbrev pub second_basic_conditions_in : Surroundings → HeaderValue → List (Finding × Bool)
+second_basic_conditions_in s h =
+    (B22, is_constructed_time_or_iri h)
+    ∷ (B30, s.in_components && not (is_component s.in_external h))
+    ∷ []
+
 abbrev pub basic_conditions_in : Surroundings → HeaderValue → List (Finding × Bool)
-basic_conditions_in s h = first_basic_conditions_in s h ++ later_basic_conditions h
+basic_conditions_in s h = first_basic_conditions_in s h ++ second_basic_conditions_in s h
 
 abbrev pub length_conditions : HeaderValue → List (Finding × Bool)
 length_conditions h = (S01, is_length_padded h) ∷ []

@@ -19,6 +19,8 @@ top_frame = record {
   is_primitive = false;
   has_segments = false;
   is_bit_string = false;
+  has_components = false;
+  is_external = false;
   lacks_components = false;
   last_has_unused_bits = false;
   last_is_not_full = false;
@@ -35,13 +37,15 @@ frame_of h = record top_frame {
   is_primitive = has_primitive_form h;
   has_segments = has_segments h;
   is_bit_string = has_segments h && is_a universal.bit_string h;
+  has_components = has_components h;
+  is_external = is_a universal.external h;
   lacks_components = has_components h;
 }
 
--- whether an element inside another, or at the top, has a frame of its own. An element that is not a string, is not in
--- one, and is not of a type with components needs none
+-- whether an element inside another, or at the top, has a frame of its own. An element that is neither a string nor of
+-- a type with components, and is not in one, needs none
 abbrev pub has_frame : HolderFrame → HeaderValue → Bool
-has_frame w h = w.has_segments || has_segments h || has_components h
+has_frame w h = w.has_segments || w.has_components || has_segments h || has_components h
 
 -- the frame inside an element, by the frame around it
 abbrev pub frame_under : HolderFrame → HeaderValue → HolderFrame
@@ -80,6 +84,8 @@ surroundings_in w = record {
   in_bit_string = w.has_segments && w.is_bit_string;
   after_unused_bits = w.has_segments && w.is_bit_string && w.last_has_unused_bits;
   after_not_full = w.has_segments && w.last_is_not_full;
+  in_components = w.has_components;
+  in_external = w.has_components && w.is_external;
 }
 
 -- of the end of the element with this frame. The length of its value stops at 1001

@@ -12,8 +12,8 @@ ghost use Rattle.tlv_value.specs.declared.finding.Finding.TheVariants.{D01};
 
 use crate::headers::{
     announced_length, has_high_form, has_segments, is_always_constructed, is_always_primitive,
-    is_indefinite, is_length_padded, is_segment, is_sequence_or_set, is_string, is_time_or_iri,
-    is_unassigned, is_universal,
+    is_component, is_indefinite, is_length_padded, is_segment, is_sequence_or_set, is_string,
+    is_time_or_iri, is_unassigned, is_universal,
 };
 use crate::holder_frame::HolderFrame;
 use crate::{Rules, Scope, Wanted};
@@ -33,7 +33,7 @@ pub(crate) fn add_header_findings(
     ensures { found.new.items ≡ header_findings_in wanted (surroundings_in frame.now) header.now }
 {
     add_basic_findings(frame, header, found);
-    add_later_basic_findings(wanted.scope, header, found);
+    add_later_basic_findings(wanted.scope, frame, header, found);
     match wanted.rules {
         Rules::Ber => {}
         Rules::Der => {
@@ -68,8 +68,9 @@ pub(crate) fn has_no_header_findings_if_usual(
     ensures no_findings { IsTrue result → IsUsual header.now → (scope : Scope)
         → header_findings_in (record { rules = rules; scope = scope }) (surroundings_in frame.now) header.now ≡ [] }
     ensures no_segments { IsTrue result → frame.now.has_segments ≡ false }
+    ensures no_components { IsTrue result → frame.now.has_components ≡ false }
 {
-    if frame.has_segments || !is_tag_usual(header) {
+    if !is_frame_usual(frame) || !is_tag_usual(header) {
         return false;
     }
     match rules {
@@ -94,9 +95,19 @@ pub(crate) fn is_only_indefinite(rules: Rules, frame: &HolderFrame, header: &Hea
     matches!(rules, Rules::Der)
         && is_indefinite(header)
         && is_usual(header)
-        && !frame.has_segments
+        && is_frame_usual(frame)
         && is_tag_usual(header)
         && !is_length_padded(header)
+}
+
+/// Whether what holds an element has no segments, and is not of a type with components. So an element may have any tag
+/// there.
+#[inline(always)]
+fn is_frame_usual(frame: &HolderFrame) -> bool
+    ensures no_segments { IsTrue result → frame.now.has_segments ≡ false }
+    ensures no_components { IsTrue result → frame.now.has_components ≡ false }
+{
+    !frame.has_segments && !frame.has_components
 }
 
 /// Whether the form of the tag has no findings: it is the low form, or the high form as it has to be.
@@ -202,16 +213,26 @@ fn add_basic_findings(frame: &HolderFrame, header: &Header, found: &mut ArrayVec
 
 /// Adds the rest of what violates the rules of all encodings, if it is in the scope.
 #[inline(always)]
-fn add_later_basic_findings(scope: Scope, header: &Header, found: &mut ArrayVec<Finding, 17>)
+fn add_later_basic_findings(
+    scope: Scope,
+    frame: &HolderFrame,
+    header: &Header,
+    found: &mut ArrayVec<Finding, 17>,
+)
     requires { length found.old.items ≤ 7 }
     ensures items { found.new.items
-        ≡ found.old.items ++ findings_by (later_basic_conditions_in scope header.now) }
-    ensures short { length found.new.items ≤ 8 }
+        ≡ found.old.items ++ findings_by (later_basic_conditions_in scope (surroundings_in frame.now) header.now) }
+    ensures short { length found.new.items ≤ 9 }
 {
     if matches!(scope, Scope::All) {
         add_if(
             header.constructed && is_time_or_iri(header),
             Finding::B22,
+            found,
+        );
+        add_if(
+            frame.has_components && !is_component(frame.is_external, header),
+            Finding::B30,
             found,
         );
     }
@@ -220,10 +241,10 @@ fn add_later_basic_findings(scope: Scope, header: &Header, found: &mut ArrayVec<
 /// Adds a length that is not the shortest.
 #[inline(always)]
 fn add_length_findings(header: &Header, found: &mut ArrayVec<Finding, 17>)
-    requires { length found.old.items ≤ 8 }
+    requires { length found.old.items ≤ 9 }
     ensures items { found.new.items
         ≡ found.old.items ++ findings_by (length_conditions header.now) }
-    ensures short { length found.new.items ≤ 9 }
+    ensures short { length found.new.items ≤ 10 }
 {
     add_if(is_length_padded(header), Finding::S01, found);
 }
@@ -231,7 +252,7 @@ fn add_length_findings(header: &Header, found: &mut ArrayVec<Finding, 17>)
 /// Adds what violates the rules of DER alone.
 #[inline(always)]
 fn add_der_findings(header: &Header, found: &mut ArrayVec<Finding, 17>)
-    requires { length found.old.items ≤ 9 }
+    requires { length found.old.items ≤ 10 }
     ensures { found.new.items ≡ found.old.items ++ findings_by (der_conditions header.now) }
 {
     add_if(is_indefinite(header), Finding::D01, found);
@@ -241,7 +262,7 @@ fn add_der_findings(header: &Header, found: &mut ArrayVec<Finding, 17>)
 /// Adds what violates the rules of CER alone.
 #[inline(always)]
 fn add_cer_findings(frame: &HolderFrame, header: &Header, found: &mut ArrayVec<Finding, 17>)
-    requires { length found.old.items ≤ 9 }
+    requires { length found.old.items ≤ 10 }
     ensures { found.new.items
         ≡ found.old.items ++ findings_by (cer_conditions_in (surroundings_in frame.now) header.now) }
 {

@@ -2,11 +2,11 @@
 //! types: a look-up in the table at each use would make these functions too large to be inlined.
 ghost use Rattle.std.specs.Prelude.{◌≡◌, ◌&&◌, ◌||◌, ◌==◌};
 ghost use Rattle.tlv_head.specs.Header.{announced_length, is_universal};
-ghost use Rattle.tlv_head.specs.UniversalTypes.{bit_string, sequence, set};
+ghost use Rattle.tlv_head.specs.UniversalTypes.{bit_string, external, sequence, set};
 ghost use Rattle.tlv_head.specs.declared.type_table.Encodings.TheVariants.{Constructed, Primitive};
 ghost use Rattle.tlv_value.specs.Types.{has_encodings, has_segments, is_a, is_string, is_unassigned};
 ghost use Rattle.tlv_walk.specs.Place.{is_indefinite};
-ghost use Rattle.tlv_show.specs.AllConditions.{has_components, is_time_or_iri};
+ghost use Rattle.tlv_show.specs.AllConditions.{has_components, is_component, is_context, is_time_or_iri};
 ghost use Rattle.tlv_show.specs.Conditions.{has_high_form};
 ghost use Rattle.tlv_show.specs.KeptConditions.{has_long_form, is_length_padded, segment_type};
 
@@ -127,6 +127,36 @@ pub(crate) fn has_components(header: &Header) -> bool
             header.number,
             universal::EXTERNAL | universal::EMBEDDED_PDV | universal::CHARACTER_STRING
         )
+}
+
+/// Whether the type is EXTERNAL.
+#[inline(always)]
+pub(crate) fn is_external(header: &Header) -> bool
+    ensures { result ≡ is_a external header.now }
+{
+    is_universal(header) && header.number == universal::EXTERNAL
+}
+
+/// Whether the class is context-specific.
+#[inline(always)]
+fn is_context(header: &Header) -> bool
+    ensures { result ≡ is_context header.now.class }
+{
+    matches!(header.class, Class::Context)
+}
+
+/// Whether a component has the tag: of an EXTERNAL if `of_external` is set, else of an EMBEDDED PDV or CHARACTER STRING.
+#[inline(always)]
+pub(crate) fn is_component(of_external: bool, header: &Header) -> bool
+    ensures { result ≡ is_component of_external header.now }
+{
+    (is_context(header) && header.number <= 2)
+        || (of_external
+            && is_universal(header)
+            && matches!(
+                header.number,
+                universal::OBJECT_IDENTIFIER | universal::INTEGER | universal::OBJECT_DESCRIPTOR
+            ))
 }
 
 /// Whether it is a SEQUENCE or a SET.

@@ -2,7 +2,7 @@
 ghost use Rattle.std.specs.Prelude.{◌≡◌};
 ghost use Rattle.tlv_show.specs.NestingState.{frame_after, frame_of, top_frame};
 
-use crate::headers::{announced_length, has_components, has_segments, is_bit_string};
+use crate::headers::{announced_length, has_components, has_segments, is_bit_string, is_external};
 use tlv_head::Header;
 
 /// What is kept of an element that holds others, and of the elements that it holds so far.
@@ -20,6 +20,10 @@ pub(crate) struct HolderFrame {
     pub has_segments: bool,
     /// Whether it is a constructed BIT STRING.
     pub is_bit_string: bool,
+    /// Whether it is constructed, and its type has components.
+    pub has_components: bool,
+    /// Whether it is an EXTERNAL.
+    pub is_external: bool,
     /// Whether its type has components, and it holds none so far.
     pub lacks_components: bool,
     /// Whether the last segment so far has unused bits.
@@ -48,13 +52,16 @@ pub(crate) fn frame_of(header: &Header) -> HolderFrame
     ensures { result ≡ frame_of header.now }
 {
     let has_segments = has_segments(header);
+    let has_components = has_components(header);
     HolderFrame {
         offset: header.offset,
         announced_length: announced_length(header),
         is_primitive: !header.constructed,
         has_segments,
         is_bit_string: has_segments && is_bit_string(header),
-        lacks_components: has_components(header),
+        has_components,
+        is_external: is_external(header),
+        lacks_components: has_components,
         all_primitive: true,
         ..HolderFrame::default()
     }

@@ -10,8 +10,8 @@ use std::marker::Model;
 use tlv_head::Header;
 use tlv_walk::Frames;
 
-/// The frames of the open elements that hold others; at most 128 are kept. An element that is not a string, is not in
-/// one, and is not of a type with components is only counted: such elements are many, and a frame is long.
+/// The frames of the open elements that hold others; at most 128 are kept. An element that is neither a string nor of a
+/// type with components, and is not in one, is only counted: such elements are many, and a frame is long.
 #[derive(Drop)]
 pub(crate) struct Nesting {
     /// The number of open elements that hold others.
@@ -74,6 +74,7 @@ impl Nesting {
     #[inline(always)]
     pub fn frame(&self) -> &HolderFrame
         ensures segments { result.now.has_segments ≡ self.now.frame.has_segments }
+        ensures components { result.now.has_components ≡ self.now.frame.has_components }
         ensures around { surroundings_in result.now ≡ surroundings_in self.now.frame }
     {
         &self.frame
@@ -101,7 +102,7 @@ impl Nesting {
         self.floor = self.depth;
     }
 
-    /// An element that holds others begins. It is not a string, is not in one, and is not of a type with components.
+    /// An element that holds others begins. It is neither a string nor of a type with components, and is not in one.
     #[tactic(auto, using(crate::proofs::FindingLemmas::KeptFrames::one_each))]
     #[inline(always)]
     pub fn open_without_frame(&mut self, header: &Header)
@@ -161,7 +162,7 @@ impl Nesting {
 fn has_frame(frame: &HolderFrame, header: &Header) -> bool
     ensures { result ≡ has_frame frame.now header.now }
 {
-    frame.has_segments || has_segments(header) || has_components(header)
+    frame.has_segments || frame.has_components || has_segments(header) || has_components(header)
 }
 
 /// An element that has a frame ends: the frame around it is the innermost one again, and keeps what

@@ -6,7 +6,7 @@ use Rattle.tlv_value.specs.declared.finding.Finding.{Finding}
 use Rattle.tlv_value.specs.declared.finding.Finding.TheVariants.{B01, B02, B03, B04, B05, B06, B07, B08, B09, B10, B11}
 use Rattle.tlv_value.specs.declared.finding.Finding.TheVariants.{B12, B13, B14, B15, B16, B17, B18, B19, S01, S02, S03}
 use Rattle.tlv_value.specs.declared.finding.Finding.TheVariants.{S04, D01, D02, C01, C02, C03, C04, C05, C06}
-use Rattle.tlv_value.specs.declared.finding.Finding.TheVariants.{B20, B21, B22, B23, B24, B25, B26, B27, B28, B29}
+use Rattle.tlv_value.specs.declared.finding.Finding.TheVariants.{B20, B21, B22, B23, B24, B25, B26, B27, B28, B29, B30}
 use Rattle.tlv_value.specs.declared.finding.Finding.TheVariants.{S05, S06}
 use Rattle.tlv_value.specs.Finding.{finding_code}
 
@@ -40,6 +40,7 @@ code_size B26 = refl
 code_size B27 = refl
 code_size B28 = refl
 code_size B29 = refl
+code_size B30 = refl
 code_size S01 = refl
 code_size S02 = refl
 code_size S03 = refl

@@ -6,7 +6,7 @@ use Rattle.tlv_head.specs.Header.{HeaderValue, is_universal}
 use Rattle.tlv_head.specs.UniversalTypes as universal
 use Rattle.tlv_value.specs.declared.finding.Finding.{Finding}
 use Rattle.tlv_value.specs.declared.finding.Finding.TheVariants.{B20, B21, B22, B23, B24, B25, B26}
-use Rattle.tlv_value.specs.declared.finding.Finding.TheVariants.{B27, B28, B29, S05, S06}
+use Rattle.tlv_value.specs.declared.finding.Finding.TheVariants.{B27, B28, B29, B30, S05, S06}
 use Rattle.tlv_value.specs.Characters.{has_wrong_unit}
 use Rattle.tlv_value.specs.Checks.{begins_with, findings_by, is_short_time, listed_basic_type_conditions}
 use Rattle.tlv_value.specs.Checks.{listed_strict_type_conditions, time_form}
@@ -50,6 +50,7 @@ is_listed B26 = false
 is_listed B27 = false
 is_listed B28 = false
 is_listed B29 = false
+is_listed B30 = false
 is_listed S05 = false
 is_listed S06 = false
 is_listed finding = true

@@ -4,8 +4,8 @@ use Rattle.tlv_value.specs.declared.finding.Finding.{Finding}
 use Rattle.tlv_value.specs.declared.finding.Finding.TheVariants.{B01, B02, B03, B04, B05, B06, B07, B08, B09}
 use Rattle.tlv_value.specs.declared.finding.Finding.TheVariants.{B10, B11, B12, B13, B14, B15, B16, B17, B18}
 use Rattle.tlv_value.specs.declared.finding.Finding.TheVariants.{B19, B20, B21, B22, B23, B24, B25, B26, B27}
-use Rattle.tlv_value.specs.declared.finding.Finding.TheVariants.{B28, B29, S01, S02, S03, S04, S05, S06, D01, D02}
-use Rattle.tlv_value.specs.declared.finding.Finding.TheVariants.{C01, C02, C03, C04, C05, C06}
+use Rattle.tlv_value.specs.declared.finding.Finding.TheVariants.{B28, B29, B30, S01, S02, S03, S04, S05, S06}
+use Rattle.tlv_value.specs.declared.finding.Finding.TheVariants.{D01, D02, C01, C02, C03, C04, C05, C06}
 
 -- the code of a finding, and its text
 abbrev pub finding_code_and_text : Finding → List ℕ × List ℕ
@@ -38,6 +38,7 @@ finding_code_and_text B26 = (codes "B26", codes "month has no such day")
 finding_code_and_text B27 = (codes "B27", codes "components are missing")
 finding_code_and_text B28 = (codes "B28", codes "segments have characters not of the type")
 finding_code_and_text B29 = (codes "B29", codes "REAL zero with contents")
+finding_code_and_text B30 = (codes "B30", codes "element is no component of it")
 finding_code_and_text S01 = (codes "S01", codes "length is not the shortest")
 finding_code_and_text S02 = (codes "S02", codes "TRUE is not ff")
 finding_code_and_text S03 = (codes "S03", codes "unused bits are set")

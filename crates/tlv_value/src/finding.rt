@@ -65,6 +65,8 @@ pub enum Finding {
     B28,
     /// A REAL that is zero and has contents (8.5.2, 8.5.3).
     B29,
+    /// An element of an EXTERNAL, EMBEDDED PDV or CHARACTER STRING whose tag no component has (8.17, 8.18, 8.24).
+    B30,
     /// A length that is not the shortest (9.1, 10.1).
     S01,
     /// TRUE that is not `ff` (11.1).
@@ -124,6 +126,7 @@ impl Finding {
                 | Finding::B27
                 | Finding::B28
                 | Finding::B29
+                | Finding::B30
                 | Finding::S05
                 | Finding::S06
         )
@@ -189,6 +192,7 @@ impl Finding {
             Finding::B27 => (b"B27 components are missing\n                     ", 27),
             Finding::B28 => (b"B28 segments have characters not of the type\n   ", 45),
             Finding::B29 => (b"B29 REAL zero with contents\n                    ", 28),
+            Finding::B30 => (b"B30 element is no component of it\n              ", 34),
             Finding::S01 => (b"S01 length is not the shortest\n                 ", 31),
             Finding::S02 => (b"S02 TRUE is not ff\n                             ", 19),
             Finding::S03 => (b"S03 unused bits are set\n                        ", 24),

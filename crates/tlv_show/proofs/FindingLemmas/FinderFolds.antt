@@ -322,7 +322,7 @@ module _ (wanted : Wanted) (p : Place) (w : HolderFrame) (h : HeaderValue) (insi
 
   pub summed-under : end_findings_in wanted (segments_in (frame_after_elements (frame_under w h) inside))
       ≡ end_findings wanted h (headers inside)
-  summed-under = by w.has_segments (has_segments h) (has_components h) refl refl
+  summed-under = by (w.has_segments || w.has_components) (has_segments h) (has_components h) refl refl
     where
       by : (outside string components : Bool) → has_segments h ≡ string → has_components h ≡ components
           → end_findings_in wanted
@@ -338,7 +338,7 @@ module _ (wanted : Wanted) (p : Place) (w : HolderFrame) (h : HeaderValue) (insi
   pub offset-under : {T : Type 0} (put : ℕ → List Finding → List T) → ((offset : ℕ) → put offset [] ≡ [])
       → put (frame_after_elements (frame_under w h) inside).offset (end_findings wanted h (headers inside))
       ≡ put h.offset (end_findings wanted h (headers inside))
-  offset-under put none = by w.has_segments (has_segments h) (has_components h) refl refl
+  offset-under put none = by (w.has_segments || w.has_components) (has_segments h) (has_components h) refl refl
     where
       kept : put (frame_after_elements (frame_of h) inside).offset (end_findings wanted h (headers inside))
           ≡ put h.offset (end_findings wanted h (headers inside))
@@ -367,14 +367,21 @@ after-under w h inside = by w.has_segments refl
   where
     by : (k : Bool) → w.has_segments ≡ k
         → frame_after w
-        (frame_after_elements (if k || has_segments h || has_components h then frame_of h else top_frame) inside).is_primitive
-        (frame_after_elements (if k || has_segments h || has_components h then frame_of h else top_frame) inside).announced_length false
+        (frame_after_elements
+        (if k || w.has_components || has_segments h || has_components h then frame_of h else top_frame)
+        inside).is_primitive
+        (frame_after_elements
+        (if k || w.has_components || has_segments h || has_components h then frame_of h else top_frame)
+        inside).announced_length false
         ≡ frame_after w (has_primitive_form h) (announced_length h.size) false
     by true e =
         let r =
         frame-stays (frame_of h) inside in ap₂ (λ (b : Bool) (size : ℕ). frame_after w b size false) r.primitive
         r.announced_length
     by false e =
-        let f : HolderFrame = frame_after_elements (if has_segments h || has_components h then frame_of h else top_frame) inside in
+        let f : HolderFrame =
+        frame_after_elements
+        (if w.has_components || has_segments h || has_components h then frame_of h else top_frame)
+        inside in
         outside w f.is_primitive f.announced_length false e
         ∙ sym (outside w (has_primitive_form h) (announced_length h.size) false e)

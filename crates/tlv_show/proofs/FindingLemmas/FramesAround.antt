@@ -6,7 +6,7 @@ use Rattle.std.specs.Prelude.{Option, None, eqb, Some}
 use Rattle.tlv_head.specs.Header.{HeaderValue, announced_length, is_universal}
 use Rattle.tlv_value.specs.ValueCheckState.{begins_nonzero, has_unused_bits, value_check_after, value_check_for}
 use Rattle.tlv_value.specs.ValueCheckState.{new_value_check_of, type_number}
-use Rattle.tlv_head.specs.UniversalTypes.{bit_string, octet_string}
+use Rattle.tlv_head.specs.UniversalTypes.{bit_string, external, octet_string}
 use Rattle.tlv_value.specs.Types.{has_segments, is_a, has_primitive_form}
 use Rattle.tlv_value.proofs.CheckLemmas.CheckPieces.{checked-none}
 use Rattle.tlv_walk.specs.Forest.{Forest, NoMore, PaddingOctet, Primitive}
@@ -20,8 +20,15 @@ use Rattle.tlv_show.specs.Site.{Site, in_bit_string, in_string, site_of_children
 use Rattle.tlv_show.proofs.FindingLemmas.SiteWords.{is_held_by, site_after_padding}
 use Rattle.tlv_show.proofs.FindingLemmas.HeaderFindings.{Knows}
 
-abbrev surroundings_with : Bool → Bool → Bool → Bool → Surroundings
-surroundings_with a b c d = record { in_string = a; in_bit_string = b; after_unused_bits = c; after_not_full = d }
+abbrev surroundings_with : Bool → Bool → Bool → Bool → Bool → Bool → Surroundings
+surroundings_with a b c d e f = record {
+  in_string = a;
+  in_bit_string = b;
+  after_unused_bits = c;
+  after_not_full = d;
+  in_components = e;
+  in_external = f;
+}
 
 -- what is around an element, by what holds it, and what is before it
 abbrev around : Option HeaderValue → Forest → Surroundings
@@ -30,39 +37,50 @@ around holder previous =
     (is_held_by (λ h. has_segments h && is_a bit_string h) holder)
     (is_held_by (λ h. has_segments h && is_a bit_string h) holder && leaves_unused_bits previous)
     (is_held_by has_segments holder && is_not_full previous)
+    (is_held_by has_components holder)
+    (is_held_by (λ h. has_components h && is_a external h) holder)
 
+-- outside of strings: what is before it does not matter
 no-string : (h : HeaderValue) (previous : Forest) → has_segments h ≡ false
-    → around (Some h) previous ≡ surroundings_in top_frame
+    → around (Some h) previous
+    ≡ surroundings_with false false false false (has_components h) (has_components h && is_a external h)
 no-string h previous e =
     ap (λ (k : Bool). surroundings_with k (k && is_a bit_string h)
     ((k && is_a bit_string h) && leaves_unused_bits previous)
-    (k && is_not_full previous))
+    (k && is_not_full previous)
+    (has_components h) (has_components h && is_a external h))
     e
 
--- outside of strings
-around-none : (holder : Option HeaderValue) (previous : Forest) → is_held_by has_segments holder ≡ false
-    → around holder previous ≡ surroundings_in top_frame
-around-none None previous e = refl
-around-none (Some h) previous e = no-string h previous e
+no-components : (h : HeaderValue) → has_components h ≡ false
+    → surroundings_with false false false false (has_components h) (has_components h && is_a external h)
+    ≡ surroundings_in top_frame
+no-components h e =
+    ap (λ (k : Bool). surroundings_with false false false false k (k && is_a external h)) e
 
-in-its-own : (k b : Bool)
-    → surroundings_with k (k && (k && b)) ((k && (k && b)) && false) (k && false)
-    ≡ surroundings_with k (k && b) ((k && b) && false) (k && false)
-in-its-own true b = refl
-in-its-own false b = refl
+around-any : (holder : Option HeaderValue) (p q : Forest) → is_held_by has_segments holder ≡ false
+    → around holder p ≡ around holder q
+around-any None p q e = refl
+around-any (Some h) p q e = no-string h p e ∙ sym (no-string h q e)
+
+in-its-own : (k b m x : Bool)
+    → surroundings_with k (k && (k && b)) ((k && (k && b)) && false) (k && false) m x
+    ≡ surroundings_with k (k && b) ((k && b) && false) (k && false) m x
+in-its-own true b m x = refl
+in-its-own false b m x = refl
 
 pub knows-inside : (w : HolderFrame) (s : Site) (h : HeaderValue) → Knows (frame_under w h) (site_of_children s h)
-knows-inside w s h = by w.has_segments (has_segments h) (has_components h) refl
+knows-inside w s h = by (w.has_segments || w.has_components) (has_segments h) (has_components h) refl refl
   where
-    of-string : Knows (frame_of h) (site_of_children s h)
-    of-string = in-its-own (has_segments h) (is_a bit_string h)
+    of-frame : Knows (frame_of h) (site_of_children s h)
+    of-frame =
+        in-its-own (has_segments h) (is_a bit_string h) (has_components h) (has_components h && is_a external h)
 
-    by : (outside string components : Bool) → has_segments h ≡ string
+    by : (outside string components : Bool) → has_segments h ≡ string → has_components h ≡ components
         → Knows (if outside || string || components then frame_of h else top_frame) (site_of_children s h)
-    by true string components e = of-string
-    by false true components e = of-string
-    by false false true e = of-string
-    by false false false e = sym (no-string h NoMore e)
+    by true string components e f = of-frame
+    by false true components e f = of-frame
+    by false false true e f = of-frame
+    by false false false e f = sym (no-string h NoMore e ∙ no-components h f)
 
 -- after an element
 unused-at : (k : Bool) (n size x : ℕ) (c : List ℕ) → eqb n bit_string ≡ k
@@ -94,9 +112,9 @@ pub full-of : (h : HeaderValue) (c : List ℕ) → h.constructed ≡ false
     → not (has_primitive_form h && announced_length h.size == 1000) ≡ is_not_full (Primitive h c NoMore)
 full-of h c e = ap (λ (k : Bool). not (not k && announced_length h.size == 1000)) e
 
-surroundings_with-eq : (a a' b b' c c' d d' : Bool) → a ≡ a' → b ≡ b' → c ≡ c' → d ≡ d'
-    → surroundings_with a b c d ≡ surroundings_with a' b' c' d'
-surroundings_with-eq a a' b b' c c' d d' e f g h = rw (e, f, g, h) refl
+surroundings_with-eq : (a a' b b' c c' d d' e e' f f' : Bool) → a ≡ a' → b ≡ b' → c ≡ c' → d ≡ d' → e ≡ e'
+    → f ≡ f' → surroundings_with a b c d e f ≡ surroundings_with a' b' c' d' e' f'
+surroundings_with-eq a a' b b' c c' d d' e e' f f' p q r s t u = rw (p, q, r, s, t, u) refl
 
 pub knows-after : (w : HolderFrame) (s t : Site) (h : HeaderValue) (unused_bits : Bool)
     → Knows w s → t.holder ≡ s.holder → unused_bits ≡ leaves_unused_bits t.previous
@@ -116,12 +134,13 @@ knows-after w s t h unused_bits k e u full = by-segments w.has_segments refl
     by-segments : (b : Bool) → w.has_segments ≡ b
         → Knows (if b then frame_after_segment w (has_primitive_form h) (announced_length h.size) unused_bits else w) t
     by-segments true c =
-        surroundings_with-eq _ _ _ _ _ _ _ _ segments bits
+        surroundings_with-eq _ _ _ _ _ _ _ _ _ _ _ _ segments bits
         (ap₂ (λ (x y : Bool). x && y) bits u)
         (ap₂ (λ (x y : Bool). x && y) segments full)
+        (ap (λ (x : Surroundings). x.in_components) same)
+        (ap (λ (x : Surroundings). x.in_external) same)
     by-segments false c =
-        let none : in_string t ≡ false = sym segments ∙ c in
-        same ∙ around-none t.holder s.previous none ∙ sym (around-none t.holder t.previous none)
+        same ∙ around-any t.holder s.previous t.previous (sym segments ∙ c)
 
 pub knows-padding : (w : HolderFrame) (s : Site) → Knows w s → s.holder ≡ None → Knows w (site_after_padding s)
 knows-padding w s k e =

@@ -18,6 +18,7 @@ use Rattle.tlv_show.specs.ShownFindings.{all_by, header_findings, is_shown, list
 use Rattle.tlv_show.specs.declared.scope.Scope.{Scope}
 use Rattle.tlv_show.specs.declared.scope.Scope.TheVariants.{Listed, All}
 use Rattle.tlv_show.specs.Private.UsualTypes.{later_basic_conditions_in}
+use Rattle.tlv_show.specs.AllConditions.{in_components, in_external}
 use Rattle.tlv_show.specs.Site.{Site, in_bit_string, in_string}
 use Rattle.tlv_value.proofs.CheckLemmas.ListedRows.{kept-found, kept_rows}
 
@@ -28,6 +29,8 @@ surroundings_of s = record {
   in_bit_string = in_bit_string s;
   after_unused_bits = in_bit_string s && leaves_unused_bits s.previous;
   after_not_full = in_string s && is_not_full s.previous;
+  in_components = in_components s;
+  in_external = in_external s;
 }
 
 -- a frame says to the conditions what the site says
@@ -47,35 +50,35 @@ found-more : (xs ys : List (Finding × Bool)) → findings_by (xs ++ ys) ≡ fin
 found-more xs ys = flat_map-append (λ row. if row.1 then row.0 ∷ [] else []) xs ys
 
 found-both : (scope : Scope) (s : Surroundings) (h : HeaderValue) (rows : List (Finding × Bool))
-    → findings_by ((first_basic_conditions_in s h ++ later_basic_conditions_in scope h) ++ rows)
-    ≡ (findings_by (first_basic_conditions_in s h) ++ findings_by (later_basic_conditions_in scope h))
+    → findings_by ((first_basic_conditions_in s h ++ later_basic_conditions_in scope s h) ++ rows)
+    ≡ (findings_by (first_basic_conditions_in s h) ++ findings_by (later_basic_conditions_in scope s h))
     ++ findings_by rows
 found-both scope s h rows =
-    found-more (first_basic_conditions_in s h ++ later_basic_conditions_in scope h) rows
+    found-more (first_basic_conditions_in s h ++ later_basic_conditions_in scope s h) rows
     ∙ ap (λ (l : List Finding). l ++ findings_by rows)
-    (found-more (first_basic_conditions_in s h) (later_basic_conditions_in scope h))
+    (found-more (first_basic_conditions_in s h) (later_basic_conditions_in scope s h))
 
 found-three : (scope : Scope) (s : Surroundings) (h : HeaderValue) (rows more : List (Finding × Bool))
-    → findings_by (((first_basic_conditions_in s h ++ later_basic_conditions_in scope h) ++ rows) ++ more)
-    ≡ ((findings_by (first_basic_conditions_in s h) ++ findings_by (later_basic_conditions_in scope h))
+    → findings_by (((first_basic_conditions_in s h ++ later_basic_conditions_in scope s h) ++ rows) ++ more)
+    ≡ ((findings_by (first_basic_conditions_in s h) ++ findings_by (later_basic_conditions_in scope s h))
     ++ findings_by rows) ++ findings_by more
 found-three scope s h rows more =
-    found-more ((first_basic_conditions_in s h ++ later_basic_conditions_in scope h) ++ rows) more
+    found-more ((first_basic_conditions_in s h ++ later_basic_conditions_in scope s h) ++ rows) more
     ∙ ap (λ (l : List Finding). l ++ findings_by more) (found-both scope s h rows)
 
 pub basic-found : (scope : Scope) (s : Surroundings) (h : HeaderValue)
     → header_findings_in (record { rules = Ber; scope = scope }) s h
-    ≡ findings_by (first_basic_conditions_in s h) ++ findings_by (later_basic_conditions_in scope h)
+    ≡ findings_by (first_basic_conditions_in s h) ++ findings_by (later_basic_conditions_in scope s h)
 basic-found Listed s h =
     by-shown (listed_by Ber) (header_conditions_in s h)
-    ∙ found-more (first_basic_conditions_in s h) (later_basic_conditions_in Listed h)
+    ∙ found-more (first_basic_conditions_in s h) (later_basic_conditions_in Listed s h)
 basic-found All s h =
     by-shown (all_by Ber) (header_conditions_in s h)
-    ∙ found-more (first_basic_conditions_in s h) (later_basic_conditions_in All h)
+    ∙ found-more (first_basic_conditions_in s h) (later_basic_conditions_in All s h)
 
 pub der-found : (scope : Scope) (s : Surroundings) (h : HeaderValue)
     → header_findings_in (record { rules = Der; scope = scope }) s h
-    ≡ ((findings_by (first_basic_conditions_in s h) ++ findings_by (later_basic_conditions_in scope h))
+    ≡ ((findings_by (first_basic_conditions_in s h) ++ findings_by (later_basic_conditions_in scope s h))
     ++ findings_by (length_conditions h)) ++ findings_by (der_conditions h)
 der-found Listed s h =
     by-shown (listed_by Der) (header_conditions_in s h)
@@ -86,7 +89,7 @@ der-found All s h =
 
 pub cer-found : (scope : Scope) (s : Surroundings) (h : HeaderValue)
     → header_findings_in (record { rules = Cer; scope = scope }) s h
-    ≡ ((findings_by (first_basic_conditions_in s h) ++ findings_by (later_basic_conditions_in scope h))
+    ≡ ((findings_by (first_basic_conditions_in s h) ++ findings_by (later_basic_conditions_in scope s h))
     ++ findings_by (length_conditions h)) ++ findings_by (cer_conditions_in s h)
 cer-found Listed s h =
     by-shown (listed_by Cer) (header_conditions_in s h)

@@ -77,7 +77,17 @@ around-same w (suc n) kept =
       in_bit_string = k && w.is_bit_string;
       after_unused_bits = k && w.is_bit_string && w.last_has_unused_bits;
       after_not_full = k && w.last_is_not_full;
+      in_components = w.has_components;
+      in_external = w.has_components && w.is_external;
     }) (sym kept.0)
+    ∙ ap (λ (k : Bool). record {
+      in_string = false;
+      in_bit_string = false;
+      after_unused_bits = false;
+      after_not_full = false;
+      in_components = k;
+      in_external = k && w.is_external;
+    }) (sym kept.2)
 
 -- ---- an element begins
 
@@ -97,8 +107,8 @@ noted : (w : HolderFrame) → w.lacks_components ≡ false → with_element w �
 noted w e = ap (λ (k : Bool). record w { lacks_components = k }) (sym e)
 
 pub still-same : (w : HolderFrame) (n : ℕ) → SaysTheSame w n → SaysTheSame (with_element w) n
-still-same w zero kept = (refl, refl)
-still-same w (suc n) kept = (kept.0, refl)
+still-same w zero kept = (refl, refl, refl)
+still-same w (suc n) kept = (kept.0, refl, kept.2)
 
 pub innermost-noted : (w : HolderFrame) (n : ℕ) → innermost_frame (with_element w) n ≡ with_element (innermost_frame w n)
 innermost-noted w zero = refl
@@ -140,7 +150,8 @@ opened-frame w n outer h few kept one =
 -- whether an element needs a frame
 pub frame-same : (w : HolderFrame) (n : ℕ) (h : HeaderValue) → SaysTheSame w n
     → has_frame (innermost_frame w n) h ≡ has_frame w h
-frame-same w n h kept = ap (λ (b : Bool). b || has_segments h || has_components h) kept.0
+frame-same w n h kept =
+    ap₂ (λ (a b : Bool). a || b || has_segments h || has_components h) kept.0 kept.2
 
 module _
     (w : HolderFrame) (floor depth : ℕ) (outer : List KeptFrame)
@@ -171,13 +182,14 @@ pub without-frame : (w : HolderFrame) (floor depth : ℕ) (h : HeaderValue) → 
     → SaysTheSame (with_element w) (depth + 1 - floor)
 without-frame w floor depth h inside none =
     let one_more : depth + 1 - floor ≡ suc (depth - floor) = omega (arith, inside) in
-    let outside_strings : w.has_segments ≡ false =
-    (or-false_parts w.has_segments (has_segments h)
-    (or-false_parts (w.has_segments || has_segments h) (has_components h) none).0).0 in
-    rw one_more (sym outside_strings, refl)
+    let outside : (w.has_segments ≡ false) × (w.has_components ≡ false) =
+    or-false_parts w.has_segments w.has_components
+    (or-false_parts (w.has_segments || w.has_components) (has_segments h)
+    (or-false_parts (w.has_segments || w.has_components || has_segments h) (has_components h) none).0).0 in
+    rw one_more (sym outside.0, refl, sym outside.1)
 
 pub at-floor : (w : HolderFrame) (depth : ℕ) → SaysTheSame w (depth - depth)
-at-floor w depth = let none_inside : depth - depth ≡ 0 = omega arith in rw none_inside (refl, refl)
+at-floor w depth = let none_inside : depth - depth ≡ 0 = omega arith in rw none_inside (refl, refl, refl)
 
 pub rises : (w : HolderFrame) (floor depth : ℕ) (outer : List KeptFrame) → floor ≤ depth
     → SaysTheSame w (depth - floor) → HaveRisingFloors floor outer
@@ -205,10 +217,13 @@ ends-primitive w (suc n) outer announced unused_bits kept =
 
 pub same-after : (w : HolderFrame) (n : ℕ) (announced : ℕ) (unused_bits : Bool) → SaysTheSame w n
     → SaysTheSame (frame_after (with_element w) true announced unused_bits) n
-same-after w zero announced unused_bits kept = (refl, refl)
+same-after w zero announced unused_bits kept = (refl, refl, refl)
 same-after w (suc n) announced unused_bits kept =
-    let e = outside (with_element w) true announced unused_bits (sym kept.0) in
-    (kept.0 ∙ ap (λ (v : HolderFrame). v.has_segments) (sym e), ap (λ (v : HolderFrame). v.lacks_components) (sym e))
+    let e = outside (with_element w) true announced unused_bits (sym kept.0) in (
+      kept.0 ∙ ap (λ (v : HolderFrame). v.has_segments) (sym e),
+      ap (λ (v : HolderFrame). v.lacks_components) (sym e),
+      kept.2 ∙ ap (λ (v : HolderFrame). v.has_components) (sym e),
+    )
 
 -- ---- an element ends
 

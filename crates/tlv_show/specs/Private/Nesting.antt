@@ -46,11 +46,12 @@ all_frames floor [] = []
 all_frames floor (k ∷ outer) = frames_with k.frame (floor - 1 - k.floor) (all_frames k.floor outer)
 
 -- if elements without a frame are open inside `w`, it says of itself what the frame of the top says: it is no string,
--- and lacks no components
+-- and has and lacks no components
 abbrev pub SaysTheSame : HolderFrame → ℕ → Type 0
 SaysTheSame w without_frame =
     ((innermost_frame w without_frame).has_segments ≡ w.has_segments)
     × ((innermost_frame w without_frame).lacks_components ≡ w.lacks_components)
+    × ((innermost_frame w without_frame).has_components ≡ w.has_components)
 
 -- each floor is above the floor outside of it, and the floor of the top is 0
 abbrev pub HaveRisingFloors : ℕ → List KeptFrame → Type 0

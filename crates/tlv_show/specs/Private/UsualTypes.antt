@@ -2,8 +2,9 @@
 use Rattle.std.specs.Prelude.{◌≡◌, Bool, false, List, []}
 use Rattle.tlv_head.specs.Header.{HeaderValue}
 use Rattle.tlv_value.specs.Types.{has_segments, is_unassigned}
-use Rattle.tlv_show.specs.AllConditions.{has_components, is_constructed_time_or_iri, later_basic_conditions}
-use Rattle.tlv_show.specs.KeptConditions.{is_wrongly_constructed, is_wrongly_primitive}
+use Rattle.tlv_show.specs.AllConditions.{has_components, is_constructed_time_or_iri}
+use Rattle.tlv_show.specs.KeptConditions.{Surroundings, is_wrongly_constructed, is_wrongly_primitive}
+use Rattle.tlv_show.specs.KeptConditions.{second_basic_conditions_in}
 use Rattle.tlv_value.specs.declared.finding.Finding.{Finding}
 use Rattle.tlv_show.specs.declared.scope.Scope.{Scope}
 use Rattle.tlv_show.specs.declared.scope.Scope.TheVariants.{Listed, All}
@@ -19,6 +20,6 @@ pub record IsUsual (h : HeaderValue) : Type 0 where
   pub no_components : has_components h ≡ false
 
 -- the later conditions of all encodings, if the scope has their findings
-abbrev pub later_basic_conditions_in : Scope → HeaderValue → List (Finding × Bool)
-later_basic_conditions_in Listed h = []
-later_basic_conditions_in All h = later_basic_conditions h
+abbrev pub later_basic_conditions_in : Scope → Surroundings → HeaderValue → List (Finding × Bool)
+later_basic_conditions_in Listed s h = []
+later_basic_conditions_in All s h = second_basic_conditions_in s h

@@ -8,8 +8,8 @@ pub(super) struct Row<'a> {
     pub(super) cer: &'a [u8],
 }
 
-/// Elements with B22 or B27, and others that are like them.
-pub(super) static ROWS: [Row<'static>; 20] = [
+/// Elements with B22, B27 or B30, and others that are like them.
+pub(super) static ROWS: [Row<'static>; 24] = [
     Row {
         // a constructed TIME
         octets: b"\x2e\x80\x00\x00",
@@ -97,30 +97,59 @@ pub(super) static ROWS: [Row<'static>; 20] = [
     Row {
         // an EXTERNAL that holds a primitive
         octets: b"\x28\x80\x05\x00\x00\x00",
+        ber: b"2 B30 element is no component of it\n",
+        der: b"0 D01 indefinite length\n2 B30 element is no component of it\n",
+        cer: b"2 B30 element is no component of it\n",
+    },
+    Row {
+        // an EXTERNAL that holds a SEQUENCE
+        octets: b"\x28\x80\x30\x80\x00\x00\x00\x00",
+        ber: b"2 B30 element is no component of it\n",
+        der: b"0 D01 indefinite length\n2 B30 element is no component of it\n2 D01 indefinite length\n",
+        cer: b"2 B30 element is no component of it\n",
+    },
+    Row {
+        // an EXTERNAL that holds a primitive with a finding
+        octets: b"\x28\x80\x01\x00\x00\x00",
+        ber: b"2 B30 element is no component of it\n2 B06 BOOLEAN is not one octet\n",
+        der: b"0 D01 indefinite length\n2 B30 element is no component of it\n2 B06 BOOLEAN is not one octet\n",
+        cer: b"2 B30 element is no component of it\n2 B06 BOOLEAN is not one octet\n",
+    },
+    Row {
+        // an EXTERNAL in an EXTERNAL
+        octets: b"\x28\x80\x28\x80\x00\x00\x00\x00",
+        ber: b"2 B30 element is no component of it\n2 B27 components are missing\n",
+        der: b"0 D01 indefinite length\n2 B30 element is no component of it\n\
+            2 D01 indefinite length\n2 B27 components are missing\n",
+        cer: b"2 B30 element is no component of it\n2 B27 components are missing\n",
+    },
+    Row {
+        // an EXTERNAL that holds an INTEGER
+        octets: b"\x28\x80\x02\x01\x05\x00\x00",
         ber: b"",
         der: b"0 D01 indefinite length\n",
         cer: b"",
     },
     Row {
-        // an EXTERNAL that holds a SEQUENCE
-        octets: b"\x28\x80\x30\x80\x00\x00\x00\x00",
+        // an EMBEDDED PDV that holds an INTEGER
+        octets: b"\x2b\x80\x02\x01\x05\x00\x00",
+        ber: b"2 B30 element is no component of it\n",
+        der: b"0 D01 indefinite length\n2 B30 element is no component of it\n",
+        cer: b"2 B30 element is no component of it\n",
+    },
+    Row {
+        // a CHARACTER STRING that holds [2]
+        octets: b"\x3d\x80\x82\x00\x00\x00",
         ber: b"",
-        der: b"0 D01 indefinite length\n2 D01 indefinite length\n",
+        der: b"0 D01 indefinite length\n",
         cer: b"",
     },
     Row {
-        // an EXTERNAL that holds a primitive with a finding
-        octets: b"\x28\x80\x01\x00\x00\x00",
-        ber: b"2 B06 BOOLEAN is not one octet\n",
-        der: b"0 D01 indefinite length\n2 B06 BOOLEAN is not one octet\n",
-        cer: b"2 B06 BOOLEAN is not one octet\n",
-    },
-    Row {
-        // an EXTERNAL in an EXTERNAL
-        octets: b"\x28\x80\x28\x80\x00\x00\x00\x00",
-        ber: b"2 B27 components are missing\n",
-        der: b"0 D01 indefinite length\n2 D01 indefinite length\n2 B27 components are missing\n",
-        cer: b"2 B27 components are missing\n",
+        // an EXTERNAL that holds a NULL in [0]
+        octets: b"\x28\x80\xa0\x80\x05\x00\x00\x00\x00\x00",
+        ber: b"",
+        der: b"0 D01 indefinite length\n2 D01 indefinite length\n",
+        cer: b"",
     },
     Row {
         // an EMBEDDED PDV and a CHARACTER STRING

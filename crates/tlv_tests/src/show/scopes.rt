@@ -1,4 +1,4 @@
-//! Tests of the two scopes of findings: B22 and B27 are found in the scope of all findings alone.
+//! Tests of the two scopes of findings: B22, B27 and B30 are found in the scope of all findings alone.
 use super::plain;
 use super::scope_rows::ROWS;
 use crate::expect::{expect_eq, expect_eq_of};
@@ -29,9 +29,9 @@ fn all_is_found(rt: HostRuntime) {
     }
 }
 
-/// B22 and B27 are not listed.
+/// B22, B27 and B30 are not listed.
 #[test]
-fn neither_is_listed_under_der(rt: HostRuntime) {
+fn none_is_listed_under_der(rt: HostRuntime) {
     let wanted = Wanted::listed(Rules::Der);
     for (octets, listed) in [
         // a constructed TIME
@@ -54,6 +54,8 @@ fn neither_is_listed_under_der(rt: HostRuntime) {
         (b"\x28\x80\x00\x00", b"0 D01 indefinite length\n"),
         // an EXTERNAL that holds nothing, with a definite length
         (b"\x28\x00", b""),
+        // an EXTERNAL that holds a NULL
+        (b"\x28\x02\x05\x00", b""),
         // an EXTERNAL in an EXTERNAL
         (
             b"\x28\x80\x28\x80\x00\x00\x00\x00",
@@ -76,12 +78,13 @@ fn neither_is_listed_under_der(rt: HostRuntime) {
 
 /// Nor are they listed under BER or CER.
 #[test]
-fn neither_is_listed_under_ber_and_cer(rt: HostRuntime) {
+fn none_is_listed_under_ber_and_cer(rt: HostRuntime) {
     for octets in [
         b"\x2e\x80\x00\x00".as_slice(),
         b"\x3f\x1f\x80\x00\x00",
         b"\x28\x80\x00\x00",
         b"\x3d\x80\x00\x00",
+        b"\x2b\x80\x05\x00\x00\x00",
     ] {
         expect_listed(&rt, octets, Wanted::listed(Rules::Ber), b"");
         expect_listed(&rt, octets, Wanted::listed(Rules::Cer), b"");

@@ -14,7 +14,7 @@ returns-in-Ber c =
     let h = c.args.header.now in
     let scope = c.args.wanted.scope in
     c.add_later_basic_findings.ensures.items
-    ∙ ap (λ (l : List Finding). l ++ findings_by (later_basic_conditions_in scope h)) c.add_basic_findings.ensures.items
+    ∙ ap (λ (l : List Finding). l ++ findings_by (later_basic_conditions_in scope s h)) c.add_basic_findings.ensures.items
     ∙ sym (basic-found scope s h)
     ∙ ap (λ (r : Rules). header_findings_in (record { rules = r; scope = scope }) s h) (sym c.in-Ber.is)
 
@@ -28,7 +28,7 @@ returns-in-Der c =
     (c.add_length_findings.ensures.items
     ∙ ap (λ (l : List Finding). l ++ findings_by (length_conditions h))
     (c.add_later_basic_findings.ensures.items
-    ∙ ap (λ (l : List Finding). l ++ findings_by (later_basic_conditions_in scope h))
+    ∙ ap (λ (l : List Finding). l ++ findings_by (later_basic_conditions_in scope s h))
     c.add_basic_findings.ensures.items))
     ∙ sym (der-found scope s h)
     ∙ ap (λ (r : Rules). header_findings_in (record { rules = r; scope = scope }) s h) (sym c.in-Der.is)
@@ -43,7 +43,7 @@ returns-in-Cer c =
     (c.add_length_findings-in-Cer.ensures.items
     ∙ ap (λ (l : List Finding). l ++ findings_by (length_conditions h))
     (c.add_later_basic_findings.ensures.items
-    ∙ ap (λ (l : List Finding). l ++ findings_by (later_basic_conditions_in scope h))
+    ∙ ap (λ (l : List Finding). l ++ findings_by (later_basic_conditions_in scope s h))
     c.add_basic_findings.ensures.items))
     ∙ sym (cer-found scope s h)
     ∙ ap (λ (r : Rules). header_findings_in (record { rules = r; scope = scope }) s h) (sym c.in-Cer.is)

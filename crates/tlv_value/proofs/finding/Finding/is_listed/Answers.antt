@@ -10,5 +10,5 @@ returns c = elim c.match-matches.branch [
       let none = w.in_default in
       ap not w.matches-is
       ∙ sym (listed _ none.not-B20 none.not-B21 none.not-B22 none.not-B23 none.not-B24 none.not-B25 none.not-B26
-      none.not-B27 none.not-B28 none.not-B29 none.not-S05 none.not-S06)
+      none.not-B27 none.not-B28 none.not-B29 none.not-B30 none.not-S05 none.not-S06)
 ]
