@@ -269,7 +269,7 @@ def no_length(why):
         _, lines = why.said(octets)
         why.part.expect(f"no other length, {octets[:12].hex()}", "If the header" not in "\n".join(lines), *lines)
     # A later record is whole, and an element of indefinite length does not say where it ends.
-    for octets in (element(0x30, b"\x02\x02\x05") + element(0x30, NULL), b"\x30\x80\x30\x04\x02\x02\x05\x05\0\0\0"):
+    for octets in (element(0x30, b"\x02\x02\x05") + element(0x30, NULL), b"\x30\x80\x30\x03\x02\x02\x05\0\0"):
         _, lines = why.said(octets)
         why.part.expect(f"another length, {octets.hex()}", "If the header" in "\n".join(lines), *lines)
 
