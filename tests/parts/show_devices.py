@@ -68,7 +68,8 @@ def reads(part, calls):
 def writes(part, calls):
     """Each write that fails or takes nothing gives E2. The lines before it are right, and no write follows.
 
-    The lines of broken strings follow E2, without reasons.
+    If it fails because nothing reads standard output any more (EPIPE), that is no message. The lines of broken strings
+    come in each case, without reasons.
     """
     for words, given in ((["--names", "none"], GIVEN), (["--names", "none"], STRINGS), (["--offsets"], STRINGS),
                          (["--offset", "0"], b"\x04\x82\x27\x10" + GIVEN), (["--check"], b"\x02\x02\x00\x05" * 500),
@@ -81,10 +82,11 @@ def writes(part, calls):
         broken = b"".join(line for line in whole.err.splitlines(True) if line.startswith(b"string at "))
         part.expect(f"{words}: writes", count > 0, *whole.lines())
         for number in range(1, count + 1):
-            for error in (*ERRORS, 0):
+            for error in (*ERRORS, errno.EPIPE, 0):
                 got, made = calls.run(words, given, fail=("write", 1, number, error))
                 what = f"{' '.join(words)}: write {number} fails with {errno.errorcode.get(error, 'nothing')}"
-                part.same(what, got, Done(3, whole.out[:taken], note + message(WRITE) + broken))
+                said = b"" if error == errno.EPIPE else message(WRITE)
+                part.same(what, got, Done(3, whole.out[:taken], note + said + broken))
                 part.expect(f"{what}: no write after it", len(of(made, "write", 1)) == number)
             taken += of(own, "write", 1)[number - 1][3]
 

@@ -281,7 +281,7 @@ def at_a_terminal(part, program):
 
 
 def outputs(part, program):
-    """A full disk, a pipe without a reader, and a limit on the size of a file."""
+    """A full disk, and a limit on the size of a file."""
     for given, octets in (([], SOUND), (["--check"], b"\x02\x02\x00\x05"), (["--offsets"], SOUND), (["--offset", "0"], SOUND),
                           (["--help"], b""), (["--version"], b"")):
         with open("/dev/full", "wb") as full:
@@ -301,6 +301,35 @@ def outputs(part, program):
     part.expect("what is written before", written == lines[:5000], f"{len(written)} octets")
 
 
+def without_reader(part, program):
+    """If nothing reads standard output any more, that is no message. What is said of the input itself stays.
+
+    The status is 3, and no other block is shown. Help that nothing reads is E2.
+    """
+    part.write("many", NULL * 100_000)
+    part.write("texts", b"05 00\n")
+    part.write("broken", BROKEN)
+    line = f"broken: {BREAKS}"
+    for given, octets, err in (([], SOUND, ""), (["--check"], b"\x02\x02\x00\x05", ""), (["--offsets"], SOUND, ""),
+                               (["--offset", "0"], SOUND, ""), (["--raw"], SOUND, ""), (["--why"], SOUND, ""),
+                               ([], b"05 00\n", "taken for hexadecimal"), ([], NULL * 3000 + b"\x04", ""),
+                               (["many"], b"", ""), (["many", "missing", "texts"], b"", ""),
+                               (["texts", "many"], b"", "texts: taken for hexadecimal"),
+                               (["missing", "many"], b"", ""), (["broken"], b"", line),
+                               (["--help"], b"", WRITE), (["--version"], b"", WRITE)):
+        reader, writer = os.pipe()
+        os.close(reader)
+        what = f"{' '.join(given)} {octets[:8].hex()}: nothing reads it"
+        program.gives(given, octets, 3, err=err, stdout=writer, what=what)
+        os.close(writer)
+    child = part.start(["many"], program=program.path, stdin=subprocess.DEVNULL, stdout=subprocess.PIPE, stderr=subprocess.PIPE)
+    first = child.stdout.read(1)
+    child.stdout.close()
+    err = child.stderr.read()
+    child.stderr.close()
+    part.same("a reader that ends after the first octet", Done(child.wait(timeout=60), first, err), Done(3, b" ", b""))
+
+
 def test(part):
     program = Program(part)
     words(part, program)
@@ -312,3 +341,4 @@ def test(part):
     inputs_that_may_not_be_read(part, program)
     at_a_terminal(part, program)
     outputs(part, program)
+    without_reader(part, program)

@@ -1,4 +1,5 @@
 pub mod Device
+pub mod Stream
 pub mod MemDrain
 pub mod MemSource
 pub mod OutLimits

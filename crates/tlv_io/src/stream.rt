@@ -2,10 +2,11 @@
 
 ghost use Rattle.std.specs.Prelude.{◌≡◌};
 ghost use Rattle.tlv_io.specs.Device.{new_source, source_with};
+ghost use Rattle.tlv_io.specs.Stream.{finds_no_reader, has_no_reader};
 
 use crate::drain::{Drain, WriteFault};
 use crate::source::{ReadFault, ReadLog, Source};
-use std::io::{Read, Write};
+use std::io::{Error, ErrorKind, Read, Write};
 
 /// A reader as a source. Each error of the reader is a failed read, including an error of kind `Interrupted`.
 #[derive(Drop)]
@@ -42,6 +43,8 @@ impl<R: Read + Drop> Source for ReadSource<R> {
 pub struct WriteDrain<W> {
     writer: W,
     failures: u64,
+    /// Whether the last failed write found that nothing reads what is written.
+    has_no_reader: bool,
 }
 
 impl<W: Write + Drop> WriteDrain<W> {
@@ -54,7 +57,16 @@ impl<W: Write + Drop> WriteDrain<W> {
         WriteDrain {
             writer,
             failures: 0,
+            has_no_reader: false,
         }
+    }
+
+    /// Whether the last failed write failed because nothing reads what is written any more: the kind of its error is
+    /// `BrokenPipe`. False if no write failed.
+    pub fn has_no_reader(&self) -> bool
+        ensures { result ≡ has_no_reader self.now }
+    {
+        self.has_no_reader
     }
 }
 
@@ -67,10 +79,21 @@ impl<W: Write + Drop> Drain for WriteDrain<W> {
     fn write(&mut self, from: &[u8]) -> Result<usize, WriteFault> {
         match self.writer.write(from) {
             Ok(count) if count > 0 => Ok(count),
-            _ => {
+            other => {
+                self.has_no_reader = finds_no_reader(&other);
                 self.failures = self.failures.saturating_add(1);
                 Err(WriteFault)
             }
         }
+    }
+}
+
+/// Whether a write found that nothing reads what is written any more.
+fn finds_no_reader(written: &Result<usize, Error>) -> bool
+    ensures { result ≡ finds_no_reader written.now }
+{
+    match written {
+        Ok(_) => false,
+        Err(error) => error.kind() == ErrorKind::BrokenPipe,
     }
 }

@@ -25,7 +25,7 @@ use Rattle.tlv_view_program.specs.Lines.{MessagePlace}
 use Rattle.tlv_view_program.specs.Notes.{note_line}
 use Rattle.tlv_view_program.specs.Reasons.{ReportsFindings, ShowsReasons, findings_line}
 use Rattle.tlv_view_program.specs.ShowsAll.{RunsShow, ShowsRequest}
-use Rattle.tlv_view_program.specs.ShowsBlock.{BlockPlace, ShowsTitled, block_messages, title}
+use Rattle.tlv_view_program.specs.ShowsBlock.{BlockPlace, ShowsTitled, block_messages, said_message, title}
 use Rattle.tlv_view_program.specs.Streams.{StreamsValue}
 
 -- ---- lines
@@ -53,9 +53,9 @@ HasShownReport (BlockContents.taken t) = Unit {0}
 abbrev pub MessagesAreShown : Type 0
 MessagesAreShown =
     (request : Request) (table : NamesValue) (p : BlockPlace) (b : InputBlockValue) (old new : DrainState)
-    (report : ReportValue) (broken : List BrokenString) (place : MessagePlace)
+    (report : ReportValue) (broken : List BrokenString) (place : MessagePlace) (reader_gone : Bool)
     → HasShownReport b.contents → ShowsTitled request table p b old new report broken
-    → AreShown (block_messages place report.message broken)
+    → AreShown (block_messages place (said_message reader_gone report) broken)
 
 -- the line of the findings in octets that parse
 abbrev pub FindingsLinesAreShown : Type 0

@@ -120,6 +120,11 @@ contents_status wanted (BlockContents.taken t) status =
 abbrev pub has_failed_write : ReportValue → Bool
 has_failed_write report = bytes_eq report.message (device_report WriteFailed).message
 
+-- the message of a report. There is none if a write failed because nothing reads standard output any more: whatever read
+-- it ended by itself, as `head` does, and needs no more
+abbrev pub said_message : Bool → ReportValue → List ℕ
+said_message reader_gone report = if reader_gone && has_failed_write report then [] else report.message
+
 -- the report on a list of offsets: that it could not be written, or else the fault of the input
 abbrev pub offsets_report : Ending → Result ⊤ WriteFault → ReportValue
 offsets_report ending (Ok done) = indef_report ending
@@ -229,7 +234,9 @@ pub record ShowsBlock {S : Type 0} (request : Request) (table : NamesValue) (p :
   -- the messages
   pub said : Result ⊤ WriteFault
   pub after_messages : DrainState
-  pub says : Sends after_note after_messages (block_messages (message_place p b) report.message broken) said
+  pub says :
+      Sends after_note after_messages
+      (block_messages (message_place p b) (said_message new.reader_gone report) broken) said
   -- the reasons
   pub outcome : Outcome
   pub after_reasons : DrainState
@@ -240,7 +247,7 @@ pub record ShowsBlock {S : Type 0} (request : Request) (table : NamesValue) (p :
   pub told : Result ⊤ WriteFault
   pub tells :
       Sends after_reasons new.messages (block_messages (message_place p b) (reasons_report outcome).message []) told
-  pub same : new ≡ record old { output = output; messages = new.messages }
+  pub same : new ≡ record old { output = output; reader_gone = new.reader_gone; messages = new.messages }
   pub failed_is : failed ≡ has_failed_write report
   pub status_is :
       status ≡ max (contents_status request.wanted b.contents (status_with report.status broken))

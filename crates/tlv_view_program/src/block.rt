@@ -10,7 +10,7 @@ ghost use Rattle.tlv_view_program.specs.ShowsBlock.{BlockPlace, ShowsBlock, Show
 ghost use Rattle.tlv_view_program.specs.ShowsBlock.{contents_name, contents_note};
 ghost use Rattle.tlv_view_program.specs.ShowsBlock.{contents_status, has_failed_write, has_octets, is_undecoded};
 ghost use Rattle.tlv_view_program.specs.ShowsBlock.{explained_in, message_place, octets_of_contents, refused_status};
-ghost use Rattle.tlv_view_program.specs.ShowsBlock.{status_with, title};
+ghost use Rattle.tlv_view_program.specs.ShowsBlock.{said_message, status_with, title};
 ghost use Rattle.tlv_view_program.specs.Streams.{streams_value};
 ghost use Rattle.tlv_view_program.specs.WritesReasons.{WritesReasons};
 
@@ -21,7 +21,7 @@ use crate::lines::{BlockName, write_block_line, write_messages, write_note};
 use crate::notes::block_label;
 use crate::octets::show_octets;
 use crate::reasons::write_explained;
-use crate::streams::Streams;
+use crate::streams::{Output, Streams};
 use crate::wanted::has_titles;
 use arrayvec::ArrayVec;
 use std::alloc::{AllocError, Global};
@@ -56,7 +56,7 @@ pub(crate) struct BlockResult {
 
 impl Task<'_> {
     /// Shows the block with this number, and writes what there is to say before it and after it.
-    pub fn block<S: System, I: Source, O: Drain, M: Drain>(
+    pub fn block<S: System, I: Source, O: Output, M: Drain>(
         &self,
         number: usize,
         block: &InputBlock<'_>,
@@ -65,15 +65,17 @@ impl Task<'_> {
         requires { contents_fit block.now.contents }
         ensures { ShowsBlock self.now.request.now self.now.names.now (place_value number self.now)
             (input_block block.now)
-            (streams_value I.state O.state M.state streams.old) (streams_value I.state O.state M.state streams.new)
+            (streams_value I.state O.state O.reader_gone M.state streams.old)
+            (streams_value I.state O.state O.reader_gone M.state streams.new)
             result.has_failed result.status }
     {
         let name = name_of(number, block);
         let _ = write_contents_note(name, block.contents, &mut streams.messages);
         let shown = self.titled(number, block, &mut streams.output);
+        let message = said_message(streams.output.reader_is_gone(), &shown.report);
         let _ = write_messages(
             name,
-            shown.report.message.as_slice(),
+            message,
             shown.broken.as_slice(),
             &mut streams.messages,
         );
@@ -267,6 +269,17 @@ fn status_with(status: u8, broken: &[BrokenString]) -> u8
         status
     } else {
         status.max(1)
+    }
+}
+
+/// The message of a report: none if a write failed because nothing reads standard output any more.
+fn said_message(reader_gone: bool, report: &Report) -> &[u8]
+    ensures { result.now ≡ said_message reader_gone (report_value_of report.now) }
+{
+    if reader_gone && has_failed_write(report) {
+        &[]
+    } else {
+        report.message.as_slice()
     }
 }
 

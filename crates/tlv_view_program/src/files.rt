@@ -13,7 +13,7 @@ use crate::block::{BlockResult, Task};
 use crate::input_blocks::{
     Contents, FileBlocks, InputBlock, NoBlocks, block_count, blocks_of_files, file_block_count,
 };
-use crate::streams::Streams;
+use crate::streams::{Output, Streams};
 use std::alloc::Global;
 use tlv_forms::Taken;
 use tlv_program::System;
@@ -26,14 +26,15 @@ use tlv_walk::{Drain, Source};
 /// Reads the files of a request, or standard input if there are none, and shows their blocks in order. Returns the
 /// highest status. Shows no other block after a failed write to standard output. More blocks than a number can count
 /// are more than memory can hold, so they are reported as such.
-pub(crate) fn show_files<S: System, I: Source, O: Drain, M: Drain>(
+pub(crate) fn show_files<S: System, I: Source, O: Output, M: Drain>(
     alloc: Global,
     request: &Request,
     names: &Names,
     streams: &mut Streams<S, I, O, M>,
 ) -> u8
     ensures { ShowsFiles S.allows request.now names.now (files_of_words request.now.files)
-        (streams_value I.state O.state M.state streams.old) (streams_value I.state O.state M.state streams.new)
+        (streams_value I.state O.state O.reader_gone M.state streams.old)
+        (streams_value I.state O.state O.reader_gone M.state streams.new)
         result }
 {
     let Some(files) = blocks_of_files(alloc, request, streams) else {
@@ -53,7 +54,7 @@ pub(crate) fn show_files<S: System, I: Source, O: Drain, M: Drain>(
 }
 
 /// Shows the blocks of all files in order. Returns the highest status.
-fn show_blocks<S: System, I: Source, O: Drain, M: Drain>(
+fn show_blocks<S: System, I: Source, O: Output, M: Drain>(
     task: &Task<'_>,
     files: Vec<FileBlocks<'_>>,
     streams: &mut Streams<S, I, O, M>,
@@ -62,7 +63,8 @@ fn show_blocks<S: System, I: Source, O: Drain, M: Drain>(
     requires count { length (flat_map file_blocks files.items) < 2 ^ 64 }
     ensures { ShowsBlocks task.now.request.now task.now.names.now (blocks_place task.now) 1
         (flat_map file_blocks files.entry.items)
-        (streams_value I.state O.state M.state streams.old) (streams_value I.state O.state M.state streams.new)
+        (streams_value I.state O.state O.reader_gone M.state streams.old)
+        (streams_value I.state O.state O.reader_gone M.state streams.new)
         result }
 {
     let mut status = 0;
@@ -80,7 +82,7 @@ fn show_blocks<S: System, I: Source, O: Drain, M: Drain>(
 }
 
 /// Shows the blocks of a file, after so many blocks of other files.
-fn show_file<S: System, I: Source, O: Drain, M: Drain>(
+fn show_file<S: System, I: Source, O: Output, M: Drain>(
     task: &Task<'_>,
     before: usize,
     file: FileBlocks<'_>,
@@ -90,7 +92,8 @@ fn show_file<S: System, I: Source, O: Drain, M: Drain>(
     requires count { before + length (file_blocks file) < 2 ^ 64 }
     ensures { ShowsSome task.now.request.now task.now.names.now (blocks_place task.now) (before + 1)
         (file_blocks file.entry)
-        (streams_value I.state O.state M.state streams.old) (streams_value I.state O.state M.state streams.new)
+        (streams_value I.state O.state O.reader_gone M.state streams.old)
+        (streams_value I.state O.state O.reader_gone M.state streams.new)
         result.has_failed result.status }
 {
     let FileBlocks { file, taken } = file;
@@ -101,7 +104,7 @@ fn show_file<S: System, I: Source, O: Drain, M: Drain>(
 }
 
 /// Shows the block of a file that gives none.
-fn show_nothing<S: System, I: Source, O: Drain, M: Drain>(
+fn show_nothing<S: System, I: Source, O: Output, M: Drain>(
     task: &Task<'_>,
     before: usize,
     file: Option<&str>,
@@ -111,7 +114,8 @@ fn show_nothing<S: System, I: Source, O: Drain, M: Drain>(
     requires { before + 1 < 2 ^ 64 }
     ensures { ShowsSome task.now.request.now task.now.names.now (blocks_place task.now) (before + 1)
         (block_of_file (text_in file.entry) false (BlockContents.reported (report_without_blocks why)) ∷ [])
-        (streams_value I.state O.state M.state streams.old) (streams_value I.state O.state M.state streams.new)
+        (streams_value I.state O.state O.reader_gone M.state streams.old)
+        (streams_value I.state O.state O.reader_gone M.state streams.new)
         result.has_failed result.status }
 {
     let block = InputBlock {
@@ -124,7 +128,7 @@ fn show_nothing<S: System, I: Source, O: Drain, M: Drain>(
 
 /// Shows the blocks of a file that were taken for something. Drops each before the next is shown, while its memory is
 /// still in the cache.
-fn show_taken<S: System, I: Source, O: Drain, M: Drain>(
+fn show_taken<S: System, I: Source, O: Output, M: Drain>(
     task: &Task<'_>,
     before: usize,
     file: Option<&str>,
@@ -135,7 +139,8 @@ fn show_taken<S: System, I: Source, O: Drain, M: Drain>(
     requires count { before + length taken.items < 2 ^ 64 }
     ensures { ShowsSome task.now.request.now task.now.names.now (blocks_place task.now) (before + 1)
         (blocks_taken (text_in file.entry) (Ok (map taken_value taken.items)))
-        (streams_value I.state O.state M.state streams.old) (streams_value I.state O.state M.state streams.new)
+        (streams_value I.state O.state O.reader_gone M.state streams.old)
+        (streams_value I.state O.state O.reader_gone M.state streams.new)
         result.has_failed result.status }
 {
     let is_one_of_several = taken.len() > 1;

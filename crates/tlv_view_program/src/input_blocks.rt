@@ -14,7 +14,7 @@ ghost use Rattle.tlv_view_program.specs.Streams.{streams_value};
 
 use crate::files::file_of_word;
 use crate::notes::{open_report, text_report};
-use crate::streams::Streams;
+use crate::streams::{Output, Streams};
 use std::alloc::{AllocError, Global};
 use tlv_forms::{Taken, take_as, take_input, take_octets};
 use tlv_program::{OpenFault, System};
@@ -64,13 +64,14 @@ pub(crate) struct InputBlock<'a> {
 
 /// What all files of a request gave, in order, or standard input if there are no files. `None` if memory for the list
 /// of files is refused.
-pub(crate) fn blocks_of_files<'a, S: System, I: Source, O: Drain, M: Drain>(
+pub(crate) fn blocks_of_files<'a, S: System, I: Source, O: Output, M: Drain>(
     alloc: Global,
     request: &'a Request,
     streams: &mut Streams<S, I, O, M>,
 ) -> Option<Vec<FileBlocks<'a>>>
     ensures gets { GetsAllBlocks S.allows request.now.form (files_of_words request.now.files)
-        (streams_value I.state O.state M.state streams.old) (streams_value I.state O.state M.state streams.new)
+        (streams_value I.state O.state O.reader_gone M.state streams.old)
+        (streams_value I.state O.state O.reader_gone M.state streams.new)
         (blocks_had result) }
     ensures within { IfSome result (λ files. all_fit files.items) }
 {
@@ -89,7 +90,7 @@ pub(crate) fn blocks_of_files<'a, S: System, I: Source, O: Drain, M: Drain>(
 }
 
 /// Adds what a file gives.
-fn add_file<'a, S: System, I: Source, O: Drain, M: Drain>(
+fn add_file<'a, S: System, I: Source, O: Output, M: Drain>(
     alloc: Global,
     form: InputForm,
     file: Option<&'a str>,
@@ -98,7 +99,8 @@ fn add_file<'a, S: System, I: Source, O: Drain, M: Drain>(
 ) -> Result<(), AllocError>
     requires { all_fit given.old.items }
     ensures gets { (added : List InputBlockValue) × GetsBlocks S.allows form (text_in file.entry)
-        (streams_value I.state O.state M.state streams.old) (streams_value I.state O.state M.state streams.new) added
+        (streams_value I.state O.state O.reader_gone M.state streams.old)
+        (streams_value I.state O.state O.reader_gone M.state streams.new) added
         × OnOk result (flat_map file_blocks given.new.items ≡ flat_map file_blocks given.old.items ++ added) }
     ensures within { OnOk result (all_fit given.new.items) }
 {
@@ -108,14 +110,15 @@ fn add_file<'a, S: System, I: Source, O: Drain, M: Drain>(
 }
 
 /// The blocks of a file, or why there are none.
-fn blocks_of_file<S: System, I: Source, O: Drain, M: Drain>(
+fn blocks_of_file<S: System, I: Source, O: Output, M: Drain>(
     alloc: Global,
     form: InputForm,
     file: Option<&str>,
     streams: &mut Streams<S, I, O, M>,
 ) -> Result<Vec<Taken>, NoBlocks>
     ensures gets { GetsBlocks S.allows form (text_in file.entry)
-        (streams_value I.state O.state M.state streams.old) (streams_value I.state O.state M.state streams.new)
+        (streams_value I.state O.state O.reader_gone M.state streams.old)
+        (streams_value I.state O.state O.reader_gone M.state streams.new)
         (blocks_given (text_in file.entry) result) }
     ensures within { IfOk result (λ taken. taken_fit taken.items) }
 {
@@ -167,13 +170,14 @@ fn take(alloc: Global, form: InputForm, octets: Vec<u8>) -> Result<Vec<Taken>, T
 }
 
 /// The octets of a file, or of standard input, or why there are none.
-fn octets_of_file<S: System, I: Source, O: Drain, M: Drain>(
+fn octets_of_file<S: System, I: Source, O: Output, M: Drain>(
     alloc: Global,
     file: Option<&str>,
     streams: &mut Streams<S, I, O, M>,
 ) -> Result<Vec<u8>, NoBlocks>
     ensures gets { GetsOctets S.allows (text_in file.entry)
-        (streams_value I.state O.state M.state streams.old) (streams_value I.state O.state M.state streams.new)
+        (streams_value I.state O.state O.reader_gone M.state streams.old)
+        (streams_value I.state O.state O.reader_gone M.state streams.new)
         (octets_had result) }
     ensures within { IfOk result (λ octets. length octets.items ≤ input_limit) }
 {

@@ -20,4 +20,4 @@ mod streams;
 mod wanted;
 
 pub use show_call::run_show;
-pub use streams::Streams;
+pub use streams::{Output, Streams};

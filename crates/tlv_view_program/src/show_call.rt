@@ -8,7 +8,7 @@ ghost use Rattle.tlv_view_program.specs.Streams.{streams_value};
 
 use crate::files::show_files;
 use crate::names::table_for;
-use crate::streams::Streams;
+use crate::streams::{Output, Streams};
 use std::alloc::Global;
 use tlv_program::{NoWords, System};
 use tlv_run::{Report, names_report, write_message};
@@ -22,8 +22,9 @@ use tlv_words::{Words, not_utf8_report, unprinted_report};
 ///
 /// Reads the words, then the names, then each file, or standard input if there is none, and shows their blocks in
 /// order. Writes messages to standard error. If the words or the names are refused, says so and does nothing after it.
+/// If a write to standard output fails and standard output says that nothing reads it any more, there is no message.
 /// `typed` says whether standard input is a terminal: if it is, and no file is named, a note says that it is read.
-pub fn run_show<S: System, I: Source, O: Drain, M: Drain>(
+pub fn run_show<S: System, I: Source, O: Output, M: Drain>(
     alloc: Global,
     words: &Result<Words, NoWords>,
     places: &FileNames,
@@ -31,7 +32,8 @@ pub fn run_show<S: System, I: Source, O: Drain, M: Drain>(
     streams: &mut Streams<S, I, O, M>,
 ) -> u8
     ensures { RunsShow S.allows places.now typed
-        (streams_value I.state O.state M.state streams.old) (streams_value I.state O.state M.state streams.new)
+        (streams_value I.state O.state O.reader_gone M.state streams.old)
+        (streams_value I.state O.state O.reader_gone M.state streams.new)
         words.now result }
 {
     let words = match words {
@@ -87,7 +89,7 @@ fn asks_for_help(fault: &RequestFault) -> bool
 }
 
 /// Gets the names, and shows the files.
-fn show_request<S: System, I: Source, O: Drain, M: Drain>(
+fn show_request<S: System, I: Source, O: Output, M: Drain>(
     alloc: Global,
     request: &Request,
     places: &FileNames,
@@ -95,7 +97,8 @@ fn show_request<S: System, I: Source, O: Drain, M: Drain>(
     streams: &mut Streams<S, I, O, M>,
 ) -> u8
     ensures { ShowsRequest S.allows places.now typed request.now
-        (streams_value I.state O.state M.state streams.old) (streams_value I.state O.state M.state streams.new)
+        (streams_value I.state O.state O.reader_gone M.state streams.old)
+        (streams_value I.state O.state O.reader_gone M.state streams.new)
         result }
 {
     match table_for(alloc, &request.wanted, places, &mut streams.system) {

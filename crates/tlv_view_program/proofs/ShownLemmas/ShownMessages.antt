@@ -1,6 +1,6 @@
 -- What is said after a block that is shown is printable ASCII.
-use Rattle.std.proofs.Common.{ℕ, List, [], ◌∷◌, Result, Ok, Err, refl}
-use Rattle.std.specs.Prelude.{⊤, flat_map}
+use Rattle.std.proofs.Common.{ℕ, Bool, true, false, List, [], ◌∷◌, Result, Ok, Err, refl}
+use Rattle.std.specs.Prelude.{◌&&◌, ⊤, flat_map, if◌then◌else◌}
 use Rattle.tlv_io.specs.Device.{DrainState}
 use Rattle.tlv_io.specs.declared.drain.WriteFault.{WriteFault}
 use Rattle.tlv_walk.specs.declared.ending.Ending.{Ending}
@@ -15,7 +15,7 @@ use Rattle.tlv_why.specs.Laws.{AreShown}
 use Rattle.tlv_view_program.specs.InputBlocks.{BlockContents, InputBlockValue}
 use Rattle.tlv_view_program.specs.Lines.{MessagePlace, placed_line}
 use Rattle.tlv_view_program.specs.ShowsBlock.{BlockPlace, ShowsContents, ShowsOctets, ShowsTitled, block_messages}
-use Rattle.tlv_view_program.specs.ShowsBlock.{offsets_report, raw_report}
+use Rattle.tlv_view_program.specs.ShowsBlock.{has_failed_write, offsets_report, raw_report, said_message}
 use Rattle.tlv_view_program.specs.ShownLines.{HasShownReport, MessagesAreShown}
 use Rattle.tlv_view_program.proofs.ShownLemmas.ShownLabels.{joined-shown}
 use Rattle.tlv_view_program.proofs.ShownLemmas.ShownNotes.{placed-shown}
@@ -81,7 +81,13 @@ block_messages-shown place message broken shown =
     joined-shown (placed_line place message) _ (placed_line-shown place message shown)
     (broken_lines-shown place broken)
 
+-- a message that may be left out
+said-shown : (left_out : Bool) (message : List ℕ) → AreShown message → AreShown (if left_out then [] else message)
+said-shown true message shown = refl
+said-shown false message shown = shown
+
 pub messages-shown : MessagesAreShown
-messages-shown request table p b old new report broken place has shows =
-    block_messages-shown place report.message broken
-    (titled_report-shown request table p b old new report broken has shows)
+messages-shown request table p b old new report broken place reader_gone has shows =
+    block_messages-shown place (said_message reader_gone report) broken
+    (said-shown (reader_gone && has_failed_write report) report.message
+    (titled_report-shown request table p b old new report broken has shows))

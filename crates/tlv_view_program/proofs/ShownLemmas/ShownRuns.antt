@@ -45,7 +45,8 @@ module _ {S : Type 0} (request : Request) (table : NamesValue) where
       (sends-shown old.messages x.after_note _ x.noted (contents_note-shown place b.contents label) x.notes)
       (takes-then x.after_note x.after_messages new.messages
       (sends-shown x.after_note x.after_messages _ x.said
-      (messages-shown request table p b old.output x.output x.report x.broken place report x.shows) x.says)
+      (messages-shown request table p b old.output x.output x.report x.broken place new.reader_gone report x.shows)
+      x.says)
       (takes-then x.after_messages x.after_reasons new.messages
       (writes-shown request.padding (octets_of_contents b.contents) x.octets _ x.after_messages x.after_reasons x.outcome
       x.reasons)

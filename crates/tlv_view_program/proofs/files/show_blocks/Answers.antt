@@ -16,7 +16,7 @@ returns-then-outcome g c =
     (all-shown c.args.task.now.request.now c.args.task.now.names.now (blocks_place c.args.task.now)
     (rest-stops c.args.task.now.request.now c.args.task.now.names.now (blocks_place c.args.task.now) 1
     (flat_map file_blocks c.args.files.items)
-    (streams_value g.I.Source.state g.O.Drain.state g.M.Drain.state c.args.streams.now)
+    (streams_value g.I.Source.state g.O.Drain.state g.O.Output.reader_gone g.M.Drain.state c.args.streams.now)
     c.loop-file.before c.loop-file.status c.show_file-outcome.result.status (file_blocks c.in-Some.file)
     (flat_map file_blocks (into_iter_items c.next.new.self))
     (flat_map file_blocks (into_iter_items c.loop-file.file-iterator)) _ _
@@ -34,7 +34,7 @@ loop-file-preserved g c =
           rw c.highest-status.ensures
           (rest-goes_on c.args.task.now.request.now c.args.task.now.names.now (blocks_place c.args.task.now) 1
           (flat_map file_blocks c.args.files.items)
-          (streams_value g.I.Source.state g.O.Drain.state g.M.Drain.state c.args.streams.now)
+          (streams_value g.I.Source.state g.O.Drain.state g.O.Output.reader_gone g.M.Drain.state c.args.streams.now)
           c.loop-file.before (c.loop-file.before + c.file_block_count-count.result) c.loop-file.status
           c.show_file-outcome.result.status (file_blocks c.in-Some.file)
           (flat_map file_blocks (into_iter_items c.next.new.self))
@@ -51,7 +51,7 @@ returns g c =
     all-shown c.args.task.now.request.now c.args.task.now.names.now (blocks_place c.args.task.now)
     (rest-ends c.args.task.now.request.now c.args.task.now.names.now (blocks_place c.args.task.now) 1
     (flat_map file_blocks c.args.files.items)
-    (streams_value g.I.Source.state g.O.Drain.state g.M.Drain.state c.args.streams.now)
+    (streams_value g.I.Source.state g.O.Drain.state g.O.Output.reader_gone g.M.Drain.state c.args.streams.now)
     c.loop-file.before c.loop-file.status (flat_map file_blocks (into_iter_items c.loop-file.file-iterator)) _
     (ap (flat_map file_blocks)
     (nil_from_length (into_iter_items c.loop-file.file-iterator)

@@ -10,9 +10,9 @@ invariant-loop-file g l = record {
   shows :
       ShowsRest l.fn.task.request.now l.fn.task.names.now (blocks_place l.fn.task) 1
       (flat_map file_blocks l.fn.files.items)
-      (streams_value g.I.Source.state g.O.Drain.state g.M.Drain.state l.fn.streams) l.before
+      (streams_value g.I.Source.state g.O.Drain.state g.O.Output.reader_gone g.M.Drain.state l.fn.streams) l.before
       (flat_map file_blocks (into_iter_items l.file-iterator))
-      (streams_value g.I.Source.state g.O.Drain.state g.M.Drain.state l.streams) l.status;
+      (streams_value g.I.Source.state g.O.Drain.state g.O.Output.reader_gone g.M.Drain.state l.streams) l.status;
   fit : all_fit (into_iter_items l.file-iterator);
   count :
       l.before + length (flat_map file_blocks (into_iter_items l.file-iterator))

@@ -40,7 +40,7 @@ returns-in_default g c =
     let said = ap (λ (r : ReportValue). r.message) c.input_report.ensures in
     let status = ap (λ (r : ReportValue). r.status) c.input_report.ensures in
     rw (c.write_message.ensures.status ∙ status)
-    (not_had (streams_value g.I.Source.state g.O.Drain.state g.M.Drain.state c.blocks_of_files.new.streams)
+    (not_had (streams_value g.I.Source.state g.O.Drain.state g.O.Output.reader_gone g.M.Drain.state c.blocks_of_files.new.streams)
     (rw c.in_default.is at c.blocks_of_files.ensures.gets) (rw said at c.write_message.ensures.writes, refl))
 
 pub returns-in_default-block_count : goal.returns-in_default-block_count
@@ -48,13 +48,13 @@ returns-in_default-block_count g c =
     let said = ap (λ (r : ReportValue). r.message) c.input_report-in_default-block_count.ensures in
     let status = ap (λ (r : ReportValue). r.status) c.input_report-in_default-block_count.ensures in
     rw (c.write_message-in_default-block_count.ensures.status ∙ status)
-    (not_had (streams_value g.I.Source.state g.O.Drain.state g.M.Drain.state c.blocks_of_files.new.streams)
+    (not_had (streams_value g.I.Source.state g.O.Drain.state g.O.Output.reader_gone g.M.Drain.state c.blocks_of_files.new.streams)
     (refused-at-end g.S.System.allows c.args.request.now.form c.args.request.now.files c.in-Some.ensures.gets)
     (rw said at c.write_message-in_default-block_count.ensures.writes, refl))
 
 pub returns : goal.returns
 returns g c =
-    had (streams_value g.I.Source.state g.O.Drain.state g.M.Drain.state c.blocks_of_files.new.streams)
+    had (streams_value g.I.Source.state g.O.Drain.state g.O.Output.reader_gone g.M.Drain.state c.blocks_of_files.new.streams)
     (flat_map file_blocks c.in-Some.files.items) c.show_blocks.result c.in-Some.ensures.gets
     (shown-in-place c.args.request.now c.args.names.now c.args.request.now.files
     (flat_map file_blocks c.in-Some.files.items) _ _ _ _ _ (c.in-Some-block_count.ensures.1

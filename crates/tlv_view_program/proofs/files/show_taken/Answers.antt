@@ -40,7 +40,7 @@ returns-then-shown g c =
     file several c.args.taken.items _ _ _ _ (ap (nat_lt 1) (search rules))
     (rest-stops c.args.task.now.request.now c.args.task.now.names.now (blocks_place c.args.task.now) (c.args.before + 1)
     (map (taken_block file several) c.args.taken.items)
-    (streams_value g.I.Source.state g.O.Drain.state g.M.Drain.state c.args.streams.now)
+    (streams_value g.I.Source.state g.O.Drain.state g.O.Output.reader_gone g.M.Drain.state c.args.streams.now)
     c.loop-each.number c.loop-each.status c.block-shown.result.status (taken_block file several c.in-Some.each ∷ [])
     (map (taken_block file several) (into_iter_items c.next.new.self))
     (map (taken_block file several) (into_iter_items c.loop-each.each-iterator)) _ _
@@ -59,7 +59,7 @@ loop-each-preserved g c =
           rw c.highest-status.ensures
           (rest-goes_on c.args.task.now.request.now c.args.task.now.names.now (blocks_place c.args.task.now)
           (c.args.before + 1) (map (taken_block file several) c.args.taken.items)
-          (streams_value g.I.Source.state g.O.Drain.state g.M.Drain.state c.args.streams.now)
+          (streams_value g.I.Source.state g.O.Drain.state g.O.Output.reader_gone g.M.Drain.state c.args.streams.now)
           c.loop-each.number (c.loop-each.number + 1) c.loop-each.status c.block-shown.result.status
           (taken_block file several c.in-Some.each ∷ [])
           (map (taken_block file several) (into_iter_items c.next.new.self))
@@ -82,7 +82,7 @@ returns g c =
     file several c.args.taken.items _ _ _ _ (ap (nat_lt 1) (search rules))
     (rest-ends c.args.task.now.request.now c.args.task.now.names.now (blocks_place c.args.task.now) (c.args.before + 1)
     (map (taken_block file several) c.args.taken.items)
-    (streams_value g.I.Source.state g.O.Drain.state g.M.Drain.state c.args.streams.now)
+    (streams_value g.I.Source.state g.O.Drain.state g.O.Output.reader_gone g.M.Drain.state c.args.streams.now)
     c.loop-each.number c.loop-each.status (map (taken_block file several) (into_iter_items c.loop-each.each-iterator)) _
     (ap (map (taken_block file several))
     (nil_from_length (into_iter_items c.loop-each.each-iterator)

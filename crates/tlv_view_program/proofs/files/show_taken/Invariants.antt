@@ -12,9 +12,9 @@ invariant-loop-each g l = record {
   shows :
       ShowsRest l.fn.task.request.now l.fn.task.names.now (blocks_place l.fn.task) (l.fn.before + 1)
       (map (taken_block (text_in l.fn.file) l.is_one_of_several) l.fn.taken.items)
-      (streams_value g.I.Source.state g.O.Drain.state g.M.Drain.state l.fn.streams) l.number
+      (streams_value g.I.Source.state g.O.Drain.state g.O.Output.reader_gone g.M.Drain.state l.fn.streams) l.number
       (map (taken_block (text_in l.fn.file) l.is_one_of_several) (into_iter_items l.each-iterator))
-      (streams_value g.I.Source.state g.O.Drain.state g.M.Drain.state l.streams) l.status;
+      (streams_value g.I.Source.state g.O.Drain.state g.O.Output.reader_gone g.M.Drain.state l.streams) l.status;
   fit : taken_fit (into_iter_items l.each-iterator);
   count : l.number + length (into_iter_items l.each-iterator) ≡ l.fn.before + length l.fn.taken.items;
   left : into_iter_len l.each-iterator ≡ length (into_iter_items l.each-iterator);

@@ -9,11 +9,11 @@ returns-in-Ok g c =
     let names_said = ap (λ (r : ReportValue). r.message) c.names_note.ensures in
     let input_said = ap (λ (r : ReportValue). r.message) c.note_of_input.ensures in
     shows c.in-Ok.table.names c.in-Ok.table.is_missing c.table_for.new.system
-    (record (streams_value g.I.Source.state g.O.Drain.state g.M.Drain.state c.args.streams.now) {
+    (record (streams_value g.I.Source.state g.O.Drain.state g.O.Output.reader_gone g.M.Drain.state c.args.streams.now) {
       system = c.table_for.new.system;
       messages = g.M.Drain.state c.write_message.new.drain;
     })
-    (record (streams_value g.I.Source.state g.O.Drain.state g.M.Drain.state c.args.streams.now) {
+    (record (streams_value g.I.Source.state g.O.Drain.state g.O.Output.reader_gone g.M.Drain.state c.args.streams.now) {
       system = c.table_for.new.system;
       messages = g.M.Drain.state c.write_message-in-Ok.new.drain;
     })

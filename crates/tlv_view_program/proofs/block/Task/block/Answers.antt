@@ -1,4 +1,4 @@
-use Rattle.std.proofs.Common.{◌≡◌, ℕ, List, [], ap, refl, ◌∙◌}
+use Rattle.std.proofs.Common.{◌≡◌, ℕ, Bool, List, [], ap, refl, ◌∙◌}
 use Rattle.std.specs.Prelude.{Result, ⊤, max}
 use Rattle.tlv_io.specs.Device.{DrainState}
 use Rattle.tlv_io.specs.Out.{Sends}
@@ -7,7 +7,7 @@ use Rattle.tlv_open.specs.declared.strings.BrokenString.{BrokenString}
 use Rattle.tlv_run.specs.Report.{ReportValue, report_value_of}
 use Rattle.tlv_view_program.specs.Lines.{MessagePlace}
 use Rattle.tlv_view_program.specs.Private.BlockParts.{block_contents, place_value}
-use Rattle.tlv_view_program.specs.ShowsBlock.{block_messages, contents_status, status_with}
+use Rattle.tlv_view_program.specs.ShowsBlock.{block_messages, contents_status, said_message, status_with}
 use Rattle.tlv_view_program.proofs.block.Task.block.Goals as goal
 
 -- the same messages
@@ -31,15 +31,18 @@ returns g c =
       said = c.write_messages.result;
       after_messages = g.M.Drain.state c.write_messages.new.drain;
       says =
-          same-messages _ _ _ _ _ _ _ _ _ placed c.as_slice.ensures.value c.as_slice-2.ensures.value
-          c.write_messages.ensures;
+          same-messages _ _ _ _ _ _ _ _ _ placed
+          (c.said_message-message.ensures
+          ∙ ap (λ (gone : Bool). said_message gone (report_value_of c.titled-shown.result.report))
+          c.reader_is_gone.ensures)
+          c.as_slice.ensures.value c.write_messages.ensures;
       outcome = c.explained-outcome.result;
       after_reasons = g.M.Drain.state c.explained-outcome.new.drain;
       reasons = c.explained-outcome.ensures.reasons;
       told = c.write_messages-2.result;
       tells =
           same-messages _ _ _ _ _ _ [] [] _ placed
-          (c.as_slice-3.ensures.value ∙ ap (λ (r : ReportValue). r.message) refused) refl c.write_messages-2.ensures;
+          (c.as_slice-2.ensures.value ∙ ap (λ (r : ReportValue). r.message) refused) refl c.write_messages-2.ensures;
       same = refl;
       failed_is = c.has_failed_write.ensures;
       status_is =
@@ -48,7 +51,7 @@ returns g c =
           (c.contents_status-status.ensures
           ∙ ap (contents_status c.args.self.now.request.now.wanted (block_contents c.args.block.now.contents))
           (c.status_with-shown_status.ensures
-          ∙ ap (status_with c.titled-shown.result.report.status) c.as_slice-4.ensures.value))
+          ∙ ap (status_with c.titled-shown.result.report.status) c.as_slice-3.ensures.value))
           ∙ ap (λ (r : ReportValue). max (contents_status c.args.self.now.request.now.wanted
           (block_contents c.args.block.now.contents)
           (status_with c.titled-shown.result.report.status c.titled-shown.result.broken.items)) r.status) refused;
