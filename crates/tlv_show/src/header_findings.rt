@@ -107,7 +107,8 @@ fn is_frame_usual(frame: &HolderFrame) -> bool
     ensures no_segments { IsTrue result → frame.now.has_segments ≡ false }
     ensures no_components { IsTrue result → frame.now.has_components ≡ false }
 {
-    !frame.has_segments && !frame.has_components
+    // One branch for both: each element asks this.
+    !(frame.has_segments | frame.has_components)
 }
 
 /// Whether the form of the tag has no findings: it is the low form, or the high form as it has to be.

@@ -13,15 +13,15 @@ pub(crate) struct HolderFrame {
     /// The number of contents octets that its header announces.
     pub announced_length: u64,
     /// The number of octets of the value in the segments so far. It stops at 1001.
-    pub value_length: u64,
+    pub value_length: u16,
     /// Whether it is primitive: a string that holds encodings.
     pub is_primitive: bool,
     /// Whether it is a constructed string, which holds segments.
     pub has_segments: bool,
-    /// Whether it is a constructed BIT STRING.
-    pub is_bit_string: bool,
     /// Whether it is constructed, and its type has components.
     pub has_components: bool,
+    /// Whether it is a constructed BIT STRING.
+    pub is_bit_string: bool,
     /// Whether it is an EXTERNAL.
     pub is_external: bool,
     /// Whether its type has components, and it holds none so far.
@@ -85,7 +85,9 @@ pub(crate) fn set_frame_after(
     frame.last_has_unused_bits = has_unused_bits;
     frame.last_is_not_full = !(is_primitive && announced_length == 1000);
     frame.all_primitive = frame.all_primitive && is_primitive;
-    frame.value_length = frame.value_length.saturating_add(length).min(1001);
+    frame.value_length = u64::from(frame.value_length)
+        .saturating_add(length)
+        .min(1001) as u16;
     frame.ends_empty = is_primitive && announced_length == 0;
 }
 

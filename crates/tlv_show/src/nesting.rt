@@ -162,7 +162,7 @@ impl Nesting {
 fn has_frame(frame: &HolderFrame, header: &Header) -> bool
     ensures { result ≡ has_frame frame.now header.now }
 {
-    frame.has_segments || frame.has_components || has_segments(header) || has_components(header)
+    (frame.has_segments | frame.has_components) || has_segments(header) || has_components(header)
 }
 
 /// An element that has a frame ends: the frame around it is the innermost one again, and keeps what
