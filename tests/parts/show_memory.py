@@ -27,8 +27,8 @@ TAKEN += ["many.der", "--offsets many.der", "--check many.der a.der", "a.der man
 TAKEN += ["chain.pem", "--raw chain.pem a.der", "--check base64 a.der", "--as hex digits", "--offset 4 --as dump dump"]
 TAKEN += ["--raw --as runs runs"]
 # Command lines that give reasons, after messages or as output, for a broken string or a fault.
-EXPLAINED = ["", "--check --rules der", "many.der -", "cut", "--check cut a.der", "--offsets cut", "--offset 4 cut", "--why a.der"]
-EXPLAINED += ["--why cut"]
+EXPLAINED = ["", "--check --rules der", "many.der -", "damaged", "--check damaged a.der", "--offsets damaged"]
+EXPLAINED += ["--offset 4 damaged", "--why a.der", "--why damaged"]
 TAKEN += [text for text in EXPLAINED if text not in TAKEN]
 FILES = {
     "a.der": OCTETS,
@@ -39,8 +39,8 @@ FILES = {
     "dump": b"".join(b"%04x: %s\n" % (at, OCTETS[at : at + 16].hex(" ").encode()) for at in range(0, len(OCTETS), 16)),
     "runs": b"name:: " + base64.b64encode(OCTETS * 3) + b"\nother:: " + base64.b64encode(OCTETS * 2) + b"\n",
     "names": b"2.5.4.3 commonName\n",
-    # An input that lacks one octet, and that could be a damaged text.
-    "cut": bytes.fromhex("0402 0500 3009 0c02c3a9 04020d0a"),
+    # An input in which one length is wrong, and that could be a damaged text.
+    "damaged": bytes.fromhex("0402 0500 3008 0c03c3a9 04020d0a"),
 }
 PRINTED = ["--help", "--version", "--limit", "--check --pure"]
 # Command lines for which `clap` looks for similar words.
