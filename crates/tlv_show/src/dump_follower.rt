@@ -2,7 +2,7 @@
 ghost use Rattle.std.specs.Prelude.{◌≡◌, ◌≤◌, length, refl};
 ghost use Rattle.tlv_head.specs.Header.{octets_of};
 ghost use Rattle.tlv_walk.proofs.FollowerLemmas.FollowedEvents.{each_octet-goes_on, each_octet-joins};
-ghost use Rattle.tlv_walk.specs.Events.{Begin, Bytes, Close, End, Enter, event_value_of};
+ghost use Rattle.tlv_walk.specs.Events.{Begin, Bytes, Close, End, Enter, Open, event_value_of};
 ghost use Rattle.tlv_walk.specs.Follow.{HasEffect};
 ghost use Rattle.tlv_show.specs.DumpStep.{dump_octet_step, dump_padding_step, dump_step, findings_before, level_in};
 ghost use Rattle.tlv_show.specs.DumpStep.{new_dump, new_dump_with};
@@ -183,7 +183,7 @@ impl<N: FiniteNames, const TRACKED: usize> Dump<'_, N, TRACKED> {
             out.old out.new self.new result }
     {
         match event {
-            Event::Open(header) => self.open(header, header.raw(), b" {", out),
+            Event::Open(header) => self.open_holder(header, out),
             Event::Enter(header) => self.open_wrapper(header, out),
             Event::Begin(header) => self.begin(header, out),
             Event::Bytes(octets) => self.bytes(octets, out),
@@ -221,6 +221,20 @@ impl<N: FiniteNames, const TRACKED: usize> Dump<'_, N, TRACKED> {
         self.lines.open(level, header, word, out)
     }
 
+    /// A constructed element begins whose header is not read at once. Separate: with it [`Dump::put_lines`] would be too
+    /// large to be inlined.
+    #[inline(never)]
+    fn open_holder<D: Drain>(
+        &mut self,
+        header: &Header,
+        out: &mut Out<'_, D>,
+    ) -> Result<(), WriteFault>
+        ensures { HasEffect D.state (dump_step self.old (Open header.now))
+            out.old out.new self.new result }
+    {
+        self.open(header, header.raw(), b" {", out)
+    }
+
     /// A string that holds encodings begins. Separate: with it [`Dump::put_lines`] would be too large to be inlined.
     #[inline(never)]
     fn open_wrapper<D: Drain>(
@@ -246,8 +260,9 @@ impl<N: FiniteNames, const TRACKED: usize> Dump<'_, N, TRACKED> {
         self.lines.begin(self.finder.level(), header, out)
     }
 
-    /// Contents of a primitive go on.
-    #[inline]
+    /// Contents of a primitive go on. Separate, as `end` is: with them [`Dump::put_lines`] would be too large to be
+    /// inlined.
+    #[inline(never)]
     fn bytes<D: Drain>(&mut self, octets: &[u8], out: &mut Out<'_, D>) -> Result<(), WriteFault>
         ensures { HasEffect D.state (dump_step self.old (Bytes octets.now))
             out.old out.new self.new result }
@@ -257,7 +272,7 @@ impl<N: FiniteNames, const TRACKED: usize> Dump<'_, N, TRACKED> {
     }
 
     /// A primitive ends.
-    #[inline]
+    #[inline(never)]
     fn end<D: Drain>(&mut self, out: &mut Out<'_, D>) -> Result<(), WriteFault>
         ensures { HasEffect D.state (dump_step self.old End) out.old out.new self.new result }
     {

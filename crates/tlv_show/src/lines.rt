@@ -230,6 +230,7 @@ impl<'n, N: FiniteNames> Lines<'n, N> {
     }
 
     /// Padding goes on. A run of it has one line, which comes with its first octet.
+    #[inline(never)]
     pub fn pad<D: Drain>(
         &mut self,
         level: u8,
