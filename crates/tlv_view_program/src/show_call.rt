@@ -10,11 +10,10 @@ use crate::files::show_files;
 use crate::names::table_for;
 use crate::streams::{Output, Streams};
 use std::alloc::Global;
-use tlv_program::{NoWords, System};
+use tlv_program::{NoWords, System, Words, not_utf8_report, unprinted_report};
 use tlv_run::{Report, names_report, write_message};
 use tlv_view_words::{FileNames, Request, RequestFault, request_of, request_report};
 use tlv_walk::{Drain, Source};
-use tlv_words::{Words, not_utf8_report, unprinted_report};
 
 /// Runs the program on the words of its command line. The first word is the program's name. Reads the names of
 /// object identifiers from the file that the words name, or else from the first of these places that opens. Returns the

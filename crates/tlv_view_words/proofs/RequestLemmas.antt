@@ -6,7 +6,7 @@ use Rattle.clap.specs.Words.{Row, Text, is_simple, kind_of, matches_of, takes}
 use Rattle.clap.specs.declared.error.Error.{Error}
 use Rattle.clap.specs.declared.error.kind.ErrorKind.TheVariants.{OutOfMemory}
 use Rattle.clap.proofs.OnLiterals.{clap_on_literals}
-use Rattle.tlv_words.proofs.CommandLemmas.{refused_by}
+use Rattle.tlv_program.proofs.CommandLemmas.{refused_by}
 use Rattle.tlv_view_words.specs.Private.RequestOf.{IsParserFault, ReturnsAsked}
 use Rattle.tlv_view_words.specs.RequestOf.{AreAskedAs, IsRequestFaultOf, matched_request}
 use Rattle.tlv_view_words.specs.ShowCommandLine.{show_app}

@@ -3,7 +3,7 @@ use Rattle.std.specs.Prelude.{Bool, List, [], ◌∷◌, Option, Some, None, ◌
 use Rattle.std.specs.Prelude.{length, nat_lt, not, option_and_then, option_map, unwrap_or}
 use Rattle.std.specs.Option.{option_or}
 use Rattle.clap.specs.Words.{Row, Text, all_of, first_of}
-use Rattle.tlv_words.specs.Matches.{has_flag}
+use Rattle.tlv_program.specs.Matches.{has_flag}
 use Rattle.tlv_view_words.specs.declared.refusal.Refusal.{Refusal}
 use Rattle.tlv_view_words.specs.declared.refusal.Refusal.TheVariants.{ContentsAlone, NotWith, SeveralFiles}
 use Rattle.tlv_view_words.specs.declared.refusal.ShowOption.{ShowOption}

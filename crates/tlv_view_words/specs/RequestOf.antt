@@ -3,9 +3,9 @@ use Rattle.std.specs.Prelude.{◌≡◌, List, [], Option, Some, None, Result, O
 use Rattle.clap.specs.Faults.{fault_of}
 use Rattle.clap.specs.Words.{Row, Text, first_of, matches_of}
 use Rattle.tlv_show.specs.declared.rules.Rules.TheVariants.{Ber, Der}
-use Rattle.tlv_words.specs.CommandOf.{AreRefusedBy, with_value}
-use Rattle.tlv_words.specs.Matches.{has_flag}
-use Rattle.tlv_words.specs.Values.{limit_value, offset_value, rules_value}
+use Rattle.tlv_program.specs.CommandOf.{AreRefusedBy, with_value}
+use Rattle.tlv_program.specs.Matches.{has_flag}
+use Rattle.tlv_program.specs.Values.{limit_value, offset_value, rules_value}
 use Rattle.tlv_view_words.specs.FormValue.{form_value}
 use Rattle.tlv_view_words.specs.OptionsTogether.{given_files, is_option_given, refused_together}
 use Rattle.tlv_view_words.specs.ShowCommandLine.{show_app}

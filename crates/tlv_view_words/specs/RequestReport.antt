@@ -2,7 +2,7 @@
 use Rattle.std.specs.Prelude.{[], ◌++◌, codes}
 use Rattle.clap.specs.Words.{Text, kind_of}
 use Rattle.tlv_run.specs.Report.{ReportValue, report_with}
-use Rattle.tlv_words.specs.Usage.{status_of_kind}
+use Rattle.tlv_program.specs.Usage.{status_of_kind}
 use Rattle.tlv_view_words.specs.declared.refusal.Refusal.{Refusal}
 use Rattle.tlv_view_words.specs.declared.refusal.Refusal.TheVariants.{ContentsAlone, FormValue, LimitValue, NotWith}
 use Rattle.tlv_view_words.specs.declared.refusal.Refusal.TheVariants.{OffsetValue, RulesValue, SeveralFiles}

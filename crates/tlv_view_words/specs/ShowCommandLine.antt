@@ -4,7 +4,7 @@ use Rattle.std.specs.Prelude.{List, [], ◌∷◌, ◌++◌, Some, codes, true}
 use Rattle.clap.specs.Words.{App, Rule}
 use Rattle.clap.specs.Simple.{new_rule, new_shape}
 use Rattle.clap.specs.declared.builder.action.ArgAction.TheVariants.{Append}
-use Rattle.tlv_words.specs.CommandLine.{flag, help_flag, option, version_flag}
+use Rattle.tlv_program.specs.CommandLine.{flag, help_flag, option, version_flag}
 
 -- `[FILE]...`: any number of files, with or without options between them
 abbrev pub any_files : Rule

@@ -1,14 +1,14 @@
 //! What is read from the matches that `clap` makes of words.
 ghost use Rattle.std.specs.Prelude.{◌≡◌, IfOk, codes, map, option_map};
 ghost use Rattle.clap.specs.Words.{all_of};
-ghost use Rattle.tlv_words.specs.Matches.{matched_rows};
+ghost use Rattle.tlv_program.specs.Matches.{matched_rows};
 ghost use Rattle.tlv_view_words.specs.OptionsTogether.{given_files, is_option_given};
 
 use crate::file_names::FileNames;
 use crate::refusal::ShowOption;
 use clap::ArgMatches;
 use std::alloc::{AllocError, Global};
-use tlv_words::{first_of, has_flag};
+use tlv_program::{first_of, has_flag};
 
 /// Whether the option was given.
 pub(crate) fn is_given(matches: &ArgMatches<'_>, option: ShowOption) -> bool

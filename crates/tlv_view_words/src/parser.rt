@@ -1,11 +1,11 @@
 //! The parser of the command line, with the texts of its help.
 ghost use Rattle.std.specs.Prelude.{IfOk, []};
-ghost use Rattle.tlv_words.specs.Parsers.{IsArgumentOf, IsParserOf};
+ghost use Rattle.tlv_program.specs.Parsers.{IsArgumentOf, IsParserOf};
 ghost use Rattle.tlv_view_words.specs.ShowCommandLine.{any_files, asking_arguments, show_app, show_app_with};
 
 use clap::{Arg, ArgAction, Command};
 use std::alloc::{AllocError, Global};
-use tlv_words::{VERSION, flag, help_flag, option, version_flag};
+use tlv_program::{VERSION, flag, help_flag, option, version_flag};
 
 mod help;
 

@@ -1,6 +1,6 @@
 //! What the words of a command line ask for.
 ghost use Rattle.std.specs.Prelude.{IfErr, IfOk, Ok};
-ghost use Rattle.tlv_words.specs.Matches.{matched_rows};
+ghost use Rattle.tlv_program.specs.Matches.{matched_rows};
 ghost use Rattle.tlv_view_words.specs.Private.RequestOf.{IsParserFault, ReturnsAsked};
 ghost use Rattle.tlv_view_words.specs.RequestOf.{AreAskedAs, IsRequestFaultOf, matched_request, wanted_check};
 ghost use Rattle.tlv_view_words.specs.RequestOf.{wanted_dump, wanted_extract, wanted_of};
@@ -14,8 +14,8 @@ use crate::together::refused_together;
 use clap::ArgMatches;
 use clap::error::ErrorKind;
 use std::alloc::Global;
+use tlv_program::{Words, first_of, has_flag, limit_value, offset_value, owned_text, rules_value};
 use tlv_show::Rules;
-use tlv_words::{Words, first_of, has_flag, limit_value, offset_value, owned_text, rules_value};
 
 /// What the words ask for.
 ///

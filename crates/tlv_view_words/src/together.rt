@@ -1,6 +1,6 @@
 //! Which options go together.
 ghost use Rattle.std.specs.Prelude.{◌≡◌};
-ghost use Rattle.tlv_words.specs.Matches.{matched_rows};
+ghost use Rattle.tlv_program.specs.Matches.{matched_rows};
 ghost use Rattle.tlv_view_words.specs.OptionsTogether.{apart_from, first_given, refused_apart, refused_contents};
 ghost use Rattle.tlv_view_words.specs.OptionsTogether.{refused_files, refused_together};
 

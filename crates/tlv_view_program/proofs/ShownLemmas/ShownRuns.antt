@@ -7,7 +7,7 @@ use Rattle.tlv_value.specs.Names.{NamesValue}
 use Rattle.tlv_run.specs.Report.{message_line}
 use Rattle.tlv_view.specs.ReadWhole.{input_report}
 use Rattle.tlv_view.specs.declared.input.InputFault.TheVariants as input
-use Rattle.tlv_words.specs.Usage.{not_utf8_report}
+use Rattle.tlv_program.specs.Usage.{not_utf8_report}
 use Rattle.tlv_view_words.specs.RequestReport.{request_report}
 use Rattle.tlv_view_words.specs.declared.refusal.RequestFault.TheVariants as fault
 use Rattle.tlv_view_words.specs.declared.request.Request.{Request}

@@ -8,7 +8,7 @@ use Rattle.tlv_value.specs.declared.names.fault.NamesFault.TheVariants as names
 use Rattle.tlv_run.specs.Report.{message_line, names_report}
 use Rattle.tlv_why.specs.Laws.{AreShown}
 use Rattle.tlv_why.proofs.ShownLemmas.ShownWords.{decimal-shown}
-use Rattle.tlv_words.specs.Usage.{unprinted_report}
+use Rattle.tlv_program.specs.Usage.{unprinted_report}
 use Rattle.tlv_view_words.specs.RequestReport.{option_spelling, refusal_message, request_report}
 use Rattle.tlv_view_words.specs.declared.refusal.Refusal.{Refusal}
 use Rattle.tlv_view_words.specs.declared.refusal.Refusal.TheVariants.{ContentsAlone, FormValue, LimitValue, NotWith}

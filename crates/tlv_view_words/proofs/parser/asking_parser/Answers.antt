@@ -1,5 +1,5 @@
 use Rattle.std.proofs.lemmas.Result.{IfOk-weaker}
-use Rattle.tlv_words.proofs.ParserLemmas.{one_more}
+use Rattle.tlv_program.proofs.ParserLemmas.{one_more}
 use Rattle.tlv_view_words.proofs.parser.asking_parser.Goals as goal
 
 pub returns : goal.returns

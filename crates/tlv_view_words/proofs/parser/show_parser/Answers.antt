@@ -1,5 +1,5 @@
 use Rattle.std.proofs.lemmas.Result.{IfOk-weaker}
-use Rattle.tlv_words.proofs.ParserLemmas.{one_more}
+use Rattle.tlv_program.proofs.ParserLemmas.{one_more}
 use Rattle.tlv_view_words.specs.ShowCommandLine.{show_app}
 use Rattle.tlv_view_words.proofs.parser.show_parser.Goals as goal
 

@@ -1,5 +1,5 @@
 use Rattle.std.proofs.Common.{◌≡◌, drop, find}
-use Rattle.tlv_words.specs.Matches.{matched_rows}
+use Rattle.tlv_program.specs.Matches.{matched_rows}
 use Rattle.tlv_view_words.specs.OptionsTogether.{is_option_given}
 use Rattle.tlv_view_words.proofs.together.first_given.Given as goal
 
