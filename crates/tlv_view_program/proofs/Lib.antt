@@ -4,3 +4,4 @@ pub mod InputBlockLemmas
 pub mod NamedOffsets
 pub mod ReasonSteps
 pub mod ShownLemmas
+pub mod ReadsSoFar

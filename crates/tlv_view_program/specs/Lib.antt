@@ -8,3 +8,6 @@ pub mod ShowsBlock
 pub mod ShowsAll
 pub mod ShownLines
 pub mod Private
+pub mod Views
+pub mod Offsets
+pub mod ReadWhole

@@ -12,8 +12,8 @@ use Rattle.tlv_forms.specs.Taken.{TakenValue}
 use Rattle.tlv_forms.specs.declared.taken.TakenFor.{TakenFor}
 use Rattle.tlv_forms.specs.declared.taken.TakenFor.TheVariants.{Octets, OtherText, Text}
 use Rattle.tlv_run.specs.Report.{ReportValue, report_with, unopened_report}
-use Rattle.tlv_view.specs.ReadWhole.{input_report}
-use Rattle.tlv_view.specs.declared.input.InputFault.TheVariants as input
+use Rattle.tlv_view_program.specs.ReadWhole.{input_report}
+use Rattle.tlv_view_program.specs.declared.input.InputFault.TheVariants as input
 use Rattle.tlv_program.specs.declared.system.OpenFault.{OpenFault}
 use Rattle.tlv_program.specs.declared.system.OpenFault.TheVariants.{Missing, Denied, Other}
 use Rattle.tlv_view_program.specs.Lines.{MessagePlace, place_words}

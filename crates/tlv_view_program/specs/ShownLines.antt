@@ -11,8 +11,8 @@ use Rattle.tlv_open.specs.declared.strings.BrokenString.{BrokenString}
 use Rattle.tlv_text.specs.declared.text_fault.TextFault.{TextFault}
 use Rattle.tlv_forms.specs.Taken.{TakenValue}
 use Rattle.tlv_run.specs.Report.{ReportValue}
-use Rattle.tlv_view.specs.Views.{Views}
-use Rattle.tlv_view.specs.declared.view_call.View.TheVariants as view
+use Rattle.tlv_view_program.specs.Views.{Views}
+use Rattle.tlv_view_program.specs.declared.view_call.View.TheVariants as view
 use Rattle.tlv_why.specs.Laws.{AreShown}
 use Rattle.tlv_program.specs.System.{Allows}
 use Rattle.tlv_program.specs.declared.program.NoWords.{NoWords}

@@ -10,8 +10,8 @@ use Rattle.tlv_value.specs.NamesReading.{ReadsFrom}
 use Rattle.tlv_value.specs.declared.names.fault.NamesFault.{NamesFault}
 use Rattle.tlv_value.specs.declared.names.fault.NamesFault.TheVariants as names
 use Rattle.tlv_run.specs.Report.{ReportValue, WritesMessage, message_line, names_report}
-use Rattle.tlv_view.specs.ReadWhole.{input_report}
-use Rattle.tlv_view.specs.declared.input.InputFault.TheVariants as input
+use Rattle.tlv_view_program.specs.ReadWhole.{input_report}
+use Rattle.tlv_view_program.specs.declared.input.InputFault.TheVariants as input
 use Rattle.tlv_program.specs.Usage.{not_utf8_report, status_of_kind, unprinted_report}
 use Rattle.tlv_view_words.specs.RequestOf.{AreAskedAs, IsRequestFaultOf}
 use Rattle.tlv_view_words.specs.RequestReport.{request_report}

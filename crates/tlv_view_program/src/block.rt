@@ -22,6 +22,7 @@ use crate::notes::block_label;
 use crate::octets::show_octets;
 use crate::reasons::write_explained;
 use crate::streams::{Output, Streams};
+use crate::view_call::Viewed;
 use crate::wanted::has_titles;
 use arrayvec::ArrayVec;
 use std::alloc::{AllocError, Global};
@@ -30,7 +31,6 @@ use tlv_program::System;
 use tlv_run::{Report, device_report};
 use tlv_text::{Block, BlockState};
 use tlv_value::Names;
-use tlv_view::Viewed;
 use tlv_view_words::{Request, Wanted};
 use tlv_walk::{DeviceFault, Drain, Source, WriteFault};
 

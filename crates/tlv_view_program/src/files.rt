@@ -10,6 +10,7 @@ ghost use Rattle.tlv_view_program.specs.ShowsAll.{ShowsBlocks, ShowsFiles, file_
 ghost use Rattle.tlv_view_program.specs.Streams.{streams_value};
 
 use crate::block::{BlockResult, Task};
+use crate::input::{InputFault, input_report};
 use crate::input_blocks::{
     Contents, FileBlocks, InputBlock, NoBlocks, block_count, blocks_of_files, file_block_count,
 };
@@ -19,7 +20,6 @@ use tlv_forms::Taken;
 use tlv_program::System;
 use tlv_run::write_message;
 use tlv_value::Names;
-use tlv_view::{InputFault, input_report};
 use tlv_view_words::Request;
 use tlv_walk::{Drain, Source};
 

@@ -13,6 +13,7 @@ ghost use Rattle.tlv_view_program.specs.ShowsAll.{files_of_words};
 ghost use Rattle.tlv_view_program.specs.Streams.{streams_value};
 
 use crate::files::file_of_word;
+use crate::input::{InputFault, input_report, read_whole};
 use crate::notes::{open_report, text_report};
 use crate::streams::{Output, Streams};
 use std::alloc::{AllocError, Global};
@@ -20,7 +21,6 @@ use tlv_forms::{Taken, take_as, take_input, take_octets};
 use tlv_program::{OpenFault, System};
 use tlv_run::Report;
 use tlv_text::TextFault;
-use tlv_view::{InputFault, input_report, read_whole};
 use tlv_view_words::{InputForm, Request};
 use tlv_walk::{Drain, Source};
 

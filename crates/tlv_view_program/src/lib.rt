@@ -1,11 +1,12 @@
 //! What `tlvdump-show` does, from the words of its command line to its status, over any system that opens files and
-//! prints.
+//! prints; a view of octets in memory, with the strings opened that hold encodings; and a whole input in memory.
 #![tactic(auto)]
 
 mod after_messages;
 mod block;
 mod explain;
 mod files;
+mod input;
 mod input_blocks;
 pub mod laws;
 mod line_out;
@@ -13,11 +14,16 @@ mod lines;
 mod names;
 mod notes;
 mod octets;
+mod offsets;
 mod reasons;
 mod show_call;
 mod silent;
 mod streams;
+mod view_call;
 mod wanted;
 
+pub use input::{InputFault, WHOLE_LIMIT, input_report, read_whole};
+pub use offsets::write_offsets;
 pub use show_call::run_show;
 pub use streams::{Output, Streams};
+pub use view_call::{View, Viewed, view_octets};

@@ -8,6 +8,7 @@ ghost use Rattle.tlv_view_program.specs.Notes.{layer_words, other_text_note, run
 ghost use Rattle.tlv_view_program.specs.Notes.{has_note, name_by, open_report, text_report};
 ghost use Rattle.tlv_view_program.specs.Private.LineOut.{PutsLine};
 
+use crate::input::{InputFault, input_report};
 use crate::line_out::LineOut;
 use arrayvec::ArrayVec;
 use itoa::Buffer;
@@ -15,7 +16,6 @@ use tlv_forms::{Taken, TakenFor};
 use tlv_program::OpenFault;
 use tlv_run::{Report, unopened_report};
 use tlv_text::{Block, BlockState, Form, TextFault};
-use tlv_view::{InputFault, input_report};
 use tlv_walk::{Drain, WriteFault};
 
 /// The report if a file does not open, with the cause if it is a usual one.

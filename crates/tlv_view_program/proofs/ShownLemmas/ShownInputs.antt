@@ -8,7 +8,7 @@ use Rattle.tlv_io.specs.Device.{DrainState}
 use Rattle.tlv_text.specs.declared.text_fault.TextFault.{TextFault}
 use Rattle.tlv_forms.specs.Taken.{TakenValue}
 use Rattle.tlv_run.specs.Report.{ReportValue}
-use Rattle.tlv_view.specs.declared.input.InputFault.{InputFault}
+use Rattle.tlv_view_program.specs.declared.input.InputFault.{InputFault}
 use Rattle.tlv_view_words.specs.declared.request.InputForm.{InputForm}
 use Rattle.tlv_program.specs.System.{Allows}
 use Rattle.tlv_program.specs.declared.system.OpenFault.{OpenFault}

@@ -10,9 +10,9 @@ use Rattle.tlv_walk.specs.Reading.{AreOctets}
 use Rattle.tlv_value.specs.Names.{NamesValue}
 use Rattle.tlv_open.specs.declared.strings.BrokenString.{BrokenString}
 use Rattle.tlv_run.specs.Report.{ReportValue}
-use Rattle.tlv_view.specs.Offsets.{offsets_line}
-use Rattle.tlv_view.specs.Views.{Views}
-use Rattle.tlv_view.specs.declared.view_call.View.{View}
+use Rattle.tlv_view_program.specs.Offsets.{offsets_line}
+use Rattle.tlv_view_program.specs.Views.{Views}
+use Rattle.tlv_view_program.specs.declared.view_call.View.{View}
 use Rattle.tlv_view_words.specs.declared.request.Request.{Request}
 use Rattle.tlv_view_words.specs.declared.request.Wanted.{Wanted}
 use Rattle.tlv_view_words.specs.declared.request.Wanted.TheVariants.{Check, Dump, Extract, Offsets, Raw, Why}

@@ -5,8 +5,8 @@ use Rattle.std.specs.List.{All}
 use Rattle.std.proofs.lemmas.List.Elements.{All-head, All-tail}
 use Rattle.tlv_value.specs.Names.{NamesValue}
 use Rattle.tlv_run.specs.Report.{message_line}
-use Rattle.tlv_view.specs.ReadWhole.{input_report}
-use Rattle.tlv_view.specs.declared.input.InputFault.TheVariants as input
+use Rattle.tlv_view_program.specs.ReadWhole.{input_report}
+use Rattle.tlv_view_program.specs.declared.input.InputFault.TheVariants as input
 use Rattle.tlv_program.specs.Usage.{not_utf8_report}
 use Rattle.tlv_view_words.specs.RequestReport.{request_report}
 use Rattle.tlv_view_words.specs.declared.refusal.RequestFault.TheVariants as fault

@@ -7,7 +7,7 @@ use Rattle.tlv_walk.proofs.GrammarLemmas.Readings.{is-reading, reading}
 use Rattle.tlv_open.specs.Laws.{OpeningIsSafe, opened_framing}
 use Rattle.tlv_open.specs.Opens.{AreOpened, closed_framing}
 use Rattle.tlv_open.proofs.FinderLemmas.Inputs.{octets-fit}
-use Rattle.tlv_view.proofs.view_call.strings_unless.Goals as goal
+use Rattle.tlv_view_program.proofs.view_call.strings_unless.Goals as goal
 
 -- the offsets of the strings that are opened rise
 rising : OpeningIsSafe → (padding : Bool) (octets offsets : List ℕ) → AreOctets octets → length octets ≤ input_limit

@@ -5,7 +5,7 @@ ghost use Rattle.tlv_walk.specs.Inside.{are_rising};
 ghost use Rattle.tlv_walk.specs.Job.{device_states};
 ghost use Rattle.tlv_run.specs.Report.{report_value_of};
 ghost use Rattle.tlv_run.specs.RunsAndReports.{RunsAndReports};
-ghost use Rattle.tlv_view.specs.Views.{AreBrokenUnless, AreOpenedUnless, Views, job_of_view};
+ghost use Rattle.tlv_view_program.specs.Views.{AreBrokenUnless, AreOpenedUnless, Views, job_of_view};
 
 use std::alloc::{AllocError, Global};
 use tlv_open::{BrokenString, Strings, laws, strings_of};

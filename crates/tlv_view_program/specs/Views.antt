@@ -17,8 +17,8 @@ use Rattle.tlv_run.specs.Report.{ReportValue, outcome_report}
 use Rattle.tlv_run.specs.Results.{command_job, job_with_report}
 use Rattle.tlv_run.specs.RunsAndReports.{RunsAndReports}
 use Rattle.tlv_run.specs.declared.command.Command.TheVariants as command
-use Rattle.tlv_view.specs.declared.view_call.View.{View}
-use Rattle.tlv_view.specs.declared.view_call.View.TheVariants.{Dump, Check, Extract}
+use Rattle.tlv_view_program.specs.declared.view_call.View.{View}
+use Rattle.tlv_view_program.specs.declared.view_call.View.TheVariants.{Dump, Check, Extract}
 
 -- the options of a dump
 abbrev pub dump_options : Rules → Option ℕ → Bool → Framing → Options

@@ -1,7 +1,7 @@
 use Rattle.std.proofs.Common.{rules, arith, refl}
 use Rattle.tlv_io.proofs.Pieces.{no_pieces_so_far}
-use Rattle.tlv_view.proofs.ReadsSoFar.{whole-ended, whole-failed, whole-more, whole-no_memory, whole-too_long}
-use Rattle.tlv_view.proofs.input.read_whole.Goals as goal
+use Rattle.tlv_view_program.proofs.ReadsSoFar.{whole-ended, whole-failed, whole-more, whole-no_memory, whole-too_long}
+use Rattle.tlv_view_program.proofs.input.read_whole.Goals as goal
 
 pub loop-count-init : goal.loop-count-init
 loop-count-init g c = record {

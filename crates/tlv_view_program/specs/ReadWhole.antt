@@ -5,8 +5,8 @@ use Rattle.std.specs.Io.KnownBytes.{IsAtEnd}
 use Rattle.tlv_io.specs.Device.{Pieces, SourceState, failed, gave, next_count, octets_given}
 use Rattle.tlv_walk.specs.declared.run.DeviceFault.TheVariants as device
 use Rattle.tlv_run.specs.Report.{ReportValue, device_report, report_with}
-use Rattle.tlv_view.specs.declared.input.InputFault.{InputFault}
-use Rattle.tlv_view.specs.declared.input.InputFault.TheVariants.{ReadFailed, TooLong, Memory}
+use Rattle.tlv_view_program.specs.declared.input.InputFault.{InputFault}
+use Rattle.tlv_view_program.specs.declared.input.InputFault.TheVariants.{ReadFailed, TooLong, Memory}
 
 -- the maximum number of octets of an input that is read into memory: 2^32
 abbrev pub whole_limit : ℕ

@@ -1,7 +1,7 @@
 use Rattle.std.proofs.Common.{◌≡◌, ◌++◌, ℕ, List, drop}
 use Rattle.tlv_io.proofs.Puts.{HasPut}
-use Rattle.tlv_view.specs.Offsets.{offsets_line}
-use Rattle.tlv_view.proofs.offsets.put_offsets.Given as goal
+use Rattle.tlv_view_program.specs.Offsets.{offsets_line}
+use Rattle.tlv_view_program.proofs.offsets.put_offsets.Given as goal
 
 abbrev pub invariant-loop-i : goal.invariant-loop-i
 invariant-loop-i g l = record {

@@ -2,7 +2,7 @@
 ghost use Rattle.std.specs.Prelude.{◌≡◌, ◌≤◌, IfOk, length};
 ghost use Rattle.std.specs.Result.{result_map_both};
 ghost use Rattle.tlv_run.specs.Report.{report_value_of};
-ghost use Rattle.tlv_view.specs.ReadWhole.{ReadsWhole, input_report, whole_limit};
+ghost use Rattle.tlv_view_program.specs.ReadWhole.{ReadsWhole, input_report, whole_limit};
 
 use std::alloc::Allocator;
 use tlv_run::{Report, device_report};

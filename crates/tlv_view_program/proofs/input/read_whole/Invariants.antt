@@ -1,7 +1,7 @@
 use Rattle.std.proofs.Common.{◌≡◌, ◌-◌, ◌≤◌, length}
 use Rattle.tlv_value.proofs.NamesLemmas.Reads.{OctetsSoFar}
-use Rattle.tlv_view.specs.ReadWhole.{whole_limit}
-use Rattle.tlv_view.proofs.input.read_whole.Given as goal
+use Rattle.tlv_view_program.specs.ReadWhole.{whole_limit}
+use Rattle.tlv_view_program.proofs.input.read_whole.Given as goal
 
 abbrev pub invariant-loop-count : goal.invariant-loop-count
 invariant-loop-count g l = record {

@@ -1,7 +1,7 @@
 //! A list of offsets, as the option `--inside` takes it.
 ghost use Rattle.std.specs.Prelude.{◌≡◌};
 ghost use Rattle.tlv_io.specs.Out.{Puts, Sends};
-ghost use Rattle.tlv_view.specs.Offsets.{listed_offset, offsets_line};
+ghost use Rattle.tlv_view_program.specs.Offsets.{listed_offset, offsets_line};
 
 use arrayvec::ArrayVec;
 use itoa::Buffer;

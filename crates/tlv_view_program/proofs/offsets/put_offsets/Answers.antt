@@ -4,8 +4,8 @@ use Rattle.std.specs.Prelude.{◌==◌}
 use Rattle.std.proofs.lemmas.List.{length-drop, length-take}
 use Rattle.std.proofs.Math.Seq.{drop-cons}
 use Rattle.tlv_io.proofs.Puts.{puts_as, puts_failed_in, puts_then}
-use Rattle.tlv_view.specs.Offsets.{listed_offset, offsets_line}
-use Rattle.tlv_view.proofs.offsets.put_offsets.Goals as goal
+use Rattle.tlv_view_program.specs.Offsets.{listed_offset, offsets_line}
+use Rattle.tlv_view_program.proofs.offsets.put_offsets.Goals as goal
 
 -- nothing is left in the slice after so many exactly if there are no more
 last-is : (xs : List ℕ) (k : ℕ) (b : Bool) → b ≡ (length (take (length xs - k) (drop k xs)) == 0)

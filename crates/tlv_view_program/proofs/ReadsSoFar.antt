@@ -9,8 +9,8 @@ use Rattle.tlv_io.specs.declared.source.ReadFault.{ReadFault}
 use Rattle.tlv_io.specs.Device.{Pieces, ReadsOnce, SourceState, gave, next_count}
 use Rattle.tlv_io.proofs.Pieces.{pieces_so_far_more, pieces_all, together_more}
 use Rattle.tlv_value.proofs.NamesLemmas.Reads.{OctetsSoFar}
-use Rattle.tlv_view.specs.ReadWhole.{ReadsWhole, whole_limit}
-use Rattle.tlv_view.specs.declared.input.InputFault.TheVariants.{ReadFailed, TooLong, Memory}
+use Rattle.tlv_view_program.specs.ReadWhole.{ReadsWhole, whole_limit}
+use Rattle.tlv_view_program.specs.declared.input.InputFault.TheVariants.{ReadFailed, TooLong, Memory}
 
 module _ (old middle new : SourceState) (octets : List ℕ) (x : OctetsSoFar old middle octets)
     (most : length octets ≤ whole_limit) (failures : middle.failures ≡ old.failures) (piece : List ℕ)
