@@ -122,5 +122,5 @@ open_report Other = unopened_report
 -- the report if the blocks of an input cannot be obtained
 abbrev pub text_report : TextFault → ReportValue
 text_report text.TooLong =
-    report_with 4 (codes "X4 text of more than 1073741824 octets, or of 16777216 more octets than characters")
+    report_with 4 (codes "X4 texts of more than 1073741824 octets in all, or one of 16777216 more octets than characters")
 text_report text.Memory = input_report input.Memory

@@ -25,7 +25,7 @@ use Rattle.tlv_program.specs.declared.program.NoWords.{NoWords}
 use Rattle.tlv_program.specs.declared.system.OpenFault.{OpenFault}
 use Rattle.tlv_program.specs.declared.program.NoWords.TheVariants.{NotUtf8, Memory}
 use Rattle.tlv_view_program.specs.Lines.{input_note, no_names_note}
-use Rattle.tlv_view_program.specs.InputBlocks.{GetsAllBlocks, InputBlockValue}
+use Rattle.tlv_view_program.specs.InputBlocks.{GetsAllBlocks, InputBlockValue, run_limit}
 use Rattle.tlv_view_program.specs.ShowsBlock.{BlockPlace, ShowsBlock}
 use Rattle.tlv_view_program.specs.Streams.{StreamsValue}
 
@@ -135,11 +135,11 @@ module _ {S : Type 0} (allows : Allows S) where
       (old new : StreamsValue S)
       : ℕ → Type 0 where
     had : (had : StreamsValue S) (blocks : List InputBlockValue) (status : ℕ)
-        → GetsAllBlocks allows request.form files old had (Some blocks)
+        → GetsAllBlocks allows request.form run_limit files old had (Some blocks)
         → ShowsBlocks request table (places_of files blocks) 1 blocks had new status
         → ShowsFiles request table files old new status
     -- memory for the blocks is refused, and nothing is shown
-    not_had : (had : StreamsValue S) → GetsAllBlocks allows request.form files old had None
+    not_had : (had : StreamsValue S) → GetsAllBlocks allows request.form run_limit files old had None
         → IsSaid (input_report input.Memory).message had new
         → ShowsFiles request table files old new (input_report input.Memory).status
 

@@ -36,7 +36,7 @@ pub(crate) fn text_report(fault: TextFault) -> Report
     match fault {
         TextFault::TooLong => Report::with_message(
             4,
-            b"X4 text of more than 1073741824 octets, or of 16777216 more octets than characters",
+            b"X4 texts of more than 1073741824 octets in all, or one of 16777216 more octets than characters",
         ),
         TextFault::Memory => input_report(InputFault::Memory),
     }
