@@ -102,7 +102,7 @@ def run(show, names):
     room, blocks = texts.MOST_OCTETS, []
     for it in show.files:
         blocks.append([None] if it.octets is None else texts.blocks_within(room, it.octets, show.as_form))
-        room -= sum(texts.decoded(block) for block in blocks[-1])
+        room -= sum(texts.decoded_size(block) for block in blocks[-1])
     count = sum(map(len, blocks))
     for file, of_file in zip(show.files, blocks):
         for block in of_file:

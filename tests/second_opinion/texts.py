@@ -78,7 +78,7 @@ def blocks_of(octets, as_form=None):
         return [Block(None, wrong=TOO_LONG)]
 
 
-def decoded(block):
+def decoded_size(block):
     """Returns how many octets of a block are decoded from a text."""
     return 0 if block is None or block.form == "octets" else len(block.octets)
 
@@ -86,7 +86,7 @@ def decoded(block):
 def blocks_within(room, octets, as_form=None):
     """Returns the blocks of an input, unless more octets are decoded from its text than there is room for."""
     blocks = blocks_of(octets, as_form)
-    return blocks if sum(map(decoded, blocks)) <= room else [Block(None, wrong=TOO_LONG)]
+    return blocks if sum(map(decoded_size, blocks)) <= room else [Block(None, wrong=TOO_LONG)]
 
 
 def text_of(octets):
