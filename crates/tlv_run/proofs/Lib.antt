@@ -9,3 +9,5 @@ pub mod Results
 pub mod RowWords
 pub mod JobReports
 pub mod Statuses
+pub mod ExtractLemmas
+pub mod IndefLemmas
