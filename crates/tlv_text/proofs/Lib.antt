@@ -33,3 +33,12 @@ pub mod TextLemmas
 pub mod TokenLemmas
 pub mod TokenPlaceLemmas
 pub mod TokenRows
+pub mod CharacterLemmas
+pub mod CountLemmas
+pub mod CountingLemmas
+pub mod FormLemmas
+pub mod InputLemmas
+pub mod LoneForms
+pub mod OneTaking
+pub mod RunCounts
+pub mod TakenLemmas

@@ -6,10 +6,10 @@ use Rattle.std.specs.Prelude.{Result, Ok, Err, OnOk, is_err, nat_lt, option_map,
 use Rattle.std.proofs.lemmas.Bool.Decides.{nat_tests}
 use Rattle.std.proofs.lemmas.List.{drop_all, drop_more, length-map, take_all}
 use Rattle.std.proofs.lemmas.List.Folds.{length-flat_map-take}
-use Rattle.tlv_forms.specs.Taken.{TakenValue, taken_value}
-use Rattle.tlv_forms.specs.declared.taken.Taken.{Taken}
+use Rattle.tlv_text.specs.Taken.{TakenValue, taken_value}
+use Rattle.tlv_text.specs.declared.taken.Taken.{Taken}
 use Rattle.tlv_program.specs.System.{Allows}
-use Rattle.tlv_view_words.specs.declared.request.InputForm.{InputForm}
+use Rattle.tlv_view_program.specs.declared.request.InputForm.{InputForm}
 use Rattle.tlv_view_program.specs.InputBlocks.{BlockContents, GetsAllBlocks, GetsBlocks, InputBlockValue, block_of_file}
 use Rattle.tlv_view_program.specs.InputBlocks.{blocks_taken, next, no_more, refused_here, refused_later, run_limit}
 use Rattle.tlv_view_program.specs.Private.BlockParts.{file_blocks}

@@ -5,3 +5,5 @@ pub mod NamedOffsets
 pub mod ReasonSteps
 pub mod ShownLemmas
 pub mod ReadsSoFar
+mod FileLemmas
+mod RequestLemmas

@@ -6,13 +6,13 @@ use Rattle.tlv_run.specs.Report.{ReportValue}
 use Rattle.tlv_text.specs.Blocks.{IsBlocksFault}
 use Rattle.tlv_text.specs.declared.text_fault.TextFault.{TextFault}
 use Rattle.tlv_text.specs.declared.text_fault.TextFault.TheVariants as text
-use Rattle.tlv_forms.specs.Taken.{IsTakenAs, IsTakenFor, IsTakingFault, TakenValue, taken_octets, text_of}
-use Rattle.tlv_forms.specs.declared.taken.TakenFor.{TakenFor}
-use Rattle.tlv_forms.specs.declared.taken.TakenFor.TheVariants as for
+use Rattle.tlv_text.specs.Taken.{IsTakenAs, IsTakenFor, IsTakingFault, TakenValue, taken_octets, text_of}
+use Rattle.tlv_text.specs.declared.taken.TakenFor.{TakenFor}
+use Rattle.tlv_text.specs.declared.taken.TakenFor.TheVariants as for
 use Rattle.tlv_view_program.specs.ReadWhole.{ReadsWhole, input_report}
 use Rattle.tlv_view_program.specs.declared.input.InputFault.{InputFault}
-use Rattle.tlv_view_words.specs.declared.request.InputForm.{InputForm}
-use Rattle.tlv_view_words.specs.declared.request.InputForm.TheVariants as asked
+use Rattle.tlv_view_program.specs.declared.request.InputForm.{InputForm}
+use Rattle.tlv_view_program.specs.declared.request.InputForm.TheVariants as asked
 use Rattle.tlv_program.specs.System.{Allows, IsUnread}
 use Rattle.tlv_program.specs.declared.system.OpenFault.{OpenFault}
 use Rattle.tlv_view_program.specs.Notes.{open_report, text_report}

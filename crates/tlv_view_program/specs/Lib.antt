@@ -11,3 +11,8 @@ pub mod Private
 pub mod Views
 pub mod Offsets
 pub mod ReadWhole
+pub mod ShowCommandLine
+pub mod OptionsTogether
+pub mod FormValue
+pub mod RequestOf
+pub mod RequestReport

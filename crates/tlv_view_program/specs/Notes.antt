@@ -8,9 +8,9 @@ use Rattle.tlv_text.specs.declared.block.Form.{Form}
 use Rattle.tlv_text.specs.declared.block.Form.TheVariants.{Pem, Dump, Hex, Numbers, Base64, Runs}
 use Rattle.tlv_text.specs.declared.text_fault.TextFault.{TextFault}
 use Rattle.tlv_text.specs.declared.text_fault.TextFault.TheVariants as text
-use Rattle.tlv_forms.specs.Taken.{TakenValue}
-use Rattle.tlv_forms.specs.declared.taken.TakenFor.{TakenFor}
-use Rattle.tlv_forms.specs.declared.taken.TakenFor.TheVariants.{Octets, OtherText, Text}
+use Rattle.tlv_text.specs.Taken.{TakenValue}
+use Rattle.tlv_text.specs.declared.taken.TakenFor.{TakenFor}
+use Rattle.tlv_text.specs.declared.taken.TakenFor.TheVariants.{Octets, OtherText, Text}
 use Rattle.tlv_run.specs.Report.{ReportValue, report_with, unopened_report}
 use Rattle.tlv_view_program.specs.ReadWhole.{input_report}
 use Rattle.tlv_view_program.specs.declared.input.InputFault.TheVariants as input

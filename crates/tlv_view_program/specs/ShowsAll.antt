@@ -13,13 +13,13 @@ use Rattle.tlv_run.specs.Report.{ReportValue, WritesMessage, message_line, names
 use Rattle.tlv_view_program.specs.ReadWhole.{input_report}
 use Rattle.tlv_view_program.specs.declared.input.InputFault.TheVariants as input
 use Rattle.tlv_program.specs.Usage.{not_utf8_report, status_of_kind, unprinted_report}
-use Rattle.tlv_view_words.specs.RequestOf.{AreAskedAs, IsRequestFaultOf}
-use Rattle.tlv_view_words.specs.RequestReport.{request_report}
-use Rattle.tlv_view_words.specs.declared.refusal.RequestFault.{RequestFault}
-use Rattle.tlv_view_words.specs.declared.refusal.RequestFault.TheVariants as fault
-use Rattle.tlv_view_words.specs.declared.request.Request.{Request}
-use Rattle.tlv_view_words.specs.declared.request.Wanted.{Wanted}
-use Rattle.tlv_view_words.specs.declared.request.Wanted.TheVariants.{Dump}
+use Rattle.tlv_view_program.specs.RequestOf.{AreAskedAs, IsRequestFaultOf}
+use Rattle.tlv_view_program.specs.RequestReport.{request_report}
+use Rattle.tlv_view_program.specs.declared.refusal.RequestFault.{RequestFault}
+use Rattle.tlv_view_program.specs.declared.refusal.RequestFault.TheVariants as fault
+use Rattle.tlv_view_program.specs.declared.request.Request.{Request}
+use Rattle.tlv_view_program.specs.declared.request.Wanted.{Wanted}
+use Rattle.tlv_view_program.specs.declared.request.Wanted.TheVariants.{Dump}
 use Rattle.tlv_program.specs.System.{Allows, IsUnread}
 use Rattle.tlv_program.specs.declared.program.NoWords.{NoWords}
 use Rattle.tlv_program.specs.declared.system.OpenFault.{OpenFault}

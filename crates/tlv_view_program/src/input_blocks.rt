@@ -6,7 +6,7 @@ ghost use Rattle.tlv_head.specs.Limits.{input_limit};
 ghost use Rattle.tlv_run.specs.BorrowedText.{text_in};
 ghost use Rattle.tlv_run.specs.Report.{report_value_of};
 ghost use Rattle.tlv_view_program.specs.InputBlocks.{GetsAllBlocks, GetsBlocks, GetsOctets, InputBlockValue};
-ghost use Rattle.tlv_forms.specs.Taken.{taken_value};
+ghost use Rattle.tlv_text.specs.Taken.{taken_value};
 ghost use Rattle.tlv_view_program.specs.InputBlocks.{TakesInput, decoded_count, decoded_size, octets_or_report};
 ghost use Rattle.tlv_view_program.specs.InputBlocks.{run_limit};
 ghost use Rattle.tlv_view_program.specs.Private.BlockParts.{all_fit, blocks_given, blocks_had, file_blocks};
@@ -18,13 +18,12 @@ ghost use Rattle.tlv_view_program.specs.Streams.{streams_value};
 use crate::files::file_of_word;
 use crate::input::{InputFault, input_report, read_whole};
 use crate::notes::{open_report, text_report};
+use crate::request::{InputForm, Request};
 use crate::streams::{Output, Streams};
 use std::alloc::{AllocError, Global};
-use tlv_forms::{Taken, TakenFor, take_as, take_input, take_octets};
 use tlv_program::{OpenFault, System};
 use tlv_run::Report;
-use tlv_text::TextFault;
-use tlv_view_words::{InputForm, Request};
+use tlv_text::{Taken, TakenFor, TextFault, take_as, take_input, take_octets};
 use tlv_walk::{Drain, Source};
 
 /// The maximum number of octets that are decoded from all texts of a run.

@@ -1,6 +1,6 @@
 //! What is said about a block before it is shown.
 ghost use Rattle.std.specs.Prelude.{◌≡◌, ◌≤◌, ◌++◌, decimal, flat_map, length};
-ghost use Rattle.tlv_forms.specs.Taken.{taken_value};
+ghost use Rattle.tlv_text.specs.Taken.{taken_value};
 ghost use Rattle.tlv_run.specs.Report.{report_value_of};
 ghost use Rattle.tlv_text.specs.Blocks.{block_value};
 ghost use Rattle.tlv_view_program.specs.Notes.{absent_words, expected_words, form_note, form_words, label_words};
@@ -12,10 +12,9 @@ use crate::input::{InputFault, input_report};
 use crate::line_out::LineOut;
 use arrayvec::ArrayVec;
 use itoa::Buffer;
-use tlv_forms::{Taken, TakenFor};
 use tlv_program::OpenFault;
 use tlv_run::{Report, unopened_report};
-use tlv_text::{Block, BlockState, Form, TextFault};
+use tlv_text::{Block, BlockState, Form, Taken, TakenFor, TextFault};
 use tlv_walk::{Drain, WriteFault};
 
 /// The report if a file does not open, with the cause if it is a usual one.

@@ -6,8 +6,7 @@ use std::alloc::{AllocError, Global};
 use std::process::Abort;
 use std::test::Fail;
 use tlv_program::{NoWords, UsageFault, Words};
-use tlv_view_program::{Streams, run_show};
-use tlv_view_words::FileNames;
+use tlv_view_program::{FileNames, Streams, run_show};
 use tlv_walk::{MemDrain, MemSource};
 
 /// Standard input: an INTEGER.

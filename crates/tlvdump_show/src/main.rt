@@ -6,8 +6,7 @@ use std::io::{ErrorKind, IsTerminal};
 use std::path::Path;
 use std::process::ExitCode;
 use tlv_program::{Host, NoWords, Words, is_beside_sources, words_of};
-use tlv_view_program::{Streams, run_show};
-use tlv_view_words::FileNames;
+use tlv_view_program::{FileNames, Streams, run_show};
 use tlv_walk::{ReadSource, WriteDrain};
 
 /// Where the names file of an installation is, from the folder of the program, which is `bin`.

@@ -6,10 +6,10 @@ use Rattle.std.specs.List.{All}
 use Rattle.std.proofs.lemmas.List.Elements.{All-append, All-cons, All-map, All-nil}
 use Rattle.tlv_io.specs.Device.{DrainState}
 use Rattle.tlv_text.specs.declared.text_fault.TextFault.{TextFault}
-use Rattle.tlv_forms.specs.Taken.{TakenValue}
+use Rattle.tlv_text.specs.Taken.{TakenValue}
 use Rattle.tlv_run.specs.Report.{ReportValue}
 use Rattle.tlv_view_program.specs.declared.input.InputFault.{InputFault}
-use Rattle.tlv_view_words.specs.declared.request.InputForm.{InputForm}
+use Rattle.tlv_view_program.specs.declared.request.InputForm.{InputForm}
 use Rattle.tlv_program.specs.System.{Allows}
 use Rattle.tlv_program.specs.declared.system.OpenFault.{OpenFault}
 use Rattle.tlv_program.specs.declared.system.OpenFault.TheVariants.{Missing, Denied, Other}

@@ -13,13 +13,13 @@ use Rattle.tlv_text.specs.declared.block.BlockState.TheVariants.{Whole, MayBePai
 use Rattle.tlv_text.specs.declared.block.Form.{Form}
 use Rattle.tlv_text.specs.declared.block.Form.TheVariants.{Pem, Dump, Hex, Numbers, Base64, Runs}
 use Rattle.tlv_text.specs.declared.text_fault.TextFault.{TextFault}
-use Rattle.tlv_forms.specs.Taken.{TakenValue}
-use Rattle.tlv_forms.specs.declared.taken.TakenFor.{TakenFor}
-use Rattle.tlv_forms.specs.declared.taken.TakenFor.TheVariants.{Octets, OtherText, Text}
+use Rattle.tlv_text.specs.Taken.{TakenValue}
+use Rattle.tlv_text.specs.declared.taken.TakenFor.{TakenFor}
+use Rattle.tlv_text.specs.declared.taken.TakenFor.TheVariants.{Octets, OtherText, Text}
 use Rattle.tlv_why.specs.Laws.{AreShown}
 use Rattle.tlv_why.proofs.ShownLemmas.ShownWords.{decimal-shown}
-use Rattle.tlv_view_words.specs.declared.request.InputForm.{InputForm}
-use Rattle.tlv_view_words.specs.declared.request.Wanted.{Wanted}
+use Rattle.tlv_view_program.specs.declared.request.InputForm.{InputForm}
+use Rattle.tlv_view_program.specs.declared.request.Wanted.{Wanted}
 use Rattle.tlv_view_program.specs.InputBlocks.{BlockContents, InputBlockValue, TakesInput, block_of_file, blocks_taken}
 use Rattle.tlv_view_program.specs.InputBlocks.{decoded_count, within_room}
 use Rattle.tlv_view_program.specs.Lines.{MessagePlace, block_line, block_title, file_words, number_words}

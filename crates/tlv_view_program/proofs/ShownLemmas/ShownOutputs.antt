@@ -13,9 +13,9 @@ use Rattle.tlv_run.specs.Report.{ReportValue}
 use Rattle.tlv_view_program.specs.Offsets.{offsets_line}
 use Rattle.tlv_view_program.specs.Views.{Views}
 use Rattle.tlv_view_program.specs.declared.view_call.View.{View}
-use Rattle.tlv_view_words.specs.declared.request.Request.{Request}
-use Rattle.tlv_view_words.specs.declared.request.Wanted.{Wanted}
-use Rattle.tlv_view_words.specs.declared.request.Wanted.TheVariants.{Check, Dump, Extract, Offsets, Raw, Why}
+use Rattle.tlv_view_program.specs.declared.request.Request.{Request}
+use Rattle.tlv_view_program.specs.declared.request.Wanted.{Wanted}
+use Rattle.tlv_view_program.specs.declared.request.Wanted.TheVariants.{Check, Dump, Extract, Offsets, Raw, Why}
 use Rattle.tlv_program.specs.System.{Allows}
 use Rattle.tlv_view_program.specs.InputBlocks.{BlockContents, InputBlockValue, run_limit}
 use Rattle.tlv_view_program.specs.ShowsAll.{BlocksPlace, GetsTable, ShowsBlocks, ShowsFiles, ShowsRequest, block_place}

@@ -8,9 +8,9 @@ use Rattle.tlv_run.specs.Report.{message_line}
 use Rattle.tlv_view_program.specs.ReadWhole.{input_report}
 use Rattle.tlv_view_program.specs.declared.input.InputFault.TheVariants as input
 use Rattle.tlv_program.specs.Usage.{not_utf8_report}
-use Rattle.tlv_view_words.specs.RequestReport.{request_report}
-use Rattle.tlv_view_words.specs.declared.refusal.RequestFault.TheVariants as fault
-use Rattle.tlv_view_words.specs.declared.request.Request.{Request}
+use Rattle.tlv_view_program.specs.RequestReport.{request_report}
+use Rattle.tlv_view_program.specs.declared.refusal.RequestFault.TheVariants as fault
+use Rattle.tlv_view_program.specs.declared.request.Request.{Request}
 use Rattle.tlv_program.specs.System.{Allows}
 use Rattle.tlv_why.specs.Laws.{AreShown}
 use Rattle.tlv_view_program.specs.InputBlocks.{InputBlockValue, run_limit}

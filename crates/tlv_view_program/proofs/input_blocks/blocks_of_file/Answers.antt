@@ -1,6 +1,6 @@
 use Rattle.std.proofs.Common.{map}
 use Rattle.std.specs.Prelude.{Ok, Err}
-use Rattle.tlv_forms.specs.Taken.{taken_value}
+use Rattle.tlv_text.specs.Taken.{taken_value}
 use Rattle.tlv_view_program.specs.InputBlocks.{no_octets, takes}
 use Rattle.tlv_view_program.specs.Private.BlockParts.{report_without_blocks}
 use Rattle.tlv_view_program.proofs.input_blocks.blocks_of_file.Goals as goal

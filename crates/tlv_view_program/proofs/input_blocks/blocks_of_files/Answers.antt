@@ -1,6 +1,6 @@
 use Rattle.std.proofs.Common.{◌≡◌, ◌++◌, ℕ, List, Option, ap, arith, flat_map, get_or, refl, ◌∙◌}
 use Rattle.tlv_program.specs.System.{Allows}
-use Rattle.tlv_view_words.specs.declared.request.InputForm.{InputForm}
+use Rattle.tlv_view_program.specs.declared.request.InputForm.{InputForm}
 use Rattle.tlv_view_program.proofs.InputBlockLemmas.{no-words, refused-alone, rest-alone, rest-begins, rest-ends}
 use Rattle.tlv_view_program.proofs.InputBlockLemmas.{rest-goes_on, rest-refused, some-words, without-error}
 use Rattle.tlv_view_program.specs.InputBlocks.{GetsBlocks, InputBlockValue}

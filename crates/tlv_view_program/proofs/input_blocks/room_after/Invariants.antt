@@ -1,5 +1,5 @@
 use Rattle.std.proofs.Common.{◌≡◌, ◌+◌, drop, map}
-use Rattle.tlv_forms.specs.Taken.{taken_value}
+use Rattle.tlv_text.specs.Taken.{taken_value}
 use Rattle.tlv_view_program.specs.InputBlocks.{decoded_count}
 use Rattle.tlv_view_program.proofs.input_blocks.room_after.Given as goal
 
