@@ -1,5 +1,6 @@
 //! Octets that are written in a text, in the forms that people use: pairs of hexadecimal digits, tokens of a source
-//! text, decimal numbers, hex dumps, base64, PEM; and marks at the start of a text.
+//! text, decimal numbers, hex dumps, base64, PEM; and marks at the start of a text. What an input is taken for: octets as
+//! they stand, or a text in one of these forms.
 #![tactic(auto)]
 
 mod base64_text;

@@ -5,11 +5,11 @@ ghost use Rattle.tlv_run.specs.Report.{report_value_of};
 ghost use Rattle.tlv_view_program.specs.Private.BlockParts.{block_contents, contents_fit};
 ghost use Rattle.tlv_view_program.specs.ShowsBlock.{explained_in, octets_of_contents, reasons_report};
 
-use crate::Wanted;
 use crate::block::has_failed_write;
 use crate::input::{InputFault, input_report};
 use crate::input_blocks::Contents;
 use crate::reasons::{Explained, explained_by};
+use crate::request::Wanted;
 use crate::view_call::Viewed;
 use std::alloc::AllocError;
 use tlv_run::Report;

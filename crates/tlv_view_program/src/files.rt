@@ -9,12 +9,12 @@ ghost use Rattle.tlv_view_program.specs.Private.ShowsSome.{ShowsSome};
 ghost use Rattle.tlv_view_program.specs.ShowsAll.{ShowsBlocks, ShowsFiles, file_of_word, files_of_words};
 ghost use Rattle.tlv_view_program.specs.Streams.{streams_value};
 
-use crate::Request;
 use crate::block::{BlockResult, Task};
 use crate::input::{InputFault, input_report};
 use crate::input_blocks::{
     Contents, FileBlocks, InputBlock, NoBlocks, block_count, blocks_of_files, file_block_count,
 };
+use crate::request::Request;
 use crate::streams::{Output, Streams};
 use std::alloc::Global;
 use tlv_program::System;

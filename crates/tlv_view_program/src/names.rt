@@ -5,7 +5,8 @@ ghost use Rattle.std.specs.Prelude.{◌≡◌, option_map};
 ghost use Rattle.tlv_view_program.specs.Private.Tables.{OpensNames, OpensOrNot, is_noted, result_without_file, table_result};
 ghost use Rattle.tlv_view_program.specs.ShowsAll.{GetsTable, OpensFirst};
 
-use crate::{FileNames, Wanted};
+use crate::file_names::FileNames;
+use crate::request::Wanted;
 use std::alloc::Global;
 use tlv_program::System;
 use tlv_run::Text;
