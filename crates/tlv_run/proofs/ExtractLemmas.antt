@@ -6,4 +6,3 @@ pub mod Job
 pub mod LongerInputs
 pub mod InTheInput
 pub mod Laws
-pub mod Rows

@@ -4,4 +4,3 @@ pub mod Job
 pub mod LongerInputs
 pub mod Offsets
 pub mod SecondReading
-pub mod Rows

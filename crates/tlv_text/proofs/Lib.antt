@@ -1,13 +1,9 @@
-pub mod Base64Rows
 pub mod BlockLemmas
-pub mod BlockRows
 pub mod BodyLemmas
-pub mod BodyRows
 pub mod DecodeLemmas
 pub mod DumpLemmas
 pub mod DumpOutputLemmas
 pub mod DumpPairLemmas
-pub mod DumpRows
 pub mod DumpSignLemmas
 pub mod DumpStepLemmas
 pub mod DumpWordLemmas
@@ -16,15 +12,12 @@ pub mod LineLemmas
 pub mod LoneLemmas
 pub mod MarkLemmas
 pub mod NumberLemmas
-pub mod NumberRows
 pub mod OneBlocks
 pub mod PairLemmas
 pub mod PairReadLemmas
-pub mod PairRows
 pub mod PemLemmas
 pub mod PlainLemmas
 pub mod RunLemmas
-pub mod RunRows
 pub mod SeparatedLemmas
 pub mod Slices
 pub mod SymbolLemmas
@@ -32,7 +25,6 @@ pub mod TableLemmas
 pub mod TextLemmas
 pub mod TokenLemmas
 pub mod TokenPlaceLemmas
-pub mod TokenRows
 pub mod CharacterLemmas
 pub mod CountLemmas
 pub mod CountingLemmas
