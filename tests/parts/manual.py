@@ -44,7 +44,7 @@ def rows_of(text):
 
 def blocks_of(text, language="sh"):
     """Returns the blocks of code in this language."""
-    return re.findall(rf"^```{language}\n(.*?)^```$", text, re.M | re.S)
+    return [code for name, code in re.findall(r"^```(\w*)\n(.*?)^```$", text, re.M | re.S) if name == language]
 
 
 def rendered(page):

@@ -6,7 +6,7 @@ import glob
 import os
 import re
 
-PAGES = ("README.md", "CONTRIBUTING.md", "bench/README.md", "docs/*.md")
+PAGES = ("*.md", "bench/*.md", "data/*.md", "docs/*.md", "man/*.md")
 # Names that stand for any file, or for files that are built.
 MADE = {"MODULE", "FUNCTION", "NAME", "out"}
 
