@@ -1,5 +1,5 @@
 """Checks that what the pages name exists: the pages and sections that they link to, files by their names or paths, in
-docs/READING.md the files of definitions of each crate, and in docs/MAP.md all names in backticks.
+docs/READING.md the files of definitions of each crate, and in docs/MAP.md and docs/ADD.md all names in backticks.
 """
 import fnmatch
 import glob
@@ -9,6 +9,8 @@ import re
 PAGES = ("*.md", "bench/*.md", "data/*.md", "docs/*.md", "man/*.md")
 # Names that stand for any file, or for files that are built.
 MADE = {"MODULE", "FUNCTION", "NAME", "out"}
+# A command that docs/ADD.md adds as an example.
+MADE_UP = ": Count"
 
 
 def without_blocks(text):
@@ -58,12 +60,17 @@ def sources(root, paths):
                 yield re.sub("//.*" if path.endswith(".rt") else "--.*", "", file.read())
 
 
-def gone_names(root, text, known):
-    """Yields the names in backticks that the sources lack, each with its line: words, members of types, and paths."""
+def gone_names(root, text, known, others=()):
+    """Yields the names in backticks that neither the sources nor the other files have, each with its line: words, members of
+    types, and paths.
+    """
     paths = "\n".join(path for path in known if re.match(r"crates/\w+/(?:src|specs|proofs)/|tests/", path))
     codes = list(sources(root, paths.split("\n")))
     with open(os.path.join(root, "crates.txt"), encoding="utf-8") as file:
         words = set(re.findall(r"[\w-]+", "\n".join([*codes, paths, file.read()])))
+    for path in others:
+        with open(path, encoding="utf-8") as file:
+            words |= set(re.findall(r"\w+", file.read()))
     text = re.sub(r"^```.*?^```", lambda block: "\n" * block[0].count("\n"), text, flags=re.M | re.S)
     for span in re.finditer("`([^`]+)`", text):
         name = span[1].split()[0]
@@ -98,3 +105,6 @@ def test(part):
     part.expect("docs/READING.md names files of definitions", not lacking, *lacking)
     gone = list(gone_names(part.root, texts["docs/MAP.md"], known))
     part.expect("docs/MAP.md has no name that the sources lack", not gone, *gone)
+    scripts = glob.glob(os.path.join(part.root, "tests", "second_opinion", "*.py"))
+    gone = [name for name in gone_names(part.root, texts["docs/ADD.md"], known, scripts) if not name.endswith(MADE_UP)]
+    part.expect("docs/ADD.md has no name that neither the sources nor the second implementation have", not gone, *gone)
