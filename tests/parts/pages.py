@@ -11,6 +11,8 @@ PAGES = ("*.md", "bench/*.md", "data/*.md", "docs/*.md", "man/*.md")
 MADE = {"MODULE", "FUNCTION", "NAME", "out"}
 # A command that docs/ADD.md adds as an example.
 MADE_UP = ": Count"
+# The places where scripts of bench write what they measured, by the page.
+PLACES = {"docs/STATUS.md": ["tlvdump"], "bench/RESULTS.md": ["speed", "outputs", "pipe", "show", "tlvdump-show", "gate"]}
 
 
 def without_blocks(text):
@@ -101,6 +103,9 @@ def test(part):
     for page, text in texts.items():
         broken = [*broken_links(part.root, page, text, texts), *missing_files(text, known)]
         part.expect(f"{page} names what is there", not broken, *broken)
+    for page, names in PLACES.items():
+        found = re.findall(r"^<!-- ([\w-]+): .*? -->\n.*?^<!-- end of \1 -->\n", texts[page], re.M | re.S)
+        part.expect(f"the places of {page}", found == names, *found)
     lacking = list(missing_definitions(part.root, texts["docs/READING.md"]))
     part.expect("docs/READING.md names files of definitions", not lacking, *lacking)
     gone = list(gone_names(part.root, texts["docs/MAP.md"], known))

@@ -1,4 +1,6 @@
-"""Tests tests/tools, with a PATH that has only some tools: what is missing is installed by root, or said, and never passed over."""
+"""Tests tests/tools, with a PATH that has only some tools: what is missing is installed by root, or said, and never passed over.
+Tests also that no script of tests passes if what it is asked for selects no test.
+"""
 import os
 import shutil
 import stat
@@ -52,7 +54,15 @@ def calls(folder):
         return file.read()
 
 
+def nothing_selected(part):
+    """A word that no test has, a part that is not there and no seeds at all are failures."""
+    for words in (["tests/rust", "no_such_test"], ["tests/program", "no_such_part"], ["tests/second", "--count", "0"]):
+        got = subprocess.run([os.path.join(part.root, words[0]), *words[1:]], capture_output=True, text=True)
+        part.expect(" ".join(words), got.returncode not in (0, None) and got.stderr and not got.stdout, str(got))
+
+
 def test(part):
+    nothing_selected(part)
     rows = listed(part)
     part.expect("the list", rows and all(len(row) == 3 and row[1] in ("needed", "useful") for row in rows), str(rows))
     names = [name for name, *_ in rows if not name.startswith("/")]
