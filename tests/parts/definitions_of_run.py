@@ -1,7 +1,8 @@
 """Checks what the pages say of the definitions that a reader must believe.
 
 docs/PROVED.md says how many definitions the contract of `run_octets` reaches, how many lines these have, and how many more
-`run` reaches. README may say the first number too. Each definition in specs must be reached by some contract.
+`run` reaches. README may say the first number too. What the pages give `tests/definitions` must be there. Each definition in
+specs must be reached by some contract.
 """
 import os
 import re
@@ -9,6 +10,8 @@ import re
 from . import contract_pages
 from .definitions import Definitions, sources
 
+# What a page gives the script: in backticks, or in a block, where two spaces end it.
+COMMAND = re.compile(r"\btests/definitions ((?:[^`\s]+ ?)+)")
 # "277 definitions", "277 short definitions" and so on, wherever the lines of a page end.
 NUMBER = re.compile(r"\b(\d+)\s+(?:short\s+)?definitions\b(?:,\s+(?:of\s+)?([\d,]+)\s+lines\b)?")
 
@@ -29,6 +32,10 @@ def test(part):
     part.expect("docs/PROVED.md says how many definitions a run needs", numbers == here, *sorted(map(str, numbers ^ here)))
     others = {number for number, _ in said(part.root, "README.md")} - {len(of_octets)}
     part.expect("README.md says no other number of definitions", not others, *sorted(map(str, others)))
+    for page in ("PROVED.md", "READING.md"):
+        for words in COMMAND.findall(contract_pages.read(part.root, "docs", page)):
+            unknown = [word for word in words.split() if word not in ("--but", "CALL") and all_of.of_word(word) is None]
+            part.expect(f"docs/{page}: tests/definitions {words.strip()}", not unknown, *unknown)
     reached = all_of.closure(set().union(*(all_of.of_clauses(source) for source in sources(part.root))))
     for file, names in sorted(all_of.by_file.items()):
         idle = sorted(set(names) - {name for home, name in reached if home == file})

@@ -1,5 +1,5 @@
-"""Checks that what the pages name exists: the pages and sections that they link to, files by their names or paths, in
-docs/READING.md the files of definitions of each crate, and in docs/MAP.md all names in backticks.
+"""Checks that what the pages name exists: the pages and sections that they link to, files by their names or paths, and in
+docs/MAP.md and the promises of docs/PROVED.md all names in backticks.
 """
 import fnmatch
 import glob
@@ -39,15 +39,6 @@ def missing_files(text, known):
     for name in re.findall(r"`([\w./+-]+\.(?:antt|rt|rows|py))`", without_blocks(text)):
         if not MADE & set(name.split("/")) and not any(path == name or path.endswith("/" + name) for path in known):
             yield name
-
-
-def missing_definitions(root, text):
-    """Yields the files of definitions that docs/READING.md names for a crate and that the crate lacks."""
-    for row in re.findall(r"^\| .*", text, re.M):
-        for crate, names in re.findall(r"`(tlv_\w+)`: ((?:`\w+`(?: \([^)]*\))?(?:, )?)+)", row):
-            for name in re.findall(r"`(\w+)`", re.sub(r"\([^)]*\)", "", names)):
-                if not glob.glob(os.path.join(root, "crates", crate, "specs", "**", f"{name}.antt"), recursive=True):
-                    yield f"{crate}: {name}"
 
 
 def sources(root, paths):
@@ -94,7 +85,8 @@ def test(part):
     for page, text in texts.items():
         broken = [*broken_links(part.root, page, text, texts), *missing_files(text, known)]
         part.expect(f"{page} names what is there", not broken, *broken)
-    lacking = list(missing_definitions(part.root, texts["docs/READING.md"]))
-    part.expect("docs/READING.md names files of definitions", not lacking, *lacking)
-    gone = list(gone_names(part.root, texts["docs/MAP.md"], known))
-    part.expect("docs/MAP.md has no name that the sources lack", not gone, *gone)
+    promised = texts["docs/PROVED.md"].partition("\n## The statement\n")[2].partition("\n## What the types give\n")[0]
+    part.expect("docs/PROVED.md has promises", promised)
+    for page, text in (("docs/MAP.md", texts["docs/MAP.md"]), ("docs/PROVED.md", promised)):
+        gone = list(gone_names(part.root, text, known))
+        part.expect(f"{page} has no name that the sources lack", not gone, *gone)
