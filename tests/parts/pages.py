@@ -1,7 +1,6 @@
 """Checks that what the pages name exists: the pages and sections that they link to, files by their names or paths, and in
 docs/MAP.md and the promises of docs/PROVED.md all names in backticks.
 """
-import fnmatch
 import glob
 import os
 import re
