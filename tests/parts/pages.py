@@ -1,5 +1,5 @@
 """Checks that what the pages name exists: the pages and sections that they link to, files by their names or paths, and in
-docs/MAP.md and the promises of docs/PROVED.md all names in backticks.
+docs/MAP.md and the promises of docs/PROVED.md all names in backticks. README and PROVED must have the same statement.
 """
 import glob
 import os
@@ -73,6 +73,11 @@ def gone_names(root, text, known):
             yield f"line {line}: {name}"
 
 
+def statement(proved):
+    """Returns the statement of docs/PROVED.md, which is its first quotation, on one line."""
+    return " ".join(re.search(r"(?:^> .*\n)+", proved, re.M)[0].replace("> ", "").split())
+
+
 def test(part):
     paths = [path for pattern in PAGES for path in sorted(glob.glob(os.path.join(part.root, pattern)))]
     texts = {}
@@ -84,6 +89,8 @@ def test(part):
     for page, text in texts.items():
         broken = [*broken_links(part.root, page, text, texts), *missing_files(text, known)]
         part.expect(f"{page} names what is there", not broken, *broken)
+    readme = " ".join(texts["README.md"].replace("*", "").replace("> ", "").split())
+    part.expect("README.md has the statement of docs/PROVED.md", statement(texts["docs/PROVED.md"]) in readme)
     promised = texts["docs/PROVED.md"].partition("\n## The statement\n")[2].partition("\n## What the types give\n")[0]
     part.expect("docs/PROVED.md has promises", promised)
     for page, text in (("docs/MAP.md", texts["docs/MAP.md"]), ("docs/PROVED.md", promised)):
