@@ -1,7 +1,6 @@
-"""Checks that what the pages name exists: the pages and sections that they link to, files by their names or paths, in
-docs/READING.md the files of definitions of each crate, and in docs/MAP.md and docs/ADD.md all names in backticks.
+"""Checks that what the pages name exists: the pages and sections that they link to, files by their names or paths, and in
+docs/MAP.md, docs/ADD.md and the promises of docs/PROVED.md all names in backticks. README and PROVED must have the same statement.
 """
-import fnmatch
 import glob
 import os
 import re
@@ -45,15 +44,6 @@ def missing_files(text, known):
             yield name
 
 
-def missing_definitions(root, text):
-    """Yields the files of definitions that docs/READING.md names for a crate and that the crate lacks."""
-    for row in re.findall(r"^\| .*", text, re.M):
-        for crate, names in re.findall(r"`(tlv_\w+)`: ((?:`\w+`(?: \([^)]*\))?(?:, )?)+)", row):
-            for name in re.findall(r"`(\w+)`", re.sub(r"\([^)]*\)", "", names)):
-                if not glob.glob(os.path.join(root, "crates", crate, "specs", "**", f"{name}.antt"), recursive=True):
-                    yield f"{crate}: {name}"
-
-
 def sources(root, paths):
     """Yields the files of code, definitions and proofs, without their comments."""
     for path in paths:
@@ -92,6 +82,11 @@ def gone_names(root, text, known, others=()):
             yield f"line {line}: {name}"
 
 
+def statement(proved):
+    """Returns the statement of docs/PROVED.md, which is its first quotation, on one line."""
+    return " ".join(re.search(r"(?:^> .*\n)+", proved, re.M)[0].replace("> ", "").split())
+
+
 def test(part):
     paths = [path for pattern in PAGES for path in sorted(glob.glob(os.path.join(part.root, pattern)))]
     texts = {}
@@ -106,10 +101,13 @@ def test(part):
     for page, names in PLACES.items():
         found = re.findall(r"^<!-- ([\w-]+): .*? -->\n.*?^<!-- end of \1 -->\n", texts[page], re.M | re.S)
         part.expect(f"the places of {page}", found == names, *found)
-    lacking = list(missing_definitions(part.root, texts["docs/READING.md"]))
-    part.expect("docs/READING.md names files of definitions", not lacking, *lacking)
-    gone = list(gone_names(part.root, texts["docs/MAP.md"], known))
-    part.expect("docs/MAP.md has no name that the sources lack", not gone, *gone)
+    readme = " ".join(texts["README.md"].replace("*", "").replace("> ", "").split())
+    part.expect("README.md has the statement of docs/PROVED.md", statement(texts["docs/PROVED.md"]) in readme)
+    promised = texts["docs/PROVED.md"].partition("\n## The statement\n")[2].partition("\n## What the types give\n")[0]
+    part.expect("docs/PROVED.md has promises", promised)
+    for page, text in (("docs/MAP.md", texts["docs/MAP.md"]), ("docs/PROVED.md", promised)):
+        gone = list(gone_names(part.root, text, known))
+        part.expect(f"{page} has no name that the sources lack", not gone, *gone)
     scripts = glob.glob(os.path.join(part.root, "tests", "second_opinion", "*.py"))
     gone = [name for name in gone_names(part.root, texts["docs/ADD.md"], known, scripts) if not name.endswith(MADE_UP)]
     part.expect("docs/ADD.md has no name that neither the sources nor the second implementation have", not gone, *gone)
