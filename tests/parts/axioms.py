@@ -1,7 +1,7 @@
 """Checks which functions of C the verdict on a program rests on.
 
-The functions that the prover lists must be those in tests/axioms. docs/TRUST.md must name those of tlvdump, and say
-which of them the program calls. It must also name all symbols that each program takes from the C library.
+tests/trusted.txt must have the functions that the prover lists for each program, and say which of them the program calls. It
+must also have all symbols that each program takes from the C library.
 
 For a proved program the list comes from `rt check`, which starts from the results of earlier runs. After `rt ci` alone
 only the built libraries are kept, in crates/*/out. Then the prover is run over these libraries, so that it proves only
@@ -62,46 +62,43 @@ def listed(part, crate):
     return (sorted(found) if proved and int(proved[1]) == len(found) else None), text, time.time() - began
 
 
-def programs(part):
-    """Returns the programs that have a file in tests/axioms."""
-    return sorted(name.removesuffix(".txt") for name in os.listdir(os.path.join(part.root, "tests", "axioms")))
+def trusted(root):
+    """Returns the names in each section of tests/trusted.txt, by its heading."""
+    found, names = {}, []
+    with open(os.path.join(root, "tests", "trusted.txt"), encoding="utf-8") as file:
+        for line in file.read().splitlines():
+            if line.startswith("== "):
+                names = found.setdefault(line[3:], [])
+            elif line and not line.startswith("#"):
+                names.append(line)
+    return found
 
 
-def committed(part, crate):
-    with open(os.path.join(part.root, "tests", "axioms", f"{crate}.txt"), encoding="utf-8") as file:
-        return file.read().splitlines()
+def programs(file):
+    """Returns all functions below each program, and those that it calls."""
+    called = set(file["functions that tlvdump calls"])
+    below = called | set(file["functions that tlvdump does not call"])
+    show = set(file["functions that tlvdump_show calls besides those of tlvdump"])
+    alone = set(file["functions of tlv_without_heap"])
+    return {"tlvdump": (below, called), "tlvdump_show": (below | show, called | show), "tlv_without_heap": (alone, None)}
 
 
-def named(text, heading):
-    """Returns the functions that a section of docs/TRUST.md names."""
-    section = text.partition(f"\n### {heading}\n")[2].partition("\n#")[0]
-    return set(re.findall(r"`((?:libc|os)::[\w:]+)`", section))
+def page(part, file, of_program):
+    """Counts the tests of the file that need no prover: against the symbols of the built programs."""
+    repeated = [name for names in file.values() for name in set(names) if names.count(name) > 1]
+    part.expect("tests/trusted.txt has each name of a section once", not repeated, *repeated)
+    symbols = set(file["symbols that tlvdump takes"])
+    compare_symbols(part, "tlvdump", part.program, of_program["tlvdump"], symbols)
+    symbols |= set(file["symbols that tlvdump_show takes besides those of tlvdump"])
+    compare_symbols(part, "tlvdump_show", part.suite.show_program, of_program["tlvdump_show"], symbols)
 
 
-def page(part):
-    """docs/TRUST.md names each function, and says which of them the program calls."""
-    with open(os.path.join(part.root, "docs", "TRUST.md"), encoding="utf-8") as file:
-        text = file.read()
-    called, others = named(text, "Functions that the program calls"), named(text, "Functions that it does not call")
-    wanted = set(committed(part, "tlvdump"))
-    part.expect("docs/TRUST.md names each function", called | others == wanted, *sorted((called | others) ^ wanted))
-    symbols = subprocess.run(["nm", part.program], capture_output=True, text=True).stdout
-    there = {name for name in wanted if re.search(rf" [TU] {name.split('::')[-1]}(?:@.*)?$", symbols, re.M)}
-    part.expect("functions that the program calls", called == there, *sorted(called ^ there))
-    stated = symbols_in(text, "Symbols of the C library")
-    compare_symbols(part, "tlvdump", part.program, stated)
-    compare_symbols(part, "tlvdump-show", part.suite.show_program, stated | symbols_in(text, "Of tlvdump-show"))
-
-
-def symbols_in(text, heading):
-    """Returns the symbols that the tables of a section of docs/TRUST.md name, without those that a contract names."""
-    section = text.partition(f"\n### {heading}\n")[2].partition("\n#")[0]
-    rows = "\n".join(line.split("|")[1] for line in section.splitlines() if line.startswith("| `"))
-    return set(re.findall(r"`(\w+)`", rows))
-
-
-def compare_symbols(part, name, program, stated):
-    """The page names each symbol that the program takes from a library, and no other."""
+def compare_symbols(part, name, program, functions, stated):
+    """The file says which functions the program calls, and has each symbol that it takes from a library, and no other."""
+    text = subprocess.run(["nm", program], capture_output=True, text=True).stdout
+    below, called = functions
+    there = {one for one in below if re.search(rf" [TU] {one.split('::')[-1]}(?:@.*)?$", text, re.M)}
+    part.expect(f"functions that {name} calls", called == there, *sorted(called ^ there))
     listed = subprocess.run(["nm", "-D", "--undefined-only", program], capture_output=True, text=True).stdout
     there = {line.split()[-1].partition("@")[0] for line in listed.splitlines()}
     part.expect(f"symbols that {name} takes from the C library", stated == there, *sorted(stated ^ there))
@@ -117,17 +114,19 @@ def is_of_readme(part):
 def test(part):
     if not part.has("rt") or not part.has("nm"):
         return
-    page(part)
-    crates = programs(part)
+    file = trusted(part.root)
+    of_program = programs(file)
+    page(part, file, of_program)
+    crates = sorted(of_program)
     with ThreadPoolExecutor(len(crates)) as pool:
         results = list(pool.map(lambda crate: listed(part, crate), crates))
     for crate, (found, text, seconds) in zip(crates, results):
-        wanted = committed(part, crate)
+        wanted = sorted(of_program[crate][0])
         others = sorted(set(wanted) ^ set(found or wanted))
         part.note(f"{crate}: {len(found or [])} functions, listed in {seconds:.0f} s")
         if found and others and not is_of_readme(part):
             part.note(f"another kit than README names; {crate} differs in {', '.join(others)}")
         else:
             part.expect(f"the functions of C below {crate}", found == wanted, *others, *text.splitlines()[-8:])
-    heap = [name for name in committed(part, "tlv_without_heap") if name.startswith("libc::heap::")]
+    heap = [name for name in of_program["tlv_without_heap"][0] if name.startswith("libc::heap::")]
     part.expect("tlv_without_heap reaches no heap", not heap, *heap)

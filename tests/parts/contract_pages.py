@@ -1,18 +1,20 @@
-"""Makes the text of docs/CONTRACTS.md from the comments and clauses in the sources. `tests/make-contracts` writes it.
+"""Makes a page of what each public call promises, from the comments and clauses in the sources. `tests/make-contracts`
+prints it.
 """
 import os
 import re
 
-CRATES = ("tlv_head", "tlv_io", "tlv_walk", "tlv_value", "tlv_show", "tlv_cut", "tlv_run", "tlv_words", "tlv_program", "tlv_open",
-          "tlv_view", "tlv_text", "tlv_forms", "tlv_why", "tlv_mend", "tlv_view_words", "tlv_view_program", "tlv_host")
+from .allocators import uses
+
 BEGINNING = """# What each public call promises
 
-`tests/make-contracts` makes this page of the sources: change the comments and clauses there, and run it. Each public item of
-the libraries is here, with the first paragraph of its comment. The comment in the source has the rest: units, errors, limits.
+`tests/make-contracts` prints this page from the sources. Each public item of the libraries is here, with the first paragraph
+of its comment. The comment in the source has the rest: units, errors, limits.
 
 Each function is proved to be safe, and to return if each read, write and opening of a file does. What it promises beyond that
 its clauses say: the name of a clause stands in italics, and behind it the definitions of ours that it names, or, if it names
-none, its text. To believe a promise, read these definitions; [READING.md](READING.md) says how.
+none, its text. To believe a promise, read these definitions (docs/READING.md), and those that they need: `tests/definitions
+CALL` prints them all.
 """
 WIDTH = 128
 LINK = re.compile(r"\[(`[^`]+`)\](?:\([^)]*\))?")
@@ -94,7 +96,7 @@ def link(root, word, module):
     """
     crate, _, path = module.partition(".specs.")
     file = os.path.join("crates", crate, "specs", *path.split(".")) + ".antt"
-    return f"[{word}](../{file})" if os.path.exists(os.path.join(root, file)) else f"`{word}`"
+    return f"[{word}]({file})" if os.path.exists(os.path.join(root, file)) else f"`{word}`"
 
 
 def promise(root, homes, kind, label, said):
@@ -144,12 +146,28 @@ def crate_lines(root, crate):
     for path, text in sources(folder):
         found = list(items(text, names, path == "laws.rt"))
         if found:
-            lines += [f"[{path}](../crates/{crate}/src/{path})", ""]
+            lines += [f"[{path}](crates/{crate}/src/{path})", ""]
             lines += [line for at, name in found for line in entry(root, text, at, name)] + [""]
     return lines
 
 
-def page(root):
-    """Returns the text of the page."""
-    lines = [line for crate in CRATES for line in crate_lines(root, crate)]
-    return BEGINNING + "\n" + "\n".join(lines)
+def libraries(root):
+    """Returns the crates that make names public, each after the crates that it uses."""
+    named, found = uses(root), []
+
+    def add(crate):
+        for other in sorted(named[crate]):
+            if other in named:
+                add(other)
+        library = os.path.join(root, "crates", crate, "src", "lib.rt")
+        if crate not in found and os.path.exists(library) and public_names(read(library)):
+            found.append(crate)
+
+    for crate in named:
+        add(crate)
+    return found
+
+
+def page(root, crates):
+    """Returns the text of the page, with these crates."""
+    return BEGINNING + "\n" + "\n".join(line for crate in crates for line in crate_lines(root, crate))

@@ -136,7 +136,7 @@ UNSEEN_BY_TLVDUMP = [
 # The pages where a user looks for them, and the words that each page must have.
 NAMED = ("default values", "SET and SET OF", "REAL", "EXTERNAL", "EMBEDDED PDV", "CHARACTER STRING")
 NAMED += ("OID-IRI", "RELATIVE-OID-IRI", "TIME")
-PLACES = {"README.md": r"\n\n", "tests/help/check.txt": r"\n\n", "man/tlvdump.1": r"\nThe codes"}
+PLACES = {"docs/USE.md": r"\n\n", "tests/help/check.txt": r"\n\n", "man/tlvdump.1": r"\n\.SH"}
 
 
 def check_unseen(part):

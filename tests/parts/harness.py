@@ -8,6 +8,8 @@ import sys
 import tempfile
 
 HERE = os.path.dirname(os.path.realpath(__file__))
+# Tools that are not in the list of tests/tools.
+EVERYWHERE = ("rt", "base64", "od")
 # The time limit of a run, which must hold on a busy machine.
 SECONDS = 120
 
@@ -46,10 +48,12 @@ def message(text):
 
 
 class Suite:
-    """The counts of all parts, and the temporary folder. `find_show` returns the path of tlvdump-show."""
+    """The counts of all parts, and the temporary folder. `find_show` returns the path of tlvdump-show. `tools` is the list of
+    tests/tools: whether a tool is needed or useful, by its name.
+    """
 
-    def __init__(self, program, find_show, root, may_be_missing):
-        self.program, self.find_show, self.root, self.may_be_missing = program, find_show, root, may_be_missing
+    def __init__(self, program, find_show, root, tools):
+        self.program, self.find_show, self.root, self.tools = program, find_show, root, tools
         self.passed = self.failed = 0
 
     def __enter__(self):
@@ -125,10 +129,14 @@ class Part:
         return path if got.returncode == 0 else None
 
     def has(self, tool):
-        """Returns whether the machine has this tool. If it has not, that is a failure, or is reported in a note."""
+        """Returns whether the machine has this tool. If it has not, that is a failure, or, of a tool that is only useful, is
+        reported in a note. A tool that tests/tools does not list is a failure, but for what each Debian has and the kit's rt.
+        """
+        if tool not in self.suite.tools and tool not in EVERYWHERE:
+            self.expect(f"the tool {tool}", False, "tests/tools does not list it")
         if shutil.which(tool):
             return True
-        if tool in self.suite.may_be_missing:
+        if self.suite.tools.get(tool) == "useful":
             self.note(f"no {tool}: what needs it is not run")
         else:
             self.expect(f"the tool {tool}", False, "this machine does not have it")

@@ -1,11 +1,13 @@
-"""Tests man/tlvdump.1: it renders without warnings, names what the program has, and its recipes work as written."""
+"""Tests the manual and the pages that it is made of, docs/USE.md and man/others.md: they have what the programs have, their
+recipes and commands work as written, and the manual has all of it and renders without warnings.
+"""
 import base64
 import os
 import re
 import shutil
 import subprocess
 
-from parts.completions import show_options, words_of
+from parts.completions import FORMS, show_options, words_of
 from parts.install import SHOW, install
 from parts.show_made import command, element
 from second_opinion.opened import Strings
@@ -13,16 +15,50 @@ from second_opinion.opened import Strings
 NULL = b"\x05\x00"
 # The inputs of the commands of other programs: files that tests/make-data makes, and the offset of an element in each.
 DATA = {"certificate.der": 4, "signed.ber": 20, "keys.p12": 4, "revoked.der": 4, "snmp.ber": 13, "ldap.ber": 7, "tap.ber": 58}
-# The codes in docs/USE.md and docs/FINDINGS.md, as the programs write them.
-MESSAGES = [f"F{number:02}" for number in range(1, 13)] + [f"E{number}" for number in (1, 2, 3, 4, 5, 7, 8)]
-MESSAGES += [f"B{number:02}" for number in range(1, 31)] + [f"S{number:02}" for number in range(1, 7)]
-MESSAGES += ["D01", "D02"] + [f"C{number:02}" for number in range(1, 7)]
-MESSAGES += [f"N{number}" for number in range(1, 7)] + [f"{letter}{number}" for letter in "UX" for number in (1, 2, 3, 4)]
+# The codes, as the programs write them.
+FAULT_CODES = [f"F{number:02}" for number in range(1, 13)]
+MESSAGES = [*(f"E{number}" for number in (1, 2, 3, 4, 5, 7, 8)), *(f"N{number}" for number in range(1, 7))]
+MESSAGES += [f"{letter}{number}" for letter in "UX" for number in (1, 2, 3, 4)]
+FINDINGS = [f"B{number:02}" for number in range(1, 31)] + [f"S{number:02}" for number in range(1, 7)]
+FINDINGS += ["D01", "D02"] + [f"C{number:02}" for number in range(1, 7)]
+# An input for each fault, F01 first, in hexadecimal. The last is read with --inside 0.
+FAULTS = ["", "30", "00", "3080 0001", "3002 3080 05", "1f" + "81" * 9, "04ff", "0480", "048601", "3080" * 129, "3003 020201", "030201"]
 
 
-def check_rendering(part, page):
-    """The tools that know mdoc report nothing."""
-    tools = [["mandoc", "-T", "lint", "-W", "warning"], ["groff", "-ww", "-mdoc", "-Tascii", "-z"]]
+def read_page(part, *names):
+    with open(os.path.join(part.root, *names), encoding="utf-8") as file:
+        return file.read()
+
+
+def section_of(text, title):
+    """Returns the section of a page with this title, with what is below it."""
+    marks = title.split(" ")[0]
+    return re.split(rf"^#{{1,{len(marks)}}} ", text.split(f"\n{title}\n")[1], flags=re.M)[0]
+
+
+def rows_of(text):
+    """Returns the cells of the rows of the tables in a text, without their heads."""
+    rows = [re.split(r"(?<!\\)\|", line)[1:-1] for line in re.sub(r"^\|.*\n\|--.*\n", "", text, flags=re.M).splitlines() if line.startswith("|")]
+    return [[cell.strip().replace("\\|", "|") for cell in row] for row in rows]
+
+
+def blocks_of(text, language="sh"):
+    """Returns the blocks of code in this language."""
+    return [code for name, code in re.findall(r"^```(\w*)\n(.*?)^```$", text, re.M | re.S) if name == language]
+
+
+def rendered(page):
+    """Returns the manual as it is shown in long lines, with single blanks."""
+    words = ["groff", "-man", "-Tascii", "-P-cbou", "-rLL=2000n", page]
+    text = subprocess.run(words, capture_output=True, text=True).stdout
+    return [" ".join(line.split()) for line in text.splitlines()]
+
+
+def check_rendering(part, page, texts):
+    """packaging/make-manual makes the manual. The tools that know its form report nothing. It shows each command of the pages."""
+    got = subprocess.run([os.path.join(part.root, "packaging", "make-manual"), "--check"], capture_output=True, text=True)
+    part.expect("man/tlvdump.1 is as packaging/make-manual makes it", got.returncode == 0, got.stderr)
+    tools = [["mandoc", "-T", "lint", "-W", "warning"], ["groff", "-ww", "-man", "-Tascii", "-z"]]
     for tool in tools:
         if not part.has(tool[0]):
             continue
@@ -30,36 +66,67 @@ def check_rendering(part, page):
         # mandoc also reports pages that the machine lacks. That is no fault of this page.
         reported = [line for line in (got.stdout + got.stderr).splitlines() if "mandoc.db" not in line]
         part.expect(" ".join(tool), got.returncode == 0 and not reported, *reported)
+    if not part.has("groff"):
+        return
+    lines = rendered(page)
+    shown = "\n".join(lines)
+    for text in texts:
+        for line in "".join(blocks_of(text) + blocks_of(text, "")).splitlines():
+            part.expect(f"the manual shows {line}", not line or " ".join(line.split()) in lines)
+        spans = re.findall(r"`([^`]+)`", re.sub(r"^```.*?^```$", "", text, flags=re.M | re.S).replace("\\|", "|"))
+        missing = [span for span in spans if " ".join(span.split()) not in shown]
+        part.expect("the manual shows what the pages quote", not missing, *missing)
+    codes = {line.split()[0] for line in lines if re.match(r"[BSCDF]\d\d ", line)}
+    part.expect("the codes of the manual", codes == {*FINDINGS, *FAULT_CODES}, *sorted(codes ^ {*FINDINGS, *FAULT_CODES}))
+
+
+def synopsis(part, text):
+    """The synopsis has the commands and options of the programs' help, and the tables have each option with its commands."""
+    [block] = blocks_of(section_of(text, "## Synopsis"), "")
+    wanted = {name: options - {"--help"} for name, options in words_of(part).items()}
+    of_show = show_options(part) - {"--help", "--version"}
+    stated = {}
+    for words in map(str.split, re.sub(r"\n +", " ", block).splitlines()):
+        if words:
+            name = words[1] if words[0] == "tlvdump" else words[0]
+            stated.setdefault(name, set()).update(word.strip("[]") for word in words if word.strip("[]").startswith("--"))
+    part.expect("the synopsis", stated == {**wanted, "tlvdump-show": of_show}, str(stated))
+    section = section_of(text, "## tlvdump")
+    commands, options = {}, {name: set() for name in wanted}
+    for first, *others in rows_of(section):
+        if len(others) == 1:
+            commands[first.strip("`")] = others[0]
+        else:
+            for name in wanted if others[0] == "all" else re.findall(r"`(\w+)`", others[0]):
+                options[name] |= set(re.findall(r"`(--[a-z-]+)", first))
+    part.expect("the table of commands", set(commands) == set(wanted), *commands)
+    part.expect("the table of options", options == wanted, str(options))
+    rows = [row[0] for row in rows_of(section_of(text, "## tlvdump-show"))]
+    listed = {option for row in rows for option in re.findall(r"`(--[a-z-]+)", row)}
+    part.expect("the options of tlvdump-show", listed == of_show, *sorted(listed ^ of_show))
+    forms = {row.strip("`") for row in rows if not row.startswith("`--")}
+    part.expect("the forms", forms == FORMS - {"octets", "ber", "der", "cer"}, *sorted(forms))
+    missing = [form for form in FORMS if f"`{form}`" not in section_of(text, "## tlvdump-show")]
+    part.expect("the values of --as", not missing, *missing)
 
 
 def complete(part, text):
-    """The manual has each command, option, status and code, and no option that the program lacks."""
-    options = words_of(part)
-    for name in options:
-        part.expect(f"the command {name}", f".Cm {name}" in text and f".Ss {name}\n" in text)
-    of_show = show_options(part) - {"--help", "--version"}
-    known = set().union(*options.values(), of_show) | {"--version"}
-    shown = {f"-{option}" for option in re.findall(r"Fl (-[a-z-]+)", text)}
-    part.expect("the options", shown == known, *sorted(shown ^ known))
-    for name, wanted in options.items():
-        section = text.split(f".Ss {name}\n")[1].split("\n.Ss ")[0]
-        listed = {f"-{option}" for option in re.findall(r"^\.It Fl (-[a-z]+)", section, re.M)}
-        part.expect(f"the options of {name}", listed == wanted - {"--help"}, str(listed))
-    section = re.split(r"\n\.S[sh] ", text.split(".Ss tlvdump-show\n")[1])[0]
-    listed = {f"-{option}" for option in re.findall(r"^\.It Fl (-[a-z-]+)", section, re.M)}
-    part.expect("the options of tlvdump-show", listed == of_show, str(listed))
-    codes = re.findall(r"^\.It ([A-Z]\d+)$", text.split(".Sh DIAGNOSTICS\n")[1], re.M)
-    part.expect("the codes", sorted(codes) == sorted(MESSAGES), *codes)
-    section = text.split(".Sh WHEN AN INPUT DOES NOT PARSE\n")[1].split("\n.Sh ")[0]
-    codes = re.findall(r"^\.It ([A-Z]\d+)$", section, re.M)
-    part.expect("what to do about each fault", codes == MESSAGES[:12], *codes)
-    statuses = text.split(".Sh EXIT STATUS")[1].split(".Sh ")[0]
-    part.expect("the statuses", re.findall(r"^\.It (\d+)$", statuses, re.M) == [*"012345", "127"])
+    """The page has each status and code, and the texts of the faults that the program writes."""
+    statuses = [row[0] for row in rows_of(section_of(text, "## Exit status"))]
+    part.expect("the statuses", statuses == [*"012345", "127"], *statuses)
+    messages = rows_of(section_of(text, "## Messages"))
+    codes = {code for row in messages for code in re.findall(r"`(?:taken for [^`]*; )?([ENUX]\d) ", row[1])}
+    part.expect("the codes of messages", codes == set(MESSAGES), *sorted(codes ^ set(MESSAGES)))
+    part.expect("the statuses of messages", {row[0] for row in messages} == {*"12345", "127"})
+    stated = [(row[0], row[1].strip("`")) for row in rows_of(section_of(text, "## Faults"))]
+    inputs = [bytes.fromhex(octets) for octets in FAULTS]
+    said = [part.run(["check", *["--inside", "0"] * (at == 11)], octets).err.decode() for at, octets in enumerate(inputs)]
+    written = [tuple(message.rstrip("\n").split(": ", 1)[-1].split(" ", 1)) for message in said]
+    part.expect("the faults", stated == written, *map(str, zip(stated, written)))
 
 
 def recipes_of(text):
-    section = re.split(r"\n\.S[hs] ", text.split("\n.Sh EXAMPLES\n")[1])[0]
-    return [block.replace("\\e", "\\") for block in re.findall(r"^\.Bd -literal.*?\n(.*?)^\.Ed", section, re.M | re.S)]
+    return blocks_of(section_of(text, "## Recipes"))
 
 
 def indefinite(octets):
@@ -155,7 +222,6 @@ def wanted_of(part, record):
     checked += b"2 S01 length is not the shortest\n6 S02 TRUE is not ff\n"
     return [
         (0, shown * 5, None),
-        (0, b"", None),
         (2, checked, None),
         (2, WHY.encode(), None),
         (0, shown, None),
@@ -168,8 +234,7 @@ def wanted_of(part, record):
         (0, b"", ("joined", lines)),
         (0, dump_of(part, record), None),
         (0, dump_of(part, record), None),
-        (0, dump_of(part, (record + b"\0" * 8) * 3, "--padding"), None),
-        (0, b"", ("record.ber", record)),
+        (0, dump_of(part, (record + b"\0" * 8) * 3, "--padding"), ("record.ber", record)),
         (0, b"", long),
         (1, b"2c2\n<   INTEGER 5\n---\n>   INTEGER 6\n", ("old.txt", b"SEQUENCE {\n  INTEGER 5\n  NULL\n}\n")),
         (0, b"", ("der.ber", indefinite(cert))),
@@ -202,7 +267,7 @@ def recipes(part, text):
     before = part.run(["dump", "damaged.ber"])
     part.expect("the damage that the manual has", before.status == 2 and before.err.startswith(b"fault at 10: F11"))
     name = b"OBJECT IDENTIFIER 2.5.4.3 (commonName)"
-    part.expect("the names that the manual has", name in wanted[7][1])
+    part.expect("the names that the manual has", name in wanted[6][1])
 
 
 def in_shell(part, script):
@@ -212,15 +277,16 @@ def in_shell(part, script):
 
 
 def replace_names(line, **values):
-    return re.sub(r"\b(F|N|M|hex)\b", lambda it: values[it[0]], line)
+    return re.sub(r"\b(F|N|M|HEX)\b", lambda it: values[it[0]], line)
 
 
 def replacements(part, text):
-    """Returns the commands that replace options of other programs, with the values of F, N, M, out and hex."""
-    section = text.split("\n.Ss Options of other programs\n")[1].split("\n.Sh ")[0]
-    commands = [line[4:].removesuffix(" ,").replace("\\e", "\\") for line in section.splitlines() if line.startswith(".Li ")]
+    """Runs the commands that replace options of other programs, with the values of F, N, M and HEX."""
+    section = section_of(text, "## Options of other programs")
+    commands = [span for row in rows_of(section) for span in re.findall(r"`([^`]*)`", row[-1])]
+    commands += re.findall(r"`(tlvdump[^`]*)`", re.sub(r"^\|.*\n", "", section, flags=re.M).replace("\n", " "))
     commands = [line for line in commands if line.startswith(("tlvdump", "tail", "head", "echo", "xxd"))]
-    part.expect("commands in place of options", len(commands) >= 16, *commands)
+    part.expect("commands in place of options", len(commands) >= 14, *commands)
     part.write("octets", element(4, NULL))
     part.write("bits", element(3, b"\0" + NULL))
     part.write("plain", NULL)
@@ -245,7 +311,7 @@ def replacements(part, text):
         file = "bits" if "tail -c +2" in line else "octets" if inner else "plain"
         plain = (file, "2" if line.startswith("head") else "0", "1", b"" if ">" in line else null)
         file, number, more, wanted = special.get(line, plain)
-        script = replace_names(line, F=file, N=number, M=more, hex="0500")
+        script = replace_names(line, F=file, N=number, M=more, HEX="0500")
         got = in_shell(part, script)
         part.expect(line, (got.returncode, got.stdout, got.stderr) == (0, wanted, b""), script, str(got))
     part.expect("what extract wrote", read(part, "out") == NULL)
@@ -284,8 +350,9 @@ def coming(part, text):
     """Runs for each task the commands of other programs that are
     installed, and the one of this program, on each kind of input.
     """
-    section = re.split(r"\n\.S[hs] ", text.split("\n.Ss Coming from dumpasn1, openssl asn1parse, unber\n")[1])[0]
-    blocks = [block.splitlines() for block in re.findall(r"^\.Bd -literal.*?\n(.*?)^\.Ed", section, re.M | re.S)]
+    [tasks] = blocks_of(text)
+    blocks = [task.splitlines()[1:] for task in tasks.split("\n\n")]
+    part.expect("each task says what it does", all(task.startswith("# ") for task in tasks.split("\n\n")), tasks)
     there = [tool for tool in ("openssl", "dumpasn1", "unber") if part.has(tool)]
     for name, offset in DATA.items():
         with open(os.path.join(part.root, "tests", "data", name), "rb") as file:
@@ -312,9 +379,9 @@ def coming(part, text):
 
 
 def remarks(part, text):
-    """Checks remarks in the manual."""
+    """Checks remarks on the page."""
     got = part.run(["dump", "--version"])
-    part.expect("dump --version is refused", got.status == 4 and b"tlvdump dump --version" in text.encode())
+    part.expect("dump --version is refused", got.status == 4 and "`--version`, without a command" in text)
     part.write("many", NULL * 200_000)
     got = in_shell(part, "tlvdump dump many | head -n 2")
     fine = (got.stdout, got.stderr) == (b"       0      0: NULL\n       2      0: NULL\n", b"E2 write failed\n")
@@ -331,14 +398,13 @@ def remarks(part, text):
 
 
 def test(part):
-    page = os.path.join(part.root, "man", "tlvdump.1")
-    with open(page, encoding="ascii") as file:
-        text = file.read()
-    check_rendering(part, page)
-    complete(part, text)
+    use, others = read_page(part, "docs", "USE.md"), read_page(part, "man", "others.md")
+    check_rendering(part, os.path.join(part.root, "man", "tlvdump.1"), (use, others))
+    synopsis(part, use)
+    complete(part, use)
     install(part, "there")
-    recipes(part, text)
-    replacements(part, text)
+    recipes(part, use)
+    replacements(part, others)
     made(part)
-    coming(part, text)
-    remarks(part, text)
+    coming(part, others)
+    remarks(part, use)

@@ -45,7 +45,7 @@ def place_of(path):
 
 def with_paths(page):
     """Returns the manual page with the paths of the package, and without the sentence on PREFIX."""
-    page = re.sub(rb"\.Pa PREFIX\n.*?\.Pa /usr/local \.\n", b"", page, flags=re.S)
+    page = re.sub(rb"^PREFIX is .*\n", b"", page, flags=re.M)
     return page.replace(b"PREFIX/", b"/usr/")
 
 

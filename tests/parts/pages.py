@@ -1,14 +1,17 @@
-"""Checks that what the pages name exists: the pages and sections that they link to, files by their names or paths, in
-docs/READING.md the files of definitions of each crate, and in docs/MAP.md all names in backticks.
+"""Checks that what the pages name exists: the pages and sections that they link to, files by their names or paths, and in
+docs/MAP.md, docs/ADD.md and the promises of docs/PROVED.md all names in backticks. README and PROVED must have the same statement.
 """
-import fnmatch
 import glob
 import os
 import re
 
-PAGES = ("README.md", "CONTRIBUTING.md", "bench/README.md", "docs/*.md")
+PAGES = ("*.md", "bench/*.md", "data/*.md", "docs/*.md", "man/*.md")
 # Names that stand for any file, or for files that are built.
 MADE = {"MODULE", "FUNCTION", "NAME", "out"}
+# A command that docs/ADD.md adds as an example.
+MADE_UP = ": Count"
+# The places where scripts of bench write what they measured, by the page.
+PLACES = {"docs/STATUS.md": ["tlvdump"], "bench/RESULTS.md": ["speed", "outputs", "pipe", "show", "tlvdump-show", "gate"]}
 
 
 def without_blocks(text):
@@ -41,15 +44,6 @@ def missing_files(text, known):
             yield name
 
 
-def missing_definitions(root, text):
-    """Yields the files of definitions that docs/READING.md names for a crate and that the crate lacks."""
-    for row in re.findall(r"^\| .*", text, re.M):
-        for crate, names in re.findall(r"`(tlv_\w+)`: ((?:`\w+`(?: \([^)]*\))?(?:, )?)+)", row):
-            for name in re.findall(r"`(\w+)`", re.sub(r"\([^)]*\)", "", names)):
-                if not glob.glob(os.path.join(root, "crates", crate, "specs", "**", f"{name}.antt"), recursive=True):
-                    yield f"{crate}: {name}"
-
-
 def sources(root, paths):
     """Yields the files of code, definitions and proofs, without their comments."""
     for path in paths:
@@ -58,12 +52,17 @@ def sources(root, paths):
                 yield re.sub("//.*" if path.endswith(".rt") else "--.*", "", file.read())
 
 
-def gone_names(root, text, known):
-    """Yields the names in backticks that the sources lack, each with its line: words, members of types, and paths."""
+def gone_names(root, text, known, others=()):
+    """Yields the names in backticks that neither the sources nor the other files have, each with its line: words, members of
+    types, and paths.
+    """
     paths = "\n".join(path for path in known if re.match(r"crates/\w+/(?:src|specs|proofs)/|tests/", path))
     codes = list(sources(root, paths.split("\n")))
     with open(os.path.join(root, "crates.txt"), encoding="utf-8") as file:
         words = set(re.findall(r"[\w-]+", "\n".join([*codes, paths, file.read()])))
+    for path in others:
+        with open(path, encoding="utf-8") as file:
+            words |= set(re.findall(r"\w+", file.read()))
     text = re.sub(r"^```.*?^```", lambda block: "\n" * block[0].count("\n"), text, flags=re.M | re.S)
     for span in re.finditer("`([^`]+)`", text):
         name = span[1].split()[0]
@@ -83,6 +82,11 @@ def gone_names(root, text, known):
             yield f"line {line}: {name}"
 
 
+def statement(proved):
+    """Returns the statement of docs/PROVED.md, which is its first quotation, on one line."""
+    return " ".join(re.search(r"(?:^> .*\n)+", proved, re.M)[0].replace("> ", "").split())
+
+
 def test(part):
     paths = [path for pattern in PAGES for path in sorted(glob.glob(os.path.join(part.root, pattern)))]
     texts = {}
@@ -94,7 +98,16 @@ def test(part):
     for page, text in texts.items():
         broken = [*broken_links(part.root, page, text, texts), *missing_files(text, known)]
         part.expect(f"{page} names what is there", not broken, *broken)
-    lacking = list(missing_definitions(part.root, texts["docs/READING.md"]))
-    part.expect("docs/READING.md names files of definitions", not lacking, *lacking)
-    gone = list(gone_names(part.root, texts["docs/MAP.md"], known))
-    part.expect("docs/MAP.md has no name that the sources lack", not gone, *gone)
+    for page, names in PLACES.items():
+        found = re.findall(r"^<!-- ([\w-]+): .*? -->\n.*?^<!-- end of \1 -->\n", texts[page], re.M | re.S)
+        part.expect(f"the places of {page}", found == names, *found)
+    readme = " ".join(texts["README.md"].replace("*", "").replace("> ", "").split())
+    part.expect("README.md has the statement of docs/PROVED.md", statement(texts["docs/PROVED.md"]) in readme)
+    promised = texts["docs/PROVED.md"].partition("\n## The statement\n")[2].partition("\n## What the types give\n")[0]
+    part.expect("docs/PROVED.md has promises", promised)
+    for page, text in (("docs/MAP.md", texts["docs/MAP.md"]), ("docs/PROVED.md", promised)):
+        gone = list(gone_names(part.root, text, known))
+        part.expect(f"{page} has no name that the sources lack", not gone, *gone)
+    scripts = glob.glob(os.path.join(part.root, "tests", "second_opinion", "*.py"))
+    gone = [name for name in gone_names(part.root, texts["docs/ADD.md"], known, scripts) if not name.endswith(MADE_UP)]
+    part.expect("docs/ADD.md has no name that neither the sources nor the second implementation have", not gone, *gone)

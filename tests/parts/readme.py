@@ -1,5 +1,4 @@
-"""Tests README.md: its examples as written, the options in its synopsis, its links, and the kit that it names. Tests
-also the table of faults in docs/USE.md.
+"""Tests README.md: its examples as written, its links, and the kit that it names.
 
 The examples run one after another at the top of a copy of this repository in which the program is built.
 """
@@ -8,15 +7,13 @@ import re
 import shutil
 import subprocess
 
-from parts.completions import show_options, words_of
 from parts.install import clone
 
-# Commands that are not run: the gate, which runs this part, and
-# those that change the system, which have tests of their own.
+# Commands that are not run: a run without a proof, which takes minutes; the gate, which runs this part; and those that change
+# the system, which have tests of their own.
+TRY = "cd crates/tlvdump && {} | rt try -- dump"
 NOT_RUN = [".ci/run", "./install", "./install", "./package"]
-TOOLS = ("openssl", "xxd")
-# An input for each fault, F01 first, in hexadecimal. The last is read with --inside 0.
-FAULTS = ["", "30", "00", "3080 0001", "3002 3080 05", "1f" + "81" * 9, "04ff", "0480", "048601", "3080" * 129, "3003 020201", "030201"]
+TOOLS = ("xxd",)
 
 
 def blocks_of(text):
@@ -38,7 +35,7 @@ def commands_of(lines):
 def examples(part, blocks):
     root = os.path.dirname(clone(part, "copy", True))
     shown = [lines for name, lines in blocks if name == "console"]
-    part.expect("examples", len(shown) >= 6, f"{len(shown)} examples")
+    part.expect("examples", len(shown) >= 3, f"{len(shown)} examples")
     part.expect("an example begins with a command", all(lines[0].startswith("$ ") for lines in shown))
     for words, wanted in [command for lines in shown for command in commands_of(lines)]:
         how = {"cwd": root, "stdin": subprocess.DEVNULL, "stdout": subprocess.PIPE, "stderr": subprocess.STDOUT}
@@ -48,27 +45,18 @@ def examples(part, blocks):
 
 
 def not_run(part, blocks):
-    """Checks that the other shell blocks contain only commands that exist."""
-    named = [line.split()[0] for name, lines in blocks if name == "sh" for line in lines]
+    """Checks that the other shell blocks contain only commands that exist, and that what is run without a proof is the command
+    that a proof is made for.
+    """
+    first, *others = [line for name, lines in blocks if name == "sh" for line in lines]
+    proved = [words.split(" | ") for name, lines in blocks if name == "console" for words, _ in commands_of(lines)]
+    part.expect("the run without a proof", first in [TRY.format(words[0]) for words in proved if words[1:] == ["./tlvdump dump"]], first)
+    named = [line.split()[0] for line in others]
     part.expect("commands that are not run", named == NOT_RUN, *named)
     for name in set(named):
         part.expect(f"{name} is there", os.access(os.path.join(part.root, name), os.X_OK))
     languages = {name for name, _ in blocks}
-    part.expect("languages of blocks", languages == {"", "sh", "console"}, *languages)
-
-
-def synopsis(part, blocks, text):
-    """The synopsis has the commands and options of the programs' help."""
-    lines = [line.split() for name, block in blocks if not name for line in block if line.startswith("tlvdump")]
-    wanted = {name: options - {"--help"} for name, options in words_of(part).items()}
-    wanted["tlvdump-show"] = show_options(part) - {"--help", "--version"}
-    stated = {}
-    for words in lines:
-        name = words[1] if words[0] == "tlvdump" else words[0]
-        stated.setdefault(name, set()).update(word.strip("[]") for word in words if word.strip("[]").startswith("--"))
-    part.expect("the synopsis", stated == wanted, str(stated), str(wanted))
-    table = re.findall(r"^\| `(--[a-z-]+)", text, re.M)
-    part.expect("the table of options", sorted(table) == sorted(set().union(*wanted.values())), *table)
+    part.expect("languages of blocks", languages == {"sh", "console"}, *languages)
 
 
 def links(part, text):
@@ -77,16 +65,6 @@ def links(part, text):
     documents = [f"docs/{name}" for name in sorted(os.listdir(os.path.join(part.root, "docs")))]
     missing = [path for path in documents if f"]({path})" not in text]
     part.expect("README names each document", not missing, *missing)
-
-
-def faults(part):
-    """The table of docs/USE.md has the texts that the program writes."""
-    with open(os.path.join(part.root, "docs", "USE.md"), encoding="utf-8") as file:
-        stated = re.findall(r"^\| (F\d\d) \| `(.*)` \|$", file.read(), re.M)
-    inputs = [bytes.fromhex(octets) for octets in FAULTS]
-    messages = [part.run(["check", *["--inside", "0"] * (at == 11)], octets).err.decode() for at, octets in enumerate(inputs)]
-    written = [tuple(message.rstrip("\n").split(": ", 1)[-1].split(" ", 1)) for message in messages]
-    part.expect("the faults of docs/USE.md", stated == written, *map(str, zip(stated, written)))
 
 
 def kit(part, text):
@@ -116,7 +94,5 @@ def test(part):
     if all([part.has(tool) for tool in TOOLS]):
         examples(part, blocks)
     not_run(part, blocks)
-    synopsis(part, blocks, text)
     links(part, text)
-    faults(part)
     kit(part, text)

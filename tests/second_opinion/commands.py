@@ -1,4 +1,4 @@
-"""Runs the four commands: "Use" in README.md, and docs/FORMAT.md from "What a dump writes" on."""
+"""Runs the four commands: docs/USE.md, and docs/FORMAT.md from "What a dump writes" on."""
 import re
 from dataclasses import dataclass
 
@@ -69,7 +69,7 @@ class Result:
 
 
 def in_range(text, largest):
-    """Returns whether the text is a number up to the largest, of 1 to 13 decimal digits (docs/DECISIONS.md)."""
+    """Returns whether the text is a number up to the largest, of 1 to 13 decimal digits (docs/USE.md)."""
     return re.fullmatch("[0-9]{1,13}", text) is not None and int(text) <= largest
 
 

@@ -52,7 +52,7 @@ class Strings:
         if level < MOST_OPEN and is_openable(reading):
             self.opened.append(base + string.offset)
             self.look(reading.items, None, base + string.end - len(inner), level + 1)
-        elif inner and (reading.fault or level == MOST_OPEN):
+        elif level == MOST_OPEN or inner and reading.fault:
             looks = look_of(inner) or extension_value(string, parent)
             if looks:
                 self.broken.append(Broken(base + string.offset, looks))
