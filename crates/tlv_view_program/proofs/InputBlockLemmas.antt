@@ -1,5 +1,5 @@
 -- The blocks of all inputs, one after another.
-use Rattle.std.proofs.Common.{◌≡◌, ◌+◌, ◌<◌, ◌≤◌, ◌++◌, ℕ, Bool, true, false, List, [], ◌∷◌, Option, Some, None, ap}
+use Rattle.std.proofs.Common.{◌≡◌, ◌+◌, ◌-◌, ◌<◌, ◌≤◌, ◌++◌, ℕ, Bool, true, false, List, [], ◌∷◌, Option, Some, None, ap}
 use Rattle.std.proofs.Common.{append-nil, append_assoc, arith, drop, flat_map, get_or, length, map, refl}
 use Rattle.std.proofs.Common.{subst, sym, take, ◌∙◌}
 use Rattle.std.specs.Prelude.{Result, Ok, Err, OnOk, is_err, nat_lt, option_map, ◌==◌}
@@ -11,7 +11,10 @@ use Rattle.tlv_text.specs.declared.taken.Taken.{Taken}
 use Rattle.tlv_program.specs.System.{Allows}
 use Rattle.tlv_view_program.specs.declared.request.InputForm.{InputForm}
 use Rattle.tlv_view_program.specs.InputBlocks.{BlockContents, GetsAllBlocks, GetsBlocks, InputBlockValue, block_of_file}
-use Rattle.tlv_view_program.specs.InputBlocks.{blocks_taken, next, no_more, refused_here, refused_later, run_limit}
+use Rattle.tlv_text.specs.declared.text_fault.TextFault.{TextFault}
+use Rattle.tlv_text.specs.declared.text_fault.TextFault.TheVariants.{TooLong}
+use Rattle.tlv_view_program.specs.InputBlocks.{blocks_taken, decoded_count, next, no_more, refused_here}
+use Rattle.tlv_view_program.specs.InputBlocks.{refused_later, room_after, run_limit, within_room}
 use Rattle.tlv_view_program.specs.Private.BlockParts.{file_blocks}
 use Rattle.tlv_view_program.specs.ShowsAll.{file_of_word, files_of_words}
 use Rattle.tlv_view_program.specs.Streams.{StreamsValue}
@@ -82,7 +85,42 @@ pub without-error : {T E : Type 0} (r : Result T E) (b : Bool) (P : Type 0) → 
 without-error (Ok x) b P e f p = p
 without-error (Err x) b P e f p = let u : true ≡ false = sym e ∙ f in absurd (cc (u))
 
+-- what an input is taken for stays, or is refused
+within-fits : (room : ℕ) (ts : List TakenValue) → decoded_count ts ≤ room → within_room room (Ok ts) ≡ Ok ts
+within-fits room ts fits =
+    let no : nat_lt room (decoded_count ts) ≡ false = grind (arith, nat_tests) in
+    rw no refl
+
+within-beyond : (room : ℕ) (ts : List TakenValue) → room < decoded_count ts → within_room room (Ok ts) ≡ Err TooLong
+within-beyond room ts beyond =
+    let yes : nat_lt room (decoded_count ts) ≡ true = grind (arith, nat_tests) in
+    rw yes refl
+
 module _ {S : Type 0} (allows : Allows S) (form : InputForm) where
+  module _ (file : Option (List ℕ)) (old new : StreamsValue S) (room : ℕ) (ts : List TakenValue) where
+    -- there is room for the octets of the texts, or not
+    pub gets-within : (rest : ℕ) → rest + decoded_count ts ≡ room
+        → GetsBlocks allows form file room old new (blocks_taken file (within_room room (Ok ts)))
+        (room_after room (within_room room (Ok ts)))
+        → GetsBlocks allows form file room old new (blocks_taken file (Ok ts)) rest
+    gets-within rest is x =
+        let left : room - decoded_count ts ≡ rest = omega (arith, is) in
+        subst (λ (n : ℕ). GetsBlocks allows form file room old new (blocks_taken file (Ok ts)) n) left
+        (subst
+        (λ (r : Result (List TakenValue) TextFault).
+        GetsBlocks allows form file room old new (blocks_taken file r) (room_after room r))
+        (within-fits room ts (omega (arith, is))) x)
+
+    pub gets-beyond : room < decoded_count ts
+        → GetsBlocks allows form file room old new (blocks_taken file (within_room room (Ok ts)))
+        (room_after room (within_room room (Ok ts)))
+        → GetsBlocks allows form file room old new (blocks_taken file (Err TooLong)) room
+    gets-beyond beyond x =
+        subst
+        (λ (r : Result (List TakenValue) TextFault).
+        GetsBlocks allows form file room old new (blocks_taken file r) (room_after room r))
+        (within-beyond room ts beyond) x
+
   -- the blocks of a file, and then those of others, if there is memory
   next-file : (file : Option (List ℕ)) (files : List (Option (List ℕ))) (room rest : ℕ)
       (old between new : StreamsValue S) (added : List InputBlockValue) (more : Option (List InputBlockValue))

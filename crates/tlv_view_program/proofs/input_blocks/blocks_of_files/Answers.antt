@@ -27,7 +27,7 @@ returns-then-is_err-clause-gets g c =
 
 pub loop-word-init : goal.loop-word-init
 loop-word-init g c = elim c.else-is_empty.branch [
-  | else-is_empty-via-then-is_empty+else-is_err w ↦ rw (w.streams-is, w.given-is) record {
+  | else-is_empty-via-then-is_empty+else-is_err w ↦ rw (w.streams-is, w.given-is, w.room-is) record {
     gets =
         rest-alone g.S.System.allows c.args.request.now.form c.args.request.now.files _ _ _ _ _ w.add_file.ensures.gets.0
         refl (no-words c.args.request.now.files c.is_empty.result (rw (← c.as_slice-files.ensures) c.is_empty.ensures)
@@ -37,7 +37,7 @@ loop-word-init g c = elim c.else-is_empty.branch [
         w.add_file.ensures.gets.1;
     fit = without-error w.add_file.result _ _ w.is_err.ensures.value w.if-is_err.false w.add_file.ensures.within;
   }
-  | else-is_empty-via-else-is_empty w ↦ rw (w.streams-is, w.given-is) record {
+  | else-is_empty-via-else-is_empty w ↦ rw (w.streams-is, w.given-is, w.room-is) record {
     gets =
         rest-begins g.S.System.allows c.args.request.now.form (files_of_words c.args.request.now.files)
         c.args.request.now.files _ _ _ refl
