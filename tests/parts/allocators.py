@@ -9,7 +9,7 @@ import re
 
 from parts.words import files
 
-CRATES = ("tlv_head", "tlv_io", "tlv_walk", "tlv_value", "tlv_show", "tlv_cut", "tlv_run")
+CRATES = ("tlv_head", "tlv_io", "tlv_walk", "tlv_value", "tlv_show", "tlv_run")
 # The sources that may name an allocator, below crates/.
 MODULES = re.compile(r"tlv_value/src/names(?:\.rt|/\w+\.rt)|tlv_run/src/text\.rt")
 # What these crates may use of others: modules of std and its lemmas, and crates of the kit.

@@ -22,7 +22,7 @@ NAMES = {
     "Rattle.tlv_show.specs.declared.rules.Rules.TheVariants": "Ber Der Cer",
     "Rattle.tlv_value.specs.Names": "names_of",
     "Rattle.tlv_walk.specs.Framing": "plain_framing",
-    "Rattle.tlv_run.proofs.RowWords": "check clean_result dump extract fault_result framing_of indef lines named nameless "
+    "Rattle.tlv_rows.proofs.Run.RowWords": "check clean_result dump extract fault_result framing_of indef lines named nameless "
     "entries_table notice_result octets result result_with",
 }
 CODES = {

@@ -23,7 +23,7 @@ HEX, OF_BASE64, CMS = "taken for hexadecimal", "taken for base64", "taken for PE
 NO_END = "its end marker is missing"
 KNOWN = "known are PEM, hex dumps, hexadecimal, decimal numbers and base64"
 NO_PEM, NO_BASE64 = "X2 there is no block of PEM", "X2 there is no base64"
-TOO_LONG = "X4 text of more than 1073741824 octets, or of 16777216 more octets than characters"
+TOO_LONG = "X4 texts of more than 1073741824 octets in all, or one of 16777216 more octets than characters"
 NO_LIST = "X2 there is no list of decimal numbers"
 FORMS = "--as (octets, pem, dump, hex, numbers, base64 or runs)"
 

@@ -9,6 +9,7 @@ import re
 
 from parts.harness import Done
 from parts.show_program import Program
+from second_opinion.texts import TOO_LONG
 
 NULL, NULL_LINE = b"\x05\x00", "       0      0: NULL\n"
 CUT = bytes.fromhex("3003020201")
@@ -127,6 +128,26 @@ def names(part, program):
                   program.run(["--names", f"{folder}/names"], b"\x06\x03\x55\x04\x03"), Done(0, line, b""))
 
 
+def texts_in_all(part, program):
+    """The texts of a run give at most 2^30 octets in all. One that would give more is refused, and later ones are looked at."""
+    row = b"0000 " + b"00 " * 16 + b"\n*\n"
+    part.write("large", row + b"1000000\n")
+    part.write("rest", row + b"0fffff0\n")
+    part.write("octets", NULL)
+    part.write("pem", b"-----BEGIN X-----\n" + base64.b64encode(NULL) + b"\n-----END X-----\n")
+    for words, refused in (
+        (["large"] * 63 + ["rest", "pem", "octets"], None),
+        (["large"] * 64 + ["octets", "pem"], "pem"),
+        (["large"] * 63 + ["pem", "large", "octets", "rest"], "large"),
+    ):
+        got = program.run(["--check", *words])
+        lines = got.err.decode().splitlines()
+        taken = sum(": taken for " in line for line in lines)
+        wrong = [line for line in lines if line.endswith(TOO_LONG)]
+        fine = wrong == [f"{refused}: {TOO_LONG}"] * bool(refused) and taken == len(words) - 1 - bool(refused)
+        part.expect(f"texts of 2^30 octets in all, {refused} refused", fine and got.status == (4 if refused else 2), str(wrong), str(taken))
+
+
 def whole(part, program):
     """An input of more than 150 MB is held, shown and explained."""
     count = 160 << 20
@@ -148,4 +169,5 @@ def test(part):
     padding(part, program)
     many(part, program)
     names(part, program)
+    texts_in_all(part, program)
     whole(part, program)

@@ -99,7 +99,10 @@ def run(show, names):
         return Result(4, b"", f"{refused}\n".encode())
     whole, number = Result(0, b"", b""), 0
     # The blocks of each FILE. A FILE that cannot be opened has one block, which is None.
-    blocks = [[None] if it.octets is None else texts.blocks_of(it.octets, show.as_form) for it in show.files]
+    room, blocks = texts.MOST_OCTETS, []
+    for it in show.files:
+        blocks.append([None] if it.octets is None else texts.blocks_within(room, it.octets, show.as_form))
+        room -= sum(texts.decoded_size(block) for block in blocks[-1])
     count = sum(map(len, blocks))
     for file, of_file in zip(show.files, blocks):
         for block in of_file:

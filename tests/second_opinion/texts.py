@@ -4,7 +4,7 @@ from dataclasses import dataclass, field
 
 from second_opinion import text_dumps, text_forms
 from second_opinion.reading import Reading
-from second_opinion.text_dumps import TooLong
+from second_opinion.text_dumps import MOST_MORE, MOST_OCTETS, TooLong
 
 OCTETS = ("octets", "ber", "der", "cer")
 TEXTS = ("pem", "dump", "hex", "numbers", "base64", "runs")
@@ -15,7 +15,7 @@ NO_PEM = "X2 there is no block of PEM"
 NO_LIST = "X2 there is no list of decimal numbers"
 NO_BASE64 = "X2 there is no base64"
 ENCRYPTED, NO_END = "X3 it is encrypted", "its end marker is missing"
-TOO_LONG = f"X4 text of more than {text_dumps.MOST_OCTETS} octets, or of {text_dumps.MOST_MORE} more octets than characters"
+TOO_LONG = f"X4 texts of more than {MOST_OCTETS} octets in all, or one of {MOST_MORE} more octets than characters"
 KNOWN = "known are PEM, hex dumps, hexadecimal, decimal numbers and base64"
 MARK = b"\xef\xbb\xbf"
 WHITE_SPACE = b" \t\n\r"
@@ -76,6 +76,17 @@ def blocks_of(octets, as_form=None):
         return of_form(as_form, text_of(octets)) if as_form else of_any(octets)
     except TooLong:
         return [Block(None, wrong=TOO_LONG)]
+
+
+def decoded_size(block):
+    """Returns how many octets of a block are decoded from a text."""
+    return 0 if block is None or block.form == "octets" else len(block.octets)
+
+
+def blocks_within(room, octets, as_form=None):
+    """Returns the blocks of an input, unless more octets are decoded from its text than there is room for."""
+    blocks = blocks_of(octets, as_form)
+    return blocks if sum(map(decoded_size, blocks)) <= room else [Block(None, wrong=TOO_LONG)]
 
 
 def text_of(octets):
@@ -238,6 +249,6 @@ def of_counting_runs(text, layers):
             blocks += in_layer(inner, line_of(text, run.start))
         elif counts(run.decoded.octets):
             blocks.append(of_run(text, run))
-        if sum(len(block.octets) for block in blocks) > text_dumps.MOST_OCTETS:
+        if sum(len(block.octets) for block in blocks) > MOST_OCTETS:
             raise TooLong
     return blocks or None

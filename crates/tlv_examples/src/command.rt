@@ -1,11 +1,11 @@
 //! Examples of commands.
 use crate::expect::expect_eq;
 use std::test::Fail;
+use tlv_program::{Words, command_of};
 use tlv_run::{Command, run_octets};
 use tlv_show::Rules;
 use tlv_value::Names;
 use tlv_walk::Framing;
-use tlv_words::{Words, command_of};
 
 /// tlv_run: runs `check --rules der` over octets in memory. The result has what is written and the exit status.
 #[test]

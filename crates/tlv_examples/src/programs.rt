@@ -3,11 +3,9 @@ ghost use Rattle.tlv_program.specs.System.{unknown_system};
 
 use crate::expect::expect_eq;
 use std::test::Fail;
-use tlv_program::{OpenFault, System, run_program};
-use tlv_view_program::{Streams, run_show};
-use tlv_view_words::{FileNames, Wanted, request_of};
+use tlv_program::{OpenFault, System, Words, run_program};
+use tlv_view_program::{FileNames, Streams, Wanted, request_of, run_show};
 use tlv_walk::{MemDrain, MemSource};
-use tlv_words::Words;
 
 /// A system that has no files and prints nothing.
 #[derive(Drop)]

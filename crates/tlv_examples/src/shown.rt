@@ -1,7 +1,7 @@
 //! Examples of values, dumps, findings and extracted elements.
 use crate::expect::expect_eq;
 use arrayvec::ArrayVec;
-use tlv_cut::{extract, indef};
+use tlv_run::{extract, indef};
 use tlv_show::{Options, Rules, check, dump};
 use tlv_value::{Names, decimal_of, dotted_of};
 use tlv_walk::{Framing, MemDrain, MemSource};

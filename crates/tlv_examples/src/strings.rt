@@ -4,7 +4,7 @@ use std::test::Fail;
 use tlv_open::opened;
 use tlv_show::Rules;
 use tlv_value::Names;
-use tlv_view::{View, view_octets};
+use tlv_view_program::{View, view_octets};
 use tlv_walk::MemDrain;
 
 /// An OCTET STRING that holds a NULL.

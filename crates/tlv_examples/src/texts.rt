@@ -1,8 +1,7 @@
 //! Examples of octets that are given as text.
 use crate::expect::expect_eq;
 use std::test::Fail;
-use tlv_forms::take_input;
-use tlv_text::decode_pairs;
+use tlv_text::{decode_pairs, take_input};
 
 /// tlv_text: decodes pairs of hexadecimal digits. If the text is refused, the result says where.
 #[test]

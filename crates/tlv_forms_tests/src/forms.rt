@@ -1,8 +1,7 @@
 //! Tests of texts in the known forms other than PEM, and of forms that the caller names.
 use crate::rows::{Row, expect_blocks, expect_rows};
 use std::test::Fail;
-use tlv_forms::{TakenFor, take_as};
-use tlv_text::{BlockState, Form};
+use tlv_text::{BlockState, Form, TakenFor, take_as};
 
 /// Hex dumps, hexadecimal, numbers, base64, a text of no form, and runs of base64 in JSON and in a mail. The first word
 /// of the mail is itself base64, of octets that begin as a SEQUENCE, but it must not count as a block.

@@ -1,8 +1,7 @@
 //! Tests of inputs that are taken as octets, and of texts whose form is unknown.
 use crate::rows::{Row, Want, expect_blocks, expect_rows};
 use std::test::Fail;
-use tlv_forms::{TakenFor, laws, take_octets};
-use tlv_text::BlockState;
+use tlv_text::{BlockState, TakenFor, laws, take_octets};
 
 /// Inputs that are taken as octets: encodings, two of which contain a block of PEM, an encoding without control
 /// characters in its contents, and octets that are no text.

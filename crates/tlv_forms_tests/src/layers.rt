@@ -1,8 +1,7 @@
 //! Tests of texts inside base64.
 use crate::rows::{Row, expect_rows};
 use std::test::Fail;
-use tlv_forms::TakenFor;
-use tlv_text::{BlockState, Form};
+use tlv_text::{BlockState, Form, TakenFor};
 
 /// Texts in one to four layers of base64. At most three layers are decoded.
 static BASE64_TEXTS: [Row<'static>; 6] = [

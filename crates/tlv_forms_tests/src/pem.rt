@@ -1,8 +1,7 @@
 //! Tests of texts in PEM.
 use crate::rows::{Row, expect_rows};
 use std::test::Fail;
-use tlv_forms::TakenFor;
-use tlv_text::{BlockState, Form};
+use tlv_text::{BlockState, Form, TakenFor};
 
 /// Texts in PEM: plain, with a byte order mark of UTF-8 or UTF-16, after other text and without an end marker,
 /// encrypted, and with a character that is refused.

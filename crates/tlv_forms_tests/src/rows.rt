@@ -3,8 +3,7 @@ use std::alloc::Global;
 use std::fmt::Debug;
 use std::process::Abort;
 use std::test::Fail;
-use tlv_forms::{Taken, TakenFor, take_input};
-use tlv_text::BlockState;
+use tlv_text::{BlockState, Taken, TakenFor, take_input};
 
 /// A block: what it is taken for, the layers around it (the line of each, if it is a run), its line, its label, its
 /// octets, and its state.

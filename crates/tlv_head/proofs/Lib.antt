@@ -3,5 +3,3 @@ pub mod Wraps
 pub mod GrammarLemmas
 pub mod ReaderLemmas
 pub mod ShortestLemmas
-pub mod Rows
-pub mod ShortestRows

@@ -16,6 +16,9 @@ octet_string = 4
 abbrev pub object_identifier : ℕ
 object_identifier = 6
 
+abbrev pub object_descriptor : ℕ
+object_descriptor = 7
+
 abbrev pub external : ℕ
 external = 8
 

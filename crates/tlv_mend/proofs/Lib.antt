@@ -3,12 +3,9 @@ pub mod LengthLemmas
 pub mod OctetLemmas
 pub mod OutermostLemmas
 pub mod RecordLemmas
-pub mod LengthRows
 pub mod MovedElements
 pub mod ShownLemmas
 pub mod SoundLemmas
 pub mod StartLemmas
 pub mod TextLemmas
-pub mod TextRows
 pub mod LawLemmas
-pub mod RemedyRows

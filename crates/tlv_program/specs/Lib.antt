@@ -1,2 +1,11 @@
 pub mod System
 pub mod RunsProgram
+pub mod CommandLine
+pub mod CommandOf
+pub mod Matches
+pub mod Parsers
+pub mod Usage
+pub mod Values
+pub mod Private
+pub mod Places
+pub mod Texts

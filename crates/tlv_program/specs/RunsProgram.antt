@@ -14,10 +14,10 @@ use Rattle.tlv_run.specs.Report.{ReportValue, names_report, unopened_report}
 use Rattle.tlv_run.specs.Results.{command_job}
 use Rattle.tlv_run.specs.RunsAndReports.{RunsAndReports}
 use Rattle.tlv_run.specs.declared.command.Command.{Command}
-use Rattle.tlv_words.specs.CommandOf.{AreReadAs, IsUsageFaultOf}
-use Rattle.tlv_words.specs.Usage.{not_utf8_report, status_of_kind, unprinted_report, usage_report}
-use Rattle.tlv_words.specs.declared.usage.UsageFault.{UsageFault}
-use Rattle.tlv_words.specs.declared.usage.UsageFault.TheVariants as usage
+use Rattle.tlv_program.specs.CommandOf.{AreReadAs, IsUsageFaultOf}
+use Rattle.tlv_program.specs.Usage.{not_utf8_report, status_of_kind, unprinted_report, usage_report}
+use Rattle.tlv_program.specs.declared.usage.UsageFault.{UsageFault}
+use Rattle.tlv_program.specs.declared.usage.UsageFault.TheVariants as usage
 use Rattle.tlv_program.specs.System.{Allows, IsUnread}
 use Rattle.tlv_program.specs.declared.program.NoWords.{NoWords}
 use Rattle.tlv_program.specs.declared.system.OpenFault.{OpenFault}

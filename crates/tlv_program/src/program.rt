@@ -4,12 +4,14 @@ ghost use Rattle.tlv_run.specs.Report.{report_value_of};
 ghost use Rattle.tlv_program.specs.RunsProgram.{GetsNames, PrintsIfParser, RunsCommand, RunsOverInput, RunsProgram};
 ghost use Rattle.tlv_program.specs.RunsProgram.{asks_for_text, program_states, refusal_report};
 
+use crate::command_of_call::command_of;
 use crate::system::System;
+use crate::usage::{UsageFault, not_utf8_report, unprinted_report, usage_report};
+use crate::words::Words;
 use std::alloc::Global;
 use tlv_run::{Command, Report, names_report, run, unopened_report};
 use tlv_value::{Names, NamesFault};
 use tlv_walk::{Drain, Source};
-use tlv_words::{UsageFault, Words, command_of, not_utf8_report, unprinted_report, usage_report};
 
 /// Why the program has no words.
 #[derive(Clone, Copy, Debug, PartialEq, Eq)]

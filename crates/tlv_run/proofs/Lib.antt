@@ -1,11 +1,9 @@
-pub mod generated
-pub mod DepthRows
-pub mod DeviceRows
 pub mod InMemory
 pub mod KnownDevices
 pub mod KnownOctets
 pub mod MemoryRuns
 pub mod Results
-pub mod RowWords
 pub mod JobReports
 pub mod Statuses
+pub mod ExtractLemmas
+pub mod IndefLemmas

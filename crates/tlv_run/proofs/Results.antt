@@ -2,10 +2,10 @@
 use Rattle.std.proofs.Common.{◌≡◌, inl, inr, ℕ, ◌≤◌, Bool, true, false, List, ◌++◌, length, refl, sym, ap, ◌∙◌}
 use Rattle.std.proofs.Common.{subst}
 use Rattle.std.proofs.lemmas.Bool.{true≢false}
-use Rattle.tlv_cut.proofs.ExtractLemmas.LongerInputs.{extract_text_goes_on, same_extract_text, same_found, same_whole}
-use Rattle.tlv_cut.proofs.IndefLemmas.LongerInputs.{indef_text_goes_on}
-use Rattle.tlv_cut.proofs.IndefLemmas.SecondReading.{indef_text_is_done, indef_text_is_read_back}
-use Rattle.tlv_cut.specs.Indef.{indef_framing, indef_reading, indef_text}
+use Rattle.tlv_run.proofs.ExtractLemmas.LongerInputs.{extract_text_goes_on, same_extract_text, same_found, same_whole}
+use Rattle.tlv_run.proofs.IndefLemmas.LongerInputs.{indef_text_goes_on}
+use Rattle.tlv_run.proofs.IndefLemmas.SecondReading.{indef_text_is_done, indef_text_is_read_back}
+use Rattle.tlv_run.specs.Indef.{indef_framing, indef_reading, indef_text}
 use Rattle.tlv_show.proofs.DumpLemmas.LongerInputs.{listed-checks_on, listed-dumps_on}
 use Rattle.tlv_value.specs.Names.{NamesValue}
 use Rattle.tlv_walk.proofs.FollowerLemmas.Enough.{ends_as_octets, ends_done, ends_without}

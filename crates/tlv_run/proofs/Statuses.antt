@@ -1,7 +1,7 @@
 -- Which status an input comes to.
 use Rattle.std.proofs.Common.{◌≡◌, ◌==◌, ℕ, Bool, true, false, refl, sym, ap, ◌∙◌, subst}
 use Rattle.std.specs.Prelude.{Option, Some, None}
-use Rattle.tlv_cut.specs.Laws.{has_element_at}
+use Rattle.tlv_run.specs.CutLaws.{has_element_at}
 use Rattle.tlv_show.specs.declared.outcome.Outcome.{Outcome}
 use Rattle.tlv_show.specs.ShowJob.{check_job, dump_job}
 use Rattle.tlv_value.specs.Names.{NamesValue}

@@ -7,3 +7,8 @@ pub mod RunsAndReports
 pub mod RunsOctets
 pub mod UnfailingSource
 pub mod Private
+pub mod Extract
+pub mod ExtractStep
+pub mod CutLaws
+pub mod Indef
+pub mod IndefStep

@@ -1,7 +1,7 @@
 -- What the program reports at its end: the exit status, the number of findings and the message.
 use Rattle.std.specs.Prelude.{◌∷◌, ⊤, ℕ, Bool, true, false, ◌==◌, List, [], ◌++◌, Option, Some, None, Result, Ok, Err}
 use Rattle.std.specs.Prelude.{codes, decimal, if◌then◌else◌}
-use Rattle.tlv_cut.specs.declared.extract_call.Cut.{Cut}
+use Rattle.tlv_run.specs.declared.extract_call.Cut.{Cut}
 use Rattle.tlv_head.specs.declared.fault.Fault.{Fault}
 use Rattle.tlv_head.specs.Fault.{fault_code, fault_text}
 use Rattle.tlv_show.specs.declared.outcome.Outcome.{Outcome}

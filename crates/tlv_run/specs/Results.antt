@@ -1,7 +1,7 @@
 -- The result of a command for an input.
 use Rattle.std.specs.Prelude.{◌≡◌, ℕ, List}
-use Rattle.tlv_cut.specs.Extract.{extract_job}
-use Rattle.tlv_cut.specs.Indef.{indef_job}
+use Rattle.tlv_run.specs.Extract.{extract_job}
+use Rattle.tlv_run.specs.Indef.{indef_job}
 use Rattle.tlv_show.specs.ShowJob.{check_job, dump_job}
 use Rattle.tlv_value.specs.Names.{NamesValue}
 use Rattle.tlv_walk.specs.declared.ending.Ending.{Ending}

@@ -1,6 +1,6 @@
 //! The run of each command by itself. It takes what the command says, without the names of files.
-ghost use Rattle.tlv_cut.specs.Extract.{extract_job};
-ghost use Rattle.tlv_cut.specs.Indef.{indef_job};
+ghost use Rattle.tlv_run.specs.Extract.{extract_job};
+ghost use Rattle.tlv_run.specs.Indef.{indef_job};
 ghost use Rattle.tlv_show.specs.ShowJob.{check_job, dump_job};
 ghost use Rattle.tlv_show.specs.WantedJobs.{check_job_with, dump_job_with};
 ghost use Rattle.tlv_walk.specs.Job.{device_states};
@@ -8,8 +8,9 @@ ghost use Rattle.tlv_run.specs.Report.{cut_report, indef_report, outcome_report,
 ghost use Rattle.tlv_run.specs.Results.{job_with_report};
 ghost use Rattle.tlv_run.specs.RunsAndReports.{RunsAndReports};
 
+use crate::extract_call::extract;
+use crate::indef_call::indef;
 use crate::report::{Report, cut_report, device_report, indef_report, outcome_report};
-use tlv_cut::{extract, indef};
 use tlv_show::{FiniteNames, Options, Rules, Scope, Wanted, check, check_with, dump, dump_with};
 use tlv_walk::{Drain, Framing, Source};
 

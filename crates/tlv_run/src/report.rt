@@ -3,9 +3,9 @@ ghost use Rattle.std.specs.Prelude.{◌≡◌, ◌+◌, ◌++◌, ◌≤◌, [],
 ghost use Rattle.tlv_run.specs.Report.{cut_report, device_report, fault_line, indef_report, names_fault_line};
 ghost use Rattle.tlv_run.specs.Report.{names_report, outcome_report, report_value_of, report_with, unopened_report};
 
+use crate::extract_call::Cut;
 use arrayvec::ArrayVec;
 use itoa::Buffer;
-use tlv_cut::Cut;
 use tlv_head::Fault;
 use tlv_show::Outcome;
 use tlv_value::NamesFault;

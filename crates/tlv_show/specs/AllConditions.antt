@@ -31,13 +31,9 @@ in_components s = option_map_or has_components s.holder false
 abbrev pub in_external : Site → Bool
 in_external s = option_map_or (λ h. has_components h && is_a universal.external h) s.holder false
 
--- X.680, table 1: the universal number of ObjectDescriptor
-abbrev pub object_descriptor : ℕ
-object_descriptor = 7
-
 -- 8.18: the types of direct-reference, indirect-reference and data-value-descriptor
 abbrev pub external_component_types : List ℕ
-external_component_types = universal.object_identifier ∷ universal.integer ∷ object_descriptor ∷ []
+external_component_types = universal.object_identifier ∷ universal.integer ∷ universal.object_descriptor ∷ []
 
 -- the class is context-specific
 abbrev pub is_context : Class → Bool

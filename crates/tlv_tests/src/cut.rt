@@ -1,7 +1,7 @@
 //! Tests of `tlv_cut`: what its calls write and return.
 use crate::expect::{expect, expect_eq};
 use std::process::Abort;
-use tlv_cut::{Cut, Extract, Indef, extract, indef};
+use tlv_run::{Cut, Extract, Indef, extract, indef};
 use tlv_walk::{DeviceFault, Ending, Follow, Framing, MemDrain, MemSource, drive};
 
 /// A SEQUENCE that holds an INTEGER.

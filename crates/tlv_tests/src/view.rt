@@ -7,7 +7,7 @@ use std::process::Abort;
 use std::test::Fail;
 use tlv_show::Rules;
 use tlv_value::Names;
-use tlv_view::{View, view_octets, write_offsets};
+use tlv_view_program::{View, view_octets, write_offsets};
 use tlv_walk::{INPUT_LIMIT, MemDrain};
 
 const DUMP: View = View::Dump {

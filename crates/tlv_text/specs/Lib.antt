@@ -16,3 +16,5 @@ pub mod DumpWords
 pub mod Separated
 pub mod Plain
 pub mod Blocks
+pub mod Laws
+pub mod Taken

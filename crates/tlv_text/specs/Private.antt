@@ -5,3 +5,4 @@ pub mod PairSteps
 pub mod PemSteps
 pub mod SymbolSteps
 pub mod TokenSteps
+pub mod Counting

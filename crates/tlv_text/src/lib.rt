@@ -1,14 +1,19 @@
 //! Octets that are written in a text, in the forms that people use: pairs of hexadecimal digits, tokens of a source
-//! text, decimal numbers, hex dumps, base64, PEM; and marks at the start of a text.
+//! text, decimal numbers, hex dumps, base64, PEM; and marks at the start of a text. What an input is taken for: octets as
+//! they stand, or a text in one of these forms.
 #![tactic(auto)]
 
 mod base64_text;
 mod block;
 mod blocks;
 mod body;
+mod characters;
+mod counting;
 mod decoded;
 mod digits;
 mod dump;
+mod encodings;
+pub mod laws;
 mod marks;
 mod numbers;
 mod pairs;
@@ -16,8 +21,11 @@ mod pem;
 mod plain;
 mod runs;
 mod symbols;
+mod take_call;
+mod taken;
 mod text_fault;
 mod tokens;
+mod values;
 
 pub use base64_text::{Alphabet, decode_base64};
 pub use block::{Block, BlockState, Form};
@@ -30,5 +38,7 @@ pub use numbers::decode_numbers;
 pub use pairs::decode_pairs;
 pub use pem::{PemBlock, first_block};
 pub use runs::{Base64Run, first_run};
+pub use take_call::{take_as, take_input, take_octets};
+pub use taken::{Taken, TakenFor};
 pub use text_fault::TextFault;
 pub use tokens::{decode_tokens, has_tokens};

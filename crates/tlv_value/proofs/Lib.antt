@@ -1,11 +1,5 @@
-pub mod NamesRows
-pub mod ContentsRows
-pub mod LateRows
-pub mod RuleRows
-pub mod PairRows
 pub mod CheckLemmas
 pub mod RealLemmas
-pub mod RealRows
 pub mod NamesLemmas
 pub mod RowLemmas
 pub mod TextLemmas

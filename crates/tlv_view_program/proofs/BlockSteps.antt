@@ -3,7 +3,7 @@ use Rattle.std.proofs.Common.{◌≡◌, ◌+◌, ◌++◌, ℕ, Bool, true, fal
 use Rattle.std.proofs.Common.{sym}
 use Rattle.std.specs.Prelude.{max}
 use Rattle.tlv_value.specs.Names.{NamesValue}
-use Rattle.tlv_view_words.specs.declared.request.Request.{Request}
+use Rattle.tlv_view_program.specs.declared.request.Request.{Request}
 use Rattle.tlv_view_program.specs.InputBlocks.{InputBlockValue}
 use Rattle.tlv_view_program.specs.Private.ShowsSome.{ShowsSome}
 use Rattle.tlv_view_program.specs.Private.ShowsSome as some

@@ -4,3 +4,6 @@ pub mod InputBlockLemmas
 pub mod NamedOffsets
 pub mod ReasonSteps
 pub mod ShownLemmas
+pub mod ReadsSoFar
+mod FileLemmas
+mod RequestLemmas

@@ -8,3 +8,11 @@ pub mod ShowsBlock
 pub mod ShowsAll
 pub mod ShownLines
 pub mod Private
+pub mod Views
+pub mod Offsets
+pub mod ReadWhole
+pub mod ShowCommandLine
+pub mod OptionsTogether
+pub mod FormValue
+pub mod RequestOf
+pub mod RequestReport

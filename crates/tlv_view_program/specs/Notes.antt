@@ -8,12 +8,12 @@ use Rattle.tlv_text.specs.declared.block.Form.{Form}
 use Rattle.tlv_text.specs.declared.block.Form.TheVariants.{Pem, Dump, Hex, Numbers, Base64, Runs}
 use Rattle.tlv_text.specs.declared.text_fault.TextFault.{TextFault}
 use Rattle.tlv_text.specs.declared.text_fault.TextFault.TheVariants as text
-use Rattle.tlv_forms.specs.Taken.{TakenValue}
-use Rattle.tlv_forms.specs.declared.taken.TakenFor.{TakenFor}
-use Rattle.tlv_forms.specs.declared.taken.TakenFor.TheVariants.{Octets, OtherText, Text}
+use Rattle.tlv_text.specs.Taken.{TakenValue}
+use Rattle.tlv_text.specs.declared.taken.TakenFor.{TakenFor}
+use Rattle.tlv_text.specs.declared.taken.TakenFor.TheVariants.{Octets, OtherText, Text}
 use Rattle.tlv_run.specs.Report.{ReportValue, report_with, unopened_report}
-use Rattle.tlv_view.specs.ReadWhole.{input_report}
-use Rattle.tlv_view.specs.declared.input.InputFault.TheVariants as input
+use Rattle.tlv_view_program.specs.ReadWhole.{input_report}
+use Rattle.tlv_view_program.specs.declared.input.InputFault.TheVariants as input
 use Rattle.tlv_program.specs.declared.system.OpenFault.{OpenFault}
 use Rattle.tlv_program.specs.declared.system.OpenFault.TheVariants.{Missing, Denied, Other}
 use Rattle.tlv_view_program.specs.Lines.{MessagePlace, place_words}
@@ -122,5 +122,5 @@ open_report Other = unopened_report
 -- the report if the blocks of an input cannot be obtained
 abbrev pub text_report : TextFault → ReportValue
 text_report text.TooLong =
-    report_with 4 (codes "X4 text of more than 1073741824 octets, or of 16777216 more octets than characters")
+    report_with 4 (codes "X4 texts of more than 1073741824 octets in all, or one of 16777216 more octets than characters")
 text_report text.Memory = input_report input.Memory

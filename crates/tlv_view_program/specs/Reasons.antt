@@ -13,10 +13,10 @@ use Rattle.tlv_run.specs.Report.{ReportValue, device_report, report_with}
 use Rattle.tlv_why.specs.Facts.{AreFacts}
 use Rattle.tlv_why.specs.Why.{first_why_line, why_lines}
 use Rattle.tlv_why.specs.declared.facts.Facts.{Facts}
-use Rattle.tlv_view.specs.ReadWhole.{input_report}
-use Rattle.tlv_view.specs.declared.input.InputFault.TheVariants.{Memory}
-use Rattle.tlv_view.specs.Views.{AreBrokenUnless, Views}
-use Rattle.tlv_view.specs.declared.view_call.View.TheVariants as view
+use Rattle.tlv_view_program.specs.ReadWhole.{input_report}
+use Rattle.tlv_view_program.specs.declared.input.InputFault.TheVariants.{Memory}
+use Rattle.tlv_view_program.specs.Views.{AreBrokenUnless, Views}
+use Rattle.tlv_view_program.specs.declared.view_call.View.TheVariants as view
 use Rattle.tlv_view_program.specs.WritesReasons.{ExplainsFirst, ExplainsOctets, Outcome}
 
 -- ---- octets that parse

@@ -9,17 +9,17 @@ use Rattle.tlv_value.specs.Names.{NamesValue, names_of}
 use Rattle.tlv_show.specs.declared.rules.Rules.{Rules}
 use Rattle.tlv_open.specs.declared.strings.BrokenString.{BrokenString}
 use Rattle.tlv_text.specs.declared.text_fault.TextFault.{TextFault}
-use Rattle.tlv_forms.specs.Taken.{TakenValue}
+use Rattle.tlv_text.specs.Taken.{TakenValue}
 use Rattle.tlv_run.specs.Report.{ReportValue}
-use Rattle.tlv_view.specs.Views.{Views}
-use Rattle.tlv_view.specs.declared.view_call.View.TheVariants as view
+use Rattle.tlv_view_program.specs.Views.{Views}
+use Rattle.tlv_view_program.specs.declared.view_call.View.TheVariants as view
 use Rattle.tlv_why.specs.Laws.{AreShown}
 use Rattle.tlv_program.specs.System.{Allows}
 use Rattle.tlv_program.specs.declared.program.NoWords.{NoWords}
-use Rattle.tlv_view_words.specs.declared.request.InputForm.{InputForm}
-use Rattle.tlv_view_words.specs.declared.request.Request.{Request}
-use Rattle.tlv_view_words.specs.declared.request.Wanted.{Wanted}
-use Rattle.tlv_view_words.specs.declared.request.Wanted.TheVariants.{Extract, Raw}
+use Rattle.tlv_view_program.specs.declared.request.InputForm.{InputForm}
+use Rattle.tlv_view_program.specs.declared.request.Request.{Request}
+use Rattle.tlv_view_program.specs.declared.request.Wanted.{Wanted}
+use Rattle.tlv_view_program.specs.declared.request.Wanted.TheVariants.{Extract, Raw}
 use Rattle.tlv_view_program.specs.InputBlocks.{BlockContents, InputBlockValue, TakesInput, blocks_taken}
 use Rattle.tlv_view_program.specs.Lines.{MessagePlace}
 use Rattle.tlv_view_program.specs.Notes.{note_line}

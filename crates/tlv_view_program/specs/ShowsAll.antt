@@ -10,22 +10,22 @@ use Rattle.tlv_value.specs.NamesReading.{ReadsFrom}
 use Rattle.tlv_value.specs.declared.names.fault.NamesFault.{NamesFault}
 use Rattle.tlv_value.specs.declared.names.fault.NamesFault.TheVariants as names
 use Rattle.tlv_run.specs.Report.{ReportValue, WritesMessage, message_line, names_report}
-use Rattle.tlv_view.specs.ReadWhole.{input_report}
-use Rattle.tlv_view.specs.declared.input.InputFault.TheVariants as input
-use Rattle.tlv_words.specs.Usage.{not_utf8_report, status_of_kind, unprinted_report}
-use Rattle.tlv_view_words.specs.RequestOf.{AreAskedAs, IsRequestFaultOf}
-use Rattle.tlv_view_words.specs.RequestReport.{request_report}
-use Rattle.tlv_view_words.specs.declared.refusal.RequestFault.{RequestFault}
-use Rattle.tlv_view_words.specs.declared.refusal.RequestFault.TheVariants as fault
-use Rattle.tlv_view_words.specs.declared.request.Request.{Request}
-use Rattle.tlv_view_words.specs.declared.request.Wanted.{Wanted}
-use Rattle.tlv_view_words.specs.declared.request.Wanted.TheVariants.{Dump}
+use Rattle.tlv_view_program.specs.ReadWhole.{input_report}
+use Rattle.tlv_view_program.specs.declared.input.InputFault.TheVariants as input
+use Rattle.tlv_program.specs.Usage.{not_utf8_report, status_of_kind, unprinted_report}
+use Rattle.tlv_view_program.specs.RequestOf.{AreAskedAs, IsRequestFaultOf}
+use Rattle.tlv_view_program.specs.RequestReport.{request_report}
+use Rattle.tlv_view_program.specs.declared.refusal.RequestFault.{RequestFault}
+use Rattle.tlv_view_program.specs.declared.refusal.RequestFault.TheVariants as fault
+use Rattle.tlv_view_program.specs.declared.request.Request.{Request}
+use Rattle.tlv_view_program.specs.declared.request.Wanted.{Wanted}
+use Rattle.tlv_view_program.specs.declared.request.Wanted.TheVariants.{Dump}
 use Rattle.tlv_program.specs.System.{Allows, IsUnread}
 use Rattle.tlv_program.specs.declared.program.NoWords.{NoWords}
 use Rattle.tlv_program.specs.declared.system.OpenFault.{OpenFault}
 use Rattle.tlv_program.specs.declared.program.NoWords.TheVariants.{NotUtf8, Memory}
 use Rattle.tlv_view_program.specs.Lines.{input_note, no_names_note}
-use Rattle.tlv_view_program.specs.InputBlocks.{GetsAllBlocks, InputBlockValue}
+use Rattle.tlv_view_program.specs.InputBlocks.{GetsAllBlocks, InputBlockValue, run_limit}
 use Rattle.tlv_view_program.specs.ShowsBlock.{BlockPlace, ShowsBlock}
 use Rattle.tlv_view_program.specs.Streams.{StreamsValue}
 
@@ -135,11 +135,11 @@ module _ {S : Type 0} (allows : Allows S) where
       (old new : StreamsValue S)
       : ℕ → Type 0 where
     had : (had : StreamsValue S) (blocks : List InputBlockValue) (status : ℕ)
-        → GetsAllBlocks allows request.form files old had (Some blocks)
+        → GetsAllBlocks allows request.form run_limit files old had (Some blocks)
         → ShowsBlocks request table (places_of files blocks) 1 blocks had new status
         → ShowsFiles request table files old new status
     -- memory for the blocks is refused, and nothing is shown
-    not_had : (had : StreamsValue S) → GetsAllBlocks allows request.form files old had None
+    not_had : (had : StreamsValue S) → GetsAllBlocks allows request.form run_limit files old had None
         → IsSaid (input_report input.Memory).message had new
         → ShowsFiles request table files old new (input_report input.Memory).status
 

@@ -17,17 +17,17 @@ use Rattle.tlv_open.specs.declared.strings.BrokenString.{BrokenString}
 use Rattle.tlv_text.specs.Blocks.{BlockValue}
 use Rattle.tlv_text.specs.declared.block.BlockState.{BlockState}
 use Rattle.tlv_text.specs.declared.block.BlockState.TheVariants.{Whole, MayBePairs, Unended}
-use Rattle.tlv_forms.specs.Taken.{TakenValue, has_some}
+use Rattle.tlv_text.specs.Taken.{TakenValue, has_some}
 use Rattle.tlv_run.specs.Report.{ReportValue, device_report, indef_report, report_with}
-use Rattle.tlv_view.specs.ReadWhole.{input_report}
-use Rattle.tlv_view.specs.declared.input.InputFault.TheVariants.{Memory}
-use Rattle.tlv_view.specs.Offsets.{offsets_line}
-use Rattle.tlv_view.specs.Views.{AreBrokenUnless, Views}
-use Rattle.tlv_view.specs.declared.view_call.View.{View}
-use Rattle.tlv_view.specs.declared.view_call.View.TheVariants as view
-use Rattle.tlv_view_words.specs.declared.request.Request.{Request}
-use Rattle.tlv_view_words.specs.declared.request.Wanted.{Wanted}
-use Rattle.tlv_view_words.specs.declared.request.Wanted.TheVariants.{Dump, Check, Extract, Offsets, Raw, Why}
+use Rattle.tlv_view_program.specs.ReadWhole.{input_report}
+use Rattle.tlv_view_program.specs.declared.input.InputFault.TheVariants.{Memory}
+use Rattle.tlv_view_program.specs.Offsets.{offsets_line}
+use Rattle.tlv_view_program.specs.Views.{AreBrokenUnless, Views}
+use Rattle.tlv_view_program.specs.declared.view_call.View.{View}
+use Rattle.tlv_view_program.specs.declared.view_call.View.TheVariants as view
+use Rattle.tlv_view_program.specs.declared.request.Request.{Request}
+use Rattle.tlv_view_program.specs.declared.request.Wanted.{Wanted}
+use Rattle.tlv_view_program.specs.declared.request.Wanted.TheVariants.{Dump, Check, Extract, Offsets, Raw, Why}
 use Rattle.tlv_view_program.specs.declared.reasons.Explained.{Explained}
 use Rattle.tlv_view_program.specs.declared.reasons.Explained.TheVariants as what
 use Rattle.tlv_view_program.specs.Reasons.{ShowsReasons}

@@ -6,12 +6,13 @@ ghost use Rattle.tlv_view_program.specs.Private.BlockParts.{block_contents, cont
 ghost use Rattle.tlv_view_program.specs.ShowsBlock.{explained_in, octets_of_contents, reasons_report};
 
 use crate::block::has_failed_write;
+use crate::input::{InputFault, input_report};
 use crate::input_blocks::Contents;
 use crate::reasons::{Explained, explained_by};
+use crate::request::Wanted;
+use crate::view_call::Viewed;
 use std::alloc::AllocError;
 use tlv_run::Report;
-use tlv_view::{InputFault, Viewed, input_report};
-use tlv_view_words::Wanted;
 use tlv_walk::WriteFault;
 
 /// What to explain after the messages: nothing if the octets are written as they are, or if reasons are what is shown.

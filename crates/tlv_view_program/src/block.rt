@@ -21,7 +21,9 @@ use crate::lines::{BlockName, write_block_line, write_messages, write_note};
 use crate::notes::block_label;
 use crate::octets::show_octets;
 use crate::reasons::write_explained;
+use crate::request::{Request, Wanted};
 use crate::streams::{Output, Streams};
+use crate::view_call::Viewed;
 use crate::wanted::has_titles;
 use arrayvec::ArrayVec;
 use std::alloc::{AllocError, Global};
@@ -30,8 +32,6 @@ use tlv_program::System;
 use tlv_run::{Report, device_report};
 use tlv_text::{Block, BlockState};
 use tlv_value::Names;
-use tlv_view::Viewed;
-use tlv_view_words::{Request, Wanted};
 use tlv_walk::{DeviceFault, Drain, Source, WriteFault};
 
 /// What to do with each block.

@@ -4,18 +4,19 @@ ghost use Rattle.tlv_show.specs.declared.rules.Rules.TheVariants.{Ber, Der};
 ghost use Rattle.tlv_head.specs.Limits.{input_limit};
 ghost use Rattle.tlv_io.specs.Out.{Puts, Sends};
 ghost use Rattle.tlv_run.specs.Report.{report_value_of};
-ghost use Rattle.tlv_view.specs.Views.{AreBrokenUnless};
+ghost use Rattle.tlv_view_program.specs.Views.{AreBrokenUnless};
 ghost use Rattle.tlv_why.specs.Why.{why_lines};
 ghost use Rattle.tlv_view_program.specs.Reasons.{ExplainsParsing, ShowsReasons, ReportsFindings};
 ghost use Rattle.tlv_view_program.specs.Reasons.{explained_report, findings_line, findings_words};
 
+use crate::input::{InputFault, input_report};
 use crate::octets::no_memory;
 use crate::reasons::{closed_facts, explain_first, explain_octets};
 use crate::silent::SilentDrain;
+use crate::view_call::{View, Viewed, view_octets};
 use std::alloc::{AllocError, Global};
 use tlv_run::{Report, device_report};
 use tlv_show::{FiniteNames, Rules};
-use tlv_view::{InputFault, View, Viewed, input_report, view_octets};
 use tlv_walk::{DeviceFault, Drain, Out, WriteFault};
 use tlv_why::{Facts, write_why};
 

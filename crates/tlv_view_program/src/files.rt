@@ -1,6 +1,6 @@
 //! All files: their blocks, one after another.
 ghost use Rattle.std.specs.Prelude.{◌≡◌, ◌<◌, ◌+◌, ◌^◌, ◌∷◌, [], Ok, false, flat_map, length, map, max};
-ghost use Rattle.tlv_forms.specs.Taken.{taken_value};
+ghost use Rattle.tlv_text.specs.Taken.{taken_value};
 ghost use Rattle.tlv_run.specs.BorrowedText.{text_in};
 ghost use Rattle.tlv_view_program.specs.InputBlocks.{BlockContents, block_of_file, blocks_taken};
 ghost use Rattle.tlv_view_program.specs.Private.BlockParts.{all_fit, blocks_place, file_blocks, file_fits};
@@ -10,17 +10,17 @@ ghost use Rattle.tlv_view_program.specs.ShowsAll.{ShowsBlocks, ShowsFiles, file_
 ghost use Rattle.tlv_view_program.specs.Streams.{streams_value};
 
 use crate::block::{BlockResult, Task};
+use crate::input::{InputFault, input_report};
 use crate::input_blocks::{
     Contents, FileBlocks, InputBlock, NoBlocks, block_count, blocks_of_files, file_block_count,
 };
+use crate::request::Request;
 use crate::streams::{Output, Streams};
 use std::alloc::Global;
-use tlv_forms::Taken;
 use tlv_program::System;
 use tlv_run::write_message;
+use tlv_text::Taken;
 use tlv_value::Names;
-use tlv_view::{InputFault, input_report};
-use tlv_view_words::Request;
 use tlv_walk::{Drain, Source};
 
 /// Reads the files of a request, or standard input if there are none, and shows their blocks in order. Returns the

@@ -1,7 +1,7 @@
 //! The lines that are written beside views.
 ghost use Rattle.std.specs.List.{list_all};
 ghost use Rattle.std.specs.Prelude.{◌≡◌, flat_map};
-ghost use Rattle.tlv_forms.specs.Taken.{taken_value};
+ghost use Rattle.tlv_text.specs.Taken.{taken_value};
 ghost use Rattle.tlv_io.specs.Out.{Sends};
 ghost use Rattle.tlv_open.specs.BrokenLine.{broken_line};
 ghost use Rattle.tlv_run.specs.BorrowedText.{text_in};
@@ -17,8 +17,8 @@ use crate::line_out::LineOut;
 use crate::notes::{has_note, put_note};
 use arrayvec::ArrayVec;
 use itoa::Buffer;
-use tlv_forms::Taken;
 use tlv_open::{BrokenString, broken_line};
+use tlv_text::Taken;
 use tlv_walk::{Drain, WriteFault};
 
 /// What comes before messages that concern a block.

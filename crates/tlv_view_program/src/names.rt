@@ -5,11 +5,12 @@ ghost use Rattle.std.specs.Prelude.{◌≡◌, option_map};
 ghost use Rattle.tlv_view_program.specs.Private.Tables.{OpensNames, OpensOrNot, is_noted, result_without_file, table_result};
 ghost use Rattle.tlv_view_program.specs.ShowsAll.{GetsTable, OpensFirst};
 
+use crate::file_names::FileNames;
+use crate::request::Wanted;
 use std::alloc::Global;
 use tlv_program::System;
 use tlv_run::Text;
 use tlv_value::{Names, NamesFault};
-use tlv_view_words::{FileNames, Wanted};
 
 /// The names for what is wanted, and whether to note that no names file was found.
 #[derive(Drop)]

@@ -1,6 +1,6 @@
 //! What is said about a block before it is shown.
 ghost use Rattle.std.specs.Prelude.{◌≡◌, ◌≤◌, ◌++◌, decimal, flat_map, length};
-ghost use Rattle.tlv_forms.specs.Taken.{taken_value};
+ghost use Rattle.tlv_text.specs.Taken.{taken_value};
 ghost use Rattle.tlv_run.specs.Report.{report_value_of};
 ghost use Rattle.tlv_text.specs.Blocks.{block_value};
 ghost use Rattle.tlv_view_program.specs.Notes.{absent_words, expected_words, form_note, form_words, label_words};
@@ -8,14 +8,13 @@ ghost use Rattle.tlv_view_program.specs.Notes.{layer_words, other_text_note, run
 ghost use Rattle.tlv_view_program.specs.Notes.{has_note, name_by, open_report, text_report};
 ghost use Rattle.tlv_view_program.specs.Private.LineOut.{PutsLine};
 
+use crate::input::{InputFault, input_report};
 use crate::line_out::LineOut;
 use arrayvec::ArrayVec;
 use itoa::Buffer;
-use tlv_forms::{Taken, TakenFor};
 use tlv_program::OpenFault;
 use tlv_run::{Report, unopened_report};
-use tlv_text::{Block, BlockState, Form, TextFault};
-use tlv_view::{InputFault, input_report};
+use tlv_text::{Block, BlockState, Form, Taken, TakenFor, TextFault};
 use tlv_walk::{Drain, WriteFault};
 
 /// The report if a file does not open, with the cause if it is a usual one.
@@ -36,7 +35,7 @@ pub(crate) fn text_report(fault: TextFault) -> Report
     match fault {
         TextFault::TooLong => Report::with_message(
             4,
-            b"X4 text of more than 1073741824 octets, or of 16777216 more octets than characters",
+            b"X4 texts of more than 1073741824 octets in all, or one of 16777216 more octets than characters",
         ),
         TextFault::Memory => input_report(InputFault::Memory),
     }

@@ -4,20 +4,22 @@ ghost use Rattle.tlv_head.specs.Limits.{input_limit};
 ghost use Rattle.tlv_run.specs.Report.{report_value_of};
 ghost use Rattle.tlv_value.specs.Names.{NamesValue};
 ghost use Rattle.tlv_open.specs.Opens.{closed_framing};
-ghost use Rattle.tlv_view.specs.ReadWhole.{input_report};
+ghost use Rattle.tlv_view_program.specs.ReadWhole.{input_report};
 ghost use Rattle.tlv_walk.specs.Ending.{IsEnding};
 ghost use Rattle.tlv_view_program.specs.ShowsBlock.{ShowsOctets, offsets_report, raw_report, view_of};
-ghost use Rattle.tlv_view_words.specs.declared.request.Wanted.TheVariants.{Offsets, Raw};
+ghost use Rattle.tlv_view_program.specs.declared.request.Wanted.TheVariants.{Offsets, Raw};
 ghost use Rattle.tlv_io.specs.Out.{Sends};
 
 use crate::explain::explain;
+use crate::input::{InputFault, input_report};
+use crate::offsets::write_offsets;
+use crate::request::{Request, Wanted};
+use crate::view_call::{View, Viewed, view_octets};
 use crate::wanted::{reports_broken, stays_closed};
 use std::alloc::Global;
 use tlv_open::{ending_of, opened};
 use tlv_run::{Report, device_report, indef_report};
 use tlv_show::FiniteNames;
-use tlv_view::{InputFault, View, Viewed, input_report, view_octets, write_offsets};
-use tlv_view_words::{Request, Wanted};
 use tlv_walk::{DeviceFault, Drain, Ending, Out, WriteFault};
 
 /// Writes what is wanted of the octets. Returns the report on them, and the strings in them that are reported as

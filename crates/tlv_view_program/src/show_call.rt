@@ -6,15 +6,17 @@ ghost use Rattle.tlv_view_program.specs.ShowsAll.{PrintsRefusal, RunsShow, Shows
 ghost use Rattle.tlv_view_program.specs.ShowsAll.{refused_report};
 ghost use Rattle.tlv_view_program.specs.Streams.{streams_value};
 
+use crate::file_names::FileNames;
 use crate::files::show_files;
 use crate::names::table_for;
+use crate::refusal::{RequestFault, request_report};
+use crate::request::Request;
+use crate::request_of_call::request_of;
 use crate::streams::{Output, Streams};
 use std::alloc::Global;
-use tlv_program::{NoWords, System};
+use tlv_program::{NoWords, System, Words, not_utf8_report, unprinted_report};
 use tlv_run::{Report, names_report, write_message};
-use tlv_view_words::{FileNames, Request, RequestFault, request_of, request_report};
 use tlv_walk::{Drain, Source};
-use tlv_words::{Words, not_utf8_report, unprinted_report};
 
 /// Runs the program on the words of its command line. The first word is the program's name. Reads the names of
 /// object identifiers from the file that the words name, or else from the first of these places that opens. Returns the

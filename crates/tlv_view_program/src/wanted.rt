@@ -2,7 +2,7 @@
 ghost use Rattle.std.specs.Prelude.{◌≡◌};
 ghost use Rattle.tlv_view_program.specs.ShowsBlock.{has_titles, reports_broken, stays_closed};
 
-use tlv_view_words::Wanted;
+use crate::request::Wanted;
 
 /// Whether all strings stay closed.
 pub(crate) fn stays_closed(wanted: &Wanted) -> bool

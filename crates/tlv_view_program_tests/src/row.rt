@@ -5,11 +5,9 @@ use arrayvec::ArrayVec;
 use std::alloc::{AllocError, Global};
 use std::process::Abort;
 use std::test::Fail;
-use tlv_program::NoWords;
-use tlv_view_program::{Streams, run_show};
-use tlv_view_words::FileNames;
+use tlv_program::{NoWords, UsageFault, Words};
+use tlv_view_program::{FileNames, Streams, run_show};
 use tlv_walk::{MemDrain, MemSource};
-use tlv_words::{UsageFault, Words};
 
 /// Standard input: an INTEGER.
 const INPUT: &[u8] = b"\x02\x01\x05";

@@ -1,6 +1,6 @@
 //! Words after the program's name that are refused with U2 or U4.
 use super::rows::{Meaning, WordsRow};
-use tlv_view_words::{Refusal, ShowOption};
+use tlv_view_program::{Refusal, ShowOption};
 
 /// Values that are refused. If there are several, the first in a fixed order is reported.
 pub(crate) static VALUES: [WordsRow<'static>; 19] = [

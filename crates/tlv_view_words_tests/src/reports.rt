@@ -1,7 +1,7 @@
 //! Tests of the reports if the words make no request.
 use crate::expect::expect_eq_of;
 use std::process::Abort;
-use tlv_view_words::{Refusal, RequestFault, ShowOption, request_report};
+use tlv_view_program::{Refusal, RequestFault, ShowOption, request_report};
 
 /// Checks the status and the message of the report.
 fn expect_report(rt: &impl Abort, fault: &RequestFault, status: u8, message: &str) {

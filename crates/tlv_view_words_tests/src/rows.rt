@@ -1,7 +1,7 @@
 //! Words after the program's name, with the request that they make, and words that `clap` handles.
 use tlv_show::Rules;
 use tlv_text::Form;
-use tlv_view_words::{InputForm, Refusal};
+use tlv_view_program::{InputForm, Refusal};
 
 /// The request that words make, without the form of the input, padding and the names of files.
 #[derive(Clone, Copy, Debug, PartialEq, Eq)]

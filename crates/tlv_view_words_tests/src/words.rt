@@ -7,9 +7,9 @@ use crate::expect::expect_eq_of;
 use std::alloc::Global;
 use std::process::Abort;
 use std::test::Fail;
+use tlv_program::Words;
 use tlv_run::Text;
-use tlv_view_words::{Request, RequestFault, Wanted, request_of};
-use tlv_words::Words;
+use tlv_view_program::{Request, RequestFault, Wanted, request_of};
 
 fn request(alloc: Global, list: &[&str]) -> Result<Request, RequestFault> {
     let mut words = Words::new(alloc);

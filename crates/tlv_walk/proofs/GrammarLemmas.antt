@@ -3,8 +3,6 @@ pub mod Bounds
 pub mod Endings
 pub mod Faults
 pub mod FinalFaults
-pub mod FramedInputRows
-pub mod InputRows
 pub mod Leads
 pub mod Lengths
 pub mod Pop

@@ -1,4 +1,3 @@
-pub mod Rows
 pub mod GrammarLemmas
 pub mod EventLemmas
 pub mod CursorLemmas

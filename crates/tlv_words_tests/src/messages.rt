@@ -1,10 +1,10 @@
 //! Tests of the reports that do not depend on the encodings, and of how they are written.
 use crate::expect::expect_eq_of;
 use std::process::Abort;
+use tlv_program::{UsageFault, not_utf8_report, unprinted_report, usage_report};
 use tlv_run::{Report, device_report, names_report, unopened_report, write_message};
 use tlv_value::NamesFault;
 use tlv_walk::{DeviceFault, MemDrain};
-use tlv_words::{UsageFault, not_utf8_report, unprinted_report, usage_report};
 
 /// Checks the status of the report, and that its line is written with a line feed.
 fn expect_written(rt: &impl Abort, report: &Report, status: u8, line: &[u8]) {

@@ -7,9 +7,8 @@ use arrayvec::ArrayVec;
 use std::alloc::Global;
 use std::process::Abort;
 use std::test::Fail;
-use tlv_program::{NoWords, OpenFault, System, run_program};
+use tlv_program::{NoWords, OpenFault, System, UsageFault, Words, run_program};
 use tlv_walk::{MemDrain, MemSource};
-use tlv_words::{UsageFault, Words};
 
 /// The files: an INTEGER, an OBJECT IDENTIFIER, names, and names that are refused.
 static FILES: [(&str, &[u8]); 4] = [

@@ -18,10 +18,10 @@
 use crate::long_inputs::push_lines;
 use std::alloc::Global;
 use std::test::Fail;
+use tlv_program::{Words, command_of};
 use tlv_run::Command;
 use tlv_value::Names;
 use tlv_walk::MemSource;
-use tlv_words::{Words, command_of};
 
 /// A command, an input, and what a run of it writes and reports.
 #[derive(Drop)]

@@ -7,8 +7,8 @@ use crate::expect::expect_eq_of;
 use std::alloc::Global;
 use std::process::Abort;
 use std::test::Fail;
+use tlv_program::{UsageFault, Words, command_of};
 use tlv_run::Command;
-use tlv_words::{UsageFault, Words, command_of};
 
 fn command(alloc: Global, list: &[&str]) -> Result<Command<'static>, UsageFault> {
     let mut words = Words::new(alloc);

@@ -2,8 +2,7 @@
 #![tactic(auto)]
 
 use std::process::ExitCode;
-use tlv_host::{Host, words_of};
-use tlv_program::run_program;
+use tlv_program::{Host, run_program, words_of};
 use tlv_run::write_message;
 use tlv_walk::{ReadSource, WriteDrain};
 

@@ -5,12 +5,9 @@ use std::env;
 use std::io::{ErrorKind, IsTerminal};
 use std::path::Path;
 use std::process::ExitCode;
-use tlv_host::{Host, is_beside_sources, words_of};
-use tlv_program::NoWords;
-use tlv_view_program::{Streams, run_show};
-use tlv_view_words::FileNames;
+use tlv_program::{Host, NoWords, Words, is_beside_sources, words_of};
+use tlv_view_program::{FileNames, Streams, run_show};
 use tlv_walk::{ReadSource, WriteDrain};
-use tlv_words::Words;
 
 /// Where the names file of an installation is, from the folder of the program, which is `bin`.
 const INSTALLED: &str = "../share/tlvdump/names.txt";

@@ -3,7 +3,7 @@ use crate::expect::{expect, expect_eq_of};
 use linked_list_allocator::LocalHeap;
 use std::alloc::Global;
 use std::process::Abort;
-use tlv_view::{InputFault, input_report, read_whole};
+use tlv_view_program::{InputFault, input_report, read_whole};
 use tlv_walk::MemSource;
 
 /// A SEQUENCE of nine octets in all.

@@ -43,7 +43,7 @@ use Rattle.tlv_show.specs.Texts.{layout_at}
 use Rattle.tlv_show.specs.WantedJobs.{item_text_with}
 use Rattle.tlv_show.specs.declared.wanted.Wanted.{Wanted}
 use Rattle.tlv_open.specs.Laws.{opened_framing}
-use Rattle.tlv_view.specs.Views.{dump_options}
+use Rattle.tlv_view_program.specs.Views.{dump_options}
 use Rattle.tlv_why.specs.Laws.{AreShown}
 use Rattle.tlv_why.proofs.ShownLemmas.ShownWords.{decimal-shown}
 use Rattle.tlv_view_program.specs.ShownLines.{DumpsAreShown}

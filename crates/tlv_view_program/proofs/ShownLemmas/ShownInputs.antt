@@ -6,19 +6,19 @@ use Rattle.std.specs.List.{All}
 use Rattle.std.proofs.lemmas.List.Elements.{All-append, All-cons, All-map, All-nil}
 use Rattle.tlv_io.specs.Device.{DrainState}
 use Rattle.tlv_text.specs.declared.text_fault.TextFault.{TextFault}
-use Rattle.tlv_forms.specs.Taken.{TakenValue}
+use Rattle.tlv_text.specs.Taken.{TakenValue}
 use Rattle.tlv_run.specs.Report.{ReportValue}
-use Rattle.tlv_view.specs.declared.input.InputFault.{InputFault}
-use Rattle.tlv_view_words.specs.declared.request.InputForm.{InputForm}
+use Rattle.tlv_view_program.specs.declared.input.InputFault.{InputFault}
+use Rattle.tlv_view_program.specs.declared.request.InputForm.{InputForm}
 use Rattle.tlv_program.specs.System.{Allows}
 use Rattle.tlv_program.specs.declared.system.OpenFault.{OpenFault}
 use Rattle.tlv_program.specs.declared.system.OpenFault.TheVariants.{Missing, Denied, Other}
 use Rattle.tlv_view_program.specs.Notes.{open_report}
 use Rattle.tlv_view_program.specs.InputBlocks.{BlockContents, GetsAllBlocks, GetsBlocks, GetsOctets, InputBlockValue}
-use Rattle.tlv_view_program.specs.InputBlocks.{block_of_file, blocks_taken, octets_or_report}
+use Rattle.tlv_view_program.specs.InputBlocks.{block_of_file, blocks_taken, octets_or_report, within_room}
 use Rattle.tlv_view_program.specs.ShownLines.{HasShownReport}
 use Rattle.tlv_view_program.specs.Streams.{StreamsValue}
-use Rattle.tlv_view_program.proofs.ShownLemmas.ShownNotes.{IsShownBlock, blocks_taken-shown}
+use Rattle.tlv_view_program.proofs.ShownLemmas.ShownNotes.{IsShownBlock, within_room-shown}
 use Rattle.tlv_view_program.proofs.ShownLemmas.ShownReports.{IsShownReport, input_report-shown, text_report-shown}
 
 abbrev pub HasShownMessage : InputBlockValue → Type 0
@@ -90,43 +90,49 @@ module _ {S : Type 0} (allows : Allows S) where
       (GetsOctets.opened name between before after result is opens unread reads closes same) =
       ap written same
 
-  blocks-silent : (form : InputForm) (file : Option (List ℕ)) (old new : StreamsValue S)
+  blocks-silent : (form : InputForm) (file : Option (List ℕ)) (room rest : ℕ) (old new : StreamsValue S)
       (blocks : List InputBlockValue)
-      → GetsBlocks allows form file old new blocks → IsSilent old new
-  blocks-silent form file old new _ (GetsBlocks.no_octets report gets) = octets-silent file old new _ gets
-  blocks-silent form file old new _ (GetsBlocks.takes octets result gets takes) = octets-silent file old new _ gets
+      → GetsBlocks allows form file room old new blocks rest → IsSilent old new
+  blocks-silent form file room _ old new _ (GetsBlocks.no_octets report gets) = octets-silent file old new _ gets
+  blocks-silent form file room _ old new _ (GetsBlocks.takes octets result gets takes) =
+      octets-silent file old new _ gets
 
-  blocks-shown : (form : InputForm) (file : Option (List ℕ)) (old new : StreamsValue S)
+  blocks-shown : (form : InputForm) (file : Option (List ℕ)) (room rest : ℕ) (old new : StreamsValue S)
       (blocks : List InputBlockValue)
-      → GetsBlocks allows form file old new blocks → AreShownBlocks blocks
-  blocks-shown form file old new _ (GetsBlocks.no_octets report gets) = record {
+      → GetsBlocks allows form file room old new blocks rest → AreShownBlocks blocks
+  blocks-shown form file room _ old new _ (GetsBlocks.no_octets report gets) = record {
     labels = All-cons IsShownBlock _ [] tt (All-nil IsShownBlock);
     reports =
         All-cons HasShownMessage _ [] (octets_report-shown file old new (Err report) gets)
         (All-nil HasShownMessage);
   }
-  blocks-shown form file old new _ (GetsBlocks.takes octets result gets takes) = record {
-    labels = blocks_taken-shown form octets result file takes;
-    reports = taken_reports-shown file result;
+  blocks-shown form file room _ old new _ (GetsBlocks.takes octets result gets takes) = record {
+    labels = within_room-shown form octets room result file takes;
+    reports = taken_reports-shown file (within_room room result);
   }
 
-  pub all-silent : (form : InputForm) (files : List (Option (List ℕ))) (old new : StreamsValue S)
+  pub all-silent : (form : InputForm) (room : ℕ) (files : List (Option (List ℕ))) (old new : StreamsValue S)
       (had : Option (List InputBlockValue))
-      → GetsAllBlocks allows form files old new had → IsSilent old new
-  all-silent form _ old _ _ GetsAllBlocks.no_more = refl
-  all-silent form _ old new _ (GetsAllBlocks.next {file} {files} {blocks = blocks} {more = more} between gets others) =
-      all-silent form files between new (Some more) others ∙ blocks-silent form file old between blocks gets
-  all-silent form _ old new _ (GetsAllBlocks.refused_later {file} {files} {blocks = blocks} between gets others) =
-      all-silent form files between new None others ∙ blocks-silent form file old between blocks gets
-  all-silent form _ old new _ (GetsAllBlocks.refused_here {file} {files} {blocks = blocks} gets) =
-      blocks-silent form file old new blocks gets
+      → GetsAllBlocks allows form room files old new had → IsSilent old new
+  all-silent form room _ old _ _ GetsAllBlocks.no_more = refl
+  all-silent form room _ old new _
+      (GetsAllBlocks.next {file} {files} {rest = rest} {blocks = blocks} {more = more} between gets others) =
+      all-silent form rest files between new (Some more) others
+      ∙ blocks-silent form file room rest old between blocks gets
+  all-silent form room _ old new _
+      (GetsAllBlocks.refused_later {file} {files} {rest = rest} {blocks = blocks} between gets others) =
+      all-silent form rest files between new None others ∙ blocks-silent form file room rest old between blocks gets
+  all-silent form room _ old new _ (GetsAllBlocks.refused_here {file} {files} {rest = rest} {blocks = blocks} gets) =
+      blocks-silent form file room rest old new blocks gets
 
-  pub all-shown : (form : InputForm) (files : List (Option (List ℕ))) (old new : StreamsValue S)
+  pub all-shown : (form : InputForm) (room : ℕ) (files : List (Option (List ℕ))) (old new : StreamsValue S)
       (had : Option (List InputBlockValue))
-      → GetsAllBlocks allows form files old new had → AreShownIfSome had
-  all-shown form _ old _ _ GetsAllBlocks.no_more = no_blocks-shown
-  all-shown form _ old new _ (GetsAllBlocks.next {file} {files} {blocks = blocks} {more = more} between gets others) =
-      more_blocks-shown blocks more (blocks-shown form file old between blocks gets)
-      (all-shown form files between new (Some more) others)
-  all-shown form _ old new _ (GetsAllBlocks.refused_later {file} {files} {blocks = blocks} between gets others) = tt
-  all-shown form _ old new _ (GetsAllBlocks.refused_here {file} {files} {blocks = blocks} gets) = tt
+      → GetsAllBlocks allows form room files old new had → AreShownIfSome had
+  all-shown form room _ old _ _ GetsAllBlocks.no_more = no_blocks-shown
+  all-shown form room _ old new _
+      (GetsAllBlocks.next {file} {files} {rest = rest} {blocks = blocks} {more = more} between gets others) =
+      more_blocks-shown blocks more (blocks-shown form file room rest old between blocks gets)
+      (all-shown form rest files between new (Some more) others)
+  all-shown form room _ old new _
+      (GetsAllBlocks.refused_later {file} {files} {blocks = blocks} between gets others) = tt
+  all-shown form room _ old new _ (GetsAllBlocks.refused_here {file} {files} {blocks = blocks} gets) = tt

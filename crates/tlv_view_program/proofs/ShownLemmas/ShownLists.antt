@@ -15,9 +15,9 @@ use Rattle.tlv_show.specs.Site.{top_site}
 use Rattle.tlv_show.specs.Texts.{check_line}
 use Rattle.tlv_show.specs.declared.rules.Rules.{Rules}
 use Rattle.tlv_run.specs.Report.{ReportValue}
-use Rattle.tlv_view.specs.Offsets.{listed_offset, offsets_line}
-use Rattle.tlv_view.specs.Views.{Views}
-use Rattle.tlv_view.specs.declared.view_call.View.TheVariants as view
+use Rattle.tlv_view_program.specs.Offsets.{listed_offset, offsets_line}
+use Rattle.tlv_view_program.specs.Views.{Views}
+use Rattle.tlv_view_program.specs.declared.view_call.View.TheVariants as view
 use Rattle.tlv_why.specs.Laws.{AreShown}
 use Rattle.tlv_why.proofs.ShownLemmas.ShownWords.{decimal-shown}
 use Rattle.tlv_view_program.specs.ShownLines.{TakesShown}

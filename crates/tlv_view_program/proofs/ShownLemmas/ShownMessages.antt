@@ -9,8 +9,8 @@ use Rattle.tlv_value.specs.Names.{NamesValue}
 use Rattle.tlv_open.specs.BrokenLine.{broken_line}
 use Rattle.tlv_open.specs.declared.strings.BrokenString.{BrokenString}
 use Rattle.tlv_run.specs.Report.{ReportValue}
-use Rattle.tlv_view.specs.declared.input.InputFault.TheVariants as input
-use Rattle.tlv_view_words.specs.declared.request.Request.{Request}
+use Rattle.tlv_view_program.specs.declared.input.InputFault.TheVariants as input
+use Rattle.tlv_view_program.specs.declared.request.Request.{Request}
 use Rattle.tlv_why.specs.Laws.{AreShown}
 use Rattle.tlv_view_program.specs.InputBlocks.{BlockContents, InputBlockValue}
 use Rattle.tlv_view_program.specs.Lines.{MessagePlace, placed_line}

@@ -13,14 +13,15 @@ use Rattle.tlv_text.specs.declared.block.BlockState.TheVariants.{Whole, MayBePai
 use Rattle.tlv_text.specs.declared.block.Form.{Form}
 use Rattle.tlv_text.specs.declared.block.Form.TheVariants.{Pem, Dump, Hex, Numbers, Base64, Runs}
 use Rattle.tlv_text.specs.declared.text_fault.TextFault.{TextFault}
-use Rattle.tlv_forms.specs.Taken.{TakenValue}
-use Rattle.tlv_forms.specs.declared.taken.TakenFor.{TakenFor}
-use Rattle.tlv_forms.specs.declared.taken.TakenFor.TheVariants.{Octets, OtherText, Text}
+use Rattle.tlv_text.specs.Taken.{TakenValue}
+use Rattle.tlv_text.specs.declared.taken.TakenFor.{TakenFor}
+use Rattle.tlv_text.specs.declared.taken.TakenFor.TheVariants.{Octets, OtherText, Text}
 use Rattle.tlv_why.specs.Laws.{AreShown}
 use Rattle.tlv_why.proofs.ShownLemmas.ShownWords.{decimal-shown}
-use Rattle.tlv_view_words.specs.declared.request.InputForm.{InputForm}
-use Rattle.tlv_view_words.specs.declared.request.Wanted.{Wanted}
+use Rattle.tlv_view_program.specs.declared.request.InputForm.{InputForm}
+use Rattle.tlv_view_program.specs.declared.request.Wanted.{Wanted}
 use Rattle.tlv_view_program.specs.InputBlocks.{BlockContents, InputBlockValue, TakesInput, block_of_file, blocks_taken}
+use Rattle.tlv_view_program.specs.InputBlocks.{decoded_count, within_room}
 use Rattle.tlv_view_program.specs.Lines.{MessagePlace, block_line, block_title, file_words, number_words}
 use Rattle.tlv_view_program.specs.Lines.{place_words, printable_name, printable_octet, shown_name}
 use Rattle.tlv_view_program.specs.Notes.{absent_words, expected_words, form_note, form_words, label_words}
@@ -217,6 +218,16 @@ blocks_taken-shown form octets (Ok ts) file is =
     All-map IsShownBlock (λ (t : TakenValue). block_of_file file _ (BlockContents.taken t)) ts
     (taken-shown form octets ts is)
 blocks_taken-shown form octets (Err fault) file is = All-cons IsShownBlock _ [] tt (All-nil IsShownBlock)
+
+-- the same if there is room for the octets of its texts, or none
+pub within_room-shown : (form : InputForm) (octets : List ℕ) (room : ℕ) (result : Result (List TakenValue) TextFault)
+    (file : Option (List ℕ))
+    → TakesInput form octets result → All IsShownBlock (blocks_taken file (within_room room result))
+within_room-shown form octets room (Ok ts) file is = elim (cases_Bool (nat_lt room (decoded_count ts))) [
+  | inl beyond ↦ rw beyond (All-cons IsShownBlock _ [] tt (All-nil IsShownBlock))
+  | inr fits ↦ rw fits (blocks_taken-shown form octets (Ok ts) file is)
+]
+within_room-shown form octets room (Err fault) file is = All-cons IsShownBlock _ [] tt (All-nil IsShownBlock)
 
 pub titles-shown : TitlesAreShown
 titles-shown form octets result file wanted p is =

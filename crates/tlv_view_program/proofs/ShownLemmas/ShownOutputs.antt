@@ -10,14 +10,14 @@ use Rattle.tlv_walk.specs.Reading.{AreOctets}
 use Rattle.tlv_value.specs.Names.{NamesValue}
 use Rattle.tlv_open.specs.declared.strings.BrokenString.{BrokenString}
 use Rattle.tlv_run.specs.Report.{ReportValue}
-use Rattle.tlv_view.specs.Offsets.{offsets_line}
-use Rattle.tlv_view.specs.Views.{Views}
-use Rattle.tlv_view.specs.declared.view_call.View.{View}
-use Rattle.tlv_view_words.specs.declared.request.Request.{Request}
-use Rattle.tlv_view_words.specs.declared.request.Wanted.{Wanted}
-use Rattle.tlv_view_words.specs.declared.request.Wanted.TheVariants.{Check, Dump, Extract, Offsets, Raw, Why}
+use Rattle.tlv_view_program.specs.Offsets.{offsets_line}
+use Rattle.tlv_view_program.specs.Views.{Views}
+use Rattle.tlv_view_program.specs.declared.view_call.View.{View}
+use Rattle.tlv_view_program.specs.declared.request.Request.{Request}
+use Rattle.tlv_view_program.specs.declared.request.Wanted.{Wanted}
+use Rattle.tlv_view_program.specs.declared.request.Wanted.TheVariants.{Check, Dump, Extract, Offsets, Raw, Why}
 use Rattle.tlv_program.specs.System.{Allows}
-use Rattle.tlv_view_program.specs.InputBlocks.{BlockContents, InputBlockValue}
+use Rattle.tlv_view_program.specs.InputBlocks.{BlockContents, InputBlockValue, run_limit}
 use Rattle.tlv_view_program.specs.ShowsAll.{BlocksPlace, GetsTable, ShowsBlocks, ShowsFiles, ShowsRequest, block_place}
 use Rattle.tlv_view_program.specs.ShowsAll.{files_of_words, places_of}
 use Rattle.tlv_view_program.specs.ShowsBlock.{BlockPlace, ShowsBlock, ShowsContents, ShowsOctets, ShowsTitled, title}
@@ -140,13 +140,13 @@ module _ {S : Type 0} (allows : Allows S) where
       → ShowsFiles allows request table files old new status
       → TakesShown old.output new.output
   files-take request table files old new _ names wants (ShowsFiles.had had blocks status gets shows) =
-      let all : AreShownBlocks blocks = all-shown allows request.form files old had (Some blocks) gets in
+      let all : AreShownBlocks blocks = all-shown allows request.form run_limit files old had (Some blocks) gets in
       subst (λ (d : DrainState). TakesShown d new.output)
-      (ap (λ w. w.0) (all-silent allows request.form files old had (Some blocks) gets))
+      (ap (λ w. w.0) (all-silent allows request.form run_limit files old had (Some blocks) gets))
       (blocks-take table names request wants (places_of files blocks) 1 blocks had new status all.labels shows)
   files-take request table files old new _ names wants (ShowsFiles.not_had had gets said) =
       subst (λ (d : DrainState). TakesShown d new.output)
-      (ap (λ w. w.0) (all-silent allows request.form files old had None gets))
+      (ap (λ w. w.0) (all-silent allows request.form run_limit files old had None gets))
       (said-silent had new said.1)
 
   pub outputs-shown : OutputsAreShown allows

@@ -14,7 +14,7 @@ use Rattle.tlv_open.specs.declared.strings.BrokenString.{BrokenString}
 use Rattle.tlv_mend.specs.Remedies.{AreRemedies, kind_line}
 use Rattle.tlv_mend.proofs.ShownLemmas.{kind_line-shown, length_line-shown, remedies-shown}
 use Rattle.tlv_run.specs.Report.{ReportValue}
-use Rattle.tlv_view.specs.declared.input.InputFault.TheVariants as input
+use Rattle.tlv_view_program.specs.declared.input.InputFault.TheVariants as input
 use Rattle.tlv_why.specs.Laws.{AreShown}
 use Rattle.tlv_why.specs.Why.{first_why_line, reasons_of, why_lines}
 use Rattle.tlv_why.specs.declared.facts.Facts.{Facts}

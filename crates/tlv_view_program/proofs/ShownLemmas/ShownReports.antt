@@ -29,12 +29,12 @@ use Rattle.tlv_run.specs.Report.{ReportValue, cut_report, device_report, fault_l
 use Rattle.tlv_run.specs.Report.{result_report}
 use Rattle.tlv_run.specs.Results.{job_with_report}
 use Rattle.tlv_run.specs.RunsAndReports.{RunsAndReports}
-use Rattle.tlv_view.specs.ReadWhole.{input_report}
-use Rattle.tlv_view.specs.Views.{Views, dump_options, job_of_view}
-use Rattle.tlv_view.specs.declared.input.InputFault.{InputFault}
-use Rattle.tlv_view.specs.declared.input.InputFault.TheVariants as input
-use Rattle.tlv_view.specs.declared.view_call.View.{View}
-use Rattle.tlv_view.specs.declared.view_call.View.TheVariants as view
+use Rattle.tlv_view_program.specs.ReadWhole.{input_report}
+use Rattle.tlv_view_program.specs.Views.{Views, dump_options, job_of_view}
+use Rattle.tlv_view_program.specs.declared.input.InputFault.{InputFault}
+use Rattle.tlv_view_program.specs.declared.input.InputFault.TheVariants as input
+use Rattle.tlv_view_program.specs.declared.view_call.View.{View}
+use Rattle.tlv_view_program.specs.declared.view_call.View.TheVariants as view
 use Rattle.tlv_why.specs.Laws.{AreShown}
 use Rattle.tlv_why.proofs.ShownLemmas.ShownWords.{decimal-shown}
 use Rattle.tlv_view_program.specs.Notes.{text_report}

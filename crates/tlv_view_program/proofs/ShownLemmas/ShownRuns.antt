@@ -5,15 +5,15 @@ use Rattle.std.specs.List.{All}
 use Rattle.std.proofs.lemmas.List.Elements.{All-head, All-tail}
 use Rattle.tlv_value.specs.Names.{NamesValue}
 use Rattle.tlv_run.specs.Report.{message_line}
-use Rattle.tlv_view.specs.ReadWhole.{input_report}
-use Rattle.tlv_view.specs.declared.input.InputFault.TheVariants as input
-use Rattle.tlv_words.specs.Usage.{not_utf8_report}
-use Rattle.tlv_view_words.specs.RequestReport.{request_report}
-use Rattle.tlv_view_words.specs.declared.refusal.RequestFault.TheVariants as fault
-use Rattle.tlv_view_words.specs.declared.request.Request.{Request}
+use Rattle.tlv_view_program.specs.ReadWhole.{input_report}
+use Rattle.tlv_view_program.specs.declared.input.InputFault.TheVariants as input
+use Rattle.tlv_program.specs.Usage.{not_utf8_report}
+use Rattle.tlv_view_program.specs.RequestReport.{request_report}
+use Rattle.tlv_view_program.specs.declared.refusal.RequestFault.TheVariants as fault
+use Rattle.tlv_view_program.specs.declared.request.Request.{Request}
 use Rattle.tlv_program.specs.System.{Allows}
 use Rattle.tlv_why.specs.Laws.{AreShown}
-use Rattle.tlv_view_program.specs.InputBlocks.{InputBlockValue}
+use Rattle.tlv_view_program.specs.InputBlocks.{InputBlockValue, run_limit}
 use Rattle.tlv_view_program.specs.ShowsAll.{BlocksPlace, IsSaid, RunsShow, ShowsBlocks, ShowsFiles, ShowsRequest}
 use Rattle.tlv_view_program.specs.ShowsAll.{block_place, files_of_words, places_of}
 use Rattle.tlv_view_program.specs.ShowsBlock.{BlockPlace, ShowsBlock, message_place, octets_of_contents, reasons_report}
@@ -82,12 +82,12 @@ module _ {S : Type 0} (allows : Allows S) where
       (status : ℕ)
       → ShowsFiles allows request table files old new status → TakesShown old.messages new.messages
   files-take request table files old new _ (ShowsFiles.had had blocks status gets shows) =
-      let all : AreShownBlocks blocks = all-shown allows request.form files old had (Some blocks) gets in
+      let all : AreShownBlocks blocks = all-shown allows request.form run_limit files old had (Some blocks) gets in
       subst (λ m. TakesShown m new.messages)
-      (ap (λ w. w.1) (all-silent allows request.form files old had (Some blocks) gets))
+      (ap (λ w. w.1) (all-silent allows request.form run_limit files old had (Some blocks) gets))
       (blocks-take request table (places_of files blocks) 1 blocks had new status all.labels all.reports shows)
   files-take request table files old new _ (ShowsFiles.not_had had gets said) =
-      subst (λ m. TakesShown m new.messages) (ap (λ w. w.1) (all-silent allows request.form files old had None gets))
+      subst (λ m. TakesShown m new.messages) (ap (λ w. w.1) (all-silent allows request.form run_limit files old had None gets))
       (said-takes (input_report input.Memory).message had new (input_report-shown input.Memory) said)
 
   request-takes : (places : List (List ℕ)) (typed : Bool) (request : Request) (old new : StreamsValue S) (status : ℕ)

@@ -6,12 +6,12 @@ use Rattle.std.specs.List.{All}
 use Rattle.std.proofs.lemmas.List.Elements.{All-append, All-cons, All-filter, All-head, All-map, All-nil, All-tail}
 use Rattle.tlv_text.specs.Blocks.{BlockValue}
 use Rattle.tlv_text.specs.declared.block.Form.{Form}
-use Rattle.tlv_forms.specs.Taken.{AreFirstBlocks, BlocksCount, Counts, HasBlocks, HasInner, IsTakenAs, IsTakenFor}
-use Rattle.tlv_forms.specs.Taken.{RunsCount, TakenValue, TextBlocks, in_layer, is_present, taken_as, text_of}
-use Rattle.tlv_forms.specs.declared.taken.TakenFor.{TakenFor}
-use Rattle.tlv_forms.specs.declared.taken.TakenFor.TheVariants.{Text}
-use Rattle.tlv_view_words.specs.declared.request.InputForm.{InputForm}
-use Rattle.tlv_view_words.specs.declared.request.InputForm.TheVariants as asked
+use Rattle.tlv_text.specs.Taken.{AreFirstBlocks, BlocksCount, Counts, HasBlocks, HasInner, IsTakenAs, IsTakenFor}
+use Rattle.tlv_text.specs.Taken.{RunsCount, TakenValue, TextBlocks, in_layer, is_present, taken_as, text_of}
+use Rattle.tlv_text.specs.declared.taken.TakenFor.{TakenFor}
+use Rattle.tlv_text.specs.declared.taken.TakenFor.TheVariants.{Text}
+use Rattle.tlv_view_program.specs.declared.request.InputForm.{InputForm}
+use Rattle.tlv_view_program.specs.declared.request.InputForm.TheVariants as asked
 use Rattle.tlv_view_program.specs.InputBlocks.{TakesInput}
 use Rattle.tlv_view_program.proofs.ShownLemmas.ShownLabels.{HasShownLabel, blocks-shown, first_words-shown}
 

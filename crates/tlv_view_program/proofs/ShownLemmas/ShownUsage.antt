@@ -8,16 +8,16 @@ use Rattle.tlv_value.specs.declared.names.fault.NamesFault.TheVariants as names
 use Rattle.tlv_run.specs.Report.{message_line, names_report}
 use Rattle.tlv_why.specs.Laws.{AreShown}
 use Rattle.tlv_why.proofs.ShownLemmas.ShownWords.{decimal-shown}
-use Rattle.tlv_words.specs.Usage.{unprinted_report}
-use Rattle.tlv_view_words.specs.RequestReport.{option_spelling, refusal_message, request_report}
-use Rattle.tlv_view_words.specs.declared.refusal.Refusal.{Refusal}
-use Rattle.tlv_view_words.specs.declared.refusal.Refusal.TheVariants.{ContentsAlone, FormValue, LimitValue, NotWith}
-use Rattle.tlv_view_words.specs.declared.refusal.Refusal.TheVariants.{OffsetValue, RulesValue, SeveralFiles}
-use Rattle.tlv_view_words.specs.declared.refusal.RequestFault.{RequestFault}
-use Rattle.tlv_view_words.specs.declared.refusal.RequestFault.TheVariants as fault
-use Rattle.tlv_view_words.specs.declared.refusal.ShowOption.{ShowOption}
-use Rattle.tlv_view_words.specs.declared.refusal.ShowOption.TheVariants.{Check, Closed, Contents, Limit, Names}
-use Rattle.tlv_view_words.specs.declared.refusal.ShowOption.TheVariants.{NoText, Offset, Offsets, Pure, Raw, Rules, Why}
+use Rattle.tlv_program.specs.Usage.{unprinted_report}
+use Rattle.tlv_view_program.specs.RequestReport.{option_spelling, refusal_message, request_report}
+use Rattle.tlv_view_program.specs.declared.refusal.Refusal.{Refusal}
+use Rattle.tlv_view_program.specs.declared.refusal.Refusal.TheVariants.{ContentsAlone, FormValue, LimitValue, NotWith}
+use Rattle.tlv_view_program.specs.declared.refusal.Refusal.TheVariants.{OffsetValue, RulesValue, SeveralFiles}
+use Rattle.tlv_view_program.specs.declared.refusal.RequestFault.{RequestFault}
+use Rattle.tlv_view_program.specs.declared.refusal.RequestFault.TheVariants as fault
+use Rattle.tlv_view_program.specs.declared.refusal.ShowOption.{ShowOption}
+use Rattle.tlv_view_program.specs.declared.refusal.ShowOption.TheVariants.{Check, Closed, Contents, Limit, Names}
+use Rattle.tlv_view_program.specs.declared.refusal.ShowOption.TheVariants.{NoText, Offset, Offsets, Pure, Raw, Rules, Why}
 use Rattle.tlv_view_program.specs.Lines.{no_names_note}
 use Rattle.tlv_view_program.specs.ShowsAll.{asks_for_help, note_of_input, refused_report}
 use Rattle.tlv_view_program.proofs.ShownLemmas.ShownReports.{IsShownReport, device_report-shown}

@@ -4,11 +4,11 @@ use Rattle.std.specs.Prelude.{flat_map, length, map}
 use Rattle.tlv_head.specs.Limits.{input_limit}
 use Rattle.tlv_run.specs.BorrowedText.{text_in}
 use Rattle.tlv_run.specs.Report.{ReportValue}
-use Rattle.tlv_view.specs.ReadWhole.{input_report}
+use Rattle.tlv_view_program.specs.ReadWhole.{input_report}
 use Rattle.tlv_view_program.specs.Notes.{open_report, text_report}
 use Rattle.tlv_text.specs.declared.text_fault.TextFault.{TextFault}
-use Rattle.tlv_forms.specs.Taken.{TakenValue, taken_value}
-use Rattle.tlv_forms.specs.declared.taken.Taken.{Taken}
+use Rattle.tlv_text.specs.Taken.{TakenValue, taken_value}
+use Rattle.tlv_text.specs.declared.taken.Taken.{Taken}
 use Rattle.tlv_view_program.specs.InputBlocks.{BlockContents, InputBlockValue, block_of_file, blocks_taken}
 use Rattle.tlv_view_program.specs.Lines.{MessagePlace}
 use Rattle.tlv_view_program.specs.ShowsAll.{BlocksPlace, block_place}

@@ -1,7 +1,7 @@
 -- The first blocks of those that are shown.
 use Rattle.std.specs.Prelude.{◌+◌, ℕ, Bool, true, false, List, [], ◌∷◌, max}
 use Rattle.tlv_value.specs.Names.{NamesValue}
-use Rattle.tlv_view_words.specs.declared.request.Request.{Request}
+use Rattle.tlv_view_program.specs.declared.request.Request.{Request}
 use Rattle.tlv_view_program.specs.InputBlocks.{InputBlockValue}
 use Rattle.tlv_view_program.specs.ShowsAll.{BlocksPlace, block_place}
 use Rattle.tlv_view_program.specs.ShowsBlock.{ShowsBlock}

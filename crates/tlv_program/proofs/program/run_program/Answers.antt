@@ -2,8 +2,8 @@ use Rattle.std.proofs.Common.{◌≡◌, List, rules, refl}
 use Rattle.std.specs.Prelude.{Result, Err}
 use Rattle.clap.specs.Words.{Text}
 use Rattle.tlv_run.specs.Report.{ReportValue, report_value_of}
-use Rattle.tlv_words.specs.Usage.{not_utf8_report, usage_report}
-use Rattle.tlv_words.specs.declared.usage.UsageFault.TheVariants as usage
+use Rattle.tlv_program.specs.Usage.{not_utf8_report, usage_report}
+use Rattle.tlv_program.specs.declared.usage.UsageFault.TheVariants as usage
 use Rattle.tlv_program.specs.System.{Allows}
 use Rattle.tlv_program.specs.RunsProgram.{ProgramStates, RunsProgram, no_memory, not_utf8, refused, runs}
 use Rattle.tlv_program.specs.declared.program.NoWords.{NoWords}

@@ -1,4 +1,4 @@
-use Rattle.tlv_cut.specs.Extract.{extract_job}
+use Rattle.tlv_run.specs.Extract.{extract_job}
 use Rattle.tlv_run.specs.Report.{cut_report}
 use Rattle.tlv_run.proofs.JobReports.{reported_runs}
 use Rattle.tlv_run.proofs.command_runs.run_extract.Goals as goal

@@ -1,4 +1,4 @@
-use Rattle.tlv_cut.specs.Indef.{indef_job}
+use Rattle.tlv_run.specs.Indef.{indef_job}
 use Rattle.tlv_run.specs.Report.{indef_report}
 use Rattle.tlv_run.proofs.JobReports.{reported_runs}
 use Rattle.tlv_run.proofs.command_runs.run_indef.Goals as goal

@@ -3,7 +3,7 @@ use Rattle.std.specs.Prelude.{nat_lt}
 use Rattle.std.proofs.lemmas.List.{length-map}
 use Rattle.tlv_run.specs.Report.{ReportValue}
 use Rattle.tlv_value.specs.Names.{NamesValue}
-use Rattle.tlv_view_words.specs.declared.request.Request.{Request}
+use Rattle.tlv_view_program.specs.declared.request.Request.{Request}
 use Rattle.tlv_view_program.proofs.InputBlockLemmas.{refused-at-end}
 use Rattle.tlv_view_program.specs.InputBlocks.{InputBlockValue}
 use Rattle.tlv_view_program.specs.Private.BlockParts.{file_blocks}

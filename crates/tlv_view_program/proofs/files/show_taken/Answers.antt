@@ -4,12 +4,12 @@ use Rattle.std.proofs.lemmas.List.{nil_from_length}
 use Rattle.std.proofs.lemmas.List.Elements.{All-tail}
 use Rattle.std.specs.Prelude.{Ok, nat_lt, ◌≤◌}
 use Rattle.std.specs.Vec.Iter.{into_iter_items}
-use Rattle.tlv_forms.specs.Taken.{taken_value}
-use Rattle.tlv_forms.specs.declared.taken.Taken.{Taken}
+use Rattle.tlv_text.specs.Taken.{taken_value}
+use Rattle.tlv_text.specs.declared.taken.Taken.{Taken}
 use Rattle.tlv_head.specs.Limits.{input_limit}
 use Rattle.tlv_run.specs.BorrowedText.{text_in}
 use Rattle.tlv_value.specs.Names.{NamesValue}
-use Rattle.tlv_view_words.specs.declared.request.Request.{Request}
+use Rattle.tlv_view_program.specs.declared.request.Request.{Request}
 use Rattle.tlv_view_program.proofs.BlockSteps.{one-shown, rest-ends, rest-goes_on, rest-stops}
 use Rattle.tlv_view_program.proofs.InputBlockLemmas.{blocks-taken, taken_block}
 use Rattle.tlv_view_program.specs.InputBlocks.{InputBlockValue, blocks_taken}

@@ -10,6 +10,6 @@ invariant-loop-word g l = record {
   gets :
       GetsRest g.S.System.allows l.fn.request.form (files_of_words l.fn.request.files) l.fn.request.files
       (streams_value g.I.Source.state g.O.Drain.state g.O.Output.reader_gone g.M.Drain.state l.fn.streams) l.word-index
-      (streams_value g.I.Source.state g.O.Drain.state g.O.Output.reader_gone g.M.Drain.state l.streams) (flat_map file_blocks l.given.items);
+      l.room (streams_value g.I.Source.state g.O.Drain.state g.O.Output.reader_gone g.M.Drain.state l.streams) (flat_map file_blocks l.given.items);
   fit : all_fit l.given.items;
 }

@@ -1,5 +1,5 @@
 use Rattle.std.proofs.Common.{◌≡◌, ◌++◌, ◌∷◌, Bool, true, [], refl, rules, sym, ◌∙◌}
-use Rattle.tlv_forms.specs.Taken.{TakenValue}
+use Rattle.tlv_text.specs.Taken.{TakenValue}
 use Rattle.tlv_io.proofs.Puts.{puts_text}
 use Rattle.tlv_view_program.proofs.Items.{all_three, first_fails, second_fails}
 use Rattle.tlv_view_program.specs.Lines.{MessagePlace, place_words}

@@ -5,7 +5,7 @@ use Rattle.tlv_value.specs.Names.{NamesValue}
 use Rattle.tlv_value.specs.NamesReading.{ReadsFrom}
 use Rattle.tlv_value.specs.declared.names.fault.NamesFault.{NamesFault}
 use Rattle.tlv_program.specs.System.{Allows}
-use Rattle.tlv_view_words.specs.declared.request.Wanted.{Wanted}
+use Rattle.tlv_view_program.specs.declared.request.Wanted.{Wanted}
 use Rattle.tlv_view_program.specs.Private.Tables.{OpensNames, result_without_file}
 use Rattle.tlv_view_program.specs.ShowsAll.{GetsTable, found, named, names_of_wanted, none_found, not_asked, unopened}
 use Rattle.tlv_view_program.proofs.names.table_for.Goals as goal

@@ -1,9 +1,9 @@
 use Rattle.std.proofs.Common.{◌≡◌, ℕ, Bool, true, false, List, [], refl, sym, ◌∙◌}
 use Rattle.std.specs.Prelude.{not}
 use Rattle.tlv_open.specs.declared.strings.BrokenString.{BrokenString}
-use Rattle.tlv_view.specs.Views.{AreBrokenUnless}
-use Rattle.tlv_view_words.specs.declared.request.Wanted.{Wanted}
-use Rattle.tlv_view_words.specs.declared.request.Wanted.TheVariants.{Dump, Check, Extract, Offsets, Raw, Why}
+use Rattle.tlv_view_program.specs.Views.{AreBrokenUnless}
+use Rattle.tlv_view_program.specs.declared.request.Wanted.{Wanted}
+use Rattle.tlv_view_program.specs.declared.request.Wanted.TheVariants.{Dump, Check, Extract, Offsets, Raw, Why}
 use Rattle.tlv_view_program.specs.ShowsBlock.{no_memory, reports_broken, shown, stays_closed}
 use Rattle.tlv_view_program.proofs.octets.show_view.Goals as goal
 

@@ -1,2 +1,0 @@
-pub mod ExtractLemmas
-pub mod IndefLemmas

@@ -1,5 +1,0 @@
-use Rattle.std.proofs.Common.{rules}
-use Rattle.tlv_cut.proofs.extract_follower.Extract.has_found.Goals as goal
-
-pub returns : goal.returns
-returns c = search rules

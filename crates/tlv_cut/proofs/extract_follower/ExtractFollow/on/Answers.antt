@@ -1,8 +1,0 @@
-use Rattle.std.proofs.Common.{rules}
-use Rattle.tlv_cut.proofs.extract_follower.ExtractFollow.on.Goals as goal
-
-pub returns-in-Unused : goal.returns-in-Unused
-returns-in-Unused g c = search rules
-
-pub returns-in-Close-None : goal.returns-in-Close-None
-returns-in-Close-None g c = search rules

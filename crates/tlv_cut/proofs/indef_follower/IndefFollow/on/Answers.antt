@@ -1,5 +1,0 @@
-use Rattle.std.proofs.Common.{rules, refl}
-use Rattle.tlv_cut.proofs.indef_follower.IndefFollow.on.Goals as goal
-
-pub returns : goal.returns
-returns g c = record { has = record { puts = search rules; state = refl }; goes = refl }

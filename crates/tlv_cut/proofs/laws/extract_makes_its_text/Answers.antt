@@ -1,5 +1,0 @@
-use Rattle.tlv_cut.proofs.ExtractLemmas.Laws.{extract_makes_its_text}
-use Rattle.tlv_cut.proofs.laws.extract_makes_its_text.Goals as goal
-
-pub returns : goal.returns
-returns x = extract_makes_its_text

@@ -1,5 +1,0 @@
-use Rattle.tlv_cut.proofs.IndefLemmas.Elements.{followed-events}
-use Rattle.tlv_cut.proofs.laws.indef_makes_its_text.Goals as goal
-
-pub returns : goal.returns
-returns c = followed-events

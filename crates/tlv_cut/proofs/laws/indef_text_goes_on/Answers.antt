@@ -1,5 +1,0 @@
-use Rattle.tlv_cut.proofs.IndefLemmas.LongerInputs.{indef_text_goes_on}
-use Rattle.tlv_cut.proofs.laws.indef_text_goes_on.Goals as goal
-
-pub returns : goal.returns
-returns c = indef_text_goes_on

@@ -1,5 +1,0 @@
-use Rattle.tlv_cut.proofs.IndefLemmas.SecondReading.{indef_text_is_read_back}
-use Rattle.tlv_cut.proofs.laws.indef_text_is_read_back.Goals as goal
-
-pub returns : goal.returns
-returns c = indef_text_is_read_back

@@ -1,5 +1,0 @@
-pub mod Extract
-pub mod ExtractStep
-pub mod Laws
-pub mod Indef
-pub mod IndefStep

@@ -1,0 +1,5 @@
+pub mod CommandLemmas
+mod NumberLemmas
+mod OffsetLemmas
+pub mod ParserLemmas
+mod Replaced

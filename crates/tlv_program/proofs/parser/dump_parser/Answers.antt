@@ -1,0 +1,12 @@
+use Rattle.std.proofs.lemmas.Result.{IfOk-weaker}
+use Rattle.tlv_program.proofs.ParserLemmas.{one_more}
+use Rattle.tlv_program.proofs.parser.dump_parser.Goals as goal
+
+pub returns : goal.returns
+returns c =
+    let has_1 = one_more c.in_ok-command_parser.ensures c.in_ok-arg.ensures c.option.ensures in
+    let has_2 = one_more has_1 c.in_ok-arg-2.ensures c.option-2.ensures in
+    let has_3 = one_more has_2 c.in_ok-arg-3.ensures c.flag.ensures in
+    let has_4 = one_more has_3 c.in_ok-arg-4.ensures c.option-3.ensures in
+    let has_5 = one_more has_4 c.in_ok-arg-5.ensures c.option-4.ensures in
+    IfOk-weaker c.arg-6.result _ _ (λ m h. one_more has_5 h c.flag-2.ensures) c.arg-6.ensures

@@ -1,0 +1,10 @@
+pub mod Head
+pub mod Walk
+pub mod Value
+pub mod Show
+pub mod Open
+pub mod Run
+pub mod Text
+pub mod Why
+pub mod Mend
+pub mod generated

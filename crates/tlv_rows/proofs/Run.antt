@@ -1,0 +1,5 @@
+pub mod Extract
+pub mod Indef
+pub mod RowWords
+pub mod Depth
+pub mod Devices

@@ -1,0 +1,13 @@
+pub mod RowWords
+pub mod Events
+pub mod BasicHeaders
+pub mod BasicContents
+pub mod BasicTexts
+pub mod Strict
+pub mod Scope
+pub mod Canonical
+pub mod Whole
+pub mod Framing
+pub mod Spelling
+pub mod Segments
+pub mod SetOrder

@@ -1,0 +1,3 @@
+pub mod RowLines
+pub mod Named
+pub mod Inputs

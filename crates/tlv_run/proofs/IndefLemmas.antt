@@ -1,0 +1,6 @@
+pub mod Elements
+pub mod Grammar
+pub mod Job
+pub mod LongerInputs
+pub mod Offsets
+pub mod SecondReading

@@ -1,2 +1,0 @@
-mod FileLemmas
-mod RequestLemmas

@@ -1,4 +1,0 @@
-pub mod CommandLemmas
-mod NumberLemmas
-mod OffsetLemmas
-pub mod ParserLemmas
