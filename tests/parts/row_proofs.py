@@ -12,18 +12,24 @@ WIDTH = 118
 # The names that the statements may use, by the module that has them.
 NAMES = {
     "Rattle.std.proofs.Common": "◌≡◌ false true [] ◌∷◌ ◌++◌ None Some codes refl",
-    "Rattle.std.specs.Prelude": "Ok replicate",
+    "Rattle.std.specs.Prelude": "Err Ok map negsuc pos replicate",
     "Rattle.std.specs.Fmt": "digits",
     "Rattle.std.specs.Str": "chars is_utf8",
     "Rattle.hex.specs.Hex": "encode_with",
     "lib.Utf8": "encode",
     "Rattle.tlv_head.specs.declared.fault.FaultCode.TheVariants": "Empty Short StrayEnd BadEnd MissingEnd "
     "TagTooLong ReservedLength IndefinitePrimitive LengthTooLarge TooDeep Overrun BadInside",
+    "Rattle.tlv_head.specs.declared.header.Class.TheVariants": "Universal Application Context Private",
+    "Rattle.tlv_head.specs.declared.header.Size.TheVariants": "Definite Indefinite",
     "Rattle.tlv_show.specs.declared.rules.Rules.TheVariants": "Ber Der Cer",
     "Rattle.tlv_value.specs.Names": "names_of",
+    "Rattle.tlv_walk.specs.Ending": "fault_ending",
+    "Rattle.tlv_walk.specs.declared.ending.Ending.TheVariants": "Done",
     "Rattle.tlv_walk.specs.Framing": "plain_framing",
-    "Rattle.tlv_rows.proofs.Run.RowWords": "check clean_result dump extract fault_result framing_of indef lines named nameless "
-    "entries_table notice_result octets result result_with",
+    "Rattle.tlv_walk.proofs.GrammarLemmas.Readings": "padding_framing reading",
+    "Rattle.tlv_rows.proofs.Words.Octets": "framing_of lines octets",
+    "Rattle.tlv_rows.proofs.Words.Runs": "check clean_result dump extract fault_result indef named nameless entries_table "
+    "notice_result result result_with",
 }
 CODES = {
     "F01": "Empty",
@@ -76,7 +82,7 @@ def join_texts(first, second):
 
 
 def string(text):
-    return '"' + text.replace("\\", "\\\\").replace('"', '\\"') + '"'
+    return '"' + text.replace("\\", "\\\\").replace('"', '\\"').replace("\t", "\\t") + '"'
 
 
 def output_of(row):
@@ -178,11 +184,11 @@ def use(module, names):
     return line if len(line) <= WIDTH else use(module, names[:half]) + use(module, names[half:])
 
 
-def uses(body):
-    """Returns the lines that import what the statements name."""
+def uses(body, known=()):
+    """Returns the lines that import what the statements name, except what is known."""
     words = set(re.findall(r"[^\s(){},;]+", re.sub(r'"(?:\\.|[^"\\])*"|--.*', "", body)))
     for module, names in NAMES.items():
-        named = [name for name in names.split() if name.strip("◌") in words]
+        named = [name for name in names.split() if name.strip("◌") in words and name not in known]
         if named:
             yield use(module, named)
 

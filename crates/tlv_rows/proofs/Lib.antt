@@ -1,10 +1,3 @@
-pub mod Head
-pub mod Walk
-pub mod Value
-pub mod Show
-pub mod Open
-pub mod Run
-pub mod Text
-pub mod Why
-pub mod Mend
+pub mod Words
+pub mod ByHand
 pub mod generated

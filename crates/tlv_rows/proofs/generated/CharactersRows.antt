@@ -9,8 +9,9 @@ use lib.Utf8.{encode}
 use Rattle.tlv_show.specs.declared.rules.Rules.TheVariants.{Ber}
 use Rattle.tlv_value.specs.Names.{names_of}
 use Rattle.tlv_walk.specs.Framing.{plain_framing}
-use Rattle.tlv_rows.proofs.Run.RowWords.{clean_result, dump, lines, named, nameless}
-use Rattle.tlv_rows.proofs.Run.RowWords.{entries_table, notice_result, octets, result, result_with}
+use Rattle.tlv_rows.proofs.Words.Octets.{lines, octets}
+use Rattle.tlv_rows.proofs.Words.Runs.{clean_result, dump, named, nameless}
+use Rattle.tlv_rows.proofs.Words.Runs.{entries_table, notice_result, result, result_with}
 
 -- an OBJECT IDENTIFIER
 row-1 : result (dump Ber None false plain_framing) (octets "06 03 2a 86 48")

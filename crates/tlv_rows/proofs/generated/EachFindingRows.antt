@@ -7,7 +7,8 @@ use Rattle.hex.specs.Hex.{encode_with}
 use lib.Utf8.{encode}
 use Rattle.tlv_show.specs.declared.rules.Rules.TheVariants.{Ber, Der, Cer}
 use Rattle.tlv_walk.specs.Framing.{plain_framing}
-use Rattle.tlv_rows.proofs.Run.RowWords.{check, lines, notice_result, octets, result}
+use Rattle.tlv_rows.proofs.Words.Octets.{lines, octets}
+use Rattle.tlv_rows.proofs.Words.Runs.{check, notice_result, result}
 
 row-1 : result (check Ber plain_framing) (octets "1f 02 01 05")
     ≡ notice_result 1 "findings: 1" (lines (

@@ -7,7 +7,8 @@ use Rattle.hex.specs.Hex.{encode_with}
 use lib.Utf8.{encode}
 use Rattle.tlv_head.specs.declared.fault.FaultCode.TheVariants.{Empty, Short, StrayEnd, ReservedLength, Overrun}
 use Rattle.tlv_walk.specs.Framing.{plain_framing}
-use Rattle.tlv_rows.proofs.Run.RowWords.{clean_result, extract, fault_result, notice_result, octets, result}
+use Rattle.tlv_rows.proofs.Words.Octets.{octets}
+use Rattle.tlv_rows.proofs.Words.Runs.{clean_result, extract, fault_result, notice_result, result}
 
 -- the contents of a primitive
 row-1 : result (extract 2 true plain_framing) (octets "30 03 02 01 05")

@@ -11,7 +11,8 @@ use Rattle.tlv_head.specs.declared.fault.FaultCode.TheVariants.{TagTooLong, Rese
 use Rattle.tlv_head.specs.declared.fault.FaultCode.TheVariants.{IndefinitePrimitive, LengthTooLarge, Overrun}
 use Rattle.tlv_show.specs.declared.rules.Rules.TheVariants.{Ber}
 use Rattle.tlv_walk.specs.Framing.{plain_framing}
-use Rattle.tlv_rows.proofs.Run.RowWords.{dump, fault_result, lines, octets, result}
+use Rattle.tlv_rows.proofs.Words.Octets.{lines, octets}
+use Rattle.tlv_rows.proofs.Words.Runs.{dump, fault_result, result}
 
 -- an empty input
 row-1 : result (dump Ber None false plain_framing) []

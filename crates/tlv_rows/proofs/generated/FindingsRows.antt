@@ -9,8 +9,8 @@ use lib.Utf8.{encode}
 use Rattle.tlv_head.specs.declared.fault.FaultCode.TheVariants.{Empty, Short, StrayEnd}
 use Rattle.tlv_show.specs.declared.rules.Rules.TheVariants.{Ber, Der, Cer}
 use Rattle.tlv_walk.specs.Framing.{plain_framing}
-use Rattle.tlv_rows.proofs.Run.RowWords.{check, clean_result, dump, fault_result}
-use Rattle.tlv_rows.proofs.Run.RowWords.{lines, nameless, notice_result, octets, result}
+use Rattle.tlv_rows.proofs.Words.Octets.{lines, octets}
+use Rattle.tlv_rows.proofs.Words.Runs.{check, clean_result, dump, fault_result, nameless, notice_result, result}
 
 row-1 : result (check Der plain_framing) []
     ≡ fault_result 0 Empty 0 "fault at 0: F01 empty input" []

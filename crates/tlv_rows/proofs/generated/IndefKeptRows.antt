@@ -5,7 +5,8 @@ use Rattle.std.specs.Fmt.{digits}
 use Rattle.std.specs.Str.{chars, is_utf8}
 use Rattle.hex.specs.Hex.{encode_with}
 use lib.Utf8.{encode}
-use Rattle.tlv_rows.proofs.Run.RowWords.{clean_result, indef, octets, result}
+use Rattle.tlv_rows.proofs.Words.Octets.{octets}
+use Rattle.tlv_rows.proofs.Words.Runs.{clean_result, indef, result}
 
 row-1 : result (indef false) (octets "02 10 7f ff ff ff ff ff ff ff ff ff ff ff ff ff ff ff")
     ≡ clean_result (octets "02 10 7f ff ff ff ff ff ff ff ff ff ff ff ff ff ff ff")

@@ -8,7 +8,8 @@ use lib.Utf8.{encode}
 use Rattle.tlv_head.specs.declared.fault.FaultCode.TheVariants.{Empty, Short, StrayEnd, BadEnd, MissingEnd}
 use Rattle.tlv_head.specs.declared.fault.FaultCode.TheVariants.{TagTooLong, ReservedLength}
 use Rattle.tlv_head.specs.declared.fault.FaultCode.TheVariants.{IndefinitePrimitive, LengthTooLarge, Overrun}
-use Rattle.tlv_rows.proofs.Run.RowWords.{clean_result, fault_result, indef, octets, result}
+use Rattle.tlv_rows.proofs.Words.Octets.{octets}
+use Rattle.tlv_rows.proofs.Words.Runs.{clean_result, fault_result, indef, result}
 
 -- a definite length
 row-1 : result (indef false) (octets "30 03 02 01 05")

@@ -8,8 +8,8 @@ use lib.Utf8.{encode}
 use Rattle.tlv_head.specs.declared.fault.FaultCode.TheVariants.{Short, StrayEnd, Overrun, BadInside}
 use Rattle.tlv_show.specs.declared.rules.Rules.TheVariants.{Ber, Der, Cer}
 use Rattle.tlv_walk.specs.Framing.{plain_framing}
-use Rattle.tlv_rows.proofs.Run.RowWords.{check, clean_result, dump, extract, fault_result}
-use Rattle.tlv_rows.proofs.Run.RowWords.{framing_of, lines, notice_result, octets, result}
+use Rattle.tlv_rows.proofs.Words.Octets.{framing_of, lines, octets}
+use Rattle.tlv_rows.proofs.Words.Runs.{check, clean_result, dump, extract, fault_result, notice_result, result}
 
 -- an OCTET STRING that wraps
 row-1 : result (dump Ber None false (framing_of (0 ∷ []) false)) (octets "04 05 30 03 02 01 07")

@@ -9,8 +9,8 @@ use lib.Utf8.{encode}
 use Rattle.tlv_head.specs.declared.fault.FaultCode.TheVariants.{Short}
 use Rattle.tlv_show.specs.declared.rules.Rules.TheVariants.{Ber, Der}
 use Rattle.tlv_walk.specs.Framing.{plain_framing}
-use Rattle.tlv_rows.proofs.Run.RowWords.{clean_result, dump, fault_result, lines}
-use Rattle.tlv_rows.proofs.Run.RowWords.{nameless, notice_result, octets, result}
+use Rattle.tlv_rows.proofs.Words.Octets.{lines, octets}
+use Rattle.tlv_rows.proofs.Words.Runs.{clean_result, dump, fault_result, nameless, notice_result, result}
 
 -- without first columns
 row-1 : result (dump Ber None true plain_framing) (octets "3a 09 04 03 4a 6f 6e 04 02 65 73")

@@ -7,8 +7,9 @@ use Rattle.hex.specs.Hex.{encode_with}
 use lib.Utf8.{encode}
 use Rattle.tlv_head.specs.declared.fault.FaultCode.TheVariants.{Empty, StrayEnd}
 use Rattle.tlv_show.specs.declared.rules.Rules.TheVariants.{Ber, Der}
-use Rattle.tlv_rows.proofs.Run.RowWords.{check, clean_result, dump, extract, fault_result}
-use Rattle.tlv_rows.proofs.Run.RowWords.{framing_of, indef, lines, notice_result, octets, result}
+use Rattle.tlv_rows.proofs.Words.Octets.{framing_of, lines, octets}
+use Rattle.tlv_rows.proofs.Words.Runs.{check, clean_result, dump, extract}
+use Rattle.tlv_rows.proofs.Words.Runs.{fault_result, indef, notice_result, result}
 
 -- padding before, between and after
 row-1 : result (dump Ber None false (framing_of [] true)) (octets "00 00 05 00 00 00 05 00 00")

@@ -7,7 +7,8 @@ use Rattle.hex.specs.Hex.{encode_with}
 use lib.Utf8.{encode}
 use Rattle.tlv_show.specs.declared.rules.Rules.TheVariants.{Ber, Der}
 use Rattle.tlv_walk.specs.Framing.{plain_framing}
-use Rattle.tlv_rows.proofs.Run.RowWords.{check, clean_result, lines, notice_result, octets, result}
+use Rattle.tlv_rows.proofs.Words.Octets.{lines, octets}
+use Rattle.tlv_rows.proofs.Words.Runs.{check, clean_result, notice_result, result}
 
 -- no seconds
 row-1 : result (check Der plain_framing) (octets "17 0b 39 31 30 35 30 36 32 33 34 35 5a")

@@ -9,7 +9,8 @@ use lib.Utf8.{encode}
 use Rattle.tlv_head.specs.declared.fault.FaultCode.TheVariants.{Short}
 use Rattle.tlv_show.specs.declared.rules.Rules.TheVariants.{Ber}
 use Rattle.tlv_walk.specs.Framing.{plain_framing}
-use Rattle.tlv_rows.proofs.Run.RowWords.{clean_result, dump, fault_result, lines, octets, result}
+use Rattle.tlv_rows.proofs.Words.Octets.{lines, octets}
+use Rattle.tlv_rows.proofs.Words.Runs.{clean_result, dump, fault_result, result}
 
 row-1 : result (dump Ber None false plain_framing) (octets "01 01 00 01 01 ff 01 01 01")
     ≡ clean_result (lines (

@@ -1,3 +1,0 @@
-pub mod Endings
-pub mod Readings
-pub mod FramedReadings

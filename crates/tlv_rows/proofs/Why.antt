@@ -1,3 +1,0 @@
-pub mod RowLines
-pub mod Named
-pub mod Inputs

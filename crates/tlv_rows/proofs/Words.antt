@@ -1,0 +1,10 @@
+pub mod Base64
+pub mod Checks
+pub mod Extracted
+pub mod Headers
+pub mod Octets
+pub mod Opened
+pub mod Runs
+pub mod RunsOfBase64
+pub mod Texts
+pub mod Why
