@@ -4,7 +4,7 @@ use Rattle.tlv_walk.specs.declared.framing.Framing.{Framing}
 use Rattle.tlv_walk.specs.Forest.{Forest}
 use Rattle.tlv_walk.proofs.GrammarLemmas.Readings.{reading}
 use Rattle.tlv_run.specs.Extract.{extract_text}
-use Rattle.tlv_run.specs.Laws.{has_element_at, has_whole_element_at}
+use Rattle.tlv_run.specs.CutLaws.{has_element_at, has_whole_element_at}
 
 -- what is written, whether the element is found, and whether it is whole
 pub record ExtractValues : Type 0 where
