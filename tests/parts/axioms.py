@@ -129,5 +129,5 @@ def test(part):
             part.note(f"another kit than README names; {crate} differs in {', '.join(others)}")
         else:
             part.expect(f"the functions of C below {crate}", found == wanted, *others, *text.splitlines()[-8:])
-    heap = [name for name in committed(part, "tlv_without_heap") if name.startswith("libc::heap::")]
-    part.expect("tlv_without_heap reaches no heap", not heap, *heap)
+    heap = [name for name in committed(part, "tlv_examples") if name.startswith("libc::heap::")]
+    part.expect("tlv_examples reaches no heap", not heap, *heap)

@@ -56,9 +56,8 @@ fn read_the_words_of_tlvdump_show(rt: HostRuntime) -> Result<(), Fail> {
     let mut words = Words::new(rt.alloc());
     words.push("tlvdump-show")?;
     words.push("--offsets")?;
-    if let Ok(request) = request_of(rt.alloc(), &words) {
-        expect_eq(&rt, matches!(request.wanted, Wanted::Offsets), true);
-    }
+    let request = request_of(rt.alloc(), &words)?;
+    expect_eq(&rt, matches!(request.wanted, Wanted::Offsets), true);
     Ok(())
 }
 
