@@ -12,9 +12,13 @@ mod head;
 #[cfg(test)]
 mod inputs;
 #[cfg(test)]
-mod open;
+mod io;
 #[cfg(test)]
-mod reads;
+mod mend;
+#[cfg(test)]
+mod names;
+#[cfg(test)]
+mod open;
 #[cfg(test)]
 mod run;
 #[cfg(test)]
