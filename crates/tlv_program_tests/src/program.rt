@@ -71,111 +71,114 @@ fn expect_rows(rt: &impl Abort, alloc: Global, rows: &[ProgramRow<'_>]) -> Resul
 }
 
 /// The input is the named file or standard input. A names file is read and closed before the input is opened.
+static READ: [ProgramRow<'static>; 4] = [
+    ProgramRow {
+        words: &["dump"],
+        written: b"       0      0: NULL\n",
+        ..NOTHING
+    },
+    ProgramRow {
+        words: &["dump", "integer"],
+        asked: b"i;",
+        written: b"       0      1: INTEGER 5\n",
+        ..NOTHING
+    },
+    ProgramRow {
+        words: &["dump", "--names", "names", "object"],
+        asked: b"n;o;",
+        written: b"       0      2: OBJECT IDENTIFIER 1.2.3 (word)\n",
+        ..NOTHING
+    },
+    ProgramRow {
+        words: &["extract", "--offset", "0", "--contents", "integer"],
+        asked: b"i;",
+        written: b"\x05",
+        ..NOTHING
+    },
+];
+
 #[test]
 fn files_are_read(rt: HostRuntime) -> Result<(), Fail> {
-    let rows = [
-        ProgramRow {
-            words: &["dump"],
-            written: b"       0      0: NULL\n",
-            ..NOTHING
-        },
-        ProgramRow {
-            words: &["dump", "integer"],
-            asked: b"i;",
-            written: b"       0      1: INTEGER 5\n",
-            ..NOTHING
-        },
-        ProgramRow {
-            words: &["dump", "--names", "names", "object"],
-            asked: b"n;o;",
-            written: b"       0      2: OBJECT IDENTIFIER 1.2.3 (word)\n",
-            ..NOTHING
-        },
-        ProgramRow {
-            words: &["extract", "--offset", "0", "--contents", "integer"],
-            asked: b"i;",
-            written: b"\x05",
-            ..NOTHING
-        },
-    ];
-    expect_rows(&rt, rt.alloc(), &rows)
+    expect_rows(&rt, rt.alloc(), &READ)
 }
 
 /// The first fault of the words, the names file and the input is reported. After it nothing is requested.
+static FIRST_REFUSALS: [ProgramRow<'static>; 5] = [
+    ProgramRow {
+        words: &["check", "missing"],
+        asked: b"m",
+        status: 3,
+        message: b"E5 cannot open the file",
+        ..NOTHING
+    },
+    ProgramRow {
+        words: &["dump", "--names", "names", "missing"],
+        asked: b"n;m",
+        status: 3,
+        message: b"E5 cannot open the file",
+        ..NOTHING
+    },
+    ProgramRow {
+        words: &["dump", "--names", "missing", "integer"],
+        asked: b"m",
+        status: 4,
+        message: b"N5 names file not read",
+        ..NOTHING
+    },
+    ProgramRow {
+        words: &["dump", "--names", "bad names", "missing"],
+        asked: b"b;",
+        status: 4,
+        message: b"N1 line 1: not an object identifier",
+        ..NOTHING
+    },
+    ProgramRow {
+        words: &["dump", "--limit", "x", "--names", "missing", "missing"],
+        status: 4,
+        message: b"U2 value out of range: --limit",
+        ..NOTHING
+    },
+];
+
 #[test]
 fn first_refusal_is_reported(rt: HostRuntime) -> Result<(), Fail> {
-    let rows = [
-        ProgramRow {
-            words: &["check", "missing"],
-            asked: b"m",
-            status: 3,
-            message: b"E5 cannot open the file",
-            ..NOTHING
-        },
-        ProgramRow {
-            words: &["dump", "--names", "names", "missing"],
-            asked: b"n;m",
-            status: 3,
-            message: b"E5 cannot open the file",
-            ..NOTHING
-        },
-        ProgramRow {
-            words: &["dump", "--names", "missing", "integer"],
-            asked: b"m",
-            status: 4,
-            message: b"N5 names file not read",
-            ..NOTHING
-        },
-        ProgramRow {
-            words: &["dump", "--names", "bad names", "missing"],
-            asked: b"b;",
-            status: 4,
-            message: b"N1 line 1: not an object identifier",
-            ..NOTHING
-        },
-        ProgramRow {
-            words: &["dump", "--limit", "x", "--names", "missing", "missing"],
-            status: 4,
-            message: b"U2 value out of range: --limit",
-            ..NOTHING
-        },
-    ];
-    expect_rows(&rt, rt.alloc(), &rows)
+    expect_rows(&rt, rt.alloc(), &FIRST_REFUSALS)
 }
 
 /// A text of `clap` is printed. If printing fails, help and the
 /// version report a failed write, and a usage error keeps its status.
+static PRINTED: [ProgramRow<'static>; 4] = [
+    ProgramRow {
+        words: &["--help"],
+        asked: b"!",
+        ..NOTHING
+    },
+    ProgramRow {
+        words: &["--help"],
+        can_print: false,
+        asked: b"!",
+        status: 3,
+        message: b"E2 write failed",
+        ..NOTHING
+    },
+    ProgramRow {
+        words: &["nonsense"],
+        asked: b"!",
+        status: 4,
+        ..NOTHING
+    },
+    ProgramRow {
+        words: &["nonsense"],
+        can_print: false,
+        asked: b"!",
+        status: 4,
+        ..NOTHING
+    },
+];
+
 #[test]
 fn texts_of_clap_are_printed(rt: HostRuntime) -> Result<(), Fail> {
-    let rows = [
-        ProgramRow {
-            words: &["--help"],
-            asked: b"!",
-            ..NOTHING
-        },
-        ProgramRow {
-            words: &["--help"],
-            can_print: false,
-            asked: b"!",
-            status: 3,
-            message: b"E2 write failed",
-            ..NOTHING
-        },
-        ProgramRow {
-            words: &["nonsense"],
-            asked: b"!",
-            status: 4,
-            ..NOTHING
-        },
-        ProgramRow {
-            words: &["nonsense"],
-            can_print: false,
-            asked: b"!",
-            status: 4,
-            ..NOTHING
-        },
-    ];
-    expect_rows(&rt, rt.alloc(), &rows)
+    expect_rows(&rt, rt.alloc(), &PRINTED)
 }
 
 /// If there are no words, the reason is reported and nothing is requested.

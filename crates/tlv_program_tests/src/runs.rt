@@ -1,6 +1,5 @@
 //! Checks of runs of a case over memory: whatever the pieces are,
 //! over each prefix of the input, and with devices that fail.
-mod failing_reads;
 mod long_inputs;
 mod octets;
 pub(crate) mod row;

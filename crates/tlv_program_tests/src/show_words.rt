@@ -1,20 +1,16 @@
-//! Tests of the meaning of the words of `tlvdump-show`: the request that they make, or why they make none.
-mod refused_rows;
-mod reports;
-mod rows;
-
-use self::refused_rows::{
-    ALONE, APART, APART_FROM_OFFSETS, APART_FROM_RAW, APART_FROM_WHY, VALUES,
-};
-use self::rows::{DUMPS, FORMS, Meaning, NOT_TAKEN, OTHERS, WordsRow};
+//! Tests of the meaning of the words of `tlvdump-show`: the request that they make, or what is reported if they make
+//! none.
 use crate::expect::expect_eq_of;
 use std::alloc::Global;
 use std::process::Abort;
 use std::test::Fail;
 use tlv_run::Text;
-use tlv_view_words::{Request, RequestFault, Wanted, request_of};
+use tlv_show::Rules;
+use tlv_text::Form;
+use tlv_view_words::{InputForm, Request, RequestFault, Wanted, request_of, request_report};
 use tlv_words::Words;
 
+/// Returns the request that these words, after the program's name, make.
 fn request(alloc: Global, list: &[&str]) -> Result<Request, RequestFault> {
     let mut words = Words::new(alloc);
     if words.push("tlvdump-show").is_err() {
@@ -28,171 +24,149 @@ fn request(alloc: Global, list: &[&str]) -> Result<Request, RequestFault> {
     request_of(alloc, &words)
 }
 
-fn meaning_of(wanted: &Wanted) -> Meaning {
-    match wanted {
-        Wanted::Dump {
-            rules,
-            limit,
-            pure,
-            text,
-            closed,
-            ..
-        } => Meaning::Dump {
-            rules: *rules,
-            limit: *limit,
-            pure: *pure,
-            text: *text,
-            closed: *closed,
-        },
-        Wanted::Check { rules, closed } => Meaning::Check {
-            rules: *rules,
-            closed: *closed,
-        },
-        Wanted::Extract { offset, contents } => Meaning::Extract {
-            offset: *offset,
-            contents: *contents,
-        },
-        Wanted::Offsets => Meaning::Offsets,
-        Wanted::Raw => Meaning::Raw,
-        Wanted::Why { closed } => Meaning::Why { closed: *closed },
-    }
-}
+/// Words that make no request, and the message. A text of `clap` is not part of the message.
+static REFUSED: [(&[&str], &str); 14] = [
+    (
+        &["--as", "x", "--rules", "x"],
+        "U2 value out of range: --rules (ber, der or cer)",
+    ),
+    (
+        &["--limit=-5", "--as", "x"],
+        "U2 value out of range: --limit (0 to 4294967295)",
+    ),
+    (
+        &["--offset=+7"],
+        "U2 value out of range: --offset (0 to 1099511627776)",
+    ),
+    (
+        &["--as", "PEM"],
+        "U2 value out of range: --as (octets, pem, dump, hex, numbers, base64 or runs)",
+    ),
+    (
+        &["--raw", "--limit", "x", "--check"],
+        "U4 not with --check: --raw",
+    ),
+    (
+        &["--offsets", "--offset", "0"],
+        "U4 not with --offset: --offsets",
+    ),
+    (&["--offsets", "--pure"], "U4 not with --offsets: --pure"),
+    (
+        &["--no-text", "--closed", "--raw"],
+        "U4 not with --raw: --closed",
+    ),
+    (&["--why", "--no-text"], "U4 not with --why: --no-text"),
+    (
+        &["--contents", "--check"],
+        "U4 only with --offset: --contents",
+    ),
+    (&["a", "--offset", "0", "b"], "U4 one FILE with --offset"),
+    (&["--lim", "5"], ""),
+    (&["--nonsense", "--help"], ""),
+    (&["--offsets", "--version", "--offset", "x"], ""),
+];
 
-fn meaning_of_fault(fault: &RequestFault) -> Meaning {
-    match fault {
-        RequestFault::Refused(refusal) => Meaning::Refused(*refusal),
-        RequestFault::Memory => Meaning::Memory,
-        RequestFault::Parser(error) if error.use_stderr() => Meaning::NotTaken,
-        RequestFault::Parser(_) => Meaning::HelpOrVersion,
-    }
-}
-
-fn expect_meanings(rt: &impl Abort, alloc: Global, rows: &[WordsRow<'_>]) {
-    for row in rows {
-        let (list, want) = *row;
-        let meaning = match request(alloc, list) {
-            Ok(request) => meaning_of(&request.wanted),
-            Err(fault) => meaning_of_fault(&fault),
+#[test]
+fn refused_words_are_reported(rt: HostRuntime) {
+    for (list, message) in REFUSED {
+        let Err(fault) = request(rt.alloc(), list) else {
+            panic!(rt; "there is a request");
         };
-        expect_eq_of(rt, list, meaning, want);
+        let report = request_report(&fault);
+        expect_eq_of(&rt, list, report.message.as_slice(), message.as_bytes());
     }
 }
 
-/// Options give a request, alone and together. Values that are not allowed are refused.
-#[test]
-fn options_have_meanings(rt: HostRuntime) {
-    for rows in [DUMPS.as_slice(), &OTHERS, &VALUES] {
-        expect_meanings(&rt, rt.alloc(), rows);
-    }
-}
-
-/// Options that exclude each other are refused.
-/// `clap` refuses unknown words, and answers those for help and the version.
-#[test]
-fn refused_words_have_meanings(rt: HostRuntime) {
-    for rows in [
-        APART.as_slice(),
-        &APART_FROM_OFFSETS,
-        &APART_FROM_RAW,
-        &APART_FROM_WHY,
-        &ALONE,
-        &NOT_TAKEN,
-    ] {
-        expect_meanings(&rt, rt.alloc(), rows);
-    }
-}
-
-/// `--as` gives the form of the input, whatever the other options are.
-#[test]
-fn words_name_forms(rt: HostRuntime) -> Result<(), Fail> {
-    for (list, form) in &FORMS {
-        let request = request(rt.alloc(), list)?;
-        expect_eq_of(&rt, *list, request.form, *form);
-    }
-    Ok(())
-}
-
-fn names_file(wanted: &Wanted) -> Option<&str> {
+/// Returns the name of what is wanted.
+fn name_of(wanted: &Wanted) -> &'static str {
     match wanted {
-        Wanted::Dump { names, .. } => match names {
-            Some(name) => Some(name.as_str()),
-            None => None,
-        },
-        Wanted::Check { .. } => None,
-        Wanted::Extract { .. } => None,
-        Wanted::Offsets => None,
-        Wanted::Raw => None,
-        Wanted::Why { .. } => None,
+        Wanted::Dump { .. } => "dump",
+        Wanted::Check { .. } => "check",
+        Wanted::Extract { .. } => "extract",
+        Wanted::Offsets => "offsets",
+        Wanted::Raw => "raw",
+        Wanted::Why { .. } => "why",
     }
 }
 
-fn expect_files(rt: &impl Abort, list: &[&str], files: &[Text], want: &[&str]) {
-    expect_eq_of(rt, list, files.len(), want.len());
-    for (file, name) in files.iter().zip(want) {
-        expect_eq_of(rt, list, file.as_str(), *name);
-    }
-}
+/// Words, what is wanted, and the form of the input.
+static WANTED: [(&[&str], &str, InputForm); 7] = [
+    (&[], "dump", InputForm::Any),
+    (&["--check", "--rules", "cer"], "check", InputForm::Any),
+    (
+        &["--contents", "--offset", "007", "--as=cer"],
+        "extract",
+        InputForm::Octets,
+    ),
+    (
+        &["--offsets", "--as", "pem"],
+        "offsets",
+        InputForm::Text(Form::Pem),
+    ),
+    (&["--raw", "--as", "ber"], "raw", InputForm::Octets),
+    (
+        &["--closed", "--why", "--as", "runs"],
+        "why",
+        InputForm::Text(Form::Runs),
+    ),
+    (&["--", "--check"], "dump", InputForm::Any),
+];
 
-/// Checks the names file, whether padding is allowed, and the files in their order.
-fn expect_request(
-    rt: &impl Abort,
-    alloc: Global,
-    list: &[&str],
-    names: Option<&str>,
-    padding: bool,
-    files: &[&str],
-) -> Result<(), Fail> {
-    let request = request(alloc, list)?;
-    expect_eq_of(rt, list, names_file(&request.wanted), names);
-    expect_eq_of(rt, list, request.padding, padding);
-    expect_files(rt, list, request.files.as_slice(), files);
+#[test]
+fn words_make_requests(rt: HostRuntime) -> Result<(), Fail> {
+    for (list, name, form) in WANTED {
+        let made = request(rt.alloc(), list)?;
+        expect_eq_of(&rt, list, name_of(&made.wanted), name);
+        expect_eq_of(&rt, list, made.form, form);
+    }
     Ok(())
 }
 
-#[test]
-fn words_name_files(rt: HostRuntime) -> Result<(), Fail> {
-    let alloc = rt.alloc();
-    expect_request(&rt, alloc, &[], None, false, &[])?;
-    expect_request(&rt, alloc, &["--padding", ""], None, true, &[""])?;
-    expect_request(&rt, alloc, &["-", "a", "a"], None, false, &["-", "a", "a"])?;
-    expect_request(
-        &rt,
-        alloc,
-        &["a", "--pure", "b", "--names", "n", "c"],
-        Some("n"),
-        false,
-        &["a", "b", "c"],
-    )?;
-    expect_request(
-        &rt,
-        alloc,
-        &["a", "--", "--pure", "--", "-"],
-        None,
-        false,
-        &["a", "--pure", "--", "-"],
-    )
+fn expect_files(rt: &impl Abort, files: &[Text], want: &[&str]) {
+    expect_eq_of(rt, want, files.len(), want.len());
+    for (file, name) in files.iter().zip(want) {
+        expect_eq_of(rt, want, file.as_str(), *name);
+    }
 }
 
+/// Each option of a dump is passed on, and the files come in their order.
 #[test]
-fn words_for_other_than_a_dump_name_files(rt: HostRuntime) -> Result<(), Fail> {
-    let alloc = rt.alloc();
-    expect_request(
+fn options_are_passed_on(rt: HostRuntime) -> Result<(), Fail> {
+    let list = [
+        "a",
+        "--no-text",
+        "--closed",
+        "--padding",
+        "--names",
+        "n",
+        "--pure",
+        "--limit",
+        "0",
+        "--rules",
+        "der",
+        "-",
+    ];
+    let made = request(rt.alloc(), &list)?;
+    let Wanted::Dump {
+        rules,
+        limit,
+        pure,
+        text,
+        closed,
+        names: Some(names),
+    } = &made.wanted
+    else {
+        panic!(rt; "no dump with a names file");
+    };
+    let values = (*rules, *limit, *pure, *text, *closed);
+    expect_eq_of(
         &rt,
-        alloc,
-        &["--check", "a", "b", "--padding"],
-        None,
-        true,
-        &["a", "b"],
-    )?;
-    expect_request(
-        &rt,
-        alloc,
-        &["--offset", "0", "a", "--padding"],
-        None,
-        true,
-        &["a"],
-    )?;
-    expect_request(&rt, alloc, &["--raw", "a", "b"], None, false, &["a", "b"])?;
-    expect_request(&rt, alloc, &["--why", "a", "b"], None, false, &["a", "b"])?;
-    expect_request(&rt, alloc, &["--offsets", "-"], None, false, &["-"])
+        "values",
+        values,
+        (Rules::Der, Some(0), true, false, true),
+    );
+    expect_eq_of(&rt, "names", names.as_str(), "n");
+    expect_eq_of(&rt, "padding", made.padding, true);
+    expect_files(&rt, made.files.as_slice(), &["a", "-"]);
+    Ok(())
 }

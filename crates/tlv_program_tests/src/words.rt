@@ -1,18 +1,13 @@
 //! Tests of the meaning of words: the command that they ask for, or why there is none.
-mod framings;
-mod rows;
-
-use self::rows::{
-    CUTS, CommandRow, HELP_AND_VERSION, INSIDE, LIMITS, Meaning, REFUSED_VALUES, RULES,
-    WRONG_OPTIONS, WRONG_WORDS,
-};
 use crate::expect::expect_eq_of;
 use std::alloc::Global;
-use std::process::Abort;
 use std::test::Fail;
 use tlv_run::Command;
+use tlv_show::Rules;
+use tlv_walk::{Framing, Inside};
 use tlv_words::{UsageFault, Words, command_of};
 
+/// Returns the command that these words, after the program's name, ask for.
 fn command(alloc: Global, list: &[&str]) -> Result<Command<'static>, UsageFault> {
     let mut words = Words::new(alloc);
     words.push("tlvdump")?;
@@ -22,94 +17,85 @@ fn command(alloc: Global, list: &[&str]) -> Result<Command<'static>, UsageFault>
     command_of(alloc, &words)
 }
 
-fn meaning_of(asked: &Command<'_>) -> Meaning<'static> {
+/// Returns the name of the command that is asked for. If there is none, returns the option whose value is not allowed,
+/// `refused` if `clap` refuses the words, or `printed` if they ask for help or the version.
+fn meaning_of(asked: &Result<Command<'static>, UsageFault>) -> &'static str {
     match asked {
-        Command::Dump { options, .. } => Meaning::Dump(options.rules, options.limit, options.pure),
-        Command::Check { rules, .. } => Meaning::Check(*rules),
-        Command::Extract {
-            offset,
-            contents,
-            ..
-        } => Meaning::Extract(*offset, *contents),
-        Command::Indef { .. } => Meaning::Indef,
+        Ok(Command::Dump { .. }) => "dump",
+        Ok(Command::Check { .. }) => "check",
+        Ok(Command::Extract { .. }) => "extract",
+        Ok(Command::Indef { .. }) => "indef",
+        Err(UsageFault::Value(name)) => *name,
+        Err(UsageFault::Memory) => "memory",
+        Err(UsageFault::Parser(error)) => {
+            if error.use_stderr() {
+                "refused"
+            } else {
+                "printed"
+            }
+        }
     }
 }
 
-fn meaning_of_fault(fault: &UsageFault) -> Meaning<'static> {
-    match fault {
-        UsageFault::Value(name) => Meaning::Value(*name),
-        UsageFault::Memory => Meaning::Memory,
-        UsageFault::Parser(error) if error.use_stderr() => Meaning::Refused,
-        UsageFault::Parser(_) => Meaning::HelpOrVersion,
-    }
-}
+/// Words, and their meaning. If several values are not allowed, the order of the words does not decide which is reported.
+static MEANINGS: [(&[&str], &str); 19] = [
+    (&["dump"], "dump"),
+    (&["check", "--rules", "cer", "--padding"], "check"),
+    (&["extract", "--offset=007", "--contents"], "extract"),
+    (&["indef", "-"], "indef"),
+    (&["dump", "--limit", "x", "--inside", "4,"], "--limit"),
+    (&["dump", "--inside", "4,", "--limit", "x"], "--limit"),
+    (&["extract", "--inside", "5,3", "--offset", "7"], "--inside"),
+    (&["dump", "--help"], "printed"),
+    (&["--version"], "printed"),
+    (&["dump", "--version"], "refused"),
+    (&["help"], "refused"),
+    (&["-h"], "refused"),
+    (&[], "refused"),
+    (&["dump", "--lim", "5"], "refused"),
+    (&["dump", "--pure=1"], "refused"),
+    (&["dump", "--limit", "-5"], "refused"),
+    (&["dump", "--pure", "--pure"], "refused"),
+    (&["dump", "a", "b"], "refused"),
+    (&["extract"], "refused"),
+];
 
-fn expect_meanings(rt: &impl Abort, alloc: Global, rows: &[CommandRow<'_>]) {
-    for row in rows {
-        let (list, want) = *row;
-        let meaning = match command(alloc, list) {
-            Ok(asked) => meaning_of(&asked),
-            Err(fault) => meaning_of_fault(&fault),
-        };
-        expect_eq_of(rt, list, meaning, want);
-    }
-}
-
-/// Options and their values give a command, or are refused.
 #[test]
-fn options_have_meanings(rt: HostRuntime) {
-    for rows in [
-        LIMITS.as_slice(),
-        &WRONG_OPTIONS,
-        &INSIDE,
-        &RULES,
-        &REFUSED_VALUES,
-    ] {
-        expect_meanings(&rt, rt.alloc(), rows);
+fn words_have_meanings(rt: HostRuntime) {
+    for (list, want) in MEANINGS {
+        let meaning = meaning_of(&command(rt.alloc(), list));
+        expect_eq_of(&rt, list, meaning, want);
     }
 }
 
-/// Commands, offsets, files, help and the version are understood. Other words are refused.
+/// Each option of a dump is passed on.
 #[test]
-fn other_words_have_meanings(rt: HostRuntime) {
-    for rows in [WRONG_WORDS.as_slice(), &HELP_AND_VERSION, &CUTS] {
-        expect_meanings(&rt, rt.alloc(), rows);
-    }
-}
-
-/// Checks the names file and the input file that the words name.
-fn expect_files(
-    rt: &impl Abort,
-    alloc: Global,
-    list: &[&str],
-    names: Option<&str>,
-    file: Option<&str>,
-) -> Result<(), Fail> {
-    let asked = command(alloc, list)?;
-    expect_eq_of(rt, list, asked.names_file(), names);
-    expect_eq_of(rt, list, asked.file(), file);
+fn options_are_passed_on(rt: HostRuntime) -> Result<(), Fail> {
+    let list = [
+        "dump",
+        "--rules",
+        "der",
+        "--limit=05",
+        "--pure",
+        "--padding",
+        "--inside",
+        "0,5",
+        "--names",
+        "n",
+        "-",
+    ];
+    let asked = command(rt.alloc(), &list)?;
+    expect_eq_of(&rt, "names", asked.names_file(), Some("n"));
+    expect_eq_of(&rt, "file", asked.file(), Some("-"));
+    let (Command::Dump { options, .. }, Some(inside)) = (&asked, Inside::new(&[0, 5])) else {
+        panic!(rt; "no dump");
+    };
+    let values = (options.rules, options.limit, options.pure);
+    expect_eq_of(&rt, "values", values, (Rules::Der, Some(5), true));
+    let framing = Framing {
+        inside,
+        padding: true,
+    };
+    expect_eq_of(&rt, "framing", &options.framing, &framing);
     Ok(())
-}
-
-#[test]
-fn words_name_files(rt: HostRuntime) -> Result<(), Fail> {
-    let alloc = rt.alloc();
-    expect_files(&rt, alloc, &["dump"], None, None)?;
-    expect_files(
-        &rt,
-        alloc,
-        &["dump", "--names", "n", "f"],
-        Some("n"),
-        Some("f"),
-    )?;
-    expect_files(&rt, alloc, &["dump", "--", "--pure"], None, Some("--pure"))?;
-    expect_files(&rt, alloc, &["dump", ""], None, Some(""))?;
-    expect_files(
-        &rt,
-        alloc,
-        &["extract", "--offset=7", "a.der"],
-        None,
-        Some("a.der"),
-    )?;
-    expect_files(&rt, alloc, &["indef", "-"], None, Some("-"))
 }

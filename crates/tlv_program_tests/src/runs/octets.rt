@@ -1,7 +1,6 @@
 //! Tests of `run_octets`, which runs a command over octets in memory and supplies the devices.
-use super::row::{Case, case_of, command_for};
+use super::row::command_for;
 use crate::expect::expect_eq_of;
-use crate::generated::tables;
 use crate::{ONES, READ_FAILED, WRITE_FAILED};
 use std::process::Abort;
 use std::test::Fail;
@@ -24,42 +23,6 @@ fn expect<const N: usize>(
         message.as_bytes(),
     );
     expect_eq_of(rt, "status", run.report.status, status);
-}
-
-/// Runs the case over its input in these pieces.
-/// Checks the result, or that a write fails if the output is longer than the room.
-fn expect_case(rt: &impl Abort, case: &Case<'_>, cuts: &[u64]) {
-    let run = run_octets::<256>(
-        &case.command,
-        &case.names,
-        case.input.as_slice(),
-        cuts,
-        false,
-    );
-    let output = case.output.as_slice();
-    match output.get(..256) {
-        Some(prefix) if output.len() > 256 => expect(rt, &run, prefix, 3, WRITE_FAILED),
-        _ => expect(rt, &run, output, case.status, case.message),
-    }
-}
-
-fn expect_cuts(rt: &impl Abort, case: &Case<'_>) {
-    expect_case(rt, case, &[]);
-    expect_case(rt, case, &ONES);
-    for cut in 1..case.input.len() {
-        expect_case(rt, case, &[cut as u64]);
-    }
-}
-
-#[test]
-fn cuts_do_not_show(rt: HostRuntime) -> Result<(), Fail> {
-    for text in tables() {
-        for line in text.lines() {
-            let case = case_of(rt.alloc(), line)?;
-            expect_cuts(&rt, &case);
-        }
-    }
-    Ok(())
 }
 
 /// The words, the input, and what is written and reported if the read after the input fails.
@@ -131,7 +94,7 @@ fn octets_before_a_failed_read_are_written(rt: HostRuntime) -> Result<(), Fail> 
     Ok(())
 }
 
-/// Runs with room for none, for eight, for nine and for ten octets of an output of nine.
+/// Runs with room for eight and for nine octets of an output of nine.
 #[test]
 fn octets_past_the_room_are_not_written(rt: HostRuntime) -> Result<(), Fail> {
     let input = b"\x30\x05\x02\x03\x01\x02\x03";
@@ -139,41 +102,10 @@ fn octets_past_the_room_are_not_written(rt: HostRuntime) -> Result<(), Fail> {
     let command = command_for(rt.alloc(), "indef")?;
     let names = Names::empty();
     for cuts in [&[], ONES.as_slice()] {
-        let none = run_octets::<0>(&command, &names, input, cuts, false);
-        expect(&rt, &none, b"", 3, WRITE_FAILED);
         let part = run_octets::<8>(&command, &names, input, cuts, false);
         expect(&rt, &part, &output[..8], 3, WRITE_FAILED);
         let all = run_octets::<9>(&command, &names, input, cuts, false);
         expect(&rt, &all, output, 0, "");
-        let more = run_octets::<10>(&command, &names, input, cuts, false);
-        expect(&rt, &more, output, 0, "");
     }
-    Ok(())
-}
-
-/// Room without the last line feed is too little. Room for the whole output is enough, also if a read fails afterwards.
-#[test]
-fn room_for_the_output_is_enough(rt: HostRuntime) -> Result<(), Fail> {
-    let input = b"\x05\x00";
-    let output = b"       0      0: NULL\n";
-    let command = command_for(rt.alloc(), "dump")?;
-    let names = Names::empty();
-    for cuts in [&[], ONES.as_slice()] {
-        for (read_fails, status, message) in [(false, 0, ""), (true, 3, READ_FAILED)] {
-            let part = run_octets::<21>(&command, &names, input, cuts, read_fails);
-            expect(&rt, &part, &output[..21], 3, WRITE_FAILED);
-            let all = run_octets::<22>(&command, &names, input, cuts, read_fails);
-            expect(&rt, &all, output, status, message);
-        }
-    }
-    Ok(())
-}
-
-/// A run that writes nothing needs no room.
-#[test]
-fn no_output_needs_no_room(rt: HostRuntime) -> Result<(), Fail> {
-    let command = command_for(rt.alloc(), "check")?;
-    let run = run_octets::<0>(&command, &Names::empty(), b"\x05\x00", &[], false);
-    expect(&rt, &run, b"", 0, "");
     Ok(())
 }
