@@ -4,7 +4,7 @@ use std::alloc::Global;
 use std::process::Abort;
 use std::test::Fail;
 use tlv_forms::{Taken, TakenFor, laws, take_as, take_input, take_octets};
-use tlv_text::{BlockState, Form, TextFault};
+use tlv_text::{BlockState, Form};
 
 /// What a block is taken for, the layers around it (the line of each, if it is a run), its line, its label, its octets,
 /// and its state.
@@ -79,9 +79,10 @@ static INPUTS: [(&[u8], &[Want<'static>]); 3] = [
 ];
 
 /// Returns the blocks of the input. Checks first that the input is not too long.
-fn taken_of(rt: &impl Abort, alloc: Global, input: &[u8]) -> Result<Vec<Taken>, TextFault> {
-    assert!(rt; input.len() <= 4096);
-    take_input(alloc, Vec::from_slice(alloc, input)?)
+fn taken_of(rt: &impl Abort, alloc: Global, input: &[u8]) -> Result<Vec<Taken>, Fail> {
+    let octets = Vec::from_slice(alloc, input)?;
+    assert!(rt; octets.len() <= 4096);
+    Ok(take_input(alloc, octets)?)
 }
 
 #[test]

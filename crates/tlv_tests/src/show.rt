@@ -80,7 +80,7 @@ fn checks_have_a_scope(rt: HostRuntime) {
 }
 
 /// Walks over `INPUT` with the follower. Returns the number of findings that it wrote.
-fn findings_of(follower: &mut Check) -> Option<u64> {
+fn findings_of<const TRACKED: usize>(follower: &mut Check<TRACKED>) -> Option<u64> {
     let mut room = [0; 100];
     let mut source = MemSource::new(INPUT, &[], None);
     let mut drain = MemDrain::new(&mut room, 7);
