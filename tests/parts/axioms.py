@@ -79,8 +79,8 @@ def programs(file):
     called = set(file["functions that tlvdump calls"])
     below = called | set(file["functions that tlvdump does not call"])
     show = set(file["functions that tlvdump_show calls besides those of tlvdump"])
-    alone = set(file["functions of tlv_without_heap"])
-    return {"tlvdump": (below, called), "tlvdump_show": (below | show, called | show), "tlv_without_heap": (alone, None)}
+    alone = set(file["functions of tlv_examples"])
+    return {"tlvdump": (below, called), "tlvdump_show": (below | show, called | show), "tlv_examples": (alone, None)}
 
 
 def page(part, file, of_program):
@@ -128,5 +128,5 @@ def test(part):
             part.note(f"another kit than README names; {crate} differs in {', '.join(others)}")
         else:
             part.expect(f"the functions of C below {crate}", found == wanted, *others, *text.splitlines()[-8:])
-    heap = [name for name in of_program["tlv_without_heap"][0] if name.startswith("libc::heap::")]
-    part.expect("tlv_without_heap reaches no heap", not heap, *heap)
+    heap = [name for name in of_program["tlv_examples"][0] if name.startswith("libc::heap::")]
+    part.expect("tlv_examples reaches no heap", not heap, *heap)

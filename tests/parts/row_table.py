@@ -1,6 +1,6 @@
 """Writes the rows of tests/rows as a table in Rust, for the tests that run each row in many ways.
 
-Each row is a line of text, in the notation of crates/tlv_words_tests/src/row.rt.
+Each row is a line of text, in the notation of crates/tlv_program_tests/src/runs/row.rt.
 """
 
 # The largest number of characters of a line in the file, without the backslash at its end.

@@ -61,6 +61,7 @@ ALONE = [
 ]
 ALONE += [(f"{job} {words}", f"not with {job}: {words.split()[0]}") for job in ("--raw", "--why")
           for words in ("--rules ber", "--limit 1", "--pure", "--names n", "--no-text")]
+ALONE += [(f"--offsets {words}", f"not with --offsets: {words.split()[0]}") for words in ("--pure", "--names n", "--no-text")]
 RULES, LIMIT, OFFSET = "--rules (ber, der or cer)", "--limit (0 to 4294967295)", "--offset (0 to 1099511627776)"
 FORM = "--as (octets, pem, dump, hex, numbers, base64 or runs)"
 NO_NUMBERS = ("", "x", "+5", "-5", " 5", "5.0", "0x10", "00000000000005")

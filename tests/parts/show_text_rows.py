@@ -3,9 +3,11 @@ import base64
 import re
 import subprocess
 
+from parts import text_table
 from parts.harness import Done
 from parts.text_makers import pem
 from second_opinion.findings import shortest
+from second_opinion.texts import EXPECTED
 
 
 def element(tag, octets):
@@ -226,6 +228,18 @@ def words(part, program):
         program.refuses(text.split(), NULL)
 
 
+def tables(part, program):
+    """Each text of the tables gives its octets with --raw, and names the line in which it is refused."""
+    for form, rows in text_table.NAMED.items():
+        for text, octets, line in rows:
+            got = program.run(["--raw", f"--as={form}"], text)
+            said = f"X2 refused in line {line}, where {EXPECTED[form]} is expected\n".encode()
+            fine = (got.status, got.out) == (2 if line else 0, octets) and got.err.endswith(said) == bool(line)
+            part.expect(f"--raw --as={form} {text[:40]!r}", fine, *got.lines())
+    for text, status, octets, note in text_table.TAKEN:
+        program.gives(["--raw"], text, status, octets, note, what=f"--raw {text[:40]!r}")
+
+
 def statuses(part, program):
     """The status of a text that is refused is that of the octets before the refusal, or 4 if that is 0."""
     for text, status, raw in (
@@ -301,5 +315,5 @@ def made(part, program):
 
 def test_rows(part, program):
     """Counts the tests of all rows."""
-    for test in (same, handed_on, words, statuses, blocks, several, made):
+    for test in (same, handed_on, words, tables, statuses, blocks, several, made):
         test(part, program)

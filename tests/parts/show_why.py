@@ -155,6 +155,9 @@ NEXT = "From offset {} on it parses: the next record may begin there. Try: tail 
 HINTS = [
     ("the next record", RECORD + DAMAGED + RECORD, NEXT.format(13, 14), 2),
     ("the next record, by its first octet", RECORD + b"\x30\x30\x02\x01\x06" + RECORD, NEXT.format(10, 11), 2),
+    ("the next record, before the announced end", RECORD + bytes.fromhex("3007a00404ff3000") + RECORD, NEXT.format(13, 14), 2),
+    ("the next record, after it", RECORD + bytes.fromhex("300504ff30020500") + RECORD, NEXT.format(13, 14), 2),
+    ("a record inside the damaged one", RECORD + bytes.fromhex("3009a00404ff3000") + RECORD, NEXT.format(11, 12), 2),
     ("the next record that parses", RECORD + DAMAGED + RECORD + DAMAGED + RECORD, NEXT.format(26, 27), 2),
     ("a wrong start", b"\0\0\0" + BODY, "From offset 3 on it parses", 2),
     ("the command for it", b"\0\0\0" + BODY, "Try: tail -c +4 FILE | tlvdump-show", 2),

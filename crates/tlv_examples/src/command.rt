@@ -20,7 +20,7 @@ fn run_a_command(rt: HostRuntime) {
     expect_eq(&rt, run.report.status, 1);
 }
 
-/// tlv_words: makes a command from the words of a command line.
+/// tlv_program: makes a command from the words of a command line.
 #[test]
 fn read_the_words_of_a_command(rt: HostRuntime) -> Result<(), Fail> {
     let mut words = Words::new(rt.alloc());

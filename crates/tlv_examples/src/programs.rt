@@ -48,15 +48,14 @@ fn run_tlvdump(rt: HostRuntime) -> Result<(), Fail> {
     Ok(())
 }
 
-/// tlv_view_words: makes a request from the words of a command line of `tlvdump-show`.
+/// tlv_view_program: makes a request from the words of a command line of `tlvdump-show`.
 #[test]
 fn read_the_words_of_tlvdump_show(rt: HostRuntime) -> Result<(), Fail> {
     let mut words = Words::new(rt.alloc());
     words.push("tlvdump-show")?;
     words.push("--offsets")?;
-    if let Ok(request) = request_of(rt.alloc(), &words) {
-        expect_eq(&rt, matches!(request.wanted, Wanted::Offsets), true);
-    }
+    let request = request_of(rt.alloc(), &words)?;
+    expect_eq(&rt, matches!(request.wanted, Wanted::Offsets), true);
     Ok(())
 }
 

@@ -52,7 +52,7 @@ fn check_a_slice(rt: HostRuntime) {
     );
 }
 
-/// tlv_cut: writes the element at offset 2.
+/// tlv_run: writes the element at offset 2.
 #[test]
 fn cut_an_element_out(rt: HostRuntime) {
     let mut room = [0; 8];
@@ -63,7 +63,7 @@ fn cut_an_element_out(rt: HostRuntime) {
     expect_eq(&rt, drain.written(), b"\x02\x01\x05");
 }
 
-/// tlv_cut: writes the input with lengths in the indefinite form.
+/// tlv_run: writes the input with lengths in the indefinite form.
 #[test]
 fn write_indefinite_lengths(rt: HostRuntime) {
     let mut room = [0; 8];

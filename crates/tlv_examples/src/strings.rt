@@ -18,7 +18,7 @@ fn find_strings_that_hold_encodings(rt: HostRuntime) -> Result<(), Fail> {
     Ok(())
 }
 
-/// tlv_view: writes a dump in which the strings that hold encodings are opened.
+/// tlv_view_program: writes a dump in which the strings that hold encodings are opened.
 #[test]
 fn dump_with_strings_opened(rt: HostRuntime) -> Result<(), Fail> {
     let mut room = [0; 128];

@@ -12,15 +12,15 @@ fn decode_hexadecimal(rt: HostRuntime) -> Result<(), Fail> {
     Ok(())
 }
 
-/// tlv_forms: recognizes the form of an input, here PEM, and decodes its block.
+/// tlv_text: recognizes the form of an input, here PEM, and decodes its block.
 #[test]
 fn take_a_text_for_what_it_is(rt: HostRuntime) -> Result<(), Fail> {
     let text = b"-----BEGIN X-----\nMAMCAQU=\n-----END X-----\n";
     let input = Vec::from_slice(rt.alloc(), text)?;
-    if let Ok(blocks) = take_input(rt.alloc(), input)
-        && let [taken] = blocks.as_slice()
-    {
-        expect_eq(&rt, taken.block.octets.as_slice(), b"\x30\x03\x02\x01\x05");
-    }
+    let blocks = take_input(rt.alloc(), input)?;
+    let [taken] = blocks.as_slice() else {
+        panic!(rt; "there is one block");
+    };
+    expect_eq(&rt, taken.block.octets.as_slice(), b"\x30\x03\x02\x01\x05");
     Ok(())
 }

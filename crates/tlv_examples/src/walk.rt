@@ -9,12 +9,13 @@ use tlv_walk::{Ending, Event, Framing, Step, Walker};
 #[test]
 fn read_the_header_of_a_slice(rt: HostRuntime) {
     let octets = b"\x30\x03\x02\x01\x05";
-    if let Some((fields, count)) = read_header(0, false, octets) {
-        expect_eq(&rt, fields.number, 16);
-        expect_eq(&rt, fields.constructed, true);
-        expect_eq(&rt, fields.size, Size::Definite(3));
-        expect_eq(&rt, count, 2);
-    }
+    let Some((fields, count)) = read_header(0, false, octets) else {
+        panic!(rt; "there is a header");
+    };
+    expect_eq(&rt, fields.number, 16);
+    expect_eq(&rt, fields.constructed, true);
+    expect_eq(&rt, fields.size, Size::Definite(3));
+    expect_eq(&rt, count, 2);
 }
 
 /// tlv_walk: yields the first event of a piece. The rest of the piece is left for the next step.
@@ -23,9 +24,10 @@ fn take_the_first_event(rt: HostRuntime) {
     let framing = Framing::plain();
     let mut walker = Walker::new(&framing);
     let mut piece: &[u8] = b"\x30\x03\x02\x01\x05";
-    if let Step::Event(Event::Open(header)) = walker.step(&mut piece) {
-        expect_eq(&rt, header.number, 16);
-    }
+    let Step::Event(Event::Open(header)) = walker.step(&mut piece) else {
+        panic!(rt; "a constructed element begins");
+    };
+    expect_eq(&rt, header.number, 16);
     expect_eq(&rt, walker.depth(), 1);
     expect_eq(&rt, piece, b"\x02\x01\x05");
 }

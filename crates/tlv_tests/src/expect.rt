@@ -21,8 +21,3 @@ pub(crate) fn expect_eq_of<W: Copy + Debug, T: Copy + PartialEq + Debug>(
 pub(crate) fn expect(rt: &impl Abort, is_so: bool, what: &str) {
     assert!(rt; is_so, "expected that {what}");
 }
-
-/// Checks a condition on `of`. The message of a failure shows `of` and says what was expected.
-pub(crate) fn expect_of<W: Copy + Debug>(rt: &impl Abort, of: W, is_so: bool, what: &str) {
-    assert!(rt; is_so, "expected of {:?} that {}", of, what);
-}

@@ -1,5 +1,4 @@
-//! Tests of the public interfaces of `tlv_head`, `tlv_io`, `tlv_walk`, `tlv_value`, `tlv_show`, `tlv_open`, `tlv_cut`,
-//! `tlv_run` and `tlv_view`.
+//! Tests of the public interfaces of the libraries that read, show and explain encodings, and of those that decode texts.
 #![tactic(auto)]
 
 #[cfg(test)]
@@ -7,20 +6,30 @@ mod cut;
 #[cfg(test)]
 mod expect;
 #[cfg(test)]
+mod forms;
+#[cfg(test)]
 mod head;
 #[cfg(test)]
 mod inputs;
 #[cfg(test)]
-mod open;
+mod io;
 #[cfg(test)]
-mod reads;
+mod mend;
+#[cfg(test)]
+mod names;
+#[cfg(test)]
+mod open;
 #[cfg(test)]
 mod run;
 #[cfg(test)]
 mod show;
+#[cfg(test)]
+mod text;
 #[cfg(test)]
 mod value;
 #[cfg(test)]
 mod view;
 #[cfg(test)]
 mod walk;
+#[cfg(test)]
+mod why;

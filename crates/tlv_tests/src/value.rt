@@ -1,42 +1,17 @@
-//! Tests of `tlv_value`: the lines of values, the findings on their contents, and names. Neither lines nor findings may
-//! depend on the pieces in which the contents come.
-mod beside;
-mod checks;
-mod decimal_rows;
-mod drains;
-mod found_dates;
-mod found_rows;
-mod found_units;
-mod functions;
-mod known_texts;
-mod layouts;
-mod lines;
-mod long_value;
-mod names;
-mod number_rows;
-mod object_rows;
-mod real_rows;
-mod rows;
-mod text_rows;
-mod type_checks;
-mod type_rows;
-mod types;
-mod unused;
+//! Tests of `tlv_value`: the lines of values, and the findings on their contents.
+ghost use Rattle.std.specs.Prelude.{◌≡◌, None, Some, bytes_eq, codes, if◌then◌else◌, length};
 
-ghost use Rattle.std.specs.Prelude.{◌≡◌, ◌+◌, ◌≤◌, None, Some, bytes_eq, codes, if◌then◌else◌};
-ghost use Rattle.std.specs.Prelude.{length};
-
-use crate::expect::expect_of;
-use crate::inputs::element_at;
+use crate::expect::{expect_eq, expect_eq_of};
+use crate::inputs::{element_at, header};
+use arrayvec::ArrayVec;
 use std::process::Abort;
-use tlv_value::{Layout, NameTable, ValueText};
-use tlv_walk::{Drain, MemDrain, Out};
-
-/// An element and the lines of its value, at level 0.
-struct Row<'a> {
-    element: &'a [u8],
-    lines: &'a [&'a str],
-}
+use tlv_head::{Class, universal};
+use tlv_value::{
+    Finding, KnownTexts, Layout, NameTable, ValueCheck, ValueText, begin_blank, begin_word,
+    general_canonical, general_ok, is_clear, put_whole, put_whole_with, utc_canonical, utc_ok,
+    write_tag,
+};
+use tlv_walk::{Drain, HeldOctets, MemDrain, Out};
 
 /// A table with one name.
 struct OneName;
@@ -61,137 +36,165 @@ const PLAIN: Layout = Layout {
     pure: false,
 };
 
-/// The pieces in which contents come, and the size of the writes.
-#[derive(Clone, Copy)]
-struct Pieces {
-    /// The size of the first piece.
-    first: usize,
-    /// The size of each piece after the first.
-    size: usize,
-    /// The most octets that the drain takes with a write.
-    most: usize,
-}
-
-/// Two pieces. The first has `cut` octets.
-fn cut_at(cut: usize) -> Pieces
-    ensures { 1 ≤ result.size }
-{
-    Pieces {
-        first: cut,
-        size: usize::MAX,
-        most: 4096,
-    }
-}
-
-/// Writes the lines of the element, at this offset, into the room. Returns the number of octets written, or `None` if
-/// the octets are no element or a write fails.
-fn show<N: NameTable>(
-    element: &[u8],
-    offset: u64,
-    layout: Layout,
-    names: &N,
-    pieces: Pieces,
-    room: &mut [u8],
-) -> Option<usize>
-    requires { 1 ≤ pieces.size }
-{
-    let (header, contents) = element_at(offset, element)?;
-    let (front, back) = contents.split_at(pieces.first.min(contents.len()));
-    let mut drain = MemDrain::new(room, pieces.most);
-    {
-        let mut out = Out::new(&mut drain);
-        let mut text = ValueText::new(&header, layout);
-        put_pieces(&mut text, front, back, pieces.size, names, &mut out)?;
-        out.flush().ok()?;
-    }
-    Some(drain.written().len())
-}
-
-/// Puts the lines of a primitive. Its contents come in the piece `front` and then in pieces of `size` octets, of which
-/// the last may be shorter or empty.
-fn put_pieces<N: NameTable, D: Drain>(
-    text: &mut ValueText,
-    front: &[u8],
-    back: &[u8],
-    size: usize,
-    names: &N,
-    out: &mut Out<'_, D>,
-) -> Option<()>
-    requires some { 1 ≤ size }
-    requires left { text.old.left ≡ length front.now + length back.now }
+/// Puts the lines of a primitive, of which the contents come octet by octet.
+fn put_octets<D: Drain>(text: &mut ValueText, contents: &[u8], out: &mut Out<'_, D>) -> Option<()>
+    requires { text.old.left ≡ length contents.now }
 {
     text.begin(out).ok()?;
-    text.bytes(front, out).ok()?;
-    let mut rest = back;
-    loop {
-        let (piece, more) = rest.split_at(size.min(rest.len()));
-        rest = more;
-        text.bytes(piece, out).ok()?;
-        if rest.is_empty() {
-            break;
-        }
-    }
-    text.end(names, out).ok()
-}
-
-/// Returns whether the octets are exactly these lines, each with a line feed.
-fn are_lines(octets: &[u8], lines: &[&str]) -> bool {
-    let mut rest = octets;
-    for line in lines {
-        let Some(more) = rest.strip_prefix(line.as_bytes()) else {
-            return false;
-        };
-        let [b'\n', more @ ..] = more else {
-            return false;
-        };
+    let mut rest = contents;
+    while let [_, more @ ..] = rest {
+        text.bytes(&rest[..1], out).ok()?;
         rest = more;
     }
-    rest.is_empty()
+    text.end(&OneName, out).ok()
 }
 
-/// Returns whether the first `count` octets of the room are these lines.
-fn are_shown(room: &[u8], count: Option<usize>, lines: &[&str]) -> bool {
-    match count {
-        Some(count) if count <= room.len() => are_lines(&room[..count], lines),
-        _ => false,
+/// Puts the lines of an element, with or without text, from single octets.
+fn put_singly(element: &[u8], with_text: bool, drain: &mut MemDrain<'_>) -> Option<()> {
+    let (header, contents) = element_at(0, element)?;
+    let mut out = Out::new(drain);
+    let mut text = ValueText::new_with(&header, PLAIN, with_text);
+    put_octets(&mut text, contents, &mut out)?;
+    out.flush().ok()
+}
+
+/// Puts the lines of an element, without text and then with or without it, from its whole contents.
+fn put_twice(element: &[u8], with_text: bool, drain: &mut MemDrain<'_>) -> Option<()> {
+    let (header, contents) = element_at(0, element)?;
+    let mut known = KnownTexts::new();
+    let mut out = Out::new(drain);
+    put_whole(&header, PLAIN, contents, &OneName, &mut known, &mut out).ok()?;
+    put_whole_with(
+        &header, PLAIN, with_text, contents, &OneName, &mut known, &mut out,
+    )
+    .ok()?;
+    out.flush().ok()
+}
+
+/// Checks the lines of an element: twice, the second time with text, from its whole contents, and once from single
+/// octets.
+fn expect_lines(rt: &impl Abort, element: &[u8], both: &[u8], with_text: &[u8]) {
+    let mut room = [0; 256];
+    let mut drain = MemDrain::new(&mut room, 7);
+    expect_eq_of(rt, element, put_twice(element, true, &mut drain), Some(()));
+    expect_eq_of(rt, element, drain.written(), both);
+    let mut drain = MemDrain::new(&mut room, 7);
+    expect_eq_of(rt, element, put_singly(element, true, &mut drain), Some(()));
+    expect_eq_of(rt, element, drain.written(), with_text);
+}
+
+/// The text of an object identifier that comes again is the same. Octets have text beside them if it is asked for.
+#[test]
+fn lines_are_written(rt: HostRuntime) {
+    let object = b"       0      3: OBJECT IDENTIFIER 1.2.840 (us)\n";
+    let objects =
+        b"       0      3: OBJECT IDENTIFIER 1.2.840 (us)\n       0      3: OBJECT IDENTIFIER 1.2.840 (us)\n";
+    let text = b"       0      3: OCTET STRING 61 62 63  |abc|\n";
+    let texts =
+        b"       0      3: OCTET STRING 61 62 63\n       0      3: OCTET STRING 61 62 63  |abc|\n";
+    expect_lines(&rt, b"\x06\x03\x2a\x86\x48", objects, object);
+    expect_lines(&rt, b"\x04\x03abc", texts, text);
+    let header = header(&rt, 0, false, b"\x04\x03");
+    expect_eq(&rt, ValueText::new(&header, PLAIN).left(), 3);
+}
+
+#[test]
+fn parts_of_lines_are_made(rt: HostRuntime) {
+    let layout = Layout { level: 1, ..PLAIN };
+    let mut held = HeldOctets::new();
+    begin_word(&mut held, layout, 11, b"   end");
+    held.add(b"}\n");
+    begin_blank(&mut held, layout);
+    write_tag(&mut held, Class::Context, 5);
+    let want = b"      11    end:   }\n                   [5]";
+    expect_eq(&rt, held.as_slice(), want.as_slice());
+}
+
+/// Returns the findings on the contents of an element, which come in two pieces. Returns `None` if `is_clear` disagrees
+/// about whether there are any.
+fn check(element: &[u8]) -> Option<(ArrayVec<Finding, 16>, bool)> {
+    let (header, contents) = element_at(0, element)?;
+    let (front, back) = contents.split_at(contents.len().min(1));
+    let mut check = ValueCheck::new(&header);
+    check.bytes(front);
+    check.bytes(back);
+    let has_unused = check.has_unused_bits();
+    let found = check.end_with_all();
+    if is_clear(&header, contents) != found.is_empty() {
+        return None;
     }
+    Some((found, has_unused))
 }
 
-/// Checks the lines of an element in every cut of its contents into two pieces, and octet by octet.
-fn expect_lines(rt: &impl Abort, element: &[u8], layout: Layout, lines: &[&str]) {
-    expect_lines_named(rt, element, layout, &OneName, lines);
+/// Returns the findings on the contents `02` of a BOOLEAN, of which no header is given.
+fn check_of_type() -> ArrayVec<Finding, 16> {
+    let mut check = ValueCheck::of_type(universal::BOOLEAN, 1);
+    if check.left() == 1 {
+        check.bytes(b"\x02");
+    }
+    check.end_with_all()
 }
 
-/// Checks the lines of an element in every cut of its contents
-/// into two pieces, and octet by octet, with the names of a table.
-fn expect_lines_named<N: NameTable>(
-    rt: &impl Abort,
-    element: &[u8],
-    layout: Layout,
-    names: &N,
-    lines: &[&str],
-) {
-    let mut room = [0; 1024];
-    for cut in 0..element.len() {
-        let count = show(element, 0, layout, names, cut_at(cut), &mut room);
-        let is_right = are_shown(&room, count, lines);
-        expect_of(
-            rt,
-            (cut, lines),
-            is_right,
-            "they are shown if it is cut there",
+#[test]
+fn contents_are_checked(rt: HostRuntime) {
+    for (element, findings, has_unused) in [
+        (b"\x03\x02\x05\xa0".as_slice(), [].as_slice(), true),
+        (b"\x03\x02\x05\xbf", &[Finding::S03], true),
+        (
+            b"\x1e\x03\xd8\x00\x41",
+            &[Finding::B18, Finding::B25],
+            false,
+        ),
+    ] {
+        let Some((found, unused)) = check(element) else {
+            panic!(rt; "is_clear disagrees");
+        };
+        expect_eq_of(&rt, element, found.as_slice(), findings);
+        expect_eq_of(&rt, element, unused, has_unused);
+    }
+    expect_eq(&rt, check_of_type().as_slice(), [Finding::S02].as_slice());
+}
+
+/// The blocks of a finding begin with its code and its text, or with its text alone, and a line feed. The count is the
+/// length of these.
+#[test]
+fn findings_have_texts(rt: HostRuntime) {
+    expect_eq(&rt, Finding::D01.code(), b"D01".as_slice());
+    expect_eq(&rt, Finding::D01.text(), b"indefinite length".as_slice());
+    let (line, count) = Finding::D01.line_block();
+    expect_eq(
+        &rt,
+        line.get(..count),
+        Some(b"D01 indefinite length\n".as_slice()),
+    );
+    let (text, count) = Finding::D01.text_block();
+    expect_eq(
+        &rt,
+        text.get(..count),
+        Some(b"indefinite length\n".as_slice()),
+    );
+}
+
+#[test]
+fn times_are_judged(rt: HostRuntime) {
+    for (time, is_time, is_canonical) in [
+        (b"910506234540Z".as_slice(), true, true),
+        (b"910506244540Z", true, false),
+        (b"911306234540Z", false, false),
+    ] {
+        expect_eq_of(
+            &rt,
+            time,
+            [utc_ok(time), utc_canonical(time)],
+            [is_time, is_canonical],
         );
     }
-    let octets = Pieces {
-        first: 0,
-        size: 1,
-        most: 7,
-    };
-    let count = show(element, 0, layout, names, octets, &mut room);
-    expect_of(
-        rt,
-        lines,
-        are_shown(&room, count, lines),
-        "they are shown octet by octet",
-    );
+    for (time, is_time, is_canonical) in [
+        (b"19920722132100.3Z".as_slice(), true, true),
+        (b"19920722132100,3Z", true, false),
+        (b"19921322132100.3Z", false, false),
+    ] {
+        let got = [general_ok(time), general_canonical(time)];
+        expect_eq_of(&rt, time, got, [is_time, is_canonical]);
+    }
 }

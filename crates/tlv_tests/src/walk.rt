@@ -1,140 +1,186 @@
-//! Tests of `tlv_walk`: the events of a walk over memory, what a follower writes of them, and the result.
-mod deep_inputs;
-mod devices;
-mod enough;
-mod event_lines;
-mod events;
-mod failures;
-mod fault_rows;
-mod frames;
-mod framings;
-mod lent_lists;
-mod memory;
-mod out;
-mod pieces;
-mod room;
-mod rows;
-mod steps;
-mod stream;
-mod turns;
-
-use self::event_lines::EventLines;
-use self::events::event_of;
-use self::fault_rows::{ENDED, REFUSED};
-use self::rows::{ENCODINGS, Row, WRAPPED};
-use crate::expect::expect_eq_of;
+//! Tests of `tlv_walk`: steps, framings, frames, and walks over devices that fail.
+use crate::expect::{expect_eq, expect_eq_of};
 use crate::inputs::framing_of;
-use std::alloc::Global;
+use arrayvec::ArrayVec;
+use std::io::{self, ErrorKind, Read};
 use std::process::Abort;
-use std::test::Fail;
+use tlv_run::Indef;
 use tlv_walk::{
-    DeviceFault, Drain, Ending, Follow, INPUT_LIMIT, MemDrain, MemSource, Out, Run, WriteFault,
-    drive_up_to,
+    DeviceFault, Ending, Event, Frames, Framing, Inside, MemDrain, MemSource, ReadSource, Run,
+    Step, Walker, drive, drive_up_to,
 };
 
-/// The sizes of reads of single octets: more reads than an input of the rows needs.
-const ONES: [u64; 600] = [1; 600];
-
-/// Room for more octets than the lines of a row have.
-const ROOM: usize = 4096;
-
-/// How a source gives its octets, and how many are followed.
-#[derive(Clone, Copy)]
-struct ReadPlan<'a> {
-    /// The sizes of the reads.
-    cuts: &'a [u64],
-    /// The number of the read that fails.
-    fail_at: Option<u64>,
-    limit: u64,
+/// Returns the letter that stands for an event.
+fn letter_of(event: &Event<'_>) -> u8 {
+    match event {
+        Event::Open(_) => b'o',
+        Event::Begin(_) => b'b',
+        Event::Bytes(_) => b'-',
+        Event::End => b'e',
+        Event::Close(_) => b'c',
+        Event::Enter(_) => b'i',
+        Event::Unused => b'u',
+        Event::Leave => b'l',
+        Event::Pad(_) => b'p',
+    }
 }
 
-const WHOLE: ReadPlan<'static> = ReadPlan {
-    cuts: &[],
-    fail_at: None,
-    limit: INPUT_LIMIT,
-};
-
-/// What a walk writes, and its result.
-#[derive(Clone, Copy)]
-struct WalkResult<'a> {
-    written: &'a [u8],
-    result: Result<Run, DeviceFault>,
-}
-
-fn tables() -> [&'static [Row<'static>]; 4] {
-    [&ENCODINGS, &WRAPPED, &ENDED, &REFUSED]
-}
-
-/// Puts the lines of the row's events that occur within the first `octets` octets.
-fn put_lines<D: Drain>(
+/// Hands the octets to the walker, and adds the letters of its events.
+fn step_over(
     rt: &impl Abort,
-    row: &Row<'_>,
-    octets: u64,
-    out: &mut Out<'_, D>,
-) -> Result<(), WriteFault> {
-    let mut lines = EventLines::up_to(0);
-    for (after, event) in row.events {
-        if *after <= octets {
-            lines.on(&event_of(rt, row, *event), out)?;
+    walker: &mut Walker<'_>,
+    octets: &[u8],
+    letters: &mut ArrayVec<u8, 64>,
+) {
+    let mut piece = octets;
+    for _ in 0..64 {
+        assert!(rt; walker.offset() <= 1000 && piece.len() <= 1000);
+        match walker.step(&mut piece) {
+            Step::Event(event) => {
+                let _ = letters.try_push(letter_of(&event));
+            }
+            Step::NeedMore | Step::Fault(_) => return,
         }
     }
-    out.flush()
 }
 
-/// Returns the lines of the row's events that occur within the first `octets` octets.
-fn text_of(rt: &impl Abort, alloc: Global, row: &Row<'_>, octets: usize) -> Result<Vec<u8>, Fail> {
-    let mut room = [0; ROOM];
+/// Returns how many octets were taken, how many events yielded, how many elements are open, and which named offset is
+/// unused.
+fn state_of(walker: &Walker<'_>) -> (u64, u64, u8, Option<u64>) {
+    (
+        walker.offset(),
+        walker.events(),
+        walker.depth(),
+        walker.unused(),
+    )
+}
+
+/// Returns the ending of an input that ends here, or `None` if an event is pending.
+fn ending_of(walker: &Walker<'_>) -> Option<Ending> {
+    if walker.waiting() {
+        return None;
+    }
+    Some(walker.finish())
+}
+
+/// Padding, a BIT STRING that holds a SEQUENCE of indefinite length, which holds an INTEGER, and a refused octet.
+const INPUT: &[u8] = b"\x00\x03\x08\x00\x30\x80\x02\x01\x05\x00\x00\x04\xff";
+
+/// The events of the input are the same in every cut into two pieces. A fault is returned again.
+#[test]
+fn events_do_not_depend_on_pieces(rt: HostRuntime) {
+    for cut in 0..=INPUT.len() {
+        let framing = framing_of(&rt, &[1, 7], true);
+        let mut walker = Walker::new(&framing);
+        let mut letters = ArrayVec::new();
+        let (front, back) = INPUT.split_at(cut);
+        step_over(&rt, &mut walker, front, &mut letters);
+        step_over(&rt, &mut walker, back, &mut letters);
+        step_over(&rt, &mut walker, back, &mut letters);
+        expect_eq_of(&rt, cut, letters.as_slice(), b"piuob-ecl");
+        expect_eq_of(&rt, cut, state_of(&walker), (12, 9, 0, Some(7)));
+        let refused =
+            matches!(ending_of(&walker), Some(Ending::Fault(fault)) if fault.offset == 12);
+        expect_eq_of(&rt, cut, refused, true);
+    }
+}
+
+/// The largest offset that may be named.
+const LARGEST: u64 = 1_099_511_627_776;
+
+/// At most sixteen offsets are kept, and more may be lent.
+#[test]
+fn rising_offsets_are_named(rt: HostRuntime) {
+    let many = [
+        0, 1, 2, 3, 4, 5, 6, 7, 8, 9, 10, 11, 12, 13, 14, 15, LARGEST,
+    ];
+    for (offsets, is_kept, is_lent) in [
+        ([].as_slice(), true, true),
+        (&many[1..], true, true),
+        (&many, false, true),
+        (&[3, 3], false, false),
+        (&[0, 1_099_511_627_777], false, false),
+    ] {
+        expect_eq_of(&rt, offsets, Inside::new(offsets).is_some(), is_kept);
+        expect_eq_of(&rt, offsets, Inside::lent(offsets).is_some(), is_lent);
+    }
+    expect_eq(&rt, Inside::lent(&[0, 4]) == Inside::new(&[0, 4]), true);
+    expect_eq(&rt, Some(Inside::none()) == Inside::new(&[0, 5]), false);
+}
+
+#[test]
+fn the_innermost_frame_comes_first(rt: HostRuntime) {
+    let mut frames = Frames::new();
+    expect_eq(&rt, frames.is_empty(), true);
+    frames.push('a');
+    frames.push('b');
+    expect_eq(&rt, frames.len(), 2);
+    expect_eq(&rt, frames.pop(), Some('b'));
+    expect_eq(&rt, frames.pop(), Some('a'));
+    expect_eq(&rt, frames.pop(), None);
+}
+
+/// A reader that gives three octets, is interrupted once, and then ends.
+#[derive(Drop)]
+struct Interrupted {
+    reads: u8,
+}
+
+impl Read for Interrupted {
+    fn read(&mut self, buf: &mut [u8]) -> io::Result<usize> {
+        self.reads = self.reads.saturating_add(1);
+        match self.reads {
+            1 => {
+                let mut octets: &[u8] = b"\x05\x00\x30";
+                octets.read(buf)
+            }
+            2 => Err(io::Error::from(ErrorKind::Interrupted)),
+            _ => Ok(0),
+        }
+    }
+}
+
+/// An interrupted read counts as failed. It is not repeated, and it is not taken for the end of the input.
+#[test]
+fn an_interrupted_read_fails(rt: HostRuntime) {
+    let mut room = [0; 64];
+    let mut source = ReadSource::new(Interrupted { reads: 0 });
     let mut drain = MemDrain::new(&mut room, 4096);
-    let result = put_lines(rt, row, octets as u64, &mut Out::new(&mut drain));
-    expect_eq_of(rt, row.name, result, Ok(()));
-    let mut text = Vec::new(alloc);
-    text.extend_from_slice(drain.written())?;
-    Ok(text)
+    let result = drive(
+        &mut source,
+        &mut Indef::new(),
+        &mut drain,
+        &Framing::plain(),
+    );
+    expect_eq(&rt, result, Err(DeviceFault::ReadFailed));
+    expect_eq(&rt, drain.written(), b"\x05\x00".as_slice());
 }
 
-/// Returns how many octets of the row are walked over: all, or those before the octet that is refused.
-fn walked(row: &Row<'_>) -> u64 {
-    match row.ending {
-        Ending::Done => row.input.len() as u64,
-        Ending::Fault(fault) => fault.offset,
-    }
-}
-
-/// Returns the result of a walk over the row's input.
-fn run_of(row: &Row<'_>) -> Run {
-    Run {
-        ending: row.ending,
-        octets: walked(row),
-        enough: false,
-        unused: row.unused,
-    }
-}
-
-/// Walks over the row's input. Checks what is written and the result.
-fn expect_walk(
-    rt: &impl Abort,
-    row: &Row<'_>,
-    reads: ReadPlan<'_>,
-    drain: &mut MemDrain<'_>,
-    wanted: WalkResult<'_>,
-) {
-    let mut source = MemSource::new(row.input, reads.cuts, reads.fail_at);
+/// Walks over two NULLs up to the limit. Checks what is written and the result.
+fn expect_up_to(rt: &impl Abort, limit: u64, written: &[u8], want: Result<Run, DeviceFault>) {
+    let mut room = [0; 4];
+    let mut source = MemSource::new(b"\x05\x00\x05\x00", &[], None);
+    let mut drain = MemDrain::new(&mut room, 4096);
     let result = drive_up_to(
         &mut source,
-        &mut EventLines::up_to(0),
-        drain,
-        reads.limit.min(INPUT_LIMIT),
-        &framing_of(rt, row.inside, row.padding),
+        &mut Indef::new(),
+        &mut drain,
+        limit.min(4),
+        &Framing::plain(),
     );
-    expect_eq_of(rt, row.name, result, wanted.result);
-    expect_eq_of(rt, row.name, drain.written(), wanted.written);
+    expect_eq(rt, result, want);
+    expect_eq(rt, drain.written(), written);
 }
 
-/// Walks over the row's input. Checks that the text is written, and that the result is the row's.
-fn expect_row(rt: &impl Abort, row: &Row<'_>, text: &[u8], reads: ReadPlan<'_>, room: &mut [u8]) {
-    let wanted = WalkResult {
-        written: text,
-        result: Ok(run_of(row)),
+/// Octets past the limit are not followed. A limit that the input just reaches makes no difference.
+#[test]
+fn octets_up_to_the_limit_are_followed(rt: HostRuntime) {
+    let whole = Run {
+        ending: Ending::Done,
+        octets: 4,
+        enough: false,
+        unused: None,
     };
-    expect_walk(rt, row, reads, &mut MemDrain::new(room, 4096), wanted);
+    expect_up_to(&rt, 3, b"\x05\x00", Err(DeviceFault::InputTooLong));
+    expect_up_to(&rt, 4, b"\x05\x00\x05\x00", Ok(whole));
 }

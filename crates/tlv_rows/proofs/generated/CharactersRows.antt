@@ -188,3 +188,103 @@ row-21 : result (dump Ber None false plain_framing) (octets "0c 41" ++ replicate
     "       0    B18: characters not of the type" ∷ []))
 unfolding digits encode_with is_utf8 chars encode
 row-21 = refl
+
+-- arcs of up to 128 bits, and larger ones
+row-22 : result (dump Ber None false plain_framing) (octets "0d 13 83" ++
+    replicate 17 0xff ++
+    octets "7f 06 13 83" ++
+    replicate 17 0xff ++
+    octets "7f 0d 13 84" ++
+    replicate 17 0x80 ++
+    octets "00 06 13 84" ++
+    replicate 17 0x80 ++
+    octets "00 06 14 2a 84" ++
+    replicate 17 0x80 ++
+    octets "00")
+    ≡ clean_result (lines (
+    "       0     19: RELATIVE-OID 340282366920938463463374607431768211455" ∷
+    "      21     19: OBJECT IDENTIFIER 2.340282366920938463463374607431768211375" ∷
+    "      42     19: RELATIVE-OID" ∷
+    "                   84 80 80 80 80 80 80 80 80 80 80 80 80 80 80 80" ∷
+    "                   80 80 00" ∷
+    "      63     19: OBJECT IDENTIFIER" ∷
+    "                   84 80 80 80 80 80 80 80 80 80 80 80 80 80 80 80" ∷
+    "                   80 80 00" ∷
+    "      84     20: OBJECT IDENTIFIER" ∷
+    "                   2a 84 80 80 80 80 80 80 80 80 80 80 80 80 80 80" ∷
+    "                   80 80 80 00" ∷ []))
+unfolding digits encode_with is_utf8 chars encode
+row-22 = nameless Ber None false plain_framing (octets "0d 13 83" ++
+    replicate 17 0xff ++
+    octets "7f 06 13 83" ++
+    replicate 17 0xff ++
+    octets "7f 0d 13 84" ++
+    replicate 17 0x80 ++
+    octets "00 06 13 84" ++
+    replicate 17 0x80 ++
+    octets "00 06 14 2a 84" ++
+    replicate 17 0x80 ++
+    octets "00")
+
+-- relative identifiers, and identifiers of no octets
+row-23 : result (dump Ber None false plain_framing)
+    (octets "0d 04 01 02 86 48 0d 00 0d 11" ++ replicate 17 0x81 ++ octets "06 00")
+    ≡ notice_result 2 "findings: 2" (lines (
+    "       0      4: RELATIVE-OID 1.2.840" ∷
+    "       6      0: RELATIVE-OID" ∷
+    "       8     17: RELATIVE-OID" ∷
+    "                   81 81 81 81 81 81 81 81 81 81 81 81 81 81 81 81" ∷
+    "                   81" ∷
+    "       8    B12: last subidentifier is unfinished" ∷
+    "      27      0: OBJECT IDENTIFIER" ∷
+    "      27    B10: no contents of an object identifier" ∷ []))
+unfolding digits encode_with is_utf8 chars encode
+row-23 = nameless Ber None false plain_framing (octets "0d 04 01 02 86 48 0d 00 0d 11" ++ replicate 17 0x81 ++ octets "06 00")
+
+-- characters of one octet that are escaped
+row-24 : result (dump Ber None false plain_framing)
+    (octets "14 02 41 e9 16 04 22 5c 7e 7f 0c 04 f0 9f 98 80 0c 01 7f 0c 02 1f 00")
+    ≡ clean_result (lines (
+    "       0      2: TeletexString \"A\\xe9\"" ∷
+    "       4      4: IA5String \"\\\"\\\\~\\x7f\"" ∷
+    "      10      4: UTF8String \"\\u{1f600}\"" ∷
+    "      16      1: UTF8String \"\\x7f\"" ∷
+    "      19      2: UTF8String \"\\x1f\\x00\"" ∷ []))
+unfolding digits encode_with is_utf8 chars encode
+row-24 = refl
+
+-- octets that are not UTF-8
+row-25 : result (dump Ber None false plain_framing)
+    (octets "0c 03 ed a0 80 0c 02 c0 80 0c 04 c2 80 c3 28 0c 02 41 e2 0c 08 f4 8f bf bf f4 90 80 80")
+    ≡ notice_result 5 "findings: 5" (lines (
+    "       0      3: UTF8String \"\\xed\\xa0\\x80\"" ∷
+    "       0    B18: characters not of the type" ∷
+    "       5      2: UTF8String \"\\xc0\\x80\"" ∷
+    "       5    B18: characters not of the type" ∷
+    "       9      4: UTF8String \"\\u{80}\\xc3(\"" ∷
+    "       9    B18: characters not of the type" ∷
+    "      15      2: UTF8String \"A\\xe2\"" ∷
+    "      15    B18: characters not of the type" ∷
+    "      19      8: UTF8String \"\\u{10ffff}\\xf4\\x90\\x80\\x80\"" ∷
+    "      19    B18: characters not of the type" ∷ []))
+unfolding digits encode_with is_utf8 chars encode
+row-25 = refl
+
+-- characters of two and of four octets, and octets that are left over
+row-26 : result (dump Ber None false plain_framing)
+    (octets "1e 0a 00 22 00 5c 00 0a 00 7f d8 00 1e 02 00 00 1c 06 00 00 00 41 00 01 1c 05 00 00 00 22 42 1c" ++
+    octets "07 00 00 00 41 00 41 42 1c 03 41 42 43 1c 04 ff ff ff ff")
+    ≡ notice_result 4 "findings: 4" (lines (
+    "       0     10: BMPString \"\\\"\\\\\\u{a}\\u{7f}\\u{d800}\"" ∷
+    "      12      2: BMPString \"\\u{0}\"" ∷
+    "      16      6: UniversalString \"A\\x00\\x01\"" ∷
+    "      16    B18: characters not of the type" ∷
+    "      24      5: UniversalString \"\\\"\\x42\"" ∷
+    "      24    B18: characters not of the type" ∷
+    "      31      7: UniversalString \"A\\x00\\x41\\x42\"" ∷
+    "      31    B18: characters not of the type" ∷
+    "      40      3: UniversalString \"\\x41\\x42\\x43\"" ∷
+    "      40    B18: characters not of the type" ∷
+    "      45      4: UniversalString \"\\u{ffffffff}\"" ∷ []))
+unfolding digits encode_with is_utf8 chars encode
+row-26 = refl

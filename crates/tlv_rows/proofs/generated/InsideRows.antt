@@ -313,3 +313,34 @@ row-40 : result (check Cer (framing_of (2 ∷ []) false)) (octets "24 80 04 02 0
     "0 C05 constructed string fits in 1000 octets" ∷ []))
 unfolding digits encode_with is_utf8 chars encode
 row-40 = refl
+
+-- an offset that is in padding
+row-41 : result (dump Ber None false (framing_of (0 ∷ 1 ∷ []) true)) (octets "00 04 00")
+    ≡ notice_result 0 "E7 no string to read at offset 0" (lines (
+    "       0    pad: padding" ∷
+    "       1      0: OCTET STRING wraps {" ∷
+    "                 }" ∷ []))
+unfolding digits encode_with is_utf8 chars encode
+row-41 = refl
+
+-- a BIT STRING without its first contents octet
+row-42 : result (dump Ber None false (framing_of (0 ∷ []) false)) (octets "03 01")
+    ≡ fault_result 0 Short 2 "fault at 2: F02 input ends inside an encoding" (lines (
+    "       0      1: BIT STRING wraps {" ∷ []))
+unfolding digits encode_with is_utf8 chars encode
+row-42 = refl
+
+-- a string that is not whole, and an offset of no string
+row-43 : result (dump Ber None false (framing_of (0 ∷ 2 ∷ []) false)) (octets "04 03 05 00")
+    ≡ fault_result 0 Short 4 "fault at 4: F02 input ends inside an encoding" (lines (
+    "       0      3: OCTET STRING wraps {" ∷
+    "       2      0:   NULL" ∷ []))
+unfolding digits encode_with is_utf8 chars encode
+row-43 = refl
+
+-- contents that end beyond the string
+row-44 : result (dump Ber None false (framing_of (0 ∷ 2 ∷ []) false)) (octets "04 03 02 02 05")
+    ≡ fault_result 0 Overrun 3 "fault at 3: F11 element runs past the enclosing length" (lines (
+    "       0      3: OCTET STRING wraps {" ∷ []))
+unfolding digits encode_with is_utf8 chars encode
+row-44 = refl

@@ -10,7 +10,7 @@ use Rattle.tlv_head.specs.declared.fault.FaultCode.TheVariants.{Short}
 use Rattle.tlv_show.specs.declared.rules.Rules.TheVariants.{Ber}
 use Rattle.tlv_walk.specs.Framing.{plain_framing}
 use Rattle.tlv_rows.proofs.Words.Octets.{lines, octets}
-use Rattle.tlv_rows.proofs.Words.Runs.{clean_result, dump, fault_result, result}
+use Rattle.tlv_rows.proofs.Words.Runs.{clean_result, dump, fault_result, notice_result, result}
 
 row-1 : result (dump Ber None false plain_framing) (octets "01 01 00 01 01 ff 01 01 01")
     ≡ clean_result (lines (
@@ -161,3 +161,44 @@ row-20 : result (dump Ber None false plain_framing) (octets "03 13 00" ++ replic
     "                   ff ff ff ff ff ff ff ff ff ff ff ff ff ff ff ff" ∷ []))
 unfolding digits encode_with is_utf8 chars encode
 row-20 = refl
+
+-- numbers and BOOLEANs of no octets and of others
+row-21 : result (dump Ber None false plain_framing) (octets "0a 01 ff 0a 00 01 00 01 11" ++ replicate 17 0xff)
+    ≡ notice_result 3 "findings: 3" (lines (
+    "       0      1: ENUMERATED -1" ∷
+    "       3      0: ENUMERATED" ∷
+    "       3    B07: no contents of an integer" ∷
+    "       5      0: BOOLEAN" ∷
+    "       5    B06: BOOLEAN is not one octet" ∷
+    "       7     17: BOOLEAN" ∷
+    "                   ff ff ff ff ff ff ff ff ff ff ff ff ff ff ff ff" ∷
+    "                   ff" ∷
+    "       7    B06: BOOLEAN is not one octet" ∷ []))
+unfolding digits encode_with is_utf8 chars encode
+row-21 = refl
+
+-- bits, and BIT STRINGs whose bits cannot be shown
+row-22 : result (dump Ber None false plain_framing)
+    (octets "03 09 07 80 00 00 00 00 00 00 80 03 02 00 80 03 0a 07 00 00 00 00 00 00 00 00 80 03 12 00" ++
+    replicate 17 0xa5 ++
+    octets "03 0a 08 ff ff ff ff ff ff ff ff ff 03 02 08 00 03 12 ff" ++
+    replicate 17 0xa5)
+    ≡ notice_result 3 "findings: 3" (lines (
+    "       0      9: BIT STRING 57 bits 100000000000000000000000000000000000000000000000000000001" ∷
+    "      11      2: BIT STRING 8 bits 10000000" ∷
+    "      15     10: BIT STRING 65 bits" ∷
+    "                   00 00 00 00 00 00 00 00 80" ∷
+    "      27     18: BIT STRING 136 bits" ∷
+    "                   a5 a5 a5 a5 a5 a5 a5 a5 a5 a5 a5 a5 a5 a5 a5 a5" ∷
+    "                   a5" ∷
+    "      47     10: BIT STRING" ∷
+    "                   08 ff ff ff ff ff ff ff ff ff" ∷
+    "      47    B14: more than 7 unused bits" ∷
+    "      59      2: BIT STRING 08 00" ∷
+    "      59    B14: more than 7 unused bits" ∷
+    "      63     18: BIT STRING" ∷
+    "                   ff a5 a5 a5 a5 a5 a5 a5 a5 a5 a5 a5 a5 a5 a5 a5" ∷
+    "                   a5 a5" ∷
+    "      63    B14: more than 7 unused bits" ∷ []))
+unfolding digits encode_with is_utf8 chars encode
+row-22 = refl

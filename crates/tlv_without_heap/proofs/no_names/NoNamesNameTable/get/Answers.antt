@@ -1,6 +1,0 @@
-use Rattle.std.proofs.Common.{sym}
-use Rattle.std.specs.FinMap as finite
-use Rattle.tlv_without_heap.proofs.no_names.NoNamesNameTable.get.Goals as goal
-
-pub returns : goal.returns
-returns c = sym (finite.get-empty _ c.args._dotted.now)
