@@ -76,5 +76,5 @@ def circumstances():
     with open("/proc/cpuinfo", encoding="utf-8") as file:
         model = re.search(r"^model name\s*: (.*)$", file.read(), re.M)
     name = " ".join(model[1].split()) if model else platform.machine()
-    load = os.getloadavg()[2]
-    return f"{time.strftime('%d %B %Y').lstrip('0')}, commit {commit}, {os.cpu_count()} processors ({name}), a load of {load:.1f} over 15 minutes"
+    day, load = time.strftime("%d %B %Y").lstrip("0"), os.getloadavg()[2]
+    return f"{day}, commit {commit}, {os.cpu_count()} processors ({name}), a load of {load:.1f} over 15 minutes"

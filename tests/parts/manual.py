@@ -22,7 +22,8 @@ MESSAGES += [f"{letter}{number}" for letter in "UX" for number in (1, 2, 3, 4)]
 FINDINGS = [f"B{number:02}" for number in range(1, 31)] + [f"S{number:02}" for number in range(1, 7)]
 FINDINGS += ["D01", "D02"] + [f"C{number:02}" for number in range(1, 7)]
 # An input for each fault, F01 first, in hexadecimal. The last is read with --inside 0.
-FAULTS = ["", "30", "00", "3080 0001", "3002 3080 05", "1f" + "81" * 9, "04ff", "0480", "048601", "3080" * 129, "3003 020201", "030201"]
+FAULTS = ["", "30", "00", "3080 0001", "3002 3080 05", "1f" + "81" * 9, "04ff", "0480", "048601", "3080" * 129, "3003 020201"]
+FAULTS += ["030201"]
 
 
 def read_page(part, *names):
@@ -38,8 +39,8 @@ def section_of(text, title):
 
 def rows_of(text):
     """Returns the cells of the rows of the tables in a text, without their heads."""
-    rows = [re.split(r"(?<!\\)\|", line)[1:-1] for line in re.sub(r"^\|.*\n\|--.*\n", "", text, flags=re.M).splitlines() if line.startswith("|")]
-    return [[cell.strip().replace("\\|", "|") for cell in row] for row in rows]
+    lines = [line for line in re.sub(r"^\|.*\n\|--.*\n", "", text, flags=re.M).splitlines() if line.startswith("|")]
+    return [[cell.strip().replace("\\|", "|") for cell in re.split(r"(?<!\\)\|", line)[1:-1]] for line in lines]
 
 
 def blocks_of(text, language="sh"):

@@ -50,7 +50,8 @@ def not_run(part, blocks):
     """
     first, *others = [line for name, lines in blocks if name == "sh" for line in lines]
     proved = [words.split(" | ") for name, lines in blocks if name == "console" for words, _ in commands_of(lines)]
-    part.expect("the run without a proof", first in [TRY.format(words[0]) for words in proved if words[1:] == ["./tlvdump dump"]], first)
+    tries = [TRY.format(words[0]) for words in proved if words[1:] == ["./tlvdump dump"]]
+    part.expect("the run without a proof", first in tries, first)
     named = [line.split()[0] for line in others]
     part.expect("commands that are not run", named == NOT_RUN, *named)
     for name in set(named):
