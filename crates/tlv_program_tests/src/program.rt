@@ -61,10 +61,15 @@ fn expect_program(
     expect_eq_of(rt, row.words, report.message.as_slice(), row.message);
 }
 
+fn expect_row(rt: &impl Abort, alloc: Global, row: &ProgramRow<'_>) -> Result<(), Fail> {
+    let words = words_of(alloc, row.words)?;
+    expect_program(rt, alloc, &Ok(words), row);
+    Ok(())
+}
+
 fn expect_rows(rt: &impl Abort, alloc: Global, rows: &[ProgramRow<'_>]) -> Result<(), Fail> {
     for row in rows {
-        let words = words_of(alloc, row.words)?;
-        expect_program(rt, alloc, &Ok(words), row);
+        expect_row(rt, alloc, row)?;
     }
     Ok(())
 }

@@ -9,7 +9,6 @@ use self::row::{Case, number};
 use crate::expect::expect_eq_of;
 use crate::{ONES, READ_FAILED, WRITE_FAILED};
 use std::process::Abort;
-use std::test::Fail;
 use tlv_run::{Command, Report, run};
 use tlv_value::Names;
 use tlv_walk::{MemDrain, MemSource};
@@ -128,55 +127,40 @@ pub(crate) fn expect_whole(rt: &impl Abort, case: &Case<'_>, room: &mut [u8]) {
 }
 
 /// Returns how many octets of the output must be written after this number of octets of the input, if the case says so.
-fn count_with(case: &Case<'_>, octets: u64) -> Result<Option<u64>, Fail> {
+fn count_with(case: &Case<'_>, octets: u64) -> Option<u64> {
     let mut count = 0;
     for pair in case.come.split(',') {
-        let Some((come, written)) = pair.split_once(':') else {
-            return Ok(None);
-        };
-        if number(come)? <= octets {
-            count = number(written)?;
+        let (come, written) = pair.split_once(':')?;
+        if number(come) <= octets {
+            count = number(written);
         }
     }
-    Ok(Some(count))
+    Some(count)
 }
 
 /// Checks that what was written after this number of octets is a
 /// prefix of the output, and has the length that the case says.
-fn expect_prefix(
-    rt: &impl Abort,
-    case: &Case<'_>,
-    octets: usize,
-    written: &[u8],
-) -> Result<(), Fail> {
+fn expect_prefix(rt: &impl Abort, case: &Case<'_>, octets: usize, written: &[u8]) {
     let output = case.output.as_slice();
     expect_eq_of(rt, case.place, output.starts_with(written), true);
-    if let Some(count) = count_with(case, octets as u64)? {
-        expect_eq_of(rt, case.place, written.len() as u64, count);
-    }
-    Ok(())
+    let count = count_with(case, octets as u64).unwrap_or(written.len() as u64);
+    expect_eq_of(rt, case.place, written.len() as u64, count);
 }
 
 /// Checks the output of each proper prefix of the input.
 /// For short inputs, checks that it does not depend on the pieces.
-pub(crate) fn expect_prefixes(
-    rt: &impl Abort,
-    case: &Case<'_>,
-    room: &mut [u8],
-    other: &mut [u8],
-) -> Result<(), Fail> {
+pub(crate) fn expect_prefixes(rt: &impl Abort, case: &Case<'_>, room: &mut [u8], other: &mut [u8]) {
     for count in 0..case.input.len() {
         let prefix = &case.input[..count];
         let mut source = MemSource::new(prefix, &[], None);
         let mut drain = MemDrain::new(room, 4096);
         let report = run(&case.command, &case.names, &mut source, &mut drain);
         let run_result = result_in(&report, drain.written());
-        expect_prefix(rt, case, count, run_result.written)?;
+        expect_prefix(rt, case, count, run_result.written);
         if case.input.len() <= SHORT {
             expect_in_pieces(rt, case, prefix, other, run_result);
         }
     }
-    Ok(())
 }
 
 /// Checks that the run reports a failed read after this output.

@@ -82,11 +82,16 @@ fn expect_run(
     expect_eq_of(rt, row.words, status, row.status);
 }
 
+fn expect_row(rt: &impl Abort, alloc: Global, row: &ShowRow<'_>) -> Result<(), Fail> {
+    let words = words_of(alloc, row.words)?;
+    let places = places_of(alloc, row.places)?;
+    expect_run(rt, alloc, &Ok(words), &places, row);
+    Ok(())
+}
+
 fn expect_rows(rt: &impl Abort, alloc: Global, rows: &[ShowRow<'_>]) -> Result<(), Fail> {
     for row in rows {
-        let words = words_of(alloc, row.words)?;
-        let places = places_of(alloc, row.places)?;
-        expect_run(rt, alloc, &Ok(words), &places, row);
+        expect_row(rt, alloc, row)?;
     }
     Ok(())
 }

@@ -19,13 +19,13 @@ fn command(alloc: Global, list: &[&str]) -> Result<Command<'static>, UsageFault>
 
 /// Returns the name of the command that is asked for. If there is none, returns the option whose value is not allowed,
 /// `refused` if `clap` refuses the words, or `printed` if they ask for help or the version.
-fn meaning_of(asked: &Result<Command<'static>, UsageFault>) -> &'static str {
-    match asked {
+fn meaning_of(alloc: Global, list: &[&str]) -> &'static str {
+    match command(alloc, list) {
         Ok(Command::Dump { .. }) => "dump",
         Ok(Command::Check { .. }) => "check",
         Ok(Command::Extract { .. }) => "extract",
         Ok(Command::Indef { .. }) => "indef",
-        Err(UsageFault::Value(name)) => *name,
+        Err(UsageFault::Value(name)) => name,
         Err(UsageFault::Memory) => "memory",
         Err(UsageFault::Parser(error)) => {
             if error.use_stderr() {
@@ -63,8 +63,7 @@ static MEANINGS: [(&[&str], &str); 19] = [
 #[test]
 fn words_have_meanings(rt: HostRuntime) {
     for (list, want) in MEANINGS {
-        let meaning = meaning_of(&command(rt.alloc(), list));
-        expect_eq_of(&rt, list, meaning, want);
+        expect_eq_of(&rt, list, meaning_of(rt.alloc(), list), want);
     }
 }
 

@@ -1,6 +1,5 @@
 //! Rows of long and deep inputs, and the lines of nested elements.
 use super::row::{number, push_times};
-use std::alloc::Global;
 use std::test::Fail;
 
 /// Rows of inputs that are 128 elements deep, or longer than one read.
@@ -36,6 +35,30 @@ the contents of a string of 4200 octets|extract --offset 2 --contents||30800c821
 indef of a string of 4200 octets|indef||3082106c0c821068 61*4200|30800c821068 61*4200 0000||0|0|
 ";
 
+/// Returns the first column of a line: an offset below 1000, in eight places.
+fn columns_of(offset: u64) -> [u8; 8] {
+    let hundreds = if offset < 100 {
+        b' '
+    } else {
+        b'0' + (offset / 100 % 10) as u8
+    };
+    let tens = if offset < 10 {
+        b' '
+    } else {
+        b'0' + (offset / 10 % 10) as u8
+    };
+    [
+        b' ',
+        b' ',
+        b' ',
+        b' ',
+        b' ',
+        hundreds,
+        tens,
+        b'0' + (offset % 10) as u8,
+    ]
+}
+
 /// Adds two spaces for each level.
 fn push_indentation(text: &mut Vec<u8>, level: u64) -> Result<(), Fail> {
     push_times(text, b"  ", level)
@@ -43,17 +66,11 @@ fn push_indentation(text: &mut Vec<u8>, level: u64) -> Result<(), Fail> {
 
 /// Adds the opening lines of `count` nested SEQUENCEs of indefinite length.
 /// The outermost has this offset and this level.
-fn push_openings(
-    alloc: Global,
-    text: &mut Vec<u8>,
-    offset: u64,
-    level: u64,
-    count: u64,
-) -> Result<(), Fail> {
+fn push_openings(text: &mut Vec<u8>, offset: u64, level: u64, count: u64) -> Result<(), Fail> {
     for i in 0..count {
         let at = offset.saturating_add(i.saturating_mul(2));
-        let columns = format!(in alloc; "{at:>8}  indef: ")?;
-        text.extend_from_slice(columns.as_bytes())?;
+        text.extend_from_slice(&columns_of(at))?;
+        text.extend_from_slice(b"  indef: ")?;
         push_indentation(text, level.saturating_add(i))?;
         text.extend_from_slice(b"SEQUENCE {\n")?;
     }
@@ -62,11 +79,11 @@ fn push_openings(
 
 /// Adds the closing lines of `count` nested elements, of which the outermost has level 0. The end-of-contents octets of
 /// the innermost have this offset.
-fn push_closings(alloc: Global, text: &mut Vec<u8>, offset: u64, count: u64) -> Result<(), Fail> {
+fn push_closings(text: &mut Vec<u8>, offset: u64, count: u64) -> Result<(), Fail> {
     for i in 0..count {
         let at = offset.saturating_add(i.saturating_mul(2));
-        let columns = format!(in alloc; "{at:>8}    end: ")?;
-        text.extend_from_slice(columns.as_bytes())?;
+        text.extend_from_slice(&columns_of(at))?;
+        text.extend_from_slice(b"    end: ")?;
         push_indentation(text, count.saturating_sub(i).saturating_sub(1))?;
         text.extend_from_slice(b"}\n")?;
     }
@@ -76,16 +93,16 @@ fn push_closings(alloc: Global, text: &mut Vec<u8>, offset: u64, count: u64) -> 
 /// Adds the lines that a group stands for. `openings,0,1,128` stands for the opening lines of 128 elements, of which
 /// the outermost has offset 0 and level 1. `closings,256,128` stands for the closing lines of 128 elements. Returns
 /// whether the group is one of these.
-pub(crate) fn push_lines(alloc: Global, text: &mut Vec<u8>, group: &str) -> Result<bool, Fail> {
+pub(crate) fn push_lines(text: &mut Vec<u8>, group: &str) -> Result<bool, Fail> {
     let (word, numbers) = group.split_once(',').unwrap_or((group, ""));
     let (first, rest) = numbers.split_once(',').unwrap_or((numbers, ""));
     if word == "openings" {
         let (level, count) = rest.split_once(',').unwrap_or((rest, ""));
-        push_openings(alloc, text, number(first)?, number(level)?, number(count)?)?;
+        push_openings(text, number(first), number(level), number(count))?;
         return Ok(true);
     }
     if word == "closings" {
-        push_closings(alloc, text, number(first)?, number(rest)?)?;
+        push_closings(text, number(first), number(rest))?;
         return Ok(true);
     }
     Ok(false)

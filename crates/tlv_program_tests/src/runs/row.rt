@@ -49,19 +49,9 @@ pub(crate) fn command_for(alloc: Global, text: &str) -> Result<Command<'static>,
     Ok(command_of(alloc, &words)?)
 }
 
-/// Returns the decimal number that the text is.
-pub(crate) fn number(text: &str) -> Result<u64, Fail> {
-    match text.parse::<u64>() {
-        Ok(number) => Ok(number),
-        Err(_) => Err(Fail::from("a row has no number where one must be")),
-    }
-}
-
-fn status_of(text: &str) -> Result<u8, Fail> {
-    match text.parse::<u8>() {
-        Ok(status) => Ok(status),
-        Err(_) => Err(Fail::from("a row has no status where one must be")),
-    }
+/// Returns the decimal number that the text is, or a number that no run gives if it is none.
+pub(crate) fn number(text: &str) -> u64 {
+    text.parse::<u64>().unwrap_or(u64::MAX)
 }
 
 /// Adds the octets of `group`, repeated.
@@ -74,12 +64,12 @@ pub(crate) fn push_times(octets: &mut Vec<u8>, group: &[u8], times: u64) -> Resu
 
 /// Adds the octets that a group stands for.
 fn push_group(alloc: Global, octets: &mut Vec<u8>, group: &str) -> Result<(), Fail> {
-    if push_lines(alloc, octets, group)? {
+    if push_lines(octets, group)? {
         return Ok(());
     }
     let (digits, times) = group.split_once('*').unwrap_or((group, "1"));
     match hex::decode(alloc, digits) {
-        Ok(part) => push_times(octets, part.as_slice(), number(times)?),
+        Ok(part) => push_times(octets, part.as_slice(), number(times)),
         Err(_) => Err(Fail::from("a row has no octets where they must be")),
     }
 }
@@ -125,8 +115,8 @@ pub(crate) fn case_of<'a>(alloc: Global, line: &'a str) -> Result<Case<'a>, Fail
         input: octets_of(alloc, input)?,
         output: octets_of(alloc, output)?,
         come,
-        status: status_of(status)?,
-        findings: number(findings)?,
+        status: status.parse::<u8>().unwrap_or(u8::MAX),
+        findings: number(findings),
         message,
     })
 }

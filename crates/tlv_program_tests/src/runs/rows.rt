@@ -30,62 +30,48 @@ pub(crate) enum Way {
     SameAgain,
 }
 
-/// The rooms to which the runs write.
-#[derive(Drop)]
-struct Rooms {
-    room: Vec<u8>,
-    other: Vec<u8>,
-}
-
 /// Runs the case in this way. Checks the results.
-fn expect_case(rt: &impl Abort, way: Way, case: &Case<'_>, rooms: &mut Rooms) -> Result<(), Fail> {
-    let (room, other) = (rooms.room.as_mut_slice(), rooms.other.as_mut_slice());
+fn expect_case(rt: &impl Abort, way: Way, case: &Case<'_>, room: &mut [u8], other: &mut [u8]) {
     match way {
         Way::Whole => expect_whole(rt, case, room),
-        Way::Prefixes => expect_prefixes(rt, case, room, other)?,
+        Way::Prefixes => expect_prefixes(rt, case, room, other),
         Way::FailedReads => expect_failed_reads(rt, case, room, other),
         Way::FailedWrites => expect_failed_writes(rt, case, room),
         Way::FinalFault => expect_final_fault(rt, case, room, other),
         Way::SameAgain => expect_same_again(rt, case, room, other),
     }
+}
+
+/// Runs the row of this line in this way.
+fn expect_line(
+    rt: &impl Abort,
+    alloc: Global,
+    way: Way,
+    line: &str,
+    room: &mut [u8],
+    other: &mut [u8],
+) -> Result<(), Fail> {
+    let case = case_of(alloc, line)?;
+    expect_case(rt, way, &case, room, other);
     Ok(())
 }
 
 /// Runs each row of the text in this way.
-fn expect_rows(
-    rt: &impl Abort,
-    alloc: Global,
-    way: Way,
-    text: &str,
-    rooms: &mut Rooms,
-) -> Result<(), Fail> {
+fn expect_rows(rt: &impl Abort, alloc: Global, way: Way, text: &str) -> Result<(), Fail> {
+    let mut room = [0; ROOM];
+    let mut other = [0; ROOM];
     for line in text.lines() {
-        let case = case_of(alloc, line)?;
-        expect_case(rt, way, &case, rooms)?;
+        expect_line(rt, alloc, way, line, &mut room, &mut other)?;
     }
     Ok(())
-}
-
-fn new_rooms(alloc: Global) -> Result<Rooms, Fail> {
-    Ok(Rooms {
-        room: Vec::from_elem(alloc, 0, ROOM)?,
-        other: Vec::from_elem(alloc, 0, ROOM)?,
-    })
 }
 
 /// Runs each row of tests/rows in this way.
 fn expect_all(rt: &impl Abort, alloc: Global, way: Way) -> Result<(), Fail> {
-    let mut rooms = new_rooms(alloc)?;
     for text in tables() {
-        expect_rows(rt, alloc, way, text, &mut rooms)?;
+        expect_rows(rt, alloc, way, text)?;
     }
     Ok(())
-}
-
-/// Runs each row of long inputs in this way.
-fn expect_long(rt: &impl Abort, alloc: Global, way: Way) -> Result<(), Fail> {
-    let mut rooms = new_rooms(alloc)?;
-    expect_rows(rt, alloc, way, LONG, &mut rooms)
 }
 
 #[test]
@@ -121,17 +107,17 @@ fn a_second_indef_changes_nothing(rt: HostRuntime) -> Result<(), Fail> {
 #[test]
 fn long_inputs_are_written(rt: HostRuntime) -> Result<(), Fail> {
     for way in [Way::Whole, Way::Prefixes, Way::FinalFault, Way::SameAgain] {
-        expect_long(&rt, rt.alloc(), way)?;
+        expect_rows(&rt, rt.alloc(), way, LONG)?;
     }
     Ok(())
 }
 
 #[test]
 fn reads_of_long_inputs_fail(rt: HostRuntime) -> Result<(), Fail> {
-    expect_long(&rt, rt.alloc(), Way::FailedReads)
+    expect_rows(&rt, rt.alloc(), Way::FailedReads, LONG)
 }
 
 #[test]
 fn writes_of_long_outputs_fail(rt: HostRuntime) -> Result<(), Fail> {
-    expect_long(&rt, rt.alloc(), Way::FailedWrites)
+    expect_rows(&rt, rt.alloc(), Way::FailedWrites, LONG)
 }
