@@ -8,7 +8,8 @@ A table has rows of definitions: what each says of one input. The first characte
     by y {term}              the proof of these rows, if it is not `refl`
     unfolding digits         the definitions that the proofs unfold, of these rows and of all below, up to the next such line
     30 00 | 2, 5             a row: columns for the places of the template, and then for those of the proof
-    | text                   a line for the place {lines} of the row above; if it has none, the line continues its last column
+    30 00 | 2, 5  # text     the same, with a title
+    | text                   a line for the place {lines} of the row above; if it has none, these lines are its last column
 
 The places are
 
@@ -34,6 +35,7 @@ HEAD = """-- {heading}
 """
 PLACE = re.compile(r"\{(\w+)\}")
 COLUMN = re.compile(r'(?:"(?:\\.|[^"\\])*"|[^"|])+')
+TITLED = re.compile(r'((?:"(?:\\.|[^"\\])*"|[^"])*?)(?:  # (.*))?')
 
 
 def items(column):
@@ -60,14 +62,15 @@ class Row:
     """A row: its template, its proof, the definitions that the proof unfolds, its titles, columns, and lines below it."""
 
     def __init__(self, section, titles, line):
-        self.section, self.titles, self.lines = section, titles, []
-        self.columns = [column.strip() for column in COLUMN.findall(line)]
+        columns, title = TITLED.fullmatch(line).groups()
+        self.section, self.titles, self.lines = section, titles + [title] * bool(title), []
+        self.columns = [column.strip() for column in COLUMN.findall(columns)]
 
     def statement(self, number):
         """Returns the row as a statement with its proof."""
         template, proof = self.section["row"], self.section["by"]
         if self.lines and "{lines}" not in template:
-            self.columns[-1] = " ".join([self.columns[-1], *self.lines])
+            self.columns += [" ".join(line.strip() for line in self.lines)]
         kinds = [kind for kind in PLACE.findall(f"{template} {proof}") if kind != "lines"]
         if len(kinds) != len(self.columns):
             raise ValueError(f"{template}: {len(kinds)} columns are wanted: {self.columns}")

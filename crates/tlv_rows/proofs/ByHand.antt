@@ -2,7 +2,6 @@ pub mod Alike
 pub mod DeepStrings
 pub mod Depth
 pub mod Devices
-pub mod Events
 pub mod Headers
 pub mod PemBlocks
 pub mod Shortest

@@ -7,6 +7,7 @@ pub mod CheckBer
 pub mod CheckDerCer
 pub mod Contents
 pub mod ContentsFindings
+pub mod DumpOfEvents
 pub mod Dumps
 pub mod EachFindingRows
 pub mod ElementsRows
@@ -15,6 +16,7 @@ pub mod ExtractRows
 pub mod Extracted
 pub mod FaultsRows
 pub mod FindingsRows
+pub mod Headers
 pub mod IndefKeptRows
 pub mod IndefRows
 pub mod Indefinite
@@ -33,7 +35,6 @@ pub mod RunsOfBase64
 pub mod Segments
 pub mod SetOrder
 pub mod Spellings
-pub mod Tags
 pub mod TextCopies
 pub mod TextsBeside
 pub mod TimesRows

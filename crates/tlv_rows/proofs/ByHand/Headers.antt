@@ -10,8 +10,8 @@ use Rattle.tlv_head.specs.declared.header.Class.{Class}
 use Rattle.tlv_head.specs.declared.header.Class.TheVariants.{Universal, Application, Context}
 use Rattle.tlv_head.specs.declared.header.Size.{Size}
 use Rattle.tlv_head.specs.declared.header.Size.TheVariants.{Definite, Indefinite}
-use Rattle.tlv_head.specs.Header.{HeaderValue, IsHeader, IsIdentifier, IsLength, spell_indefinite}
-use Rattle.tlv_head.specs.Header.{octets_of, with_bit_8, wraps}
+use Rattle.tlv_head.specs.Header.{HeaderValue, IsHeader, IsIdentifier, IsLength}
+use Rattle.tlv_head.specs.Header.{octets_of, with_bit_8}
 use Rattle.tlv_head.specs.Refusal.{BeginsWith, IsHeaderPrefix, IsRefusedOctet, tag_too_long, reserved_length}
 use Rattle.tlv_head.specs.Refusal.{indefinite_primitive, length_too_large}
 
@@ -275,36 +275,3 @@ begins-sequence = record {
   rest = 0x00 ∷ 0x00 ∷ [];
   octets_are = refl;
 }
-
--- bf 1f 82 01 00, with the indefinite form
-respelled : spell_indefinite (first Context true 31 (Definite 256) (0xbf ∷ 0x1f ∷ []) (0x82 ∷ 0x01 ∷ 0x00 ∷ []))
-    ≡ 0xbf ∷ 0x1f ∷ 0x80 ∷ []
-respelled = refl
-
--- the header, at an offset that the user named
-abbrev named : HeaderValue → HeaderValue
-named h = record h { named = true }
-
--- 04 00, named: an OCTET STRING without contents is a wrapper too
-octet-string_wraps : wraps (named (first Universal false 4 (Definite 0) (0x04 ∷ []) (0x00 ∷ []))) ≡ true
-octet-string_wraps = refl
-
--- 04 00
-unnamed-no_wrapper : wraps (first Universal false 4 (Definite 0) (0x04 ∷ []) (0x00 ∷ [])) ≡ false
-unnamed-no_wrapper = refl
-
--- 03 01, named: a BIT STRING with its first contents octet
-bit-string_wraps : wraps (named (first Universal false 3 (Definite 1) (0x03 ∷ []) (0x01 ∷ []))) ≡ true
-bit-string_wraps = refl
-
--- 03 00, named
-empty-bit_string_no_wrapper : wraps (named (first Universal false 3 (Definite 0) (0x03 ∷ []) (0x00 ∷ []))) ≡ false
-empty-bit_string_no_wrapper = refl
-
--- 24 00, named: a constructed OCTET STRING holds encodings by itself
-constructed-no_wrapper : wraps (named (first Universal true 4 (Definite 0) (0x24 ∷ []) (0x00 ∷ []))) ≡ false
-constructed-no_wrapper = refl
-
--- 84 05, named: [4] is of another class
-context-no_wrapper : wraps (named (first Context false 4 (Definite 5) (0x84 ∷ []) (0x05 ∷ []))) ≡ false
-context-no_wrapper = refl

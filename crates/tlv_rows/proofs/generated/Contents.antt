@@ -14,18 +14,23 @@ use Rattle.tlv_value.specs.Times.{canonical_generalized_time_form, canonical_utc
 use Rattle.tlv_value.specs.Times.{utc_time_form}
 use Rattle.tlv_value.specs.Value.{used_digits}
 
+-- enumerated kind
 row-1 : kind_of Universal 10 ≡ Integer
 row-1 = refl
 
+-- tagged
 row-2 : kind_of Context 2 ≡ Octets
 row-2 = refl
 
+-- minus 128
 row-3 : decimal_of (octets "80") ≡ (Some (negsuc 127))
 row-3 = refl
 
+-- padded 128
 row-4 : decimal_of (octets "00 80") ≡ (Some (pos 128))
 row-4 = refl
 
+-- no number
 row-5 : decimal_of [] ≡ None
 row-5 = refl
 
@@ -37,13 +42,16 @@ row-6 = refl
 row-7 : arcs_of false (subidentifiers (octets "78")) ≡ (2 ∷ 40 ∷ [])
 row-7 = refl
 
+-- three bits
 row-8 : used_digits 5 (octets "bf") ≡ (codes " 101")
 row-8 = refl
 
+-- two rows
 row-9 : rows_of Octets (octets "01 02 03 04 05 06 07 08 09 0a 0b 0c 0d 0e 0f 10 11")
     ≡ (octets "01 02 03 04 05 06 07 08 09 0a 0b 0c 0d 0e 0f 10") ∷ (octets "11") ∷ []
 row-9 = refl
 
+-- kept together
 row-10 : rows_of Utf8 (replicate 62 0x61 ++ octets "e2 82 ac 62") ≡ (replicate 62 0x61) ∷ (octets "e2 82 ac 62") ∷ []
 row-10 = refl
 
@@ -52,33 +60,43 @@ row-11 : rows_of Text (replicate 62 0x61 ++ octets "e2 82 ac 62")
     ≡ (replicate 62 0x61 ++ octets "e2 82") ∷ (octets "ac 62") ∷ []
 row-11 = refl
 
+-- utc
 row-12 : utc_time_form (octets "39 31 30 35 30 36 32 33 34 35 34 30 2b 30 30 30 30") ≡ true
 row-12 = refl
 
+-- utc not canonical
 row-13 : canonical_utc_time_form (octets "39 31 30 35 30 36 32 33 34 35 34 30 2b 30 30 30 30") ≡ false
 row-13 = refl
 
+-- general
 row-14 : generalized_time_form (octets "31 39 39 32 30 37 32 32 31 33") ≡ true
 row-14 = refl
 
+-- general without digits
 row-15 : generalized_time_form (octets "31 39 39 32 30 37 32 32 31 33 32 31 30 30 2e 5a") ≡ false
 row-15 = refl
 
+-- general canonical
 row-16 : canonical_generalized_time_form (octets "31 39 39 32 30 37 32 32 31 33 32 31 30 30 2e 33 5a") ≡ true
 row-16 = refl
 
 -- the labels of a RELATIVE-OID-IRI, and of an OID-IRI without its first octet
+-- two labels
 row-17 : are_labels (octets "61 2f 62") ≡ true
 row-17 = refl
 
+-- no label
 row-18 : are_labels [] ≡ false
 row-18 = refl
 
+-- last label empty
 row-19 : are_labels (octets "61 2f") ≡ false
 row-19 = refl
 
+-- label empty
 row-20 : are_labels (octets "61 2f 2f 62") ≡ false
 row-20 = refl
 
+-- first label empty
 row-21 : are_labels (octets "2f 61") ≡ false
 row-21 = refl

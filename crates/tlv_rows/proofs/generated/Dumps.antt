@@ -7,10 +7,12 @@ use Rattle.tlv_text.specs.Dump.{dump_read}
 use Rattle.tlv_text.specs.TextRead.{refused_in, refused_with}
 use Rattle.tlv_rows.proofs.Words.Texts.{part, whole}
 
+-- xxd
 row-1 : dump_read (lines ("00000000: 3082 0122 0405 0607 0809 0a0b 0c0d 0e0f  0..\"............" ∷ "00000010: 3031                                     01" ∷ []))
     ≡ whole (octets "30 82 01 22 04 05 06 07 08 09 0a 0b 0c 0d 0e 0f 30 31")
 row-1 = refl
 
+-- od
 row-2 : dump_read (lines ("000000 30 82 01 22 04 05 06 07 08 09 0a 0b 0c 0d 0e 0f" ∷ "000010 30 31" ∷ "000012" ∷ []))
     ≡ whole (octets "30 82 01 22 04 05 06 07 08 09 0a 0b 0c 0d 0e 0f 30 31")
 row-2 = refl
@@ -49,14 +51,17 @@ row-9 : dump_read (lines ("0000   30 82 01 22 04 05 06 07 08 09 0a 0b 0c 0d 0e 0
     ≡ whole (octets "30 82 01 22 04 05 06 07 08 09 0a 0b 0c 0d 0e 0f 30 31")
 row-9 = refl
 
+-- tcpdump
 row-10 : dump_read (lines ("12:34:56.789 IP a > b" ∷ "\t0x0000:  3082 0122 0405 0607 0809 0a0b 0c0d 0e0f  0..\"............" ∷ "\t0x0010:  3031                                     01" ∷ []))
     ≡ whole (octets "30 82 01 22 04 05 06 07 08 09 0a 0b 0c 0d 0e 0f 30 31")
 row-10 = refl
 
+-- powershell
 row-11 : dump_read (lines ("           00 01 02 03 04 05 06 07 08 09 0A 0B 0C 0D 0E 0F" ∷ "" ∷ "00000000   30 82 01 22 04 05 06 07 08 09 0A 0B 0C 0D 0E 0F  0..\"............" ∷ "00000010   30 31                                            01" ∷ "" ∷ []))
     ≡ whole (octets "30 82 01 22 04 05 06 07 08 09 0a 0b 0c 0d 0e 0f 30 31")
 row-11 = refl
 
+-- openssl
 row-12 : dump_read (lines ("0000 - 30 82 01 22 04 05 06 07-08 09 0a 0b 0c 0d 0e 0f   0..\"............" ∷ "0010 - 30 31                                             01" ∷ []))
     ≡ whole (octets "30 82 01 22 04 05 06 07 08 09 0a 0b 0c 0d 0e 0f 30 31")
 row-12 = refl
@@ -77,10 +82,12 @@ row-15 : dump_read (lines ("0x7fffffffe000:\t0x30\t0x82\t0x01\t0x22\t0x04\t0x05\
     ≡ whole (octets "30 82 01 22 04 05 06 07 08 09 0a 0b 0c 0d 0e 0f 30 31")
 row-15 = refl
 
+-- symbol
 row-16 : dump_read (lines ("0x404040 <cert>:\t0x30\t0x82\t0x01\t0x22\t0x04\t0x05\t0x06\t0x07" ∷ "0x404048 <cert+8>:\t0x08\t0x09\t0x0a\t0x0b\t0x0c\t0x0d\t0x0e\t0x0f" ∷ "0x404050 <cert+16>:\t0x30\t0x31" ∷ []))
     ≡ whole (octets "30 82 01 22 04 05 06 07 08 09 0a 0b 0c 0d 0e 0f 30 31")
 row-16 = refl
 
+-- single symbol
 row-17 : dump_read (lines ("0x404040 <cert>:\t0x30\t0x31" ∷ [])) ≡ whole (octets "30 31")
 row-17 = refl
 
@@ -139,9 +146,11 @@ row-28 = refl
 row-29 : dump_read (lines ("0x404040:\t0x30\t0xg1" ∷ [])) ≡ refused_with 20
 row-29 = refl
 
+-- prefix lost
 row-30 : dump_read (lines ("0x404040:\t0x30\t31" ∷ [])) ≡ refused_with 18
 row-30 = refl
 
+-- prefix others
 row-31 : dump_read (lines ("0x404040:\t0x30\t0x31  01" ∷ [])) ≡ refused_with 24
 row-31 = refl
 
@@ -153,6 +162,7 @@ row-32 = refl
 row-33 : dump_read (lines ("0000000 0330 0102 0005" ∷ "0000005" ∷ [])) ≡ refused_with 31
 row-33 = refl
 
+-- single words
 row-34 : dump_read (lines ("0000 0330 0102" ∷ [])) ≡ refused_with 15
 row-34 = refl
 
@@ -186,6 +196,7 @@ row-40 = refl
 row-41 : dump_read (codes "0000: 3031  |01|") ≡ whole (octets "30 31")
 row-41 = refl
 
+-- in order
 row-42 : dump_read (codes "00000000: 30316265  01be") ≡ whole (octets "30 31 62 65")
 row-42 = refl
 
@@ -210,6 +221,7 @@ row-46 = refl
 row-47 : dump_read (codes "0000000 30 82 01 22 04 05 06 07 08 09 0a 0b 0c 0d 0e 0f  0000020 30 31") ≡ refused_with 70
 row-47 = refl
 
+-- three bars
 row-48 : dump_read (codes "0000: 3031  |01||") ≡ refused_with 17
 row-48 = refl
 
@@ -217,8 +229,10 @@ row-48 = refl
 row-49 : dump_read (codes "00000000: 65623130  01be") ≡ refused_with 24
 row-49 = refl
 
+-- written bits
 row-50 : dump_read (codes "00000000: 00110000 00110001  01") ≡ refused_with 31
 row-50 = refl
 
+-- refused
 row-51 : refused_in (codes "30 03\n") (dump_read (codes "30 03\n")).left ≡ Some 6
 row-51 = refl

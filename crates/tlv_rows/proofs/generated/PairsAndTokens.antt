@@ -7,9 +7,11 @@ use Rattle.tlv_text.specs.TextRead.{nothing_read}
 use Rattle.tlv_text.specs.Tokens.{token_count, tokens_read}
 
 -- pairs of digits
+-- octets
 row-1 : pairs_read (codes "30 03\n02:01-05\r\n") ≡ record { octets = (octets "30 03 02 01 05"); rest = (codes "") }
 row-1 = refl
 
+-- cases
 row-2 : pairs_read (codes "'aB','Cd'") ≡ record { octets = (octets "ab cd"); rest = (codes "") }
 row-2 = refl
 
@@ -17,6 +19,7 @@ row-2 = refl
 row-3 : pairs_read (codes "30 0") ≡ record { octets = (octets "30"); rest = (codes "0") }
 row-3 = refl
 
+-- other
 row-4 : pairs_read (codes "3003 zz 02") ≡ record { octets = (octets "30 03"); rest = (codes "zz 02") }
 row-4 = refl
 
@@ -43,9 +46,11 @@ row-9 : tokens_read (codes "0x30 then a word 0x03")
     ≡ record { octets = (octets "30"); rest = (codes "then a word 0x03") }
 row-9 = refl
 
+-- last
 row-10 : tokens_read (codes "[0x30, 0x03, 0x02u8]") ≡ record { octets = (octets "30 03"); rest = (codes "0x02u8]") }
 row-10 = refl
 
+-- behind
 row-11 : tokens_read (codes "{0x30}; int n = 0X3082;") ≡ record { octets = (octets "30"); rest = (codes "0X3082;") }
 row-11 = refl
 
@@ -53,6 +58,7 @@ row-11 = refl
 row-12 : tokens_read (codes "{0x30, 0x03, 0x}") ≡ record { octets = (octets "30 03"); rest = (codes "0x}") }
 row-12 = refl
 
+-- letter
 row-13 : tokens_read (codes "\"\\x30\\x03\\xg2\\x01\"")
     ≡ record { octets = (octets "30 03"); rest = (codes "\\xg2\\x01\"") }
 row-13 = refl
@@ -62,6 +68,7 @@ row-14 : tokens_read (codes "b'\\x04\\x05\\x06abc'")
     ≡ record { octets = (octets "04 05"); rest = (codes "\\x06abc'") }
 row-14 = refl
 
+-- digits
 row-15 : tokens_read (codes "\"\\x30\\x03ab\"") ≡ record { octets = (octets "30"); rest = (codes "\\x03ab\"") }
 row-15 = refl
 
@@ -81,12 +88,15 @@ row-18 = refl
 row-19 : tokens_read (codes "0x3082, 0x01") ≡ nothing_read (codes "0x3082, 0x01")
 row-19 = refl
 
+-- suffix
 row-20 : tokens_read (codes "[0x30u8, 0x03, 0x02]") ≡ nothing_read (codes "0x30u8, 0x03, 0x02]")
 row-20 = refl
 
+-- literal read
 row-21 : tokens_read (codes "b'0\\x82\\x01'") ≡ nothing_read (codes "")
 row-21 = refl
 
+-- quote
 row-22 : tokens_read (codes "\"\\x30\\\"\"") ≡ nothing_read (codes "\\x30\\\"\"")
 row-22 = refl
 
@@ -98,5 +108,6 @@ row-23 = refl
 row-24 : token_count (codes "0x30,0x31") ≡ 2
 row-24 = refl
 
+-- one
 row-25 : token_count (codes "let x = 0x30;") ≡ 1
 row-25 = refl

@@ -9,6 +9,7 @@ use Rattle.tlv_rows.proofs.Words.Octets.{framing_of, octets}
 use Rattle.tlv_walk.specs.Forest.{NoMore, PaddingOctet, Primitive, Holder, OpenHolder, OpenHeader}
 use Rattle.tlv_rows.proofs.Words.Headers.{header, named}
 
+-- an integer
 row-1 : reading plain_framing (octets "02 01 05")
     ≡ (Primitive (header 0 Universal false 2 (Definite 1) "02" "01") (octets "05") NoMore)
 row-1 = refl
@@ -28,10 +29,12 @@ row-4 : reading plain_framing (octets "30 03 02 02 01")
     ≡ (OpenHolder (header 0 Universal true 16 (Definite 3) "30" "03") (OpenHeader (octets "02")))
 row-4 = refl
 
+-- application 31
 row-5 : reading plain_framing (octets "5f 1f 01 00")
     ≡ (Primitive (header 0 Application false 31 (Definite 1) "5f 1f" "01") (octets "00") NoMore)
 row-5 = refl
 
+-- high form of 2
 row-6 : reading plain_framing (octets "1f 02 01 05")
     ≡ (Primitive (header 0 Universal false 2 (Definite 1) "1f 02" "01") (octets "05") NoMore)
 row-6 = refl
@@ -47,15 +50,18 @@ row-8 : reading plain_framing (octets "04 05 30 03 02 01 07")
 row-8 = refl
 
 -- with padding
+-- NULLs among padding
 row-9 : reading padding_framing (octets "00 00 05 00 00 00 05 00 00")
     ≡ (PaddingOctet (PaddingOctet (Primitive (header 2 Universal false 5 (Definite 0) "05" "00") [] (PaddingOctet (PaddingOctet (Primitive (header 6 Universal false 5 (Definite 0) "05" "00") [] (PaddingOctet NoMore)))))))
 row-9 = refl
 
 -- with strings that are named by their offsets
+-- an OCTET STRING
 row-10 : reading (framing_of (0 ∷ []) false) (octets "04 05 30 03 02 01 07")
     ≡ (Holder (named (header 0 Universal false 4 (Definite 5) "04" "05")) (Holder (header 2 Universal true 16 (Definite 3) "30" "03") (Primitive (header 4 Universal false 2 (Definite 1) "02" "01") (octets "07") NoMore) NoMore) NoMore)
 row-10 = refl
 
+-- a BIT STRING
 row-11 : reading (framing_of (0 ∷ []) false) (octets "03 04 00 02 01 05")
     ≡ (Holder (named (header 0 Universal false 3 (Definite 4) "03" "04")) (Primitive (header 3 Universal false 2 (Definite 1) "02" "01") (octets "05") NoMore) NoMore)
 row-11 = refl

@@ -9,94 +9,113 @@ use Rattle.tlv_mend.specs.Remedies.{change_line, kind_line, length_line, octet_l
 use Rattle.tlv_mend.specs.Remedies.{record_line, start_line, start_reason}
 
 -- the header at an offset, what it says, and what it would have to say
+-- length
 row-1 : length_line (Some (record { offset = 39; said = 10; would = 9 }))
     ≡ (codes "If the header at offset 39 said 9 octets and not 10, all would parse.\n")
 unfolding digits start_reason
 row-1 = refl
 
+-- one octet
 row-2 : length_line (Some (record { offset = 0; said = 2; would = 1 }))
     ≡ (codes "If the header at offset 0 said 1 octet and not 2, all would parse.\n")
 unfolding digits start_reason
 row-2 = refl
 
+-- missing
 row-3 : octet_line (Some (Missing 9))
     ≡ (codes "If one octet more stood after the header at offset 9, all would parse: an octet of its contents may be missing.\n")
 unfolding digits start_reason
 row-3 = refl
 
+-- put in
 row-4 : octet_line (Some (PutIn 0))
     ≡ (codes "If one octet fewer stood after the header at offset 0, all would parse: an octet may have been put in there.\n")
 unfolding digits start_reason
 row-4 = refl
 
+-- utf8
 row-5 : change_line (Some Utf8)
     ≡ (codes "It was taken for a text in Latin-1 and written in UTF-8. Try: fetch it anew, in binary, or: iconv -f UTF-8 -t ISO-8859-1 FILE | tlvdump-show\n")
 unfolding digits start_reason
 row-5 = refl
 
+-- line ends
 row-6 : change_line (Some LineEnds)
     ≡ (codes "It was taken for a text: octets 0d were put in front of 0a. Try: fetch it anew, in binary.\n")
 unfolding digits start_reason
 row-6 = refl
 
+-- replaced
 row-7 : change_line (Some Replaced)
     ≡ (codes "It has the octets ef bf bd, with which programs replace what is no UTF-8: it was copied as a text. Try: fetch it anew, in binary.\n")
 unfolding digits start_reason
 row-7 = refl
 
 -- by the first octets
+-- zip
 row-8 : kind_line (octets "50 4b 03 04 14") ≡ (codes "It begins as a ZIP file does: unpack it first.\n")
 unfolding digits start_reason
 row-8 = refl
 
+-- gzip
 row-9 : kind_line (octets "1f 8b 08")
     ≡ (codes "It begins as a file of gzip does. Try: gzip -dc FILE | tlvdump-show\n")
 unfolding digits start_reason
 row-9 = refl
 
+-- bzip2
 row-10 : kind_line (octets "42 5a 68 39")
     ≡ (codes "It begins as a file of bzip2 does. Try: bzip2 -dc FILE | tlvdump-show\n")
 unfolding digits start_reason
 row-10 = refl
 
+-- pdf
 row-11 : kind_line (octets "25 50 44 46") ≡ (codes "It begins as a PDF file does.\n")
 unfolding digits start_reason
 row-11 = refl
 
+-- markup
 row-12 : kind_line (octets "3c 3f") ≡ (codes "It begins with the character <, as XML and HTML do.\n")
 unfolding digits start_reason
 row-12 = refl
 
+-- openssh
 row-13 : kind_line (octets "6f 70 65 6e 73 73 68 2d 6b 65 79 2d")
     ≡ (codes "It is a key of OpenSSH, which is no encoding by X.690.\n")
 unfolding digits start_reason
 row-13 = refl
 
+-- utf16
 row-14 : kind_line (octets "ff fe 41")
     ≡ (codes "It begins as text in UTF-16 does. Try: iconv -f UTF-16 -t UTF-8 FILE | tlvdump-show\n")
 unfolding digits start_reason
 row-14 = refl
 
+-- utf16 high first
 row-15 : kind_line (octets "fe ff")
     ≡ (codes "It begins as text in UTF-16 does. Try: iconv -f UTF-16 -t UTF-8 FILE | tlvdump-show\n")
 unfolding digits start_reason
 row-15 = refl
 
+-- pcap
 row-16 : kind_line (octets "d4 c3 b2 a1 02")
     ≡ (codes "It begins as a capture of packets (pcap) does: export the octets of a packet first.\n")
 unfolding digits start_reason
 row-16 = refl
 
+-- pcap nanoseconds
 row-17 : kind_line (octets "4d 3c b2 a1")
     ≡ (codes "It begins as a capture of packets (pcap) does: export the octets of a packet first.\n")
 unfolding digits start_reason
 row-17 = refl
 
+-- pcapng
 row-18 : kind_line (octets "0a 0d 0d 0a 1c")
     ≡ (codes "It begins as a capture of packets (pcap) does: export the octets of a packet first.\n")
 unfolding digits start_reason
 row-18 = refl
 
+-- java
 row-19 : kind_line (octets "fe ed fe ed")
     ≡ (codes "It begins as a key store of Java (JKS) does: export what you need first.\n")
 unfolding digits start_reason
@@ -107,21 +126,25 @@ row-20 : kind_line (octets "50 4b 03") ≡ (codes "")
 unfolding digits start_reason
 row-20 = refl
 
+-- start
 row-21 : start_line (Some 9)
     ≡ (codes "From offset 9 on it parses: what stands in front may be a header of the file or of the record, or damaged. Try: tail -c +10 FILE | tlvdump-show\n")
 unfolding digits start_reason
 row-21 = refl
 
+-- record
 row-22 : record_line (Some 120)
     ≡ (codes "From offset 120 on it parses: the next record may begin there. Try: tail -c +121 FILE | tlvdump-show\n")
 unfolding digits start_reason
 row-22 = refl
 
 -- all that is found is said, the nearest remedy first
+-- nothing
 row-23 : remedy_lines (octets "30 05") None None None None None ≡ (lines [])
 unfolding digits start_reason
 row-23 = refl
 
+-- order
 row-24 : remedy_lines (octets "3c 0a") None None (Some LineEnds) None (Some 9)
     ≡ (lines ("It was taken for a text: octets 0d were put in front of 0a. Try: fetch it anew, in binary." ∷ "It begins with the character <, as XML and HTML do." ∷ "From offset 9 on it parses: the next record may begin there. Try: tail -c +10 FILE | tlvdump-show" ∷ []))
 unfolding digits start_reason

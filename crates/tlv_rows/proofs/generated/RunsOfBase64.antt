@@ -30,6 +30,7 @@ row-5 : IsFirstRun (codes "cert:: MIICAzCCAWygAwIBAgIBAAAAAAAAAAAAAAAAAAAA\n ATA
 unfolding all_short
 row-5 = run_there _ _ _ _ refl refl refl refl
 
+-- next key
 row-6 : IsFirstRun (codes "  tls.crt: MIICAzCCAWygAwIBAgIBATANBgkqhkiG9w0BAQEB\r\n  tls.key: MC4C\r\n") 11 (codes "MIICAzCCAWygAwIBAgIBATANBgkqhkiG9w0BAQEB") (codes "\r\n  tls.key: MC4C\r\n")
 unfolding all_short
 row-6 = run_there _ _ _ _ refl refl refl refl
@@ -39,10 +40,12 @@ row-7 : IsFirstRun (codes "cert: \"MIICAzCCAWygAwIBAgIBAAAAAAAAAAAAAAAAAAAA\n  A
 unfolding all_short
 row-7 = run_there _ _ _ _ refl refl refl refl
 
+-- end after
 row-8 : IsFirstRun (codes "cert: MIICAzCCAWygAwIBAgIBAAAAAAAAAAAAAAAAAAAA\n  ATANBgkqhkiG9w0BAQEB") 6 (codes "MIICAzCCAWygAwIBAgIBAAAAAAAAAAAAAAAAAAAA\n  ATANBgkqhkiG9w0BAQEB") (codes "")
 unfolding all_short
 row-8 = run_there _ _ _ _ refl refl refl refl
 
+-- element after
 row-9 : IsFirstRun (codes "<c>MIICAzCCAWygAwIBAgIBAAAAAAAAAAAAAAAAAAAA\nATANBgkqhkiG9w0BAQEB</c>") 3 (codes "MIICAzCCAWygAwIBAgIBAAAAAAAAAAAAAAAAAAAA\nATANBgkqhkiG9w0BAQEB") (codes "</c>")
 unfolding all_short
 row-9 = run_there _ _ _ _ refl refl refl refl
@@ -52,10 +55,12 @@ row-10 : IsFirstRun (codes "is `MIICAzCCAWygAwIBAgIBAAAAAAAAAAAAAAAAAAAA\nATANBg
 unfolding all_short
 row-10 = run_there _ _ _ _ refl refl refl refl
 
+-- bracket after
 row-11 : IsFirstRun (codes "(MIICAzCCAWygAwIBAgIBAAAAAAAAAAAAAAAAAAAA\n ATANBgkqhkiG9w0BAQEB)") 1 (codes "MIICAzCCAWygAwIBAgIBAAAAAAAAAAAAAAAAAAAA\n ATANBgkqhkiG9w0BAQEB") (codes ")")
 unfolding all_short
 row-11 = run_there _ _ _ _ refl refl refl refl
 
+-- reference after
 row-12 : IsFirstRun (codes "&lt;c&gt;MIICAzCCAWygAwIBAgIBAAAAAAAAAAAAAAAAAAAA\nATANBgkqhkiG9w0BAQEB&lt;/c&gt;") 9 (codes "MIICAzCCAWygAwIBAgIBAAAAAAAAAAAAAAAAAAAA\nATANBgkqhkiG9w0BAQEB") (codes "&lt;/c&gt;")
 unfolding all_short
 row-12 = run_there _ _ _ _ refl refl refl refl
@@ -65,6 +70,7 @@ row-13 : IsFirstRun (codes "CERT=MIICAzCCAWygAwIBAgIBATANBgkqhkiG9w0BAQEB\nKEY=M
 unfolding all_short
 row-13 = run_there _ _ _ _ refl refl refl refl
 
+-- padding after
 row-14 : IsFirstRun (codes "CERT=MIICAzCCAWygAwIBAgIBAAAAAAAAAAAAAAAAAAAAM\nATANBgkqhkiG9w0BAQE=\nKEY=") 5 (codes "MIICAzCCAWygAwIBAgIBAAAAAAAAAAAAAAAAAAAAM\nATANBgkqhkiG9w0BAQE=") (codes "\nKEY=")
 unfolding all_short
 row-14 = run_there _ _ _ _ refl refl refl refl
@@ -75,6 +81,7 @@ row-15 : IsFirstRun (codes "<c>MIICAzCCAWygAwIBAgIBAAAAAAAAAAAAAAAAAAAA&#13;\nAT
 unfolding all_short
 row-15 = run_there _ _ _ _ refl refl refl refl
 
+-- reference in hexadecimal
 row-16 : IsFirstRun (codes "<c>MIICAzCCAWygAwIBAgIBAAAAAAAAAAAAAAAAAAAA&#xD;\n  ATANBgkqhkiG9w0BAQEB&#xD;\n</c>") 3 (codes "MIICAzCCAWygAwIBAgIBAAAAAAAAAAAAAAAAAAAA&#xD;\n  ATANBgkqhkiG9w0BAQEB") (codes "&#xD;\n</c>")
 unfolding all_short
 row-16 = run_there _ _ _ _ refl refl refl refl
@@ -84,6 +91,7 @@ row-17 : IsFirstRun (codes "{\"c\":\"MIICAzCCAWygAwIBAgIBAAAAAAAAAAAAAAAAAAAA\\n
 unfolding all_short
 row-17 = run_there _ _ _ _ refl refl refl refl
 
+-- escaped return
 row-18 : IsFirstRun (codes "\"MIICAzCCAWygAwIBAgIBAAAAAAAAAAAAAAAAAAAA\\r\\nATANBgkqhkiG9w0BAQEB\"") 1 (codes "MIICAzCCAWygAwIBAgIBAAAAAAAAAAAAAAAAAAAA\\r\\nATANBgkqhkiG9w0BAQEB") (codes "\"")
 unfolding all_short
 row-18 = run_there _ _ _ _ refl refl refl refl
@@ -98,14 +106,17 @@ row-20 : IsFirstRun (codes "c: MIICAzCCAWygAwIBAgIBAAAAAAAAAAAAAAAAAAAA \n ATANB
 unfolding all_short
 row-20 = run_there _ _ _ _ refl refl refl refl
 
+-- blank before return
 row-21 : IsFirstRun (codes "c: MIICAzCCAWygAwIBAgIBAAAAAAAAAAAAAAAAAAAA  \r\nATANBgkqhkiG9w0BAQEB \t") 3 (codes "MIICAzCCAWygAwIBAgIBAAAAAAAAAAAAAAAAAAAA  \r\nATANBgkqhkiG9w0BAQEB") (codes " \t")
 unfolding all_short
 row-21 = run_there _ _ _ _ refl refl refl refl
 
+-- thirty nine
 row-22 : HasNoRun (codes "012345678901234567890123456789012345678=")
 unfolding all_short
 row-22 = no_run_there _ refl
 
+-- empty
 row-23 : HasNoRun (codes "")
 unfolding all_short
 row-23 = no_run_there _ refl
@@ -120,10 +131,12 @@ row-25 : HasNoRun (codes "MIICAzCCAWygAwIBAgIB\n\nATANBgkqhkiG9w0BAQEB")
 unfolding all_short
 row-25 = no_run_there _ refl
 
+-- blank between
 row-26 : HasNoRun (codes "MIICAzCCAWygAwIBAgIB  ATANBgkqhkiG9w0BAQEB")
 unfolding all_short
 row-26 = no_run_there _ refl
 
+-- blank after word
 row-27 : HasNoRun (codes "MIICAzCCAWygAwIBAgIBATANBgkqhkiG9w0BAQE\nB C")
 unfolding all_short
 row-27 = no_run_there _ refl

@@ -11,30 +11,39 @@ use Rattle.tlv_show.specs.SegmentCharacters.{wrong_character_offsets}
 use Rattle.tlv_show.specs.SetOrder.{zeros}
 use Rattle.tlv_rows.proofs.Words.Checks.{check, check_all, finds}
 
+-- not printable
 row-1 : wrong_character_offsets (reading plain_framing (octets "33 03 04 01 5f")) ≡ (0 ∷ [])
 row-1 = refl
 
+-- printable
 row-2 : wrong_character_offsets (reading plain_framing (octets "33 03 04 01 5a")) ≡ []
 row-2 = refl
 
+-- not numeric
 row-3 : wrong_character_offsets (reading plain_framing (octets "32 03 04 01 41")) ≡ (0 ∷ [])
 row-3 = refl
 
+-- numeric
 row-4 : wrong_character_offsets (reading plain_framing (octets "32 05 04 03 31 20 32")) ≡ []
 row-4 = refl
 
+-- not ia5
 row-5 : wrong_character_offsets (reading plain_framing (octets "36 03 04 01 80")) ≡ (0 ∷ [])
 row-5 = refl
 
+-- ia5
 row-6 : wrong_character_offsets (reading plain_framing (octets "36 03 04 01 7f")) ≡ []
 row-6 = refl
 
+-- not visible
 row-7 : wrong_character_offsets (reading plain_framing (octets "3a 03 04 01 1f")) ≡ (0 ∷ [])
 row-7 = refl
 
+-- visible
 row-8 : wrong_character_offsets (reading plain_framing (octets "3a 03 04 01 20")) ≡ []
 row-8 = refl
 
+-- indefinite
 row-9 : wrong_character_offsets (reading plain_framing (octets "33 80 04 01 5f 00 00")) ≡ (0 ∷ [])
 row-9 = refl
 
@@ -54,9 +63,11 @@ row-12 = refl
 row-13 : wrong_character_offsets (reading plain_framing (octets "33 05 33 03 04 01 5f")) ≡ (2 ∷ [])
 row-13 = refl
 
+-- after inner segment
 row-14 : wrong_character_offsets (reading plain_framing (octets "33 08 24 03 04 01 5a 04 01 5f")) ≡ (0 ∷ [])
 row-14 = refl
 
+-- no segment
 row-15 : wrong_character_offsets (reading plain_framing (octets "33 00")) ≡ []
 row-15 = refl
 
@@ -85,6 +96,7 @@ row-20 = refl
 row-21 : wrong_character_offsets (reading (framing_of (2 ∷ []) false) (octets "33 05 04 03 04 01 41")) ≡ (0 ∷ [])
 row-21 = refl
 
+-- wrapping bit string
 row-22 : wrong_character_offsets (reading (framing_of (2 ∷ []) false) (octets "36 06 03 04 00 04 01 41")) ≡ []
 row-22 = refl
 
@@ -102,6 +114,7 @@ row-25 : wrong_character_offsets (reading (framing_of (2 ∷ []) false) (octets 
     ≡ (4 ∷ 0 ∷ [])
 row-25 = refl
 
+-- listed ber
 row-26 : check_all plain_framing Ber (octets "33 03 04 01 5f")
     ≡ finds ("0 B28 segments have characters not of the type" ∷ [])
 unfolding digits zeros
@@ -113,6 +126,7 @@ row-27 : check_all plain_framing Der (octets "33 03 04 01 5f")
 unfolding digits zeros
 row-27 = refl
 
+-- listed cer
 row-28 : check_all plain_framing Cer (octets "33 80 04 01 5f 00 00")
     ≡ finds ("0 B28 segments have characters not of the type" ∷ "0 C05 constructed string fits in 1000 octets" ∷ [])
 unfolding digits zeros

@@ -10,14 +10,17 @@ use Rattle.tlv_rows.proofs.Words.Octets.{octets}
 use Rattle.tlv_show.specs.SetOrder.{out_of_order_offsets, zeros}
 use Rattle.tlv_rows.proofs.Words.Checks.{check, check_all, finds}
 
+-- later is smaller
 row-1 : out_of_order_offsets Der None None (reading plain_framing (octets "31 06 02 01 05 02 01 03")) ≡ (5 ∷ [])
 unfolding digits zeros
 row-1 = refl
 
+-- in order
 row-2 : out_of_order_offsets Der None None (reading plain_framing (octets "31 06 02 01 03 02 01 05")) ≡ []
 unfolding digits zeros
 row-2 = refl
 
+-- equal neighbours
 row-3 : out_of_order_offsets Der None None (reading plain_framing (octets "31 06 02 01 05 02 01 05")) ≡ []
 unfolding digits zeros
 row-3 = refl
@@ -42,6 +45,7 @@ row-7 : out_of_order_offsets Cer None None (reading plain_framing (octets "31 05
 unfolding digits zeros
 row-7 = refl
 
+-- later is smaller cer
 row-8 : out_of_order_offsets Cer None None (reading plain_framing (octets "31 80 02 01 05 02 01 03 00 00")) ≡ (5 ∷ [])
 unfolding digits zeros
 row-8 = refl
@@ -77,6 +81,7 @@ row-12 : out_of_order_offsets Der None None (reading plain_framing (octets "31 8
 unfolding digits zeros
 row-12 = refl
 
+-- out of order der
 row-13 : check_all plain_framing Der (octets "31 06 02 01 05 02 01 03")
     ≡ finds ("5 S05 element of a SET is out of order" ∷ [])
 unfolding digits zeros
@@ -87,6 +92,7 @@ row-14 : check_all plain_framing Ber (octets "31 06 02 01 05 02 01 03") ≡ find
 unfolding digits zeros
 row-14 = refl
 
+-- out of order cer
 row-15 : check_all plain_framing Cer (octets "31 80 02 01 05 02 01 03 00 00")
     ≡ finds ("5 S05 element of a SET is out of order" ∷ [])
 unfolding digits zeros
@@ -104,6 +110,7 @@ row-17 : check_all plain_framing Der (octets "31 0a 30 03 02 01 05 30 03 02 01 0
 unfolding digits zeros
 row-17 = refl
 
+-- out of order listed
 row-18 : check plain_framing Der (octets "31 06 02 01 05 02 01 03") ≡ finds []
 unfolding digits zeros
 row-18 = refl

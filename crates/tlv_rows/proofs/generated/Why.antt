@@ -155,11 +155,13 @@ unfolding digits encode_with octets_in_words octets_between first_pairs named_el
 row-21 = refl
 
 -- the same without the first line
+-- reasons
 row-22 : reasons_inside (2 ∷ []) (octets "30 05 03 03 00 04 80") None
     ≡ (lines ("The header at offset 5 is that of a primitive, which cannot have the indefinite length: 04 80." ∷ "Try: look at the element that ends at offset 5, or begins there: its length may be wrong; or fetch the input anew, in binary." ∷ "Or a length in front is wrong: that of the BIT STRING at offset 2. The header at offset 2, 03 03, says that its contents are 3 octets." ∷ []))
 unfolding digits encode_with octets_in_words octets_between first_pairs named_element size_in_words header_opening header_closing header_octets header_sentence whole_line whole_try_line whole_lines_of left_over_lines blanks_line filler_line blanks_lines filler_lines following_lines no_parse_line_of code_lines front_lines reason_lines_in reason_lines later_lines fault_lines why_by empty_line empty_try_line empty_lines cut_header_line cut_primitive_lines cut_end_line cut_holder_line cut_lines_at filled_line lacking_line needed_line unended_line cut_try_line needed_lines missing_lines missing_after_lines suspect_line_of suspect_line cut_lines first_zeros_line later_zeros_line zeros_line padding_try_line front_try_line zeros_try_lines zeros_lines stray_line stray_lines_in stray_lines bad_end_line bad_end_lines lacking_zeros missing_end_line missing_end_lines_in missing_end_lines anew_line anew_lines look_line suspect_lines look_lines header_fault_words header_fault_line header_fault_lines deep_line deep_try_line deep_lines header_past_line element_past_line one_wrong_line past_line wrong_lines past_lines_in past_lines reasons_by parses_line
 row-22 = refl
 
+-- no reasons
 row-23 : reasons_inside (0 ∷ []) (octets "04 02 05 00") None ≡ (lines [])
 unfolding digits encode_with octets_in_words octets_between first_pairs named_element size_in_words header_opening header_closing header_octets header_sentence whole_line whole_try_line whole_lines_of left_over_lines blanks_line filler_line blanks_lines filler_lines following_lines no_parse_line_of code_lines front_lines reason_lines_in reason_lines later_lines fault_lines why_by empty_line empty_try_line empty_lines cut_header_line cut_primitive_lines cut_end_line cut_holder_line cut_lines_at filled_line lacking_line needed_line unended_line cut_try_line needed_lines missing_lines missing_after_lines suspect_line_of suspect_line cut_lines first_zeros_line later_zeros_line zeros_line padding_try_line front_try_line zeros_try_lines zeros_lines stray_line stray_lines_in stray_lines bad_end_line bad_end_lines lacking_zeros missing_end_line missing_end_lines_in missing_end_lines anew_line anew_lines look_line suspect_lines look_lines header_fault_words header_fault_line header_fault_lines deep_line deep_try_line deep_lines header_past_line element_past_line one_wrong_line past_line wrong_lines past_lines_in past_lines reasons_by parses_line
 row-23 = refl
