@@ -84,19 +84,29 @@ fn taken_of(rt: &impl Abort, alloc: Global, input: &[u8]) -> Result<Vec<Taken>, 
     Ok(take_input(alloc, octets)?)
 }
 
+/// Checks the blocks of an input.
+fn expect_input(
+    rt: &impl Abort,
+    alloc: Global,
+    input: &[u8],
+    wanted: &[Want<'_>],
+) -> Result<(), Fail> {
+    let taken = taken_of(rt, alloc, input)?;
+    expect_taken(rt, taken.as_slice(), wanted);
+    Ok(())
+}
+
 #[test]
 fn inputs_are_taken(rt: HostRuntime) -> Result<(), Fail> {
     for (input, wanted) in INPUTS {
-        let taken = taken_of(&rt, rt.alloc(), input)?;
-        expect_taken(&rt, taken.as_slice(), wanted);
+        expect_input(&rt, rt.alloc(), input, wanted)?;
     }
     Ok(())
 }
 
-/// If the caller names a form, the block of that form is returned, even if it is refused. If the caller asks for octets,
-/// the input is taken as it stands, even if it looks like base64.
+/// If the caller names a form, the block of that form is returned, even if it is refused.
 #[test]
-fn forms_may_be_named(rt: HostRuntime) -> Result<(), Fail> {
+fn a_form_may_be_named(rt: HostRuntime) -> Result<(), Fail> {
     let taken = take_as(rt.alloc(), Form::Hex, b"30 03 zz")?;
     let refused: Want<'_> = (
         TakenFor::Text(Form::Hex),
@@ -107,6 +117,12 @@ fn forms_may_be_named(rt: HostRuntime) -> Result<(), Fail> {
         BlockState::Refused(1),
     );
     expect_taken(&rt, taken.as_slice(), &[refused]);
+    Ok(())
+}
+
+/// If the caller asks for octets, the input is taken as it stands, even if it looks like base64.
+#[test]
+fn octets_may_be_named(rt: HostRuntime) -> Result<(), Fail> {
     let octets = Vec::from_slice(rt.alloc(), b"MAMCAQU=")?;
     let taken = take_octets(rt.alloc(), octets)?;
     let whole: Want<'_> = (
