@@ -2,9 +2,8 @@
 use crate::expect::expect_eq;
 use std::test::Fail;
 use tlv_mend::{
-    OctetChange, TextChange, WrongLength, latin1_of_utf8, laws, next_record, next_start,
-    octet_change, text_change, undone_line_ends, undone_utf8, write_remedies, write_wrong_length,
-    wrong_length,
+    OctetChange, TextChange, latin1_of_utf8, laws, next_record, next_start, octet_change,
+    text_change, undone_line_ends, undone_utf8, write_remedies, write_wrong_length,
 };
 use tlv_walk::{Framing, MemDrain};
 
@@ -16,18 +15,6 @@ const ONE_MISSING: &[u8] = b"\x30\x06\x02\x02\x01\x05\x00";
 
 /// Three records. In the second a header is refused, and a constructed element follows that header.
 const RECORDS: &[u8] = b"\x30\x03\x02\x01\x05\x30\x06\xa0\x04\x04\xff\x30\x00\x30\x03\x02\x01\x07";
-
-#[test]
-fn a_wrong_length_is_found(rt: HostRuntime) -> Result<(), Fail> {
-    let found = wrong_length(rt.alloc(), TOO_LONG, &Framing::plain(), &[2, 0])?;
-    let want = WrongLength {
-        offset: 2,
-        said: 2,
-        would: 1,
-    };
-    expect_eq(&rt, found, Some(want));
-    Ok(())
-}
 
 #[test]
 fn a_missing_octet_is_found(rt: HostRuntime) -> Result<(), Fail> {

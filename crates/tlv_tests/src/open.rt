@@ -2,18 +2,11 @@
 use crate::expect::expect_eq;
 use crate::inputs::element_at;
 use std::test::Fail;
-use tlv_open::{broken_line, holds_encodings, opened, strings_of};
+use tlv_open::{broken_line, holds_encodings, strings_of};
 
 /// A string that holds a string, the value of an extension that is broken, and a string that holds a NULL.
 const INPUT: &[u8] =
     b"\x04\x04\x04\x02\x05\x00\x30\x0a\x06\x03\x55\x1d\x0f\x04\x03\x03\x02\x05\x04\x02\x05\x00";
-
-#[test]
-fn strings_are_opened(rt: HostRuntime) -> Result<(), Fail> {
-    let offsets = opened(rt.alloc(), INPUT, false)?;
-    expect_eq(&rt, offsets.as_slice(), &[0, 2, 18]);
-    Ok(())
-}
 
 #[test]
 fn a_string_is_broken(rt: HostRuntime) -> Result<(), Fail> {

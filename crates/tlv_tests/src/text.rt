@@ -17,13 +17,6 @@ fn expect_decoded(rt: &impl Abort, got: &Decoded, octets: &[u8], refused: Option
 }
 
 #[test]
-fn pairs_are_decoded(rt: HostRuntime) -> Result<(), Fail> {
-    let pairs = decode_pairs(rt.alloc(), b"30 03 zz 02")?;
-    expect_decoded(&rt, &pairs, b"\x30\x03", Some(6));
-    Ok(())
-}
-
-#[test]
 fn base64_is_decoded(rt: HostRuntime) -> Result<(), Fail> {
     let base64 = decode_base64(rt.alloc(), Alphabet::UrlSafe, b"-_-_*")?;
     expect_decoded(&rt, &base64, b"\xfb\xff\xbf", Some(4));
