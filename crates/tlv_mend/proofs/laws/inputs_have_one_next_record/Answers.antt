@@ -1,5 +1,0 @@
-use Rattle.tlv_mend.proofs.RecordLemmas.{next-one}
-use Rattle.tlv_mend.proofs.laws.inputs_have_one_next_record.Goals as goal
-
-pub returns : goal.returns
-returns c = next-one

@@ -1,5 +1,0 @@
-use Rattle.tlv_mend.proofs.LawLemmas.{header-said}
-use Rattle.tlv_mend.proofs.laws.other_lengths_make_headers.Goals as goal
-
-pub returns : goal.returns
-returns c = header-said

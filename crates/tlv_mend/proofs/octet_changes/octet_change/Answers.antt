@@ -1,5 +1,0 @@
-use Rattle.tlv_mend.specs.OneOctet.{another_length}
-use Rattle.tlv_mend.proofs.octet_changes.octet_change.Goals as goal
-
-pub returns-in-Some : goal.returns-in-Some
-returns-in-Some c = rw c.in-Some.is (another_length _)

@@ -1,0 +1,14 @@
+pub mod PartLemmas
+pub mod FilledLemmas
+pub mod ShownLemmas
+pub mod TrackLemmas
+pub mod FirstLemmas
+pub mod LengthLemmas
+pub mod OctetLemmas
+pub mod OutermostLemmas
+pub mod RecordLemmas
+pub mod MovedElements
+pub mod SoundLemmas
+pub mod StartLemmas
+pub mod TextLemmas
+pub mod LawLemmas

@@ -1,0 +1,2 @@
+pub mod ShownValues
+pub mod ShownSentences

@@ -1,0 +1,13 @@
+use Rattle.std.proofs.Common.{◌≡◌, rules}
+use Rattle.std.specs.Option.{option_map}
+use Rattle.tlv_reasons.specs.declared.sentence.Sentence.TheVariants as say
+use Rattle.tlv_reasons.proofs.mend.remedy_sentences.Goals as goal
+
+pub returns-clause-sentences : goal.returns-clause-sentences
+returns-clause-sentences c =
+    let wrong : c.map.result ≡ option_map (λ w. say.OtherLength w) c.args.wrong = search rules in
+    let octet : c.map-2.result ≡ option_map (λ o. say.OneOctet o) c.args.octet = search rules in
+    let change : c.map-3.result ≡ option_map (λ t. say.TextChanged t) c.args.change = search rules in
+    let start : c.map-4.result ≡ option_map (λ n. say.ParsesFrom n) c.args.start = search rules in
+    let next : c.map-5.result ≡ option_map (λ n. say.NextRecord n) c.args.next = search rules in
+    rw (wrong, octet, change, start, next) at c.said.ensures.said

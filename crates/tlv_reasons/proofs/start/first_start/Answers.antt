@@ -1,0 +1,11 @@
+use Rattle.std.proofs.Common.{arith}
+use Rattle.tlv_reasons.proofs.start.first_start.Goals as goal
+
+pub returns-then-is_start : goal.returns-then-is_start
+returns-then-is_start c = (
+  record { low = omega arith; high = omega arith; before = c.loop-offset.invariant },
+  c.is_start.ensures.0 c.if-is_start.true,
+)
+
+pub returns : goal.returns
+returns c = λ k low high. c.loop-offset.invariant k low (omega arith)

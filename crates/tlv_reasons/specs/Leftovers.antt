@@ -1,0 +1,39 @@
+-- The sentences about the octets after the last whole encoding.
+use Rattle.std.specs.Prelude.{ℕ, ◌-◌, Bool, ◌&&◌, ◌||◌, not, eqb, nat_lt, if◌then◌else◌, List, [], ◌∷◌}
+use Rattle.std.specs.Prelude.{drop, length, slice_index}
+use Rattle.std.specs.List.{list_all}
+use Rattle.tlv_reasons.specs.declared.sentence.Sentence.{Sentence}
+use Rattle.tlv_reasons.specs.declared.sentence.Sentence.TheVariants as say
+
+-- what is left over where whole encodings end, if there are any: `left` octets, from the offset `top` on
+abbrev pub left_over : ℕ → ℕ → List Sentence
+left_over top left = if eqb top 0 then [] else say.LeftOver top left ∷ say.TryWhole top ∷ []
+
+-- a blank octet: a space, HT, LF, CR or SUB
+abbrev pub is_blank_octet : ℕ → Bool
+is_blank_octet x = eqb x 0x20 || eqb x 9 || eqb x 10 || eqb x 13 || eqb x 0x1a
+
+-- blank octets alone
+abbrev pub are_blank_octets : List ℕ → Bool
+are_blank_octets octets = list_all is_blank_octet octets
+
+-- all octets equal this one
+abbrev pub are_all : ℕ → List ℕ → Bool
+are_all octet octets = list_all (λ x. eqb x octet) octets
+
+-- two or more equal octets other than 00
+abbrev pub are_filler : List ℕ → Bool
+are_filler octets =
+    nat_lt 1 (length octets) && not (eqb (slice_index octets 0) 0)
+    && are_all (slice_index octets 0) octets
+
+-- there are whole encodings, and only blanks or filler follow them
+abbrev pub is_followed_by_filler : List ℕ → ℕ → Bool
+is_followed_by_filler octets top =
+    nat_lt 0 top && nat_lt top (length octets)
+    && (are_blank_octets (drop top octets) || are_filler (drop top octets))
+
+abbrev pub following_reasons : List ℕ → ℕ → List Sentence
+following_reasons octets top =
+    (if are_blank_octets (drop top octets) then say.BlanksFollow top (length octets - top)
+    else say.FillerFollows top (length octets - top)) ∷ say.TryWhole top ∷ []

@@ -1,0 +1,110 @@
+-- Where the next record begins in a file of records, one of which is damaged: X.690 8.1.1.
+use Rattle.std.specs.Prelude.{◌≡◌, ◌==◌, ℕ, ◌+◌, ◌-◌, ◌*◌, ◌<◌, ◌≤◌, Bool, true, false, ◌||◌, if◌then◌else◌, List, []}
+use Rattle.std.specs.Prelude.{◌∷◌, ◌++◌, length, take, drop, Option, None, Some, slice_index}
+use Rattle.std.specs.List.{filter, list_any}
+use Rattle.tlv_head.specs.declared.fault.FaultCode.{FaultCode}
+use Rattle.tlv_head.specs.Header.{HeaderValue, definite_length}
+use Rattle.tlv_head.specs.Refusal.{BeginsWith}
+use Rattle.tlv_reasons.specs.declared.lengths.WrongLength.{WrongLength}
+use Rattle.tlv_reasons.specs.FirstOf.{IsFirstWithin}
+use Rattle.tlv_reasons.specs.NextStart.{IsStart}
+use Rattle.tlv_reasons.specs.OneOctet.{contents_start}
+use Rattle.tlv_reasons.specs.WrongLength.{search_limit}
+use Rattle.tlv_open.specs.Opens.{closed_framing}
+use Rattle.tlv_walk.specs.Ending.{IsEnding, fault_ending}
+
+-- ---- the damaged element
+
+-- 8.1.3.3: the end of the element at this offset, if its length is definite, and the end is in the input, at its end,
+-- or one octet after it
+pub data EndsNear (octets : List ℕ) (offset : ℕ) : Option ℕ → Type 0 where
+  at : (h : HeaderValue) (n : ℕ) → BeginsWith (drop offset octets) offset false h → definite_length h.size ≡ Some n
+      → contents_start h + n ≤ length octets + 1 → EndsNear octets offset (Some (contents_start h + n))
+  nowhere : ((h : HeaderValue) (n : ℕ) → BeginsWith (drop offset octets) offset false h
+      → definite_length h.size ≡ Some n → length octets + 1 < contents_start h + n)
+      → EndsNear octets offset None
+
+-- ---- the offsets that are tried
+
+-- records mostly begin with the same octet: with the octet at this offset, or with the first one of the input
+abbrev pub is_alike : List ℕ → ℕ → ℕ → Bool
+is_alike octets offset x = (x == slice_index octets offset) || (x == slice_index octets 0)
+
+-- the offsets of the octets for which p holds, among octets the first of which has the given offset
+abbrev pub offsets_where : (ℕ → Bool) → ℕ → List ℕ → List ℕ
+offsets_where p offset [] = []
+offsets_where p offset (x ∷ more) =
+    if p x then offset ∷ offsets_where p (offset + 1) more else offsets_where p (offset + 1) more
+
+-- no more offsets are tried: a limit of our own
+abbrev pub record_tries : ℕ
+record_tries = 1024
+
+-- the offsets after this one at which such an octet stands
+abbrev pub alike_offsets : List ℕ → ℕ → List ℕ
+alike_offsets octets offset =
+    take record_tries (offsets_where (is_alike octets offset) (offset + 1) (drop (offset + 1) octets))
+
+-- the end of the damaged element, or one octet before or after it, since an octet may be missing or have been put in
+abbrev pub near_end : ℕ → List ℕ
+near_end end = end ∷ (end - 1) ∷ (end + 1) ∷ []
+
+-- the input ends near the end of the damaged element: that is the last record
+abbrev pub ends_near_input : List ℕ → ℕ → Bool
+ends_near_input octets end = list_any (λ n. n == length octets) (near_end end)
+
+-- the offsets near the end at which such an octet stands
+abbrev pub alike_near : List ℕ → ℕ → ℕ → List ℕ
+alike_near octets offset end = filter (λ n. is_alike octets offset (slice_index octets n)) (near_end end)
+
+-- the offsets that are tried, given the end of the damaged element: those near the end, and then those after its start.
+-- None is tried if it is the last record
+abbrev pub tried_offsets : List ℕ → ℕ → Option ℕ → List ℕ
+tried_offsets octets offset None = alike_offsets octets offset
+tried_offsets octets offset (Some end) =
+    if ends_near_input octets end then [] else alike_near octets offset end ++ alike_offsets octets offset
+
+-- ---- how much is read for that
+
+-- the number of octets that a try at this offset reads in vain: those up to the fault of what stands there, if a
+-- constructed element begins there; else none
+pub data ReadsInVain (padding : Bool) (octets : List ℕ) (offset : ℕ) : ℕ → Type 0 where
+  up_to_fault : {count : ℕ} → (h : HeaderValue) → BeginsWith (drop offset octets) offset false h → h.constructed ≡ true
+      → (code : FaultCode) → IsEnding (closed_framing padding) (drop offset octets) (fault_ending code count)
+      → ReadsInVain padding octets offset count
+  nothing : ((h : HeaderValue) → BeginsWith (drop offset octets) offset false h → h.constructed ≡ false)
+      → ReadsInVain padding octets offset 0
+
+-- for each octet of the input the tries may read so many in vain: a limit of our own
+abbrev pub reads_for_each : ℕ
+reads_for_each = 16
+
+-- ---- the next record
+
+-- where the record after the damaged element begins, which is at this offset: at the first of the tried offsets at
+-- which a constructed element begins, and from which on the input is sound. Once the tries have read that much in vain,
+-- no other is made
+pub record IsRecordAfter (padding : Bool) (octets : List ℕ) (offset : ℕ) (found : Option ℕ) : Type 0 where
+  pub end : Option ℕ
+  pub ends : EndsNear octets offset end
+  pub first : IsFirstWithin (IsStart padding octets) (ReadsInVain padding octets) (reads_for_each * length octets)
+      (tried_offsets octets offset end) found
+
+-- another length is named for the element at this offset
+abbrev pub is_length_of : ℕ → Option WrongLength → Bool
+is_length_of offset None = false
+is_length_of offset (Some w) = w.offset == offset
+
+-- where the next record begins, after a damaged element at the offset `top`. None is looked for if another start was
+-- found, if no whole element stands in front, if another length is named for the damaged element, and in inputs that
+-- are not searched
+pub data IsNextRecord (padding : Bool) (octets : List ℕ) (top : ℕ) (wrong : Option WrongLength)
+    : Option ℕ → Option ℕ → Type 0 where
+  another_start : (start : ℕ) → IsNextRecord padding octets top wrong (Some start) None
+  none_in_front : top ≡ 0 → IsNextRecord padding octets top wrong None None
+  another_length : is_length_of top wrong ≡ true
+      → IsNextRecord padding octets top wrong None None
+  not_searched : search_limit < length octets → IsNextRecord padding octets top wrong None None
+  searched : {found : Option ℕ} → 0 < top → is_length_of top wrong ≡ false
+      → length octets ≤ search_limit → IsRecordAfter padding octets top found
+      → IsNextRecord padding octets top wrong None found

@@ -1,0 +1,4 @@
+pub mod Tracking
+pub mod Lengths
+pub mod Silence
+pub mod Sizes

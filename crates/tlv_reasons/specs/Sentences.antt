@@ -1,0 +1,217 @@
+-- The words of the sentences. Each ends with a line feed; some have two lines.
+use Rattle.std.specs.Prelude.{ℕ, ◌-◌, eqb, if◌then◌else◌, List, [], ◌∷◌, ◌++◌, codes, flat_map}
+use Rattle.tlv_head.specs.declared.fault.FaultCode.{FaultCode}
+use Rattle.tlv_head.specs.declared.fault.FaultCode.TheVariants.{IndefinitePrimitive, LengthTooLarge, ReservedLength}
+use Rattle.tlv_head.specs.declared.fault.FaultCode.TheVariants.{TagTooLong}
+use Rattle.tlv_reasons.specs.declared.kinds.FileKind.{FileKind}
+use Rattle.tlv_reasons.specs.declared.kinds.FileKind.TheVariants as kind
+use Rattle.tlv_reasons.specs.declared.octet_changes.OctetChange.TheVariants.{Missing, PutIn}
+use Rattle.tlv_reasons.specs.declared.sentence.Sentence.{Sentence}
+use Rattle.tlv_reasons.specs.declared.sentence.Sentence.TheVariants as say
+use Rattle.tlv_reasons.specs.declared.text_changes.TextChange.{TextChange}
+use Rattle.tlv_reasons.specs.declared.text_changes.TextChange.TheVariants.{LineEnds, Replaced, Utf8}
+use Rattle.tlv_reasons.specs.declared.value.Value.{Value}
+use Rattle.tlv_reasons.specs.declared.value.Value.TheVariants.{Broken, Code, Header, LackingZeros, Message, Name, Number}
+use Rattle.tlv_reasons.specs.declared.value.Value.TheVariants.{Octets, Pairs}
+use Rattle.tlv_reasons.specs.Elements.{offset_sum}
+use Rattle.tlv_reasons.specs.OpenHolders.{element_end}
+use Rattle.tlv_reasons.specs.Values.{value_text}
+
+-- the words about a header that is refused with this code: F06 to F09
+abbrev pub refused_header_words : FaultCode → List ℕ
+refused_header_words TagTooLong = codes "The header at offset % has more than nine octets of tag number:%.\n"
+refused_header_words ReservedLength =
+    codes "The header at offset % has the first length octet ff, which X.690 reserves:%.\n"
+refused_header_words IndefinitePrimitive =
+    codes "The header at offset % is that of a primitive, which cannot have the indefinite length:%.\n"
+refused_header_words LengthTooLarge = codes "The header at offset % announces a length of 2^40 or more:%.\n"
+refused_header_words code = codes "The header at offset %:%.\n"
+
+-- the words about what was done to an input as if it were a text
+abbrev pub text_change_words : TextChange → List ℕ
+text_change_words Utf8 =
+    codes "It was taken for a text in Latin-1 and written in UTF-8. "
+    ++ codes "Try: fetch it anew, in binary, or: iconv -f UTF-8 -t ISO-8859-1 FILE | tlvdump-show\n"
+text_change_words LineEnds =
+    codes "It was taken for a text: octets 0d were put in front of 0a. Try: fetch it anew, in binary.\n"
+text_change_words Replaced =
+    codes "It has the octets ef bf bd, with which programs replace what is no UTF-8: it was copied as a text. "
+    ++ codes "Try: fetch it anew, in binary.\n"
+
+-- the words about another kind of file
+abbrev pub file_kind_words : FileKind → List ℕ
+file_kind_words kind.Zip = codes "It begins as a ZIP file does: unpack it first.\n"
+file_kind_words kind.Gzip = codes "It begins as a file of gzip does. Try: gzip -dc FILE | tlvdump-show\n"
+file_kind_words kind.Bzip2 = codes "It begins as a file of bzip2 does. Try: bzip2 -dc FILE | tlvdump-show\n"
+file_kind_words kind.Pdf = codes "It begins as a PDF file does.\n"
+file_kind_words kind.Markup = codes "It begins with the character <, as XML and HTML do.\n"
+file_kind_words kind.OpenSsh = codes "It is a key of OpenSSH, which is no encoding by X.690.\n"
+file_kind_words kind.Utf16 =
+    codes "It begins as text in UTF-16 does. Try: iconv -f UTF-16 -t UTF-8 FILE | tlvdump-show\n"
+file_kind_words kind.Capture =
+    codes "It begins as a capture of packets (pcap) does: export the octets of a packet first.\n"
+file_kind_words kind.KeyStore =
+    codes "It begins as a key store of Java (JKS) does: export what you need first.\n"
+
+-- the words of a sentence, with % for each value, and the values
+abbrev pub words_of : Sentence → List ℕ × List Value
+words_of (say.Parses size) = (codes "It parses: %, which are whole encodings.\n", Octets size ∷ [])
+words_of (say.DoesNotParse fault) =
+    (codes "It does not parse: fault at %: % %.\n", Number fault.offset ∷ Code fault ∷ Message fault ∷ [])
+words_of (say.Breaks x) = (codes "The %.\n", Broken x ∷ [])
+words_of (say.LeftOver end left) =
+    (codes "Whole encodings end at offset %. Left over: %.\n", Number end ∷ Octets left ∷ [])
+words_of (say.BlanksFollow end left) = (
+  codes "Whole encodings end at offset %. The octets after them are line ends or spaces: %.\n",
+  Number end ∷ Number left ∷ [],
+)
+words_of (say.FillerFollows end left) = (
+  codes "Whole encodings end at offset %. The octets after them are% alone, as filler is: %.\n",
+  Number end ∷ Pairs end (offset_sum end 1) ∷ Number left ∷ [],
+)
+words_of (say.TryWhole end) = (codes "Try: head -c % FILE, for the whole encodings.\n", Number end ∷ [])
+-- F01
+words_of say.NoOctets = (codes "The input is empty.\n", [])
+words_of (say.ZerosAlone size) = (codes "The input has octets 00 alone: %.\n", Number size ∷ [])
+words_of say.TryWriter = (codes "Try: look whether the program that should write it failed.\n", [])
+-- F02
+words_of (say.EndsInHeader offset end) =
+    (codes "The input ends inside the header at offset %:%.\n", Number offset ∷ Pairs offset end ∷ [])
+words_of (say.EndsInPrimitive e end) = (
+  codes "The input ends inside the %. %\nMissing there: %.\n",
+  Name e ∷ Header e ∷ Octets (element_end e - end) ∷ [],
+)
+words_of (say.EndsBetweenZeros e) =
+    (codes "The input ends between the two octets 00 that end the %.\n", Name e ∷ [])
+words_of (say.EndsInHolder e) = (codes "The input ends inside the %. %\n", Name e ∷ Header e ∷ [])
+words_of (say.EndsWithInput e) = (
+  codes "The % ends with the input, at offset %: its length leaves no room for what is missing.\n",
+  Name e ∷ Number (element_end e) ∷ [],
+)
+words_of (say.EndsBehindInput e end) = (
+  codes "The outermost element of definite length that is not whole, the %, would end at offset %. "
+      ++ codes "Missing up to there: %.\n",
+  Name e ∷ Number (element_end e) ∷ Octets (element_end e - end) ∷ [],
+)
+words_of (say.NotEnded count) =
+    (codes "Elements with an indefinite length that are not ended: %; each needs two octets 00.\n", Number count ∷ [])
+words_of say.TryGreater =
+    (codes "Try: look for a length that is too small, or fetch the input anew, in binary.\n", [])
+words_of say.TryWholeCopy = (
+  codes "Try: fetch the input anew, since the copy was cut; or, where it is whole, "
+      ++ codes "look for a length that is too great.\n",
+  [],
+)
+-- F03
+words_of (say.BeginsWithZeros zeros) =
+    (codes "The input begins with octets 00: %. No element begins with such an octet.\n", Number zeros ∷ [])
+words_of (say.ZerosFollow end zeros left) = (
+  codes "Whole encodings end at offset %. Octets 00 follow: %. Left over: %.\n",
+  Number end ∷ Number zeros ∷ Octets left ∷ [],
+)
+words_of say.TryPadding = (codes "Try: --padding, which allows octets 00 between the encodings.\n", [])
+words_of (say.TryFront offset) =
+    (codes "Try: head -c % FILE, for what stands in front of them.\n", Number offset ∷ [])
+words_of (say.ZeroInside e offset) = (
+  codes "Inside the %, which ends at offset %, an element should begin at offset %. "
+      ++ codes "There is an octet 00, with which none begins. %\n"
+      ++ codes "Left over: %. Its length, or one in front of that offset, is wrong.\n",
+  Name e ∷ Number (element_end e) ∷ Number offset ∷ Header e ∷ Octets (element_end e - offset) ∷ [],
+)
+-- F04
+words_of (say.NoSecondZero e offset) = (
+  codes "At offset % the octets 00 00 should end the %, but the second is%. %\n",
+  Number (offset - 1) ∷ Name e ∷ Pairs offset (offset_sum offset 1) ∷ Header e ∷ [],
+)
+-- F05
+words_of (say.EndMissing e holder unfinished) = (
+  codes "The % is not ended where the % ends, at offset %. Missing there: %. % %\n",
+  Name e ∷ Name holder ∷ Number (element_end holder) ∷ LackingZeros unfinished ∷ Header e ∷ Header holder ∷ [],
+)
+-- F06 to F09
+words_of (say.RefusedHeader code offset refused) =
+    (refused_header_words code, Number offset ∷ Pairs offset (offset_sum refused 1) ∷ [])
+words_of say.NoEncoding =
+    (codes "No encoding begins so. Try: file FILE, which knows files of other kinds.\n", [])
+words_of (say.TryLook offset) = (
+  codes "Try: look at the element that ends at offset %, or begins there: its length may be wrong; "
+      ++ codes "or fetch the input anew, in binary.\n",
+  Number offset ∷ [],
+)
+-- F10
+words_of (say.TooDeep offset) =
+    (codes "At offset % element 129 would be open. The program holds 128.\n", Number offset ∷ [])
+words_of say.TryDeeper =
+    (codes "Try: tail -c +M FILE, where M is 1 and the offset of an element some levels deep.\n", [])
+-- F11
+words_of (say.HeaderPast offset holder) = (
+  codes "The header at offset % runs past the end of the %, which ends at offset %. %\nLeft over: %,%.\n",
+  Number offset ∷ Name holder ∷ Number (element_end holder) ∷ Header holder ∷ Octets (element_end holder - offset)
+      ∷ Pairs offset (element_end holder) ∷ [],
+)
+words_of (say.ElementPast offset e holder) = (
+  codes "The octet at offset % completes the header of the %. %\nIt would end at offset %, but the % ends at "
+      ++ codes "offset %. Missing there: %. %\n",
+  Number offset ∷ Name e ∷ Header e ∷ Number (element_end e) ∷ Name holder ∷ Number (element_end holder)
+      ∷ Octets (element_end e - element_end holder) ∷ Header holder ∷ [],
+)
+words_of say.OneOfTwo =
+    (codes "One of the two lengths is wrong, or octets between them are missing or were put in.\n", [])
+-- lengths in front
+words_of say.TryAnew = (
+  codes "Try: fetch the input anew, in binary; or go on at the next record, with tail -c +M FILE, "
+      ++ codes "where M is its offset and 1.\n",
+  [],
+)
+words_of (say.LengthInFront e) =
+    (codes "Or a length in front is wrong: that of the %. %\n", Name e ∷ Header e ∷ [])
+-- what would mend the input
+words_of (say.OtherLength w) = (
+  codes "If the header at offset % said % and not %, all would parse.\n",
+  Number w.offset ∷ Octets w.would ∷ Number w.said ∷ [],
+)
+words_of (say.OneOctet (Missing offset)) = (
+  codes "If one octet more stood after the header at offset %, all would parse: "
+      ++ codes "an octet of its contents may be missing.\n",
+  Number offset ∷ [],
+)
+words_of (say.OneOctet (PutIn offset)) = (
+  codes "If one octet fewer stood after the header at offset %, all would parse: "
+      ++ codes "an octet may have been put in there.\n",
+  Number offset ∷ [],
+)
+words_of (say.TextChanged change) = (text_change_words change, [])
+words_of (say.OtherKind kind) = (file_kind_words kind, [])
+-- other offsets: `tail` counts octets from 1
+words_of (say.ParsesFrom offset) = (
+  codes "From offset % on it parses: what stands in front may be a header of the file or of the record, or damaged. "
+      ++ codes "Try: tail -c +% FILE | tlvdump-show\n",
+  Number offset ∷ Number (offset_sum offset 1) ∷ [],
+)
+words_of (say.NextRecord offset) = (
+  codes "From offset % on it parses: the next record may begin there. Try: tail -c +% FILE | tlvdump-show\n",
+  Number offset ∷ Number (offset_sum offset 1) ∷ [],
+)
+
+-- what stands for an octet of the words, if these values come next: for % the first of them
+abbrev pub octet_or_value : List ℕ → ℕ → List Value → List ℕ
+octet_or_value octets x [] = x ∷ []
+octet_or_value octets x (v ∷ vs) = if eqb x 0x25 then value_text octets v else x ∷ []
+
+-- the values that come then
+abbrev pub values_after : ℕ → List Value → List Value
+values_after x [] = []
+values_after x (v ∷ vs) = if eqb x 0x25 then vs else v ∷ vs
+
+-- the words with the values in them
+abbrev pub filled : List ℕ → List ℕ → List Value → List ℕ
+filled octets [] vs = []
+filled octets (x ∷ words) vs = octet_or_value octets x vs ++ filled octets words (values_after x vs)
+
+-- the text of a sentence about these octets
+unfoldable pub sentence_text : List ℕ → Sentence → List ℕ
+sentence_text octets s = filled octets (words_of s).0 (words_of s).1
+
+-- the text of sentences, one after another
+abbrev pub text_of : List ℕ → List Sentence → List ℕ
+text_of octets sentences = flat_map (sentence_text octets) sentences

@@ -1,0 +1,47 @@
+//! Why octets do not parse (ITU-T X.690), and what may be done, in sentences: the fault and the headers around it; which
+//! other length, or one octet more or fewer, would make an input sound; what a program did to it as to a text; and from
+//! which offset on it is sound.
+#![tactic(auto)]
+
+mod element;
+mod facts;
+mod facts_call;
+mod fault_reasons;
+mod holders;
+mod kinds;
+pub mod laws;
+mod leftovers;
+mod length_octets;
+mod lengths;
+mod mend;
+mod octet_changes;
+mod outermost;
+mod records;
+mod sentence;
+mod silence;
+mod sound;
+mod start;
+mod suspects;
+mod text_changes;
+mod text_copies;
+mod tracker;
+mod value;
+mod why;
+mod words;
+mod write;
+
+pub use element::Element;
+pub use facts::{Facts, Unfinished};
+pub use facts_call::facts_of;
+pub use fault_reasons::Reasons;
+pub use kinds::{FileKind, file_kind};
+pub use lengths::{SEARCH_LIMIT, WrongLength, wrong_length};
+pub use mend::{all_reasons, remedies, string_reasons};
+pub use octet_changes::{OctetChange, octet_change};
+pub use records::next_record;
+pub use sentence::Sentence;
+pub use start::next_start;
+pub use text_changes::{TextChange, text_change};
+pub use text_copies::{latin1_of_utf8, undone_line_ends, undone_utf8};
+pub use why::{first_sentence, reasons_of};
+pub use write::write_sentences;

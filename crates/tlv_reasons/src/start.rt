@@ -1,0 +1,169 @@
+//! Where else encodings begin in an input.
+ghost use Rattle.std.specs.Option.{option_map_or};
+ghost use Rattle.std.specs.Prelude.{◌≡◌, ◌≤◌, ◌+◌, ◌↔◌, IfSome, IsTrue, Some, false, length, min, take, ℕ};
+ghost use Rattle.std.specs.Str.TwoWay.{IsFirst};
+ghost use Rattle.tlv_head.specs.declared.fault.FaultCode.TheVariants.{StrayEnd};
+ghost use Rattle.tlv_head.specs.declared.header.Size.TheVariants.{Definite, Indefinite};
+ghost use Rattle.tlv_head.specs.Header.{definite_length};
+ghost use Rattle.tlv_head.specs.Limits.{input_limit};
+ghost use Rattle.tlv_reasons.specs.NextStart.{BeginsWithEncodings, IsNextStart, IsStart, SeemsRight};
+ghost use Rattle.tlv_open.specs.Opens.{closed_framing};
+ghost use Rattle.tlv_walk.specs.Ending.{IsEnding, fault_ending};
+ghost use Rattle.tlv_walk.specs.Reading.{IsSoundList};
+
+use crate::sound::is_sound;
+use tlv_head::{Size, read_header};
+use tlv_open::ending_of;
+use tlv_walk::Ending;
+
+/// The greatest offset at which encodings are looked for, in octets from the start of the input.
+const START_LIMIT: usize = 64;
+
+/// The offset from which the input is sound, in octets from its start: the first offset from 1 to 64 where this holds
+/// and a constructed element begins. `None` if there is no such offset, or if the first element of the input seems
+/// right: it ends with the input, or it is constructed and its contents begin with whole encodings. With `padding`,
+/// octets `00` are allowed between encodings and after them.
+pub fn next_start(octets: &[u8], padding: bool) -> Option<usize>
+    requires { length octets.now ≤ input_limit }
+    ensures { IsNextStart padding octets.now result }
+{
+    if seems_right(octets) {
+        None
+    } else {
+        first_start(octets, padding)
+    }
+}
+
+/// The first offset from 1 to 64 from which the input is sound, and where a constructed element begins.
+fn first_start(octets: &[u8], padding: bool) -> Option<usize>
+    requires { length octets.now ≤ input_limit }
+    ensures { IsFirst (IsStart padding octets.now) 1 (min 65 (length octets.now)) result }
+{
+    let end = octets.len().min(START_LIMIT + 1);
+    for offset in 1..end {
+        if is_start(octets, offset, padding) {
+            return Some(offset);
+        }
+    }
+    None
+}
+
+/// Whether the input is sound from this offset on, and a constructed element begins there.
+fn is_start(octets: &[u8], offset: usize, padding: bool) -> bool
+    requires limit { length octets.now ≤ input_limit }
+    requires within { offset ≤ length octets.now }
+    ensures { IsTrue result ↔ IsStart padding octets.now offset }
+{
+    let rest = &octets[offset..];
+    match read_header(offset as u64, false, rest) {
+        Some((fields, _)) => fields.constructed && is_sound(rest, padding),
+        None => false,
+    }
+}
+
+/// Whether the first element of the input ends with the input, or is constructed and its contents begin with whole
+/// encodings.
+fn seems_right(octets: &[u8]) -> bool
+    requires { length octets.now ≤ input_limit }
+    ensures { IsTrue result ↔ SeemsRight octets.now }
+{
+    match read_header(0, false, octets) {
+        Some((fields, count)) => {
+            let after = &octets[count..];
+            ends_with(fields.size, after)
+                || fields.constructed && begins_with_encodings(contents_among(fields.size, after))
+        }
+        None => false,
+    }
+}
+
+/// Whether contents of this length are exactly these octets.
+fn ends_with(size: Size, after: &[u8]) -> bool
+    ensures { IsTrue result ↔ (definite_length size ≡ Some (length after.now)) }
+{
+    match size {
+        Size::Definite(length) => length == after.len() as u64,
+        Size::Indefinite => false,
+    }
+}
+
+/// The octets after a header that are contents, by the length in the header.
+fn contents_among(size: Size, after: &[u8]) -> &[u8]
+    ensures contents { result.now ≡ option_map_or (λ n. take n after.now) (definite_length size) after.now }
+    ensures within { length result.now ≤ length after.now }
+{
+    match size {
+        Size::Definite(length) if length < after.len() as u64 => &after[..length as usize],
+        _ => after,
+    }
+}
+
+/// Whether the octets begin with one or more whole encodings.
+fn begins_with_encodings(octets: &[u8]) -> bool
+    requires { length octets.now ≤ input_limit }
+    ensures { IsTrue result ↔ BeginsWithEncodings octets.now }
+{
+    match first_size(octets) {
+        Some(size) => is_sound(&octets[..size], false),
+        None => false,
+    }
+}
+
+/// The number of octets of the encoding with which the octets begin, if they begin with one.
+fn first_size(octets: &[u8]) -> Option<usize>
+    requires { length octets.now ≤ input_limit }
+    ensures within { IfSome result (λ n. n ≤ length octets.now) }
+    ensures size { BeginsWithEncodings octets.now
+        → (n : ℕ) × (result ≡ Some n) × IsSoundList (closed_framing false) (take n octets.now) }
+{
+    let Some((fields, count)) = read_header(0, false, octets) else {
+        return None;
+    };
+    let Some(size) = contents_size(fields.size, &octets[count..]) else {
+        return None;
+    };
+    Some(count + size)
+}
+
+/// The number of octets of the contents and their end, by the length in the header. The octets begin with the contents.
+fn contents_size(size: Size, after: &[u8]) -> Option<usize>
+    requires { length after.now ≤ input_limit }
+    ensures within { IfSome result (λ n. n ≤ length after.now) }
+    ensures definite { (n : ℕ) → size ≡ Definite n → n ≤ length after.now → result ≡ Some n }
+    ensures indefinite { (n : ℕ) → size ≡ Indefinite
+        → IsEnding (closed_framing false) after.now (fault_ending StrayEnd n)
+        → n + 2 ≤ length after.now → result ≡ Some (n + 2) }
+{
+    match size {
+        Size::Definite(length) => definite_size(length, after),
+        Size::Indefinite => indefinite_size(after),
+    }
+}
+
+/// The length of the contents, if these octets hold all of them.
+fn definite_size(size: u64, after: &[u8]) -> Option<usize>
+    ensures within { IfSome result (λ n. n ≤ length after.now) }
+    ensures size { size ≤ length after.now → result ≡ Some size }
+{
+    if size <= after.len() as u64 {
+        Some(size as usize)
+    } else {
+        None
+    }
+}
+
+/// The number of octets of the contents in the indefinite form, with their end. The octets begin with the contents;
+/// read by themselves, they break at the first of the end-of-contents octets.
+fn indefinite_size(after: &[u8]) -> Option<usize>
+    requires { length after.now ≤ input_limit }
+    ensures within { IfSome result (λ n. n ≤ length after.now) }
+    ensures size { (n : ℕ) → IsEnding (closed_framing false) after.now (fault_ending StrayEnd n)
+        → n + 2 ≤ length after.now → result ≡ Some (n + 2) }
+{
+    match ending_of(after, false) {
+        Ending::Fault(fault) if fault.offset < after.len() as u64 => {
+            definite_size(fault.offset + 2, after)
+        }
+        _ => None,
+    }
+}

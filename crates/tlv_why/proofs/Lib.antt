@@ -1,3 +1,0 @@
-pub mod PartLemmas
-pub mod ShownLemmas
-pub mod TrackLemmas

@@ -1,7 +1,0 @@
-use Rattle.std.proofs.Common.{append_assoc}
-use Rattle.tlv_why.specs.HeaderFaultLines.{header_past_line}
-use Rattle.tlv_why.proofs.header_faults.put_header_past_line.Goals as goal
-
-pub returns : goal.returns
-unfolding header_past_line
-returns g c = simp append_assoc c.put_parts.ensures
