@@ -1,18 +1,19 @@
 //! Examples of how to explain octets that do not parse.
 use crate::expect::expect_eq;
 use std::test::Fail;
-use tlv_mend::{WrongLength, wrong_length};
+use tlv_reasons::{WrongLength, facts_of, first_sentence, write_sentences, wrong_length};
 use tlv_walk::{Framing, MemDrain};
-use tlv_why::{facts_of, write_why};
 
-/// tlv_why: writes whether octets parse, and otherwise why they do not.
+/// tlv_reasons: writes whether octets parse.
 #[test]
 fn say_why_octets_do_not_parse(rt: HostRuntime) {
     let octets = b"\x05\x00";
     let mut room = [0; 128];
     let mut drain = MemDrain::new(&mut room, 128);
     let facts = facts_of(octets, &Framing::plain());
-    expect_eq(&rt, write_why(octets, &facts, &mut drain).is_ok(), true);
+    let first = first_sentence(octets, &facts);
+    let sent = write_sentences(octets, &[first], &mut drain);
+    expect_eq(&rt, sent.is_ok(), true);
     expect_eq(
         &rt,
         drain.written(),
@@ -20,7 +21,7 @@ fn say_why_octets_do_not_parse(rt: HostRuntime) {
     );
 }
 
-/// tlv_mend: finds the length to correct. The INTEGER at offset 2 has a length of 2 but only one contents octet.
+/// tlv_reasons: finds the length to correct. The INTEGER at offset 2 has a length of 2 but only one contents octet.
 #[test]
 fn find_the_wrong_length(rt: HostRuntime) -> Result<(), Fail> {
     let octets = b"\x30\x03\x02\x02\x01";

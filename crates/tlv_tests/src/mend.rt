@@ -1,9 +1,10 @@
-//! Tests of `tlv_mend`: the single changes that would make an input parse.
+//! Tests of `tlv_reasons`: the single changes that would make an input parse.
 use crate::expect::expect_eq;
 use std::test::Fail;
-use tlv_mend::{
-    OctetChange, TextChange, latin1_of_utf8, laws, next_record, next_start, octet_change,
-    text_change, undone_line_ends, undone_utf8, write_remedies, write_wrong_length,
+use tlv_reasons::{
+    FileKind, OctetChange, Reasons, TextChange, all_reasons, facts_of, file_kind, latin1_of_utf8,
+    laws, next_record, next_start, octet_change, remedies, string_reasons, text_change,
+    undone_line_ends, undone_utf8, write_sentences,
 };
 use tlv_walk::{Framing, MemDrain};
 
@@ -54,24 +55,42 @@ fn another_start_is_found(rt: HostRuntime) {
 
 const LENGTH: &[u8] = b"If the header at offset 2 said 1 octet and not 2, all would parse.\n";
 
-#[test]
-fn remedies_are_written(rt: HostRuntime) -> Result<(), Fail> {
-    let mut room = [0; 256];
+/// Writes these sentences about [`TOO_LONG`], and checks that this line is the last one.
+fn expect_last(rt: &HostRuntime, reasons: &Reasons, line: &[u8]) {
+    let mut room = [0; 1024];
     let mut drain = MemDrain::new(&mut room, 5);
-    let sent = write_remedies(rt.alloc(), TOO_LONG, false, &[2, 0], 0, &mut drain)?;
-    expect_eq(&rt, sent, Ok(()));
-    expect_eq(&rt, drain.written(), LENGTH);
+    let sent = write_sentences(TOO_LONG, reasons.as_slice(), &mut drain);
+    expect_eq(rt, sent, Ok(()));
+    expect_eq(rt, drain.written().ends_with(line), true);
+}
+
+#[test]
+fn all_reasons_are_found(rt: HostRuntime) -> Result<(), Fail> {
+    let facts = facts_of(TOO_LONG, &Framing::plain());
+    let reasons = all_reasons(rt.alloc(), TOO_LONG, false, &facts)?;
+    expect_last(&rt, &reasons, LENGTH);
+    let remedies = remedies(rt.alloc(), TOO_LONG, false, &[2, 0], 0)?;
+    expect_eq(&rt, remedies.len(), 1);
+    expect_last(&rt, &remedies, LENGTH);
     Ok(())
 }
 
 #[test]
-fn a_wrong_length_is_written(rt: HostRuntime) -> Result<(), Fail> {
+fn another_kind_of_file_is_the_only_reason(rt: HostRuntime) -> Result<(), Fail> {
+    let gzip = b"\x1f\x8b\x08";
+    expect_eq(&rt, file_kind(gzip), Some(FileKind::Gzip));
+    let facts = facts_of(gzip, &Framing::plain());
+    let reasons = all_reasons(rt.alloc(), gzip, false, &facts)?;
+    expect_eq(&rt, reasons.len(), 1);
+    Ok(())
+}
+
+#[test]
+fn the_length_that_mends_a_string_is_found(rt: HostRuntime) -> Result<(), Fail> {
     let plain = Framing::plain();
-    let mut room = [0; 256];
-    let mut drain = MemDrain::new(&mut room, 5);
-    let sent = write_wrong_length(rt.alloc(), TOO_LONG, &plain, &[2, 0], &mut drain)?;
-    expect_eq(&rt, sent, Ok(()));
-    expect_eq(&rt, drain.written(), LENGTH);
+    let facts = facts_of(TOO_LONG, &plain);
+    let reasons = string_reasons(rt.alloc(), TOO_LONG, &plain, 0, &facts)?;
+    expect_last(&rt, &reasons, LENGTH);
     Ok(())
 }
 
@@ -81,5 +100,5 @@ fn the_laws_may_be_called(_rt: HostRuntime) {
     laws::inputs_have_one_octet_change();
     laws::inputs_have_one_next_record();
     laws::other_lengths_make_headers();
-    laws::remedies_are_shown();
+    laws::sentences_are_shown();
 }

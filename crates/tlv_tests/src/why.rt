@@ -1,9 +1,9 @@
-//! Tests of `tlv_why`: the reasons why octets do not parse.
+//! Tests of `tlv_reasons`: the reasons why octets do not parse.
 use crate::expect::{expect_eq, expect_eq_of};
 use crate::inputs::framing_of;
 use tlv_head::{Class, Fault, FaultCode, Size};
+use tlv_reasons::{Element, Unfinished, facts_of, first_sentence, reasons_of, write_sentences};
 use tlv_walk::{Framing, MemDrain, WriteFault};
-use tlv_why::{Element, Unfinished, facts_of, laws, write_reasons, write_why};
 
 /// Returns an element with a header of two octets and a definite length.
 fn element(offset: u64, number: u64, size: u64) -> Element {
@@ -56,7 +56,8 @@ fn a_named_string_is_read(rt: HostRuntime) {
     expect_eq(&rt, facts.fault, Some(overrun));
     let mut room = [0; 1024];
     let mut drain = MemDrain::new(&mut room, 7);
-    let sent = write_reasons(BROKEN_STRING, &facts, &mut drain);
+    let reasons = reasons_of(BROKEN_STRING, &facts);
+    let sent = write_sentences(BROKEN_STRING, reasons.as_slice(), &mut drain);
     expect_eq(&rt, sent, Ok(()));
     expect_eq(&rt, drain.written(), REASONS);
 }
@@ -66,12 +67,8 @@ fn a_failed_write_is_returned(rt: HostRuntime) {
     let mut room = [0; 5];
     let mut drain = MemDrain::new(&mut room, 7);
     let facts = facts_of(BROKEN_STRING, &Framing::plain());
-    let sent = write_why(BROKEN_STRING, &facts, &mut drain);
+    let first = first_sentence(BROKEN_STRING, &facts);
+    let sent = write_sentences(BROKEN_STRING, &[first], &mut drain);
     expect_eq(&rt, sent, Err(WriteFault));
     expect_eq(&rt, drain.written(), b"It pa");
-}
-
-#[test]
-fn the_law_may_be_called(_rt: HostRuntime) {
-    laws::lines_are_shown();
 }

@@ -10,14 +10,15 @@ use Rattle.tlv_show.specs.declared.rules.Rules.TheVariants.{Ber, Der}
 use Rattle.tlv_open.specs.Opens.{closed_framing}
 use Rattle.tlv_open.specs.declared.strings.BrokenString.{BrokenString}
 use Rattle.tlv_run.specs.Report.{ReportValue, device_report, report_with}
-use Rattle.tlv_why.specs.Facts.{AreFacts}
-use Rattle.tlv_why.specs.Why.{first_why_line, why_lines}
-use Rattle.tlv_why.specs.declared.facts.Facts.{Facts}
+use Rattle.tlv_reasons.specs.Facts.{AreFacts}
+use Rattle.tlv_reasons.specs.Sentences.{text_of}
+use Rattle.tlv_reasons.specs.Why.{first_sentence}
+use Rattle.tlv_reasons.specs.declared.facts.Facts.{Facts}
 use Rattle.tlv_view_program.specs.ReadWhole.{input_report}
 use Rattle.tlv_view_program.specs.declared.input.InputFault.TheVariants.{Memory}
 use Rattle.tlv_view_program.specs.Views.{AreBrokenUnless, Views}
 use Rattle.tlv_view_program.specs.declared.view_call.View.TheVariants as view
-use Rattle.tlv_view_program.specs.WritesReasons.{ExplainsFirst, ExplainsOctets, Outcome}
+use Rattle.tlv_view_program.specs.WritesReasons.{ExplainsFirst, ExplainsOctets, Outcome, first_of}
 
 -- ---- octets that parse
 
@@ -63,18 +64,18 @@ explained_report status (Err error) = input_report Memory
 -- what is written and reported of octets, and which strings in them are reported as broken: a line for each case
 pub data ShowsReasons (closed padding : Bool) (table : NamesValue) (octets : List ℕ) (old new : DrainState)
     : ReportValue → List BrokenString → Type 0 where
-  -- they do not parse: the message of the fault; and the line of another kind of file, or the reasons and what may be
-  -- done
+  -- they do not parse: the message of the fault, and all reasons
   refused : (facts : Facts) (outcome : Outcome) → AreFacts (closed_framing padding) octets facts
       → facts.fault ≢ None
-      → ExplainsOctets padding octets facts (first_why_line octets facts) (why_lines octets facts) old new outcome
+      → ExplainsOctets padding octets facts (first_of true octets facts) old new outcome
       → ShowsReasons closed padding table octets old new (explained_report 2 outcome) []
   -- they parse: that they do, the findings, and why the first of the broken strings breaks
   parses : (facts : Facts) (ber der : ReportValue) (broken : List BrokenString) (outcome : Outcome)
       → AreFacts (closed_framing padding) octets facts → facts.fault ≡ None
       → ReportsFindings Ber closed padding table octets ber → ReportsFindings Der closed padding table octets der
       → AreBrokenUnless closed padding octets broken
-      → ExplainsParsing padding octets (why_lines octets facts ++ findings_line ber.message der.message) broken old new
+      → ExplainsParsing padding octets
+      (text_of octets (first_sentence octets facts ∷ []) ++ findings_line ber.message der.message) broken old new
       outcome
       → ShowsReasons closed padding table octets old new (explained_report ber.status outcome) broken
   -- they parse, but memory for finding what is in them is refused: nothing is written

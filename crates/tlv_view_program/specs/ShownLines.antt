@@ -13,7 +13,7 @@ use Rattle.tlv_text.specs.Taken.{TakenValue}
 use Rattle.tlv_run.specs.Report.{ReportValue}
 use Rattle.tlv_view_program.specs.Views.{Views}
 use Rattle.tlv_view_program.specs.declared.view_call.View.TheVariants as view
-use Rattle.tlv_why.specs.Laws.{AreShown}
+use Rattle.tlv_reasons.specs.Laws.{AreShown}
 use Rattle.tlv_program.specs.System.{Allows}
 use Rattle.tlv_program.specs.declared.program.NoWords.{NoWords}
 use Rattle.tlv_view_program.specs.declared.request.InputForm.{InputForm}

@@ -1,66 +1,46 @@
 -- Why octets do not parse, or a string in them, and what may be done: what is written about it.
-use Rattle.std.specs.Prelude.{◌≡◌, ◌≢◌, ◌<◌, ◌++◌, ⊤, ℕ, Bool, true, false, eqb, if◌then◌else◌, nat_le, nat_lt}
-use Rattle.std.specs.Prelude.{List, [], ◌∷◌, Option, Some, None, Result, Ok, Err, codes, map, take}
+use Rattle.std.specs.Prelude.{◌≡◌, ◌<◌, ◌++◌, ⊤, ℕ, Bool, true, false, eqb, if◌then◌else◌, nat_lt}
+use Rattle.std.specs.Prelude.{List, [], ◌∷◌, None, Result, Ok, Err}
 use Rattle.std.specs.List.{filter}
 use Rattle.std.specs.declared.alloc.AllocError.{AllocError}
 use Rattle.tlv_head.specs.Limits.{input_limit}
 use Rattle.tlv_io.specs.Device.{DrainState}
 use Rattle.tlv_io.specs.Out.{Sends}
 use Rattle.tlv_io.specs.declared.drain.WriteFault.{WriteFault}
-use Rattle.tlv_walk.specs.declared.framing.Framing.{Framing}
-use Rattle.tlv_open.specs.BrokenLine.{broken_line}
 use Rattle.tlv_open.specs.Laws.{opened_framing}
 use Rattle.tlv_open.specs.Opens.{AreOpened, closed_framing}
 use Rattle.tlv_open.specs.declared.strings.BrokenString.{BrokenString}
-use Rattle.tlv_mend.specs.Remedies.{AreRemedies, kind_line, length_line}
-use Rattle.tlv_mend.specs.WrongLength.{IsWrongLength}
-use Rattle.tlv_mend.specs.declared.lengths.WrongLength.{WrongLength}
-use Rattle.tlv_why.specs.Facts.{AreFacts}
-use Rattle.tlv_why.specs.Why.{reasons_of}
-use Rattle.tlv_why.specs.declared.element.Element.{Element}
-use Rattle.tlv_why.specs.declared.facts.Facts.{Facts}
+use Rattle.tlv_reasons.specs.Facts.{AreFacts}
+use Rattle.tlv_reasons.specs.FileKinds.{file_kind}
+use Rattle.tlv_reasons.specs.Remedies.{AreReasons, AreStringReasons}
+use Rattle.tlv_reasons.specs.Sentences.{text_of}
+use Rattle.tlv_reasons.specs.Suspects.{suspects_from}
+use Rattle.tlv_reasons.specs.Why.{first_sentence, reasons_of}
+use Rattle.tlv_reasons.specs.declared.facts.Facts.{Facts}
+use Rattle.tlv_reasons.specs.declared.sentence.Sentence.{Sentence}
+use Rattle.tlv_reasons.specs.declared.sentence.Sentence.TheVariants as say
 use Rattle.tlv_view_program.specs.declared.reasons.Explained.{Explained}
 use Rattle.tlv_view_program.specs.declared.reasons.Explained.TheVariants as what
 
--- ---- headers that may say a wrong length
-
-abbrev pub offset_there : Option Element → List ℕ
-offset_there None = []
-offset_there (Some e) = e.offset ∷ []
-
-abbrev pub element_offset : Element → ℕ
-element_offset e = e.offset
-
--- so many of the open elements are among them: a limit of our own
-abbrev pub open_tries : ℕ
-open_tries = 16
-
--- the offsets of headers whose length may be wrong, in the order in which they are tried: the refused header; the
--- headers of the elements before, the nearest first; the headers of the outermost open elements, outermost first
-abbrev pub suspect_offsets : Facts → List ℕ
-suspect_offsets facts =
-    (offset_there facts.there ++ facts.nearest.items) ++ map element_offset (take open_tries facts.holders.items)
-
--- those of them from this offset on
-abbrev pub suspects_from : ℕ → Facts → List ℕ
-suspects_from offset facts = filter (λ o. nat_le offset o) (suspect_offsets facts)
-
 -- ---- what was sent
 
--- the result of sending lines, some of which need memory: all are sent, a write failed, or memory is refused
+-- the result of sending sentences, some of which need memory: they are sent, a write failed, or memory is refused
 abbrev pub Outcome : Type 0
 Outcome = Result (Result ⊤ WriteFault) AllocError
 
--- lines are sent, and then others, which need memory: a line for each case
-pub data SendsThen (first : List ℕ) (AreOthers : List ℕ → Type 0) (old new : DrainState) : Outcome → Type 0 where
-  -- a write of the first lines failed
-  failed : (fault : WriteFault) → Sends {T = ⊤} old new first (Err fault)
-      → SendsThen first AreOthers old new (Ok (Err fault))
-  -- memory for the other lines is refused
-  no_memory : (error : AllocError) (unit : ⊤) → Sends {E = WriteFault} old new first (Ok unit)
-      → SendsThen first AreOthers old new (Err error)
-  sent : (others : List ℕ) (result : Result ⊤ WriteFault) → AreOthers others → Sends old new (first ++ others) result
-      → SendsThen first AreOthers old new (Ok result)
+-- sentences about octets are sent, after those in front: all; or, if memory for some of them is refused, as it may be,
+-- those that need none. A line for each case
+pub data SendsReasons (octets : List ℕ) (front : List Sentence) (AreAll : List Sentence → Type 0)
+    (few : List Sentence) (MayRefuse : Type 0) (old new : DrainState)
+    : Outcome → Type 0 where
+  all_sent : (sentences : List Sentence) (result : Result ⊤ WriteFault) → AreAll sentences
+      → Sends old new (text_of octets (front ++ sentences)) result
+      → SendsReasons octets front AreAll few MayRefuse old new (Ok result)
+  few_sent : (error : AllocError) (unit : ⊤) → MayRefuse
+      → Sends {E = WriteFault} old new (text_of octets (front ++ few)) (Ok unit)
+      → SendsReasons octets front AreAll few MayRefuse old new (Err error)
+  few_failed : (fault : WriteFault) → MayRefuse → Sends {T = ⊤} old new (text_of octets (front ++ few)) (Err fault)
+      → SendsReasons octets front AreAll few MayRefuse old new (Ok (Err fault))
 
 -- ---- a string that is broken
 
@@ -68,31 +48,26 @@ pub data SendsThen (first : List ℕ) (AreOthers : List ℕ → Type 0) (old new
 abbrev pub offsets_up_to : ℕ → List ℕ → List ℕ
 offsets_up_to offset opened = filter (λ o. nat_lt o offset) opened ++ offset ∷ []
 
--- the line about the header whose length is wrong, if there is one
-pub record IsLengthLine (framing : Framing) (octets candidates lines : List ℕ) : Type 0 where
-  pub found : Option WrongLength
-  pub is_wrong : IsWrongLength framing octets candidates found
-  pub lines_are : lines ≡ length_line found
+-- the sentence before the reasons why a string breaks, where no message says it
+abbrev pub heading : Bool → BrokenString → List Sentence
+heading has_heading x = if has_heading then say.Breaks x ∷ [] else []
 
--- this line, the reasons why a string breaks, and the length that would mend it. No header in front of the string is
--- said to have the wrong length. A line for each case
-pub data ExplainsString (padding : Bool) (octets : List ℕ) (x : BrokenString) (line : List ℕ) (old new : DrainState)
+-- these sentences, the reasons why a string breaks, and the length that would mend it. No header in front of the string
+-- is said to have the wrong length. A line for each case
+pub data ExplainsString (padding : Bool) (octets : List ℕ) (x : BrokenString) (front : List Sentence)
+    (old new : DrainState)
     : Outcome → Type 0 where
   -- it is not a string of an input: no input has such an offset
   not_there : (unit : ⊤) → input_limit < x.offset → new ≡ old
-      → ExplainsString padding octets x line old new (Ok (Ok unit))
+      → ExplainsString padding octets x front old new (Ok (Ok unit))
   -- memory for the list of strings is refused, and nothing is written
-  no_list : (error : AllocError) → new ≡ old → ExplainsString padding octets x line old new (Err error)
+  no_list : (error : AllocError) → new ≡ old → ExplainsString padding octets x front old new (Err error)
   explained : (opened : List ℕ) (facts : Facts) (outcome : Outcome) → AreOpened padding octets opened
       → AreFacts (opened_framing padding (offsets_up_to x.offset opened)) octets facts
-      → SendsThen (line ++ reasons_of octets facts)
-      (IsLengthLine (opened_framing padding (offsets_up_to x.offset opened)) octets (suspects_from x.offset facts)) old
-      new outcome
-      → ExplainsString padding octets x line old new outcome
-
--- the line before the reasons why a string breaks, where no message says it
-abbrev pub heading : Bool → BrokenString → List ℕ
-heading has_heading x = if has_heading then codes "The " ++ broken_line x ++ codes ".\n" else []
+      → SendsReasons octets front
+      (AreStringReasons (opened_framing padding (offsets_up_to x.offset opened)) octets (suspects_from x.offset facts)
+      facts) (reasons_of octets facts) ⊤ old new outcome
+      → ExplainsString padding octets x front old new outcome
 
 -- the first broken string is explained, if there is one
 pub data ExplainsFirst (padding : Bool) (octets : List ℕ) (old new : DrainState)
@@ -104,15 +79,15 @@ pub data ExplainsFirst (padding : Bool) (octets : List ℕ) (old new : DrainStat
 
 -- ---- octets that do not parse
 
--- why octets do not parse. If they begin as another kind of file does, these are the line `first` and the line of that
--- kind; otherwise the lines `lines`, and what may be done
-pub data ExplainsOctets (padding : Bool) (octets : List ℕ) (facts : Facts) (first lines : List ℕ) (old new : DrainState)
-    : Outcome → Type 0 where
-  another_kind : (result : Result ⊤ WriteFault) → kind_line octets ≢ [] → Sends old new (first ++ kind_line octets) result
-      → ExplainsOctets padding octets facts first lines old new (Ok result)
-  no_kind : (outcome : Outcome) → kind_line octets ≡ []
-      → SendsThen lines (AreRemedies padding octets (suspect_offsets facts) facts.top) old new outcome
-      → ExplainsOctets padding octets facts first lines old new outcome
+-- the sentence before the reasons why octets do not parse, where no message says it
+abbrev pub first_of : Bool → List ℕ → Facts → List Sentence
+first_of has_first octets facts = if has_first then first_sentence octets facts ∷ [] else []
+
+-- why octets do not parse, after these sentences. No memory is needed for another kind of file
+abbrev pub ExplainsOctets : Bool → List ℕ → Facts → List Sentence → DrainState → DrainState → Outcome → Type 0
+ExplainsOctets padding octets facts front old new outcome =
+    SendsReasons octets front (AreReasons padding octets facts) (reasons_of octets facts) (file_kind octets ≡ None) old
+    new outcome
 
 -- ---- after messages
 
@@ -130,7 +105,7 @@ explained_by has_failed status broken =
 pub data WritesReasons (padding : Bool) (octets : List ℕ) (old new : DrainState) : Explained → Outcome → Type 0 where
   of_nothing : (unit : ⊤) → new ≡ old → WritesReasons padding octets old new what.Nothing (Ok (Ok unit))
   of_octets : (facts : Facts) (outcome : Outcome) → AreFacts (closed_framing padding) octets facts
-      → ExplainsOctets padding octets facts [] (reasons_of octets facts) old new outcome
+      → ExplainsOctets padding octets facts (first_of false octets facts) old new outcome
       → WritesReasons padding octets old new what.Octets outcome
   of_string : (x : BrokenString) (outcome : Outcome)
       → ExplainsString padding octets x (heading false x) old new outcome

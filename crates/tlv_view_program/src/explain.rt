@@ -1,11 +1,12 @@
 //! Why octets do not parse, and what may be done, if that is wanted.
-ghost use Rattle.std.specs.Prelude.{◌≡◌, ◌≤◌, ◌++◌, IfOk, [], length};
+ghost use Rattle.std.specs.Prelude.{◌≡◌, ◌≤◌, ◌++◌, ◌∷◌, IfOk, [], length};
 ghost use Rattle.tlv_show.specs.declared.rules.Rules.TheVariants.{Ber, Der};
 ghost use Rattle.tlv_head.specs.Limits.{input_limit};
 ghost use Rattle.tlv_io.specs.Out.{Puts, Sends};
 ghost use Rattle.tlv_run.specs.Report.{report_value_of};
 ghost use Rattle.tlv_view_program.specs.Views.{AreBrokenUnless};
-ghost use Rattle.tlv_why.specs.Why.{why_lines};
+ghost use Rattle.tlv_reasons.specs.Sentences.{text_of};
+ghost use Rattle.tlv_reasons.specs.Why.{first_sentence};
 ghost use Rattle.tlv_view_program.specs.Reasons.{ExplainsParsing, ShowsReasons, ReportsFindings};
 ghost use Rattle.tlv_view_program.specs.Reasons.{explained_report, findings_line, findings_words};
 
@@ -15,10 +16,10 @@ use crate::reasons::{closed_facts, explain_first, explain_octets};
 use crate::silent::SilentDrain;
 use crate::view_call::{View, Viewed, view_octets};
 use std::alloc::{AllocError, Global};
+use tlv_reasons::{Facts, first_sentence, write_sentences};
 use tlv_run::{Report, device_report};
 use tlv_show::{FiniteNames, Rules};
 use tlv_walk::{DeviceFault, Drain, Out, WriteFault};
-use tlv_why::{Facts, write_why};
 
 /// The findings in octets that parse.
 #[derive(Drop)]
@@ -44,7 +45,7 @@ pub(crate) fn explain<N: FiniteNames, D: Drain>(
 {
     let facts = closed_facts(octets, padding);
     if facts.fault.is_some() {
-        let outcome = explain_octets(alloc, padding, octets, &facts, drain);
+        let outcome = explain_octets(alloc, padding, octets, &facts, true, drain);
         return without_strings(alloc, explained_report(2, outcome));
     }
     let Ok(found) = findings_in(alloc, closed, padding, names, octets) else {
@@ -67,7 +68,7 @@ fn explain_parsing<D: Drain>(
     drain: &mut D,
 ) -> Result<Result<(), WriteFault>, AllocError>
     requires { length octets.now ≤ input_limit }
-    ensures { ExplainsParsing padding octets.now (why_lines octets.now facts.now
+    ensures { ExplainsParsing padding octets.now (text_of octets.now (first_sentence octets.now facts.now ∷ [])
         ++ findings_line (report_value_of found.now.ber.report).message (report_value_of found.now.der).message)
         found.now.ber.broken.items (D.state drain.old) (D.state drain.new) result }
 {
@@ -85,11 +86,11 @@ fn write_parsing<D: Drain>(
     found: &Found,
     drain: &mut D,
 ) -> Result<(), WriteFault>
-    ensures { Sends (D.state drain.old) (D.state drain.new) (why_lines octets.now facts.now
+    ensures { Sends (D.state drain.old) (D.state drain.new) (text_of octets.now (first_sentence octets.now facts.now ∷ [])
         ++ findings_line (report_value_of found.now.ber.report).message (report_value_of found.now.der).message)
         result }
 {
-    write_why(octets, facts, drain)?;
+    write_sentences(octets, &[first_sentence(octets, facts)], drain)?;
     write_findings(
         found.ber.report.message.as_slice(),
         found.der.message.as_slice(),

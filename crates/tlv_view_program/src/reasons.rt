@@ -1,30 +1,24 @@
 //! Why octets do not parse, or a string in them, and what may be done.
-ghost use Rattle.std.specs.Prelude.{◌≡◌, ◌≤◌, ◌+◌, ◌++◌, IfOk, List, length, map, take, true, ℕ};
+ghost use Rattle.std.specs.Prelude.{◌≡◌, ◌≤◌, ◌+◌, ◌++◌, IfOk, IsErr, List, length, true, ℕ};
+ghost use Rattle.std.specs.Result.{IsOkAnd};
 ghost use Rattle.tlv_head.specs.Limits.{input_limit};
-ghost use Rattle.tlv_io.specs.Out.{Puts, Sends};
+ghost use Rattle.tlv_io.specs.Out.{Sends};
 ghost use Rattle.tlv_open.specs.Opens.{AreOpened, closed_framing};
-ghost use Rattle.tlv_why.specs.Facts.{AreFacts};
-ghost use Rattle.tlv_why.specs.Why.{first_why_line, reasons_of, why_lines};
+ghost use Rattle.tlv_reasons.specs.Facts.{AreFacts};
+ghost use Rattle.tlv_reasons.specs.Sentences.{text_of};
 ghost use Rattle.tlv_walk.specs.Inside.{are_rising};
 ghost use Rattle.tlv_walk.specs.Reading.{AreOctets};
-ghost use Rattle.tlv_view_program.specs.WritesReasons.{ExplainsFirst, ExplainsOctets, ExplainsString, WritesReasons};
-ghost use Rattle.tlv_view_program.specs.WritesReasons.{element_offset, explained_by, heading, offsets_up_to};
-ghost use Rattle.tlv_view_program.specs.WritesReasons.{open_tries, suspect_offsets, suspects_from};
+ghost use Rattle.tlv_view_program.specs.WritesReasons.{ExplainsFirst, ExplainsOctets, ExplainsString, SendsReasons};
+ghost use Rattle.tlv_view_program.specs.WritesReasons.{WritesReasons, explained_by, first_of, heading, offsets_up_to};
 ghost use Rattle.tlv_view_program.specs.declared.reasons.Explained.TheVariants.{Octets};
 
-use crate::octets::write_octets;
-use arrayvec::ArrayVec;
 use std::alloc::{AllocError, Global};
-use tlv_mend::{kind_line, write_remedies, write_wrong_length};
-use tlv_open::{BrokenString, broken_line, laws, opened};
-use tlv_walk::{Drain, Framing, INPUT_LIMIT, Inside, Out, WriteFault};
-use tlv_why::{Element, Facts, facts_of, write_first_line, write_reasons, write_why};
-
-/// The most headers to look at: the refused header, 25 headers of elements before, and those of open elements.
-const SUSPECTS: usize = 42;
-
-/// The most open elements to look at.
-const OPEN_TRIES: usize = 16;
+use tlv_open::{BrokenString, laws, opened};
+use tlv_reasons::{
+    Facts, Reasons, Sentence, all_reasons, facts_of, first_sentence, reasons_of, string_reasons,
+    write_sentences,
+};
+use tlv_walk::{Drain, Framing, INPUT_LIMIT, Inside, WriteFault};
 
 /// What is explained after the messages of a block.
 #[derive(Clone, Copy)]
@@ -75,8 +69,7 @@ pub(crate) fn write_explained<D: Drain>(
     }
 }
 
-/// Writes the line of another kind of file, or else the reasons of a fault, and what may be done. A function of its own:
-/// each call clears its facts, and most blocks have no fault.
+/// Writes all reasons of a fault. A function of its own: each call clears its facts, and most blocks have no fault.
 #[inline(never)]
 fn write_fault_reasons<D: Drain>(
     alloc: Global,
@@ -88,21 +81,7 @@ fn write_fault_reasons<D: Drain>(
     ensures { WritesReasons padding octets.now (D.state drain.old) (D.state drain.new) Octets result }
 {
     let facts = closed_facts(octets, padding);
-    let kind = kind_line(octets);
-    if !kind.is_empty() {
-        return Ok(write_octets(kind, drain));
-    }
-    match write_reasons(octets, &facts, drain) {
-        Ok(()) => write_remedies(
-            alloc,
-            octets,
-            padding,
-            suspect_offsets(&facts).as_slice(),
-            facts.top as usize,
-            drain,
-        ),
-        Err(fault) => Ok(Err(fault)),
-    }
+    explain_octets(alloc, padding, octets, &facts, false, drain)
 }
 
 /// The facts about octets if no string is named.
@@ -117,47 +96,75 @@ pub(crate) fn closed_facts(octets: &[u8], padding: bool) -> Facts
     facts_of(octets, &framing)
 }
 
-/// Writes the message of a fault and the line of another kind of file, or else all lines about octets that do not parse,
-/// and what may be done.
+/// Writes all reasons why octets do not parse, and, if that is wanted, the message of the fault before them.
 pub(crate) fn explain_octets<D: Drain>(
     alloc: Global,
     padding: bool,
     octets: &[u8],
     facts: &Facts,
+    has_first: bool,
     drain: &mut D,
 ) -> Result<Result<(), WriteFault>, AllocError>
     requires { length octets.now ≤ input_limit }
-    ensures { ExplainsOctets padding octets.now facts.now (first_why_line octets.now facts.now)
-        (why_lines octets.now facts.now) (D.state drain.old) (D.state drain.new) result }
+    ensures { ExplainsOctets padding octets.now facts.now (first_of has_first octets.now facts.now)
+        (D.state drain.old) (D.state drain.new) result }
 {
-    let kind = kind_line(octets);
-    if !kind.is_empty() {
-        return Ok(write_first_and_kind(octets, facts, kind, drain));
+    let reasons = all_reasons(alloc, octets, padding, facts);
+    let few = reasons_of(octets, facts);
+    let first = first_of(has_first, octets, facts);
+    send_reasons(octets, &first, reasons, &few, drain)
+}
+
+/// The message of the fault, if it is wanted.
+fn first_of(has_first: bool, octets: &[u8], facts: &Facts) -> Reasons
+    ensures first { result.items ≡ first_of has_first octets.now facts.now }
+    ensures few { length result.items ≤ 1 }
+{
+    let mut first = Reasons::new();
+    if has_first {
+        first.push(first_sentence(octets, facts));
     }
-    match write_why(octets, facts, drain) {
-        Ok(()) => write_remedies(
-            alloc,
-            octets,
-            padding,
-            suspect_offsets(facts).as_slice(),
-            facts.top as usize,
-            drain,
-        ),
-        Err(fault) => Ok(Err(fault)),
+    first
+}
+
+/// Writes sentences, and then all reasons, or those that need no memory, if memory for the others was refused.
+fn send_reasons<D: Drain>(
+    octets: &[u8],
+    front: &Reasons,
+    reasons: Result<Reasons, AllocError>,
+    few: &Reasons,
+    drain: &mut D,
+) -> Result<Result<(), WriteFault>, AllocError>
+    requires front { length front.now.items ≤ 1 }
+    requires reasons { IfOk reasons (λ r. length r.items ≤ 12) }
+    requires few { length few.now.items ≤ 12 }
+    ensures { SendsReasons octets.now front.now.items (λ sentences. IsOkAnd reasons (λ r. r.items ≡ sentences))
+        few.now.items (IsErr reasons) (D.state drain.old) (D.state drain.new) result }
+{
+    match reasons {
+        Ok(reasons) => Ok(send_after(octets, front, &reasons, drain)),
+        Err(error) => match send_after(octets, front, few, drain) {
+            Ok(()) => Err(error),
+            Err(fault) => Ok(Err(fault)),
+        },
     }
 }
 
-/// Writes the message of a fault, and the line of another kind of file.
-fn write_first_and_kind<D: Drain>(
+/// Writes sentences, and then others.
+fn send_after<D: Drain>(
     octets: &[u8],
-    facts: &Facts,
-    kind: &[u8],
+    front: &Reasons,
+    others: &Reasons,
     drain: &mut D,
 ) -> Result<(), WriteFault>
-    ensures { Sends (D.state drain.old) (D.state drain.new) (first_why_line octets.now facts.now ++ kind.now) result }
+    requires { length front.now.items + length others.now.items ≤ 16 }
+    ensures { Sends (D.state drain.old) (D.state drain.new) (text_of octets.now (front.now.items ++ others.now.items))
+        result }
 {
-    write_first_line(octets, facts, drain)?;
-    write_octets(kind, drain)
+    let mut sentences = Reasons::new();
+    let _ = sentences.try_extend_from_slice(front.as_slice());
+    let _ = sentences.try_extend_from_slice(others.as_slice());
+    write_sentences(octets, sentences.as_slice(), drain)
 }
 
 /// Explains the first broken string, if there is one.
@@ -177,7 +184,7 @@ pub(crate) fn explain_first<D: Drain>(
     }
 }
 
-/// Writes why a string breaks, with the line before it if that is wanted, and which single length would mend it.
+/// Writes why a string breaks, with the sentence before it if that is wanted, and which single length would mend it.
 #[inline(never)]
 fn explain_string<D: Drain>(
     alloc: Global,
@@ -200,67 +207,21 @@ fn explain_string<D: Drain>(
     };
     let framing = Framing { inside, padding };
     let facts = facts_of(octets, &framing);
-    match write_headed_reasons(has_heading, string, octets, &facts, drain) {
-        Ok(()) => write_wrong_length(
-            alloc,
-            octets,
-            &framing,
-            suspects_from(string.offset as usize, &facts).as_slice(),
-            drain,
-        ),
-        Err(fault) => Ok(Err(fault)),
-    }
+    let reasons = string_reasons(alloc, octets, &framing, string.offset as usize, &facts);
+    let few = reasons_of(octets, &facts);
+    send_reasons(octets, &heading(has_heading, string), reasons, &few, drain)
 }
 
-/// Writes the line before the reasons why a string breaks, if it is wanted, and the reasons.
-#[tactic(auto, using(tlv_io::proofs::Sends::sends))]
-fn write_headed_reasons<D: Drain>(
-    has_heading: bool,
-    string: &BrokenString,
-    octets: &[u8],
-    facts: &Facts,
-    drain: &mut D,
-) -> Result<(), WriteFault>
-    ensures { Sends (D.state drain.old) (D.state drain.new)
-        (heading has_heading string.now ++ reasons_of octets.now facts.now) result }
+/// The sentence before the reasons why a string breaks, if it is wanted.
+fn heading(has_heading: bool, string: &BrokenString) -> Reasons
+    ensures heading { result.items ≡ heading has_heading string.now }
+    ensures few { length result.items ≤ 1 }
 {
-    write_heading(has_heading, string, drain)?;
-    write_reasons(octets, facts, drain)
-}
-
-/// Writes that line, if it is wanted.
-fn write_heading<D: Drain>(
-    has_heading: bool,
-    string: &BrokenString,
-    drain: &mut D,
-) -> Result<(), WriteFault>
-    ensures { Sends (D.state drain.old) (D.state drain.new) (heading has_heading string.now) result }
-{
+    let mut heading = Reasons::new();
     if has_heading {
-        write_heading_line(string, drain)
-    } else {
-        Ok(())
+        heading.push(Sentence::Breaks(*string));
     }
-}
-
-/// Writes that line.
-#[tactic(auto, using(tlv_io::proofs::Sends::sends))]
-fn write_heading_line<D: Drain>(string: &BrokenString, drain: &mut D) -> Result<(), WriteFault>
-    ensures { Sends (D.state drain.old) (D.state drain.new) (heading true string.now) result }
-{
-    let mut out = Out::new(drain);
-    put_heading_line(string, &mut out)?;
-    out.flush()?;
-    Ok(())
-}
-
-/// Puts that line.
-fn put_heading_line<D: Drain>(string: &BrokenString, out: &mut Out<'_, D>) -> Result<(), WriteFault>
-    ensures { Puts D.state out.old out.new (heading true string.now) result }
-{
-    out.put(b"The ")?;
-    out.put(broken_line(string).as_slice())?;
-    out.put(b".\n")
+    heading
 }
 
 /// The offsets of the strings to name in order to explain the string at this offset.
@@ -293,55 +254,4 @@ fn offsets_up_to(alloc: Global, offset: u64, opened: &[u64]) -> Result<Vec<u64>,
     }
     named.push(offset)?;
     Ok(named)
-}
-
-/// The offsets of headers whose length may be wrong, in the order in which they are tried.
-fn suspect_offsets(facts: &Facts) -> ArrayVec<usize, SUSPECTS>
-    ensures { result.items ≡ suspect_offsets facts.now }
-{
-    let mut offsets = ArrayVec::new();
-    if let Some(element) = facts.there {
-        offsets.push(element.offset as usize);
-    }
-    for offset in facts.nearest.as_slice() {
-        offsets.push(*offset as usize);
-    }
-    add_offsets(outermost(facts.holders.as_slice()), &mut offsets);
-    offsets
-}
-
-/// Those of them from this offset on.
-fn suspects_from(offset: usize, facts: &Facts) -> ArrayVec<usize, SUSPECTS>
-    ensures { result.items ≡ suspects_from offset facts.now }
-{
-    let mut kept = ArrayVec::new();
-    let all = suspect_offsets(facts);
-    for &each in all.as_slice() {
-        if offset <= each {
-            kept.push(each);
-        }
-    }
-    kept
-}
-
-/// The outermost of these open elements, as many as are looked at.
-fn outermost(holders: &[Element]) -> &[Element]
-    ensures outermost { result.now ≡ take open_tries holders.now }
-    ensures few { length result.now ≤ 16 }
-{
-    if holders.len() > OPEN_TRIES {
-        &holders[..OPEN_TRIES]
-    } else {
-        holders
-    }
-}
-
-/// Adds the offsets of elements to a list that has room for them.
-fn add_offsets(elements: &[Element], offsets: &mut ArrayVec<usize, SUSPECTS>)
-    requires { length offsets.old.items + length elements.now ≤ 42 }
-    ensures { offsets.new.items ≡ offsets.old.items ++ map element_offset elements.now }
-{
-    for element in elements {
-        offsets.push(element.offset as usize);
-    }
 }

@@ -1,5 +1,5 @@
 -- Words of the rows of sentences: what is said of octets, by a reading of them that computes.
-use Rattle.std.proofs.Common.{ℕ, false, ◌&&◌, List, [], if◌then◌else◌, length, take}
+use Rattle.std.proofs.Common.{ℕ, false, ◌&&◌, List, [], ◌∷◌, if◌then◌else◌, length, take}
 use Rattle.std.specs.Prelude.{Option, None, Some}
 use Rattle.tlv_head.specs.declared.fault.Fault.{Fault}
 use Rattle.tlv_head.specs.declared.fault.FaultCode.TheVariants.{Empty, Short}
@@ -9,10 +9,11 @@ use Rattle.tlv_walk.specs.declared.framing.Framing.{Framing}
 use Rattle.tlv_walk.specs.Ending.{fault_at}
 use Rattle.tlv_walk.specs.Forest.{Forest, has_element, is_whole, spelling}
 use Rattle.tlv_walk.proofs.GrammarLemmas.Readings.{Going, Halted, PushRun, push_all}
-use Rattle.tlv_why.specs.declared.element.Element.{Element}
-use Rattle.tlv_why.specs.declared.facts.Facts.{Facts}
-use Rattle.tlv_why.specs.Facts.{end_of_reading, last_whole, offsets_before, open_holders, unfinished_in, whole_end}
-use Rattle.tlv_why.specs.Why.{reasons_of, why_lines}
+use Rattle.tlv_reasons.specs.declared.element.Element.{Element}
+use Rattle.tlv_reasons.specs.declared.facts.Facts.{Facts}
+use Rattle.tlv_reasons.specs.Facts.{end_of_reading, last_whole, offsets_before, open_holders, unfinished_in, whole_end}
+use Rattle.tlv_reasons.specs.Sentences.{text_of}
+use Rattle.tlv_reasons.specs.Why.{first_sentence, reasons_of}
 use Rattle.tlv_rows.proofs.Words.Octets.{framing_of}
 
 -- what is said of octets that have this fault, by their reading
@@ -51,11 +52,13 @@ facts_inside inside octets found =
 
 -- the lines about them
 abbrev pub why_inside : List ℕ → List ℕ → Option Element → List ℕ
-why_inside inside octets found = why_lines octets (facts_inside inside octets found)
+why_inside inside octets found =
+    text_of octets (first_sentence octets (facts_inside inside octets found)
+    ∷ reasons_of octets (facts_inside inside octets found))
 
 -- the same without the first line
 abbrev pub reasons_inside : List ℕ → List ℕ → Option Element → List ℕ
-reasons_inside inside octets found = reasons_of octets (facts_inside inside octets found)
+reasons_inside inside octets found = text_of octets (reasons_of octets (facts_inside inside octets found))
 
 -- an element of the class universal: its offset, number and size, the offset of its contents, and its end
 abbrev pub element : ℕ → ℕ → Size → ℕ → Option ℕ → Element

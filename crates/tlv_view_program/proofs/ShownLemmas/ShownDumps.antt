@@ -44,8 +44,8 @@ use Rattle.tlv_show.specs.WantedJobs.{item_text_with}
 use Rattle.tlv_show.specs.declared.wanted.Wanted.{Wanted}
 use Rattle.tlv_open.specs.Laws.{opened_framing}
 use Rattle.tlv_view_program.specs.Views.{dump_options}
-use Rattle.tlv_why.specs.Laws.{AreShown}
-use Rattle.tlv_why.proofs.ShownLemmas.ShownWords.{decimal-shown}
+use Rattle.tlv_reasons.specs.Laws.{AreShown}
+use Rattle.tlv_reasons.proofs.ShownLemmas.ShownValues.{decimal-shown}
 use Rattle.tlv_view_program.specs.ShownLines.{DumpsAreShown}
 use Rattle.tlv_view_program.proofs.ShownLemmas.ShownLabels.{joined-shown}
 use Rattle.tlv_view_program.proofs.ShownLemmas.ShownLists.{wording-shown}

@@ -13,7 +13,7 @@ use Rattle.tlv_text.specs.TextRead.{PartRead}
 use Rattle.tlv_text.specs.Pem.{is_label, is_label_character}
 use Rattle.tlv_text.specs.declared.block.Form.{Form}
 use Rattle.tlv_text.specs.Taken.{first_words, shown_character}
-use Rattle.tlv_why.specs.Laws.{AreShown, is_shown_octet}
+use Rattle.tlv_reasons.specs.Laws.{AreShown, is_shown_octet}
 
 or-second : (a b : Bool) → b ≡ true → (a || b) ≡ true
 or-second true b e = refl

@@ -18,8 +18,8 @@ use Rattle.tlv_run.specs.Report.{ReportValue}
 use Rattle.tlv_view_program.specs.Offsets.{listed_offset, offsets_line}
 use Rattle.tlv_view_program.specs.Views.{Views}
 use Rattle.tlv_view_program.specs.declared.view_call.View.TheVariants as view
-use Rattle.tlv_why.specs.Laws.{AreShown}
-use Rattle.tlv_why.proofs.ShownLemmas.ShownWords.{decimal-shown}
+use Rattle.tlv_reasons.specs.Laws.{AreShown}
+use Rattle.tlv_reasons.proofs.ShownLemmas.ShownValues.{decimal-shown}
 use Rattle.tlv_view_program.specs.ShownLines.{TakesShown}
 use Rattle.tlv_view_program.proofs.ShownLemmas.ShownLabels.{joined-shown}
 use Rattle.tlv_view_program.proofs.ShownLemmas.ShownReasons.{sends-shown}

@@ -11,7 +11,8 @@ use Rattle.tlv_open.specs.declared.strings.BrokenString.{BrokenString}
 use Rattle.tlv_run.specs.Report.{ReportValue}
 use Rattle.tlv_view_program.specs.declared.input.InputFault.TheVariants as input
 use Rattle.tlv_view_program.specs.declared.request.Request.{Request}
-use Rattle.tlv_why.specs.Laws.{AreShown}
+use Rattle.tlv_reasons.specs.Laws.{AreShown}
+use Rattle.tlv_reasons.proofs.ShownLemmas.ShownValues.{broken_line-shown}
 use Rattle.tlv_view_program.specs.InputBlocks.{BlockContents, InputBlockValue}
 use Rattle.tlv_view_program.specs.Lines.{MessagePlace, placed_line}
 use Rattle.tlv_view_program.specs.ShowsBlock.{BlockPlace, ShowsContents, ShowsOctets, ShowsTitled, block_messages}
@@ -20,7 +21,7 @@ use Rattle.tlv_view_program.specs.ShownLines.{HasShownReport, MessagesAreShown}
 use Rattle.tlv_view_program.proofs.ShownLemmas.ShownLabels.{joined-shown}
 use Rattle.tlv_view_program.proofs.ShownLemmas.ShownNotes.{placed-shown}
 use Rattle.tlv_view_program.proofs.ShownLemmas.ShownReasons.{reasons_report-shown}
-use Rattle.tlv_view_program.proofs.ShownLemmas.ShownReports.{IsShownReport, broken_line-shown, device_report-shown}
+use Rattle.tlv_view_program.proofs.ShownLemmas.ShownReports.{IsShownReport, device_report-shown}
 use Rattle.tlv_view_program.proofs.ShownLemmas.ShownReports.{indef_report-shown, input_report-shown, views-shown}
 
 -- ---- what is reported

@@ -14,7 +14,7 @@ use Rattle.tlv_value.specs.Names.{Entry, NamesLine, NamesValue, entries_of, entr
 use Rattle.tlv_value.specs.Names.{first_refusal, is_dotted, is_name, line_entries, line_limit, names_line}
 use Rattle.tlv_value.specs.Names.{is_blank, pair_line, without_first_blanks, without_outer_blanks}
 use Rattle.tlv_value.specs.declared.names.fault.NamesFault.{NamesFault}
-use Rattle.tlv_why.specs.Laws.{AreShown}
+use Rattle.tlv_reasons.specs.Laws.{AreShown}
 use Rattle.tlv_view_program.specs.ShownLines.{NamesAreShown}
 use Rattle.tlv_view_program.proofs.ShownLemmas.ShownLabels.{all_printable-shown}
 

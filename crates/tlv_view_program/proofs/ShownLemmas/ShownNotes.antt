@@ -16,8 +16,8 @@ use Rattle.tlv_text.specs.declared.text_fault.TextFault.{TextFault}
 use Rattle.tlv_text.specs.Taken.{TakenValue}
 use Rattle.tlv_text.specs.declared.taken.TakenFor.{TakenFor}
 use Rattle.tlv_text.specs.declared.taken.TakenFor.TheVariants.{Octets, OtherText, Text}
-use Rattle.tlv_why.specs.Laws.{AreShown}
-use Rattle.tlv_why.proofs.ShownLemmas.ShownWords.{decimal-shown}
+use Rattle.tlv_reasons.specs.Laws.{AreShown}
+use Rattle.tlv_reasons.proofs.ShownLemmas.ShownValues.{decimal-shown}
 use Rattle.tlv_view_program.specs.declared.request.InputForm.{InputForm}
 use Rattle.tlv_view_program.specs.declared.request.Wanted.{Wanted}
 use Rattle.tlv_view_program.specs.InputBlocks.{BlockContents, InputBlockValue, TakesInput, block_of_file, blocks_taken}

@@ -11,23 +11,22 @@ use Rattle.tlv_value.specs.Names.{NamesValue}
 use Rattle.tlv_open.specs.Laws.{opened_framing}
 use Rattle.tlv_open.specs.Opens.{closed_framing}
 use Rattle.tlv_open.specs.declared.strings.BrokenString.{BrokenString}
-use Rattle.tlv_mend.specs.Remedies.{AreRemedies, kind_line}
-use Rattle.tlv_mend.proofs.ShownLemmas.{kind_line-shown, length_line-shown, remedies-shown}
 use Rattle.tlv_run.specs.Report.{ReportValue}
 use Rattle.tlv_view_program.specs.declared.input.InputFault.TheVariants as input
-use Rattle.tlv_why.specs.Laws.{AreShown}
-use Rattle.tlv_why.specs.Why.{first_why_line, reasons_of, why_lines}
-use Rattle.tlv_why.specs.declared.facts.Facts.{Facts}
-use Rattle.tlv_why.proofs.ShownLemmas.ShownWhy.{lines_shown}
+use Rattle.tlv_reasons.specs.Laws.{AreShown}
+use Rattle.tlv_reasons.specs.Sentences.{text_of}
+use Rattle.tlv_reasons.specs.Why.{first_sentence}
+use Rattle.tlv_reasons.specs.declared.facts.Facts.{Facts}
+use Rattle.tlv_reasons.specs.declared.sentence.Sentence.{Sentence}
+use Rattle.tlv_reasons.proofs.ShownLemmas.ShownSentences.{sentences-shown}
 use Rattle.tlv_view_program.specs.Reasons.{ExplainsParsing, ShowsReasons, explained_report, findings_line}
 use Rattle.tlv_view_program.specs.Reasons.{findings_words}
 use Rattle.tlv_view_program.specs.ShownLines.{FindingsLinesAreShown, ReasonsAreShown, TakesShown}
-use Rattle.tlv_view_program.specs.WritesReasons.{ExplainsFirst, ExplainsOctets, ExplainsString, IsLengthLine, Outcome}
-use Rattle.tlv_view_program.specs.WritesReasons.{SendsThen, WritesReasons, heading, offsets_up_to, suspect_offsets}
-use Rattle.tlv_view_program.specs.WritesReasons.{suspects_from}
+use Rattle.tlv_view_program.specs.WritesReasons.{ExplainsFirst, ExplainsString, Outcome, SendsReasons, WritesReasons}
+use Rattle.tlv_view_program.specs.WritesReasons.{first_of, heading}
 use Rattle.tlv_view_program.specs.declared.reasons.Explained.{Explained}
 use Rattle.tlv_view_program.proofs.ShownLemmas.ShownLabels.{front-shown, joined-shown}
-use Rattle.tlv_view_program.proofs.ShownLemmas.ShownReports.{IsShownReport, broken_line-shown, device_report-shown}
+use Rattle.tlv_view_program.proofs.ShownLemmas.ShownReports.{IsShownReport, device_report-shown}
 use Rattle.tlv_view_program.proofs.ShownLemmas.ShownReports.{input_report-shown, views-shown}
 
 -- ---- octets that parse
@@ -66,102 +65,59 @@ sends-shown a b words result shown s = record {
   takes = s.took;
 }
 
--- lines, and then others for which memory is needed
-then-shown : (first : List ℕ) (AreOthers : List ℕ → Type 0) (a b : DrainState) (outcome : Outcome) → AreShown first
-    → ((others : List ℕ) → AreOthers others → AreShown others) → SendsThen first AreOthers a b outcome
-    → TakesShown a b
-then-shown first AreOthers a b _ shown each (SendsThen.failed fault sends) =
-    sends-shown a b first (Err fault) shown sends
-then-shown first AreOthers a b _ shown each (SendsThen.no_memory error unit sends) =
-    sends-shown a b first (Ok unit) shown sends
-then-shown first AreOthers a b _ shown each (SendsThen.sent others result are sends) =
-    sends-shown a b (first ++ others) result (joined-shown first others shown (each others are)) sends
-
 -- ---- reasons of octets
 
-module _ (padding : Bool) (octets : List ℕ) where
-  octets-shown : (facts : Facts) (first lines : List ℕ) (a b : DrainState) (outcome : Outcome) → AreShown first
-      → AreShown lines → ExplainsOctets padding octets facts first lines a b outcome → TakesShown a b
-  octets-shown facts first lines a b _ f shown (ExplainsOctets.another_kind result some sends) =
-      sends-shown a b (first ++ kind_line octets) result (joined-shown first (kind_line octets) f (kind_line-shown octets))
-      sends
-  octets-shown facts first lines a b outcome f shown (ExplainsOctets.no_kind _ none sends) =
-      then-shown lines (AreRemedies padding octets (suspect_offsets facts) facts.top) a b outcome shown
-      (remedies-shown padding octets (suspect_offsets facts) facts.top) sends
+module _ (padding : Bool) (octets : List ℕ) (o : AreOctets octets) where
+  reasons-sent : (front few : List Sentence) (AreAll : List Sentence → Type 0) (MayRefuse : Type 0) (a b : DrainState)
+      (outcome : Outcome) → SendsReasons octets front AreAll few MayRefuse a b outcome → TakesShown a b
+  reasons-sent front few AreAll MayRefuse a b _ (SendsReasons.all_sent sentences result are sends) =
+      sends-shown a b (text_of octets (front ++ sentences)) result (sentences-shown octets (front ++ sentences) o) sends
+  reasons-sent front few AreAll MayRefuse a b _ (SendsReasons.few_sent error unit may sends) =
+      sends-shown a b (text_of octets (front ++ few)) (Ok unit) (sentences-shown octets (front ++ few) o) sends
+  reasons-sent front few AreAll MayRefuse a b _ (SendsReasons.few_failed fault may sends) =
+      sends-shown a b (text_of octets (front ++ few)) (Err fault) (sentences-shown octets (front ++ few) o) sends
 
-  length-shown : (framing : Framing) (candidates lines : List ℕ) → IsLengthLine framing octets candidates lines
-      → AreShown lines
-  length-shown framing candidates lines l =
-      subst (λ (text : List ℕ). AreShown text) (sym l.lines_are) (length_line-shown l.found)
+  string-shown : (x : BrokenString) (front : List Sentence) (a b : DrainState) (outcome : Outcome)
+      → ExplainsString padding octets x front a b outcome → TakesShown a b
+  string-shown x front a b _ (ExplainsString.not_there unit past same) = same-takes a b same
+  string-shown x front a b _ (ExplainsString.no_list error same) = same-takes a b same
+  string-shown x front a b _ (ExplainsString.explained opened facts outcome opens are sends) =
+      reasons-sent front _ _ _ a b outcome sends
 
-  module _ (o : AreOctets octets) where
-    string-shown : (x : BrokenString) (line : List ℕ) (a b : DrainState) (outcome : Outcome) → AreShown line
-        → ExplainsString padding octets x line a b outcome → TakesShown a b
-    string-shown x line a b _ shown (ExplainsString.not_there unit past same) = same-takes a b same
-    string-shown x line a b _ shown (ExplainsString.no_list error same) = same-takes a b same
-    string-shown x line a b _ shown (ExplainsString.explained opened facts outcome opens are sends) =
-        let framing : Framing = opened_framing padding (offsets_up_to x.offset opened) in
-        then-shown (line ++ reasons_of octets facts) (IsLengthLine framing octets (suspects_from x.offset facts)) a b
-        outcome (joined-shown line (reasons_of octets facts) shown (lines_shown framing octets facts o are).1)
-        (length-shown framing (suspects_from x.offset facts)) sends
+  first-shown : (broken : List BrokenString) (a b : DrainState) (outcome : Outcome)
+      → ExplainsFirst padding octets a b broken outcome → TakesShown a b
+  first-shown _ a b _ (ExplainsFirst.none unit same) = same-takes a b same
+  first-shown _ a b _ (ExplainsFirst.first x xs outcome explains) =
+      string-shown x (heading true x) a b outcome explains
 
-    heading-shown : (has_heading : Bool) (x : BrokenString) → AreShown (heading has_heading x)
-    heading-shown true x = simp (list_all-append, broken_line-shown x)
-    heading-shown false x = refl
+  parsing-shown : (text : List ℕ) (broken : List BrokenString) (a b : DrainState) (outcome : Outcome)
+      → AreShown text → ExplainsParsing padding octets text broken a b outcome → TakesShown a b
+  parsing-shown text broken a b _ shown (ExplainsParsing.not_written fault sends) =
+      sends-shown a b text (Err fault) shown sends
+  parsing-shown text broken a b _ shown (ExplainsParsing.written between unit outcome sends explains) =
+      takes-then a between b (sends-shown a between text (Ok unit) shown sends)
+      (first-shown broken between b outcome explains)
 
-    first-shown : (broken : List BrokenString) (a b : DrainState) (outcome : Outcome)
-        → ExplainsFirst padding octets a b broken outcome → TakesShown a b
-    first-shown _ a b _ (ExplainsFirst.none unit same) = same-takes a b same
-    first-shown _ a b _ (ExplainsFirst.first x xs outcome explains) =
-        string-shown x (heading true x) a b outcome (heading-shown true x) explains
-
-    parsing-shown : (text : List ℕ) (broken : List BrokenString) (a b : DrainState) (outcome : Outcome)
-        → AreShown text → ExplainsParsing padding octets text broken a b outcome → TakesShown a b
-    parsing-shown text broken a b _ shown (ExplainsParsing.not_written fault sends) =
-        sends-shown a b text (Err fault) shown sends
-    parsing-shown text broken a b _ shown (ExplainsParsing.written between unit outcome sends explains) =
-        takes-then a between b (sends-shown a between text (Ok unit) shown sends)
-        (first-shown broken between b outcome explains)
-
-    -- after messages
-    pub writes-shown : (what : Explained) (a b : DrainState) (outcome : Outcome)
-        → WritesReasons padding octets a b what outcome → TakesShown a b
-    writes-shown _ a b _ (WritesReasons.of_nothing unit same) = same-takes a b same
-    writes-shown _ a b _ (WritesReasons.of_octets facts outcome are explains) =
-        octets-shown facts [] (reasons_of octets facts) a b outcome refl
-        (lines_shown (closed_framing padding) octets facts o are).1 explains
-    writes-shown _ a b _ (WritesReasons.of_string x outcome explains) =
-        string-shown x (heading false x) a b outcome (heading-shown false x) explains
+  -- after messages
+  pub writes-shown : (what : Explained) (a b : DrainState) (outcome : Outcome)
+      → WritesReasons padding octets a b what outcome → TakesShown a b
+  writes-shown _ a b _ (WritesReasons.of_nothing unit same) = same-takes a b same
+  writes-shown _ a b _ (WritesReasons.of_octets facts outcome are explains) =
+      reasons-sent (first_of false octets facts) _ _ _ a b outcome explains
+  writes-shown _ a b _ (WritesReasons.of_string x outcome explains) =
+      string-shown x (heading false x) a b outcome explains
 
 -- ---- all that is written with `--why`
 
 pub reasons-shown : ReasonsAreShown
 reasons-shown closed padding table octets old new _ _ o (ShowsReasons.refused facts outcome are some explains) =
-    octets-shown padding octets facts (first_why_line octets facts) (why_lines octets facts) old new outcome
-    (lines_shown (closed_framing padding) octets facts o are).2
-    (lines_shown (closed_framing padding) octets facts o are).0 explains
+    reasons-sent padding octets o (first_of true octets facts) _ _ _ old new outcome explains
 reasons-shown closed padding table octets old new _ _ o
     (ShowsReasons.parses facts ber der broken outcome are none b d breaks explains) =
     let lines : List ℕ = findings_line ber.message der.message in
-    parsing-shown padding octets o (why_lines octets facts ++ lines) broken old new outcome
-    (joined-shown (why_lines octets facts) lines (lines_shown (closed_framing padding) octets facts o are).0
+    let first : List Sentence = first_sentence octets facts ∷ [] in
+    parsing-shown padding octets o (text_of octets first ++ lines) broken old new outcome
+    (joined-shown (text_of octets first) lines (sentences-shown octets first o)
     (findings_lines-shown _ _ closed padding table octets ber der b d)) explains
 reasons-shown closed padding table octets old new _ _ o (ShowsReasons.no_memory facts are none same) =
     same-takes old new same
-
--- ---- what is reported
-
-explained-shown : (status : ℕ) (outcome : Outcome) → IsShownReport (explained_report status outcome)
-explained-shown status (Ok (Ok unit)) = refl
-explained-shown status (Ok (Err fault)) = device_report-shown WriteFailed
-explained-shown status (Err error) = input_report-shown input.Memory
-
-pub reasons_report-shown : (closed padding : Bool) (table : NamesValue) (octets : List ℕ) (old new : DrainState)
-    (report : ReportValue) (broken : List BrokenString)
-    → ShowsReasons closed padding table octets old new report broken → IsShownReport report
-reasons_report-shown closed padding table octets old new _ _
-    (ShowsReasons.refused facts outcome are some explains) = explained-shown 2 outcome
-reasons_report-shown closed padding table octets old new _ _
-    (ShowsReasons.parses facts ber der broken outcome are none b d breaks explains) = explained-shown ber.status outcome
-reasons_report-shown closed padding table octets old new _ _ (ShowsReasons.no_memory facts are none same) =
-    input_report-shown input.Memory

@@ -35,8 +35,8 @@ use Rattle.tlv_view_program.specs.declared.input.InputFault.{InputFault}
 use Rattle.tlv_view_program.specs.declared.input.InputFault.TheVariants as input
 use Rattle.tlv_view_program.specs.declared.view_call.View.{View}
 use Rattle.tlv_view_program.specs.declared.view_call.View.TheVariants as view
-use Rattle.tlv_why.specs.Laws.{AreShown}
-use Rattle.tlv_why.proofs.ShownLemmas.ShownWords.{decimal-shown}
+use Rattle.tlv_reasons.specs.Laws.{AreShown}
+use Rattle.tlv_reasons.proofs.ShownLemmas.ShownValues.{code-shown, decimal-shown}
 use Rattle.tlv_view_program.specs.Notes.{text_report}
 
 abbrev pub IsShownReport : ReportValue → Type 0
@@ -44,38 +44,9 @@ IsShownReport report = AreShown report.message
 
 -- ---- faults
 
-code-shown : (code : FaultCode) → AreShown (fault_code code) × AreShown (fault_text code)
-code-shown fault.Empty = (refl, refl)
-code-shown fault.Short = (refl, refl)
-code-shown fault.StrayEnd = (refl, refl)
-code-shown fault.BadEnd = (refl, refl)
-code-shown fault.MissingEnd = (refl, refl)
-code-shown fault.TagTooLong = (refl, refl)
-code-shown fault.ReservedLength = (refl, refl)
-code-shown fault.IndefinitePrimitive = (refl, refl)
-code-shown fault.LengthTooLarge = (refl, refl)
-code-shown fault.TooDeep = (refl, refl)
-code-shown fault.Overrun = (refl, refl)
-code-shown fault.BadInside = (refl, refl)
-
 fault_line-shown : (f : Fault) → AreShown (fault_line f)
 fault_line-shown f =
     simp (list_all-append, decimal-shown, (code-shown f.code).0, (code-shown f.code).1)
-
-suspicion-shown : (why : Suspicion) → AreShown (suspicion_text why)
-suspicion-shown suspicion.Sequence = refl
-suspicion-shown suspicion.Set = refl
-suspicion-shown suspicion.Extension = refl
-
-pub broken_line-shown : (s : BrokenString) → AreShown (broken_line s)
-broken_line-shown s =
-    simp (
-      list_all-append,
-      decimal-shown,
-      suspicion-shown,
-      (code-shown s.fault.code).0,
-      (code-shown s.fault.code).1,
-    )
 
 -- ---- what an input comes to
 

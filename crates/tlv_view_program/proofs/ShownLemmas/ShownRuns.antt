@@ -12,7 +12,7 @@ use Rattle.tlv_view_program.specs.RequestReport.{request_report}
 use Rattle.tlv_view_program.specs.declared.refusal.RequestFault.TheVariants as fault
 use Rattle.tlv_view_program.specs.declared.request.Request.{Request}
 use Rattle.tlv_program.specs.System.{Allows}
-use Rattle.tlv_why.specs.Laws.{AreShown}
+use Rattle.tlv_reasons.specs.Laws.{AreShown}
 use Rattle.tlv_view_program.specs.InputBlocks.{InputBlockValue, run_limit}
 use Rattle.tlv_view_program.specs.ShowsAll.{BlocksPlace, IsSaid, RunsShow, ShowsBlocks, ShowsFiles, ShowsRequest}
 use Rattle.tlv_view_program.specs.ShowsAll.{block_place, files_of_words, places_of}

@@ -17,9 +17,9 @@ use Rattle.tlv_head.specs.declared.kind.Kind.{Kind}
 use Rattle.tlv_head.specs.declared.kind.Kind.TheVariants as kind
 use Rattle.tlv_value.specs.Units.{escaped_number, escaped_octet, is_printable, octet_text, printable_text, quoted_text}
 use Rattle.tlv_value.specs.Units.{first_units, three_octets, unit_size, unit_text, units, utf8_number, without_leading_zeros}
-use Rattle.tlv_why.specs.Laws.{AreShown, is_shown_octet}
-use Rattle.tlv_why.specs.Words.{named_element}
-use Rattle.tlv_why.proofs.ShownLemmas.ShownWords.{decimal-shown, named_element-shown}
+use Rattle.tlv_reasons.specs.Laws.{AreShown, is_shown_octet}
+use Rattle.tlv_reasons.specs.Values.{named_element}
+use Rattle.tlv_reasons.proofs.ShownLemmas.ShownValues.{decimal-shown, named_element-shown}
 use Rattle.tlv_view_program.proofs.ShownLemmas.ShownLabels.{front-shown, joined-shown, printable-shown}
 use Rattle.tlv_value.specs.Private.Rows.{joined_pairs}
 

@@ -6,8 +6,8 @@ use Rattle.tlv_walk.specs.declared.run.DeviceFault.TheVariants.{WriteFailed}
 use Rattle.tlv_value.specs.declared.names.fault.NamesFault.{NamesFault}
 use Rattle.tlv_value.specs.declared.names.fault.NamesFault.TheVariants as names
 use Rattle.tlv_run.specs.Report.{message_line, names_report}
-use Rattle.tlv_why.specs.Laws.{AreShown}
-use Rattle.tlv_why.proofs.ShownLemmas.ShownWords.{decimal-shown}
+use Rattle.tlv_reasons.specs.Laws.{AreShown}
+use Rattle.tlv_reasons.proofs.ShownLemmas.ShownValues.{decimal-shown}
 use Rattle.tlv_program.specs.Usage.{unprinted_report}
 use Rattle.tlv_view_program.specs.RequestReport.{option_spelling, refusal_message, request_report}
 use Rattle.tlv_view_program.specs.declared.refusal.Refusal.{Refusal}

@@ -23,8 +23,8 @@ use Rattle.tlv_value.specs.Value.{integer_value, is_long, is_unused_count, long_
 use Rattle.tlv_value.specs.Value.{no_names, object_value, octets_value, row_octets}
 use Rattle.tlv_value.specs.TextBeside.{on_line_text_with, pairs_with_text, row_text_with, text_behind}
 use Rattle.tlv_value.specs.Value.{short_value, spaced_pairs, used_digits, value_on_line, whole_value}
-use Rattle.tlv_why.specs.Laws.{AreShown, is_shown_octet}
-use Rattle.tlv_why.proofs.ShownLemmas.ShownWords.{decimal-shown}
+use Rattle.tlv_reasons.specs.Laws.{AreShown, is_shown_octet}
+use Rattle.tlv_reasons.proofs.ShownLemmas.ShownValues.{decimal-shown}
 use Rattle.tlv_view_program.proofs.ShownLemmas.ShownLabels.{all_printable-shown, joined-shown}
 use Rattle.tlv_view_program.proofs.ShownLemmas.ShownText.{join-shown, joined_pairs-shown, left-octets, quoted-shown}
 use Rattle.tlv_view_program.proofs.ShownLemmas.ShownText.{right-octets, signed-shown, spaced_pairs-shown}

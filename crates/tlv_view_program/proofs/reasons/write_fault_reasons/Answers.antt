@@ -1,26 +1,5 @@
-use Rattle.tlv_view_program.specs.WritesReasons.{another_kind, failed, no_kind, of_octets}
-use Rattle.tlv_view_program.proofs.ReasonSteps.{kind-none, kind-some, then-others}
+use Rattle.tlv_view_program.specs.WritesReasons.{of_octets}
 use Rattle.tlv_view_program.proofs.reasons.write_fault_reasons.Goals as goal
 
-pub returns-then-not-is_empty : goal.returns-then-not-is_empty
-returns-then-not-is_empty g c =
-    of_octets c.closed_facts-facts.result _ c.closed_facts-facts.ensures
-    (another_kind c.write_octets.result
-    (kind-some c.kind_line-kind.result.now _ _ c.kind_line-kind.ensures c.is_empty.ensures c.if-not-is_empty.true)
-    (rw c.kind_line-kind.ensures at c.write_octets.ensures))
-
-pub returns-in-Ok : goal.returns-in-Ok
-returns-in-Ok g c =
-    of_octets c.closed_facts-facts.result c.write_remedies.result c.closed_facts-facts.ensures
-    (no_kind c.write_remedies.result
-    (kind-none c.kind_line-kind.result.now _ _ c.kind_line-kind.ensures c.is_empty.ensures c.if-not-is_empty.false)
-    (then-others g.D.Drain.state _ c.write_reasons.new.drain c.write_remedies.new.drain _ _ _ _ c.in-Ok.ensures
-    (rw (c.as_slice.ensures.value, c.suspect_offsets.ensures) at c.write_remedies.ensures.written)
-    c.write_remedies.ensures.refused))
-
-pub returns-in-Err : goal.returns-in-Err
-returns-in-Err g c =
-    of_octets c.closed_facts-facts.result _ c.closed_facts-facts.ensures
-    (no_kind _
-    (kind-none c.kind_line-kind.result.now _ _ c.kind_line-kind.ensures c.is_empty.ensures c.if-not-is_empty.false)
-    (failed c.in-Err.fault c.in-Err.ensures))
+pub returns : goal.returns
+returns g c = of_octets c.closed_facts-facts.result _ c.closed_facts-facts.ensures c.explain_octets.ensures
