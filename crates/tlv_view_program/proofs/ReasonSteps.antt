@@ -20,10 +20,10 @@ module _ {octets : List ℕ} {front few : List Sentence} {P Q : List Sentence �
 
 module _ {A : Type 0} (items : A → List Sentence) where
   -- the sentences of a result have what it states
-  pub all-of : {P : List Sentence → Type 0} (r : Result A AllocError) → IfOk r (λ x. P (items x)) → (s : List Sentence)
+  pub all-of : (P : List Sentence → Type 0) (r : Result A AllocError) → IfOk r (λ x. P (items x)) → (s : List Sentence)
       → IsOkAnd r (λ x. items x ≡ s) → P s
-  all-of {P = P} (Ok x) p s e = subst P e p
-  all-of (Err e) p s q = absurd q
+  all-of P (Ok x) p s e = subst P e p
+  all-of P (Err e) p s q = absurd q
 
 -- so has its refusal
 pub refusal-of : {A X : Type 0} (r : Result A AllocError) → OnErr r X → IsErr r → X

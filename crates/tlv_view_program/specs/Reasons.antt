@@ -1,5 +1,5 @@
 -- What is written about octets with `--why`: whether they parse, and if not, why, and what may be done.
-use Rattle.std.specs.Prelude.{◌≡◌, ◌≢◌, ◌++◌, ⊤, ℕ, Bool, List, [], ◌∷◌, None, Ok, Err, codes}
+use Rattle.std.specs.Prelude.{◌≡◌, ◌≢◌, ◌++◌, ⊤, ℕ, Bool, true, List, [], ◌∷◌, None, Ok, Err, codes}
 use Rattle.tlv_io.specs.Device.{DrainState}
 use Rattle.tlv_io.specs.Out.{Sends}
 use Rattle.tlv_io.specs.declared.drain.WriteFault.{WriteFault}

@@ -121,3 +121,20 @@ reasons-shown closed padding table octets old new _ _ o
     (findings_lines-shown _ _ closed padding table octets ber der b d)) explains
 reasons-shown closed padding table octets old new _ _ o (ShowsReasons.no_memory facts are none same) =
     same-takes old new same
+
+-- ---- what is reported
+
+explained-shown : (status : ℕ) (outcome : Outcome) → IsShownReport (explained_report status outcome)
+explained-shown status (Ok (Ok unit)) = refl
+explained-shown status (Ok (Err fault)) = device_report-shown WriteFailed
+explained-shown status (Err error) = input_report-shown input.Memory
+
+pub reasons_report-shown : (closed padding : Bool) (table : NamesValue) (octets : List ℕ) (old new : DrainState)
+    (report : ReportValue) (broken : List BrokenString)
+    → ShowsReasons closed padding table octets old new report broken → IsShownReport report
+reasons_report-shown closed padding table octets old new _ _
+    (ShowsReasons.refused facts outcome are some explains) = explained-shown 2 outcome
+reasons_report-shown closed padding table octets old new _ _
+    (ShowsReasons.parses facts ber der broken outcome are none b d breaks explains) = explained-shown ber.status outcome
+reasons_report-shown closed padding table octets old new _ _ (ShowsReasons.no_memory facts are none same) =
+    input_report-shown input.Memory

@@ -17,5 +17,5 @@ returns g c =
     let named = c.in-Some.ensures.0 ∙ c.as_slice.ensures.value ∙ n.2 in
     explained n.0 c.facts_of-facts.result c.send_reasons.result n.1 (rw named at c.facts_of-facts.ensures)
     (sends-weaker
-    (all-of (λ a. a.items) c.string_reasons-reasons.result (rw named at c.string_reasons-reasons.ensures.reasons))
+    (all-of (λ a. a.items) _ c.string_reasons-reasons.result (rw named at c.string_reasons-reasons.ensures.reasons))
     (λ e. tt) (rw (c.reasons_of-few.ensures.reasons, c.heading.ensures.heading) at c.send_reasons.ensures))
