@@ -1,5 +1,6 @@
 //! Tests of `tlv_reasons`: the single changes that would make an input parse.
 use crate::expect::expect_eq;
+use std::process::Abort;
 use std::test::Fail;
 use tlv_reasons::{
     FileKind, OctetChange, Reasons, TextChange, all_reasons, facts_of, file_kind, latin1_of_utf8,
@@ -56,7 +57,7 @@ fn another_start_is_found(rt: HostRuntime) {
 const LENGTH: &[u8] = b"If the header at offset 2 said 1 octet and not 2, all would parse.\n";
 
 /// Writes these sentences about [`TOO_LONG`], and checks that this line is the last one.
-fn expect_last(rt: &HostRuntime, reasons: &Reasons, line: &[u8]) {
+fn expect_last(rt: &impl Abort, reasons: &Reasons, line: &[u8]) {
     let mut room = [0; 1024];
     let mut drain = MemDrain::new(&mut room, 5);
     let sent = write_sentences(TOO_LONG, reasons.as_slice(), &mut drain);

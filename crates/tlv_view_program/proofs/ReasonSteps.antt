@@ -4,7 +4,6 @@ use mathlib.Core.Bool.{true≢false}
 use Rattle.std.specs.Prelude.{IfOk, IsErr, OnErr, Result, Ok, Err}
 use Rattle.std.specs.Result.{IsOkAnd}
 use Rattle.std.specs.declared.alloc.AllocError.{AllocError}
-use Rattle.arrayvec.specs.ArrayVec.{ArrayVec}
 use Rattle.tlv_io.specs.Device.{DrainState}
 use Rattle.tlv_reasons.specs.declared.sentence.Sentence.{Sentence}
 use Rattle.tlv_view_program.specs.WritesReasons.{Outcome, SendsReasons, all_sent, few_failed, few_sent}

@@ -5,18 +5,14 @@ use Rattle.std.proofs.lemmas.List.Folds.{list_all-append}
 use Rattle.tlv_io.specs.Device.{DrainState}
 use Rattle.tlv_io.specs.Out.{Sends}
 use Rattle.tlv_walk.specs.Reading.{AreOctets}
-use Rattle.tlv_walk.specs.declared.framing.Framing.{Framing}
 use Rattle.tlv_walk.specs.declared.run.DeviceFault.TheVariants.{WriteFailed}
 use Rattle.tlv_value.specs.Names.{NamesValue}
-use Rattle.tlv_open.specs.Laws.{opened_framing}
-use Rattle.tlv_open.specs.Opens.{closed_framing}
 use Rattle.tlv_open.specs.declared.strings.BrokenString.{BrokenString}
 use Rattle.tlv_run.specs.Report.{ReportValue}
 use Rattle.tlv_view_program.specs.declared.input.InputFault.TheVariants as input
 use Rattle.tlv_reasons.specs.Laws.{AreShown}
 use Rattle.tlv_reasons.specs.Sentences.{text_of}
 use Rattle.tlv_reasons.specs.Why.{first_sentence}
-use Rattle.tlv_reasons.specs.declared.facts.Facts.{Facts}
 use Rattle.tlv_reasons.specs.declared.sentence.Sentence.{Sentence}
 use Rattle.tlv_reasons.proofs.ShownLemmas.ShownSentences.{sentences-shown}
 use Rattle.tlv_view_program.specs.Reasons.{ExplainsParsing, ShowsReasons, explained_report, findings_line}

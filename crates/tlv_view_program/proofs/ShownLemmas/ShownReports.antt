@@ -2,10 +2,7 @@
 use Rattle.std.proofs.Common.{◌≡◌, ℕ, ◌==◌, Bool, true, false, List, Option, Some, None, Result}
 use Rattle.std.proofs.Common.{refl, subst, sym}
 use Rattle.std.proofs.lemmas.List.Folds.{list_all-append}
-use Rattle.tlv_head.specs.Fault.{fault_code, fault_text}
 use Rattle.tlv_head.specs.declared.fault.Fault.{Fault}
-use Rattle.tlv_head.specs.declared.fault.FaultCode.{FaultCode}
-use Rattle.tlv_head.specs.declared.fault.FaultCode.TheVariants as fault
 use Rattle.tlv_io.specs.Device.{DrainState, SourceState}
 use Rattle.tlv_walk.specs.Forest.{Forest}
 use Rattle.tlv_walk.specs.Job.{ComesTo, DeviceStates, Job}
@@ -15,10 +12,6 @@ use Rattle.tlv_walk.specs.declared.framing.Framing.{Framing}
 use Rattle.tlv_walk.specs.declared.run.DeviceFault.{DeviceFault}
 use Rattle.tlv_walk.specs.declared.run.DeviceFault.TheVariants.{ReadFailed, WriteFailed, InputTooLong}
 use Rattle.tlv_value.specs.Names.{NamesValue}
-use Rattle.tlv_open.specs.BrokenLine.{broken_line, suspicion_text}
-use Rattle.tlv_open.specs.declared.strings.BrokenString.{BrokenString}
-use Rattle.tlv_open.specs.declared.strings.Suspicion.{Suspicion}
-use Rattle.tlv_open.specs.declared.strings.Suspicion.TheVariants as suspicion
 use Rattle.tlv_show.specs.WantedJobs.{check_job_with, dump_job_with}
 use Rattle.tlv_show.specs.ShownFindings.{all_by}
 use Rattle.tlv_show.specs.declared.scope.Scope.TheVariants.{All}
