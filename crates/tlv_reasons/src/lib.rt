@@ -36,7 +36,7 @@ pub use facts_call::facts_of;
 pub use fault_reasons::Reasons;
 pub use kinds::{FileKind, file_kind};
 pub use lengths::{SEARCH_LIMIT, WrongLength, wrong_length};
-pub use mend::{all_reasons, remedies, string_reasons};
+pub use mend::{all_reasons, string_reasons};
 pub use octet_changes::{OctetChange, octet_change};
 pub use records::next_record;
 pub use sentence::Sentence;

@@ -63,6 +63,10 @@ pub(crate) fn words_of(sentence: &Sentence) -> Words
                 Value::Number(left),
             ],
         ),
+        Sentence::TextFollows { end, left } => say(
+            b"Whole encodings end at offset %. The octets after them are printable text: %.\n",
+            &[Value::Number(end), Value::Number(left)],
+        ),
         Sentence::TryWhole(end) => say(
             b"Try: head -c % FILE, for the whole encodings.\n",
             &[Value::Number(end)],
@@ -80,21 +84,14 @@ pub(crate) fn words_of(sentence: &Sentence) -> Words
             b"The input ends inside the header at offset %:%.\n",
             &[Value::Number(offset), Value::Pairs(offset, end)],
         ),
-        Sentence::EndsInPrimitive { element, end } => say(
-            b"The input ends inside the %. %\nMissing there: %.\n",
-            &[
-                Value::Name(element),
-                Value::Header(element),
-                Value::Octets(element_end(&element).saturating_sub(end)),
-            ],
+        Sentence::EndsInPrimitive(element) | Sentence::EndsInHolder(element) => say(
+            b"The input ends inside the %. %\n",
+            &[Value::Name(element), Value::Header(element)],
         ),
+        Sentence::MissingThere(count) => say(b"Missing there: %.\n", &[Value::Octets(count)]),
         Sentence::EndsBetweenZeros(element) => say(
             b"The input ends between the two octets 00 that end the %.\n",
             &[Value::Name(element)],
-        ),
-        Sentence::EndsInHolder(element) => say(
-            b"The input ends inside the %. %\n",
-            &[Value::Name(element), Value::Header(element)],
         ),
         Sentence::EndsWithInput(element) => say(
             b"The % ends with the input, at offset %: its length leaves no room for what is missing.\n",
@@ -144,15 +141,17 @@ pub(crate) fn words_of(sentence: &Sentence) -> Words
         ),
         Sentence::ZeroInside { element, offset } => say(
             b"Inside the %, which ends at offset %, an element should begin at offset %. \
-              There is an octet 00, with which none begins. %\n\
-              Left over: %. Its length, or one in front of that offset, is wrong.\n",
+              There is an octet 00, with which none begins. %\n",
             &[
                 Value::Name(element),
                 Value::Number(element_end(&element)),
                 Value::Number(offset),
                 Value::Header(element),
-                Value::Octets(element_end(&element).saturating_sub(offset)),
             ],
+        ),
+        Sentence::LeftInside(left) => say(
+            b"Left over: %. Its length, or one in front of that offset, is wrong.\n",
+            &[Value::Octets(left)],
         ),
         Sentence::NoSecondZero { element, offset } => say(
             b"At offset % the octets 00 00 should end the %, but the second is%. %\n",
@@ -207,27 +206,32 @@ pub(crate) fn words_of(sentence: &Sentence) -> Words
             &[],
         ),
         Sentence::HeaderPast { offset, holder } => say(
-            b"The header at offset % runs past the end of the %, which ends at offset %. %\nLeft over: %,%.\n",
+            b"The header at offset % runs past the end of the %, which ends at offset %. %\n",
             &[
                 Value::Number(offset),
                 Value::Name(holder),
                 Value::Number(element_end(&holder)),
                 Value::Header(holder),
+            ],
+        ),
+        Sentence::LeftInHolder { offset, holder } => say(
+            b"Left over: %,%.\n",
+            &[
                 Value::Octets(element_end(&holder).saturating_sub(offset)),
                 Value::Pairs(offset, element_end(&holder)),
             ],
         ),
-        Sentence::ElementPast {
-            offset,
-            element,
-            holder,
-        } => say(
-            b"The octet at offset % completes the header of the %. %\nIt would end at offset %, but the % ends at \
-              offset %. Missing there: %. %\n",
+        Sentence::CompletesHeader { offset, element } => say(
+            b"The octet at offset % completes the header of the %. %\n",
             &[
                 Value::Number(offset),
                 Value::Name(element),
                 Value::Header(element),
+            ],
+        ),
+        Sentence::ElementPast { element, holder } => say(
+            b"It would end at offset %, but the % ends at offset %. Missing there: %. %\n",
+            &[
                 Value::Number(element_end(&element)),
                 Value::Name(holder),
                 Value::Number(element_end(&holder)),
