@@ -25,7 +25,7 @@ use Rattle.tlv_reasons.proofs.FirstLemmas.{from-next}
 use Rattle.tlv_reasons.proofs.LawLemmas.{within-one}
 use Rattle.tlv_reasons.proofs.LengthLemmas.{begun-one}
 use Rattle.tlv_reasons.proofs.OctetLemmas.{starts-at}
-use Rattle.tlv_reasons.specs.OneOctet.{contents_start}
+use Rattle.tlv_reasons.specs.WrongLength.{contents_start}
 use Rattle.tlv_reasons.specs.declared.lengths.WrongLength.{WrongLength}
 use Rattle.tlv_reasons.specs.FirstOf.{IsFirstWithin, all_spent, all_tried, tried_in_vain, tried_well}
 use Rattle.tlv_reasons.specs.NextRecord.{EndsNear, IsNextRecord, ReadsInVain, another_length, another_start, at}

@@ -5,20 +5,22 @@ use Rattle.tlv_head.specs.declared.header.Size.TheVariants.{Definite}
 use Rattle.tlv_head.specs.Header.{HeaderValue, IsHeader, octets_of}
 use Rattle.tlv_walk.specs.declared.framing.Framing.{Framing}
 use Rattle.tlv_walk.specs.Reading.{AreOctets}
+use Rattle.tlv_reasons.specs.declared.element.Element.{Element}
 use Rattle.tlv_reasons.specs.declared.lengths.WrongLength.{WrongLength}
 use Rattle.tlv_reasons.specs.declared.octet_changes.OctetChange.{OctetChange}
 use Rattle.tlv_reasons.specs.NextRecord.{IsNextRecord}
 use Rattle.tlv_reasons.specs.OneOctet.{IsOctetChange}
 use Rattle.tlv_reasons.specs.declared.sentence.Sentence.{Sentence}
 use Rattle.tlv_reasons.specs.Sentences.{text_of}
-use Rattle.tlv_reasons.specs.WrongLength.{IsWrongLength, length_bound, with_length}
+use Rattle.tlv_reasons.specs.WrongLength.{NamesLengths, length_bound, with_length}
 
--- an input and offsets determine the wrong length, or that there is none
+-- an input, its open elements and offsets determine the other lengths that are named
 abbrev pub InputsHaveOneWrongLength : Type 0
-InputsHaveOneWrongLength = (framing : Framing) (octets candidates : List ℕ) (a b : Option WrongLength)
-    → IsWrongLength framing octets candidates a → IsWrongLength framing octets candidates b → a ≡ b
+InputsHaveOneWrongLength =
+    (framing : Framing) (octets : List ℕ) (holders : List Element) (candidates : List ℕ) (a b : List WrongLength)
+    → NamesLengths framing octets holders candidates a → NamesLengths framing octets holders candidates b → a ≡ b
 
--- with the wrong length they also determine the octet that is missing or was put in, or that there is none
+-- with the first of these they also determine the octet that is missing or was put in, or that there is none
 abbrev pub InputsHaveOneOctetChange : Type 0
 InputsHaveOneOctetChange = (framing : Framing) (octets candidates : List ℕ) (wrong : Option WrongLength)
     (a b : Option OctetChange) → IsOctetChange framing octets candidates wrong a

@@ -8,7 +8,7 @@ use Rattle.tlv_head.specs.Refusal.{BeginsWith}
 use Rattle.tlv_reasons.specs.declared.lengths.WrongLength.{WrongLength}
 use Rattle.tlv_reasons.specs.FirstOf.{IsFirstWithin}
 use Rattle.tlv_reasons.specs.NextStart.{IsStart}
-use Rattle.tlv_reasons.specs.OneOctet.{contents_start}
+use Rattle.tlv_reasons.specs.WrongLength.{contents_start}
 use Rattle.tlv_reasons.specs.WrongLength.{search_limit}
 use Rattle.tlv_open.specs.Opens.{closed_framing}
 use Rattle.tlv_walk.specs.Ending.{IsEnding, fault_ending}

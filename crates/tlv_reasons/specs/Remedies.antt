@@ -1,6 +1,6 @@
 -- What may be done with an input that does not parse: which change would make it sound, and where else it is sound.
-use Rattle.std.specs.Prelude.{◌≡◌, ℕ, Bool, false, true, ◌||◌, not, if◌then◌else◌, take, List, [], ◌∷◌, ◌++◌, Option, None, Some}
-use Rattle.std.specs.List.{filter}
+use Rattle.std.specs.Prelude.{◌≡◌, ℕ, Bool, false, true, ◌||◌, eqb, not, if◌then◌else◌, slice_get, take, List, [], ◌∷◌, ◌++◌, Option, None, Some}
+use Rattle.std.specs.List.{filter, find}
 use Rattle.std.specs.Option.{is_some, option_map}
 use Rattle.tlv_open.specs.Opens.{closed_framing}
 use Rattle.tlv_walk.specs.declared.framing.Framing.{Framing}
@@ -21,7 +21,7 @@ use Rattle.tlv_reasons.specs.OutermostSizes.{SizesAgree}
 use Rattle.tlv_reasons.specs.Suspects.{suspect_offsets}
 use Rattle.tlv_reasons.specs.TextCopies.{IsSoundWithLfAlone, IsSoundWithoutUtf8, has_replacement}
 use Rattle.tlv_reasons.specs.Why.{fault_sentences, reasons_of}
-use Rattle.tlv_reasons.specs.WrongLength.{IsWrongLength}
+use Rattle.tlv_reasons.specs.WrongLength.{NamesLengths}
 
 -- what was done to the input as if it were a text: what makes the input sound if it is undone, UTF-8 first; else, what
 -- has left octets ef bf bd
@@ -34,13 +34,24 @@ pub data IsTextChange (padding : Bool) (octets : List ℕ) : Option TextChange �
   none : (IsSoundWithoutUtf8 padding octets → ⊥) → (IsSoundWithLfAlone padding octets → ⊥)
       → has_replacement octets ≡ false → IsTextChange padding octets None
 
--- the other length that is named: the wrong length, if the sizes of the outermost elements agree with that of the input,
--- from the offset `top` on. Otherwise octets are missing or left over, and none is named
-pub data IsNamedLength (padding : Bool) (octets candidates : List ℕ) (top : ℕ) : Option WrongLength → Type 0 where
-  in_agreement : {found : Option WrongLength} → SizesAgree padding octets top
-      → IsWrongLength (closed_framing padding) octets candidates found
-      → IsNamedLength padding octets candidates top found
-  in_disagreement : (SizesAgree padding octets top → ⊥) → IsNamedLength padding octets candidates top None
+-- the other lengths that are named, if the sizes of the outermost elements agree with that of the input, from the top end
+-- on. Otherwise octets are missing or left over, and none is named
+pub data AreNamedLengths (padding : Bool) (octets : List ℕ) (facts : Facts) : List WrongLength → Type 0 where
+  in_agreement : {found : List WrongLength} → SizesAgree padding octets facts.top
+      → NamesLengths (closed_framing padding) octets facts.holders.items (suspect_offsets facts) found
+      → AreNamedLengths padding octets facts found
+  in_disagreement : (SizesAgree padding octets facts.top → ⊥) → AreNamedLengths padding octets facts []
+
+-- another length that is named for the header at this offset
+abbrev pub named_at : ℕ → List WrongLength → Option WrongLength
+named_at offset found = find (λ w. eqb w.offset offset) found
+
+-- the sentence about the lengths that are named: three at most
+abbrev pub length_sentence : List WrongLength → Option Sentence
+length_sentence [] = None
+length_sentence (v ∷ []) = Some (say.OtherLength v)
+length_sentence (v ∷ w ∷ []) = Some (say.TwoLengths v w)
+length_sentence (v ∷ w ∷ x ∷ more) = Some (say.ThreeLengths v w x)
 
 -- what was done to the input as if it were a text is known, and can be undone
 abbrev pub is_undone : Option TextChange → Bool
@@ -58,10 +69,10 @@ abbrev pub unless_mended : Bool → List Sentence → List Sentence
 unless_mended is_mended sentences = if is_mended then filter (λ s. not (is_suspicion s)) sentences else sentences
 
 -- the sentences about what would mend the input
-abbrev pub mending_sentences : Option TextChange → Option WrongLength → Option OctetChange → List Sentence
+abbrev pub mending_sentences : Option TextChange → List WrongLength → Option OctetChange → List Sentence
 mending_sentences change wrong octet =
-    said (option_map (λ c. say.TextChanged c) change ∷ option_map (λ w. say.OtherLength w) wrong
-    ∷ option_map (λ c. say.OneOctet c) octet ∷ [])
+    said (option_map (λ c. say.TextChanged c) change ∷ length_sentence wrong ∷ option_map (λ c. say.OneOctet c) octet
+    ∷ [])
 
 -- the sentences about offsets from which on the input is sound
 abbrev pub offset_sentences : Option ℕ → Option ℕ → List Sentence
@@ -72,17 +83,17 @@ offset_sentences start next =
 -- sentences about the fault, and where else it is sound
 pub record AreRemedies (padding : Bool) (octets : List ℕ) (facts : Facts) (change : Option TextChange)
     (sentences : List Sentence) : Type 0 where
-  pub wrong : Option WrongLength
-  pub is_wrong : IsNamedLength padding octets (suspect_offsets facts) facts.top wrong
+  pub wrong : List WrongLength
+  pub are_wrong : AreNamedLengths padding octets facts wrong
   pub octet : Option OctetChange
-  pub is_octet : IsOctetChange (closed_framing padding) octets (suspect_offsets facts) wrong octet
+  pub is_octet : IsOctetChange (closed_framing padding) octets (suspect_offsets facts) (slice_get wrong 0) octet
   pub start : Option ℕ
   pub is_start : IsNextStart padding octets start
   pub next : Option ℕ
-  pub is_next : IsNextRecord padding octets facts.top wrong start next
+  pub is_next : IsNextRecord padding octets facts.top (named_at facts.top wrong) start next
   pub sentences_are : sentences
       ≡ mending_sentences change wrong octet
-      ++ (unless_mended (is_some wrong || is_some octet) (reasons_of octets facts) ++ offset_sentences start next)
+      ++ (unless_mended (is_some (slice_get wrong 0) || is_some octet) (reasons_of octets facts) ++ offset_sentences start next)
 
 -- all reasons why an input with these facts does not parse: that it is another kind of file, and nothing else; what was
 -- done to it as if it were a text, if that can be undone, and the first sentence about the fault; or all others
@@ -91,15 +102,15 @@ pub data AreReasons (padding : Bool) (octets : List ℕ) (facts : Facts) : List 
       → AreReasons padding octets facts (say.OtherKind kind ∷ [])
   undone : (change : Option TextChange) → file_kind octets ≡ None → IsTextChange padding octets change
       → is_undone change ≡ true
-      → AreReasons padding octets facts (mending_sentences change None None ++ take 1 (fault_sentences octets facts))
+      → AreReasons padding octets facts (mending_sentences change [] None ++ take 1 (fault_sentences octets facts))
   others : (change : Option TextChange) (sentences : List Sentence) → file_kind octets ≡ None
       → IsTextChange padding octets change → is_undone change ≡ false
       → AreRemedies padding octets facts change sentences → AreReasons padding octets facts sentences
 
--- all reasons why a string breaks, in a reading with these facts: the length that would mend it, and the fault
+-- all reasons why a string breaks, in a reading with these facts: the lengths that would mend it, and the fault
 pub record AreStringReasons (framing : Framing) (octets candidates : List ℕ) (facts : Facts) (sentences : List Sentence)
     : Type 0 where
-  pub wrong : Option WrongLength
-  pub is_wrong : IsWrongLength framing octets candidates wrong
+  pub wrong : List WrongLength
+  pub are_wrong : NamesLengths framing octets facts.holders.items candidates wrong
   pub sentences_are : sentences
-      ≡ mending_sentences None wrong None ++ unless_mended (is_some wrong) (reasons_of octets facts)
+      ≡ mending_sentences None wrong None ++ unless_mended (is_some (slice_get wrong 0)) (reasons_of octets facts)

@@ -175,6 +175,16 @@ words_of (say.OtherLength w) = (
   codes "If the header at offset % said % and not %, all would parse.\n",
   Number w.offset ∷ Octets w.would ∷ Number w.said ∷ [],
 )
+words_of (say.TwoLengths v w) = (
+  codes "If the header at offset % said % and not %, or that at offset % said % and not %, all would parse.\n",
+  Number v.offset ∷ Octets v.would ∷ Number v.said ∷ Number w.offset ∷ Octets w.would ∷ Number w.said ∷ [],
+)
+words_of (say.ThreeLengths v w x) = (
+  codes "If the header at offset % said % and not %, or that at offset % said % and not %, "
+      ++ codes "or that at offset % said % and not %, all would parse.\n",
+  Number v.offset ∷ Octets v.would ∷ Number v.said ∷ Number w.offset ∷ Octets w.would ∷ Number w.said
+      ∷ Number x.offset ∷ Octets x.would ∷ Number x.said ∷ [],
+)
 words_of (say.OneOctet (Missing offset)) = (
   codes "If one octet more stood after the header at offset %, all would parse: "
       ++ codes "an octet of its contents may be missing.\n",

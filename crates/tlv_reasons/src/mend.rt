@@ -1,20 +1,20 @@
 //! All reasons why an input does not parse, and what may be done.
 ghost use Rattle.std.specs.List.{filter};
-ghost use Rattle.std.specs.Prelude.{◌≡◌, ◌≤◌, ◌++◌, IfOk, None, OnErr, length, not, take};
+ghost use Rattle.std.specs.Prelude.{◌≡◌, ◌≤◌, ◌++◌, IfOk, [], None, OnErr, length, not, take};
 ghost use Rattle.tlv_head.specs.Limits.{input_limit};
 ghost use Rattle.tlv_open.specs.Opens.{closed_framing};
 ghost use Rattle.tlv_reasons.specs.FileKinds.{file_kind};
 ghost use Rattle.tlv_reasons.specs.NextRecord.{IsNextRecord};
 ghost use Rattle.tlv_reasons.specs.NextStart.{IsNextStart};
 ghost use Rattle.tlv_reasons.specs.OneOctet.{IsOctetChange};
-ghost use Rattle.tlv_reasons.specs.Remedies.{AreReasons, AreRemedies, AreStringReasons, IsNamedLength, IsTextChange};
-ghost use Rattle.tlv_reasons.specs.Remedies.{is_suspicion, is_undone, mending_sentences, offset_sentences, unless_mended};
+ghost use Rattle.tlv_reasons.specs.Remedies.{AreNamedLengths, AreReasons, AreRemedies, AreStringReasons, IsTextChange};
+ghost use Rattle.tlv_reasons.specs.Remedies.{is_suspicion, is_undone, length_sentence, mending_sentences, named_at, offset_sentences, unless_mended};
 ghost use Rattle.tlv_reasons.specs.Suspects.{suspects_from};
 ghost use Rattle.tlv_reasons.specs.Why.{fault_sentences};
 
 use crate::fault_reasons::{Reasons, joined, said};
 use crate::kinds::file_kind;
-use crate::lengths::{WrongLength, wrong_length};
+use crate::lengths::{WrongLength, WrongLengths, wrong_lengths};
 use crate::octet_changes::{OctetChange, octet_change};
 use crate::outermost::sizes_agree;
 use crate::records::next_record;
@@ -60,14 +60,14 @@ pub fn all_reasons(
 
 /// The reasons of an input to which this was done as if it were a text.
 fn undone_reasons(change: Option<TextChange>, octets: &[u8], facts: &Facts) -> Reasons
-    ensures reasons { result.items ≡ mending_sentences change None None
+    ensures reasons { result.items ≡ mending_sentences change [] None
         ++ take 1 (fault_sentences octets.now facts.now) }
     ensures few { length result.items ≤ 4 }
 {
     let mut first = fault_sentences(octets, facts);
     first.truncate(1);
     joined(
-        mending_sentences(change, None, None).as_slice(),
+        mending_sentences(change, &[], None).as_slice(),
         first.as_slice(),
     )
 }
@@ -87,12 +87,13 @@ fn other_reasons(
     let framing = closed_framing(padding);
     let candidates = suspect_offsets(facts);
     let top = facts.top as usize;
-    let wrong = named_length(alloc, octets, padding, candidates.as_slice(), top)?;
-    let octet = octet_change(alloc, octets, &framing, candidates.as_slice(), wrong)?;
+    let wrong = named_lengths(alloc, octets, padding, facts)?;
+    let first = wrong.as_slice().first().copied();
+    let octet = octet_change(alloc, octets, &framing, candidates.as_slice(), first)?;
     let start = next_start(octets, padding);
-    let next = next_record(octets, padding, top, wrong, start);
-    let mending = mending_sentences(change, wrong, octet);
-    let is_mended = wrong.is_some() || octet.is_some();
+    let next = next_record(octets, padding, top, named_at(top, wrong.as_slice()), start);
+    let mending = mending_sentences(change, wrong.as_slice(), octet);
+    let is_mended = first.is_some() || octet.is_some();
     let reasons = unless_mended(is_mended, reasons_of(octets, facts).as_slice());
     let offsets = offset_sentences(start, next);
     let others = joined(reasons.as_slice(), offsets.as_slice());
@@ -119,9 +120,11 @@ pub fn string_reasons(
     ensures few { IfOk result (λ r. length r.items ≤ 13) }
 {
     let candidates = suspects_from(offset, facts);
-    let wrong = wrong_length(alloc, octets, framing, candidates.as_slice())?;
-    let reasons = unless_mended(wrong.is_some(), reasons_of(octets, facts).as_slice());
-    let mending = mending_sentences(None, wrong, None);
+    let holders = facts.holders.as_slice();
+    let wrong = wrong_lengths(alloc, octets, framing, holders, candidates.as_slice())?;
+    let is_mended = wrong.as_slice().first().is_some();
+    let reasons = unless_mended(is_mended, reasons_of(octets, facts).as_slice());
+    let mending = mending_sentences(None, wrong.as_slice(), None);
     Ok(joined(mending.as_slice(), reasons.as_slice()))
 }
 
@@ -172,15 +175,15 @@ fn is_suspicion(sentence: &Sentence) -> bool
 /// The sentences about what would mend the input.
 fn mending_sentences(
     change: Option<TextChange>,
-    wrong: Option<WrongLength>,
+    wrong: &[WrongLength],
     octet: Option<OctetChange>,
 ) -> Reasons
-    ensures sentences { result.items ≡ mending_sentences change wrong octet }
+    ensures sentences { result.items ≡ mending_sentences change wrong.now octet }
     ensures few { length result.items ≤ 3 }
 {
     said(&[
         change.map(Sentence::TextChanged),
-        wrong.map(Sentence::OtherLength),
+        length_sentence(wrong),
         octet.map(Sentence::OneOctet),
     ])
 }
@@ -196,21 +199,51 @@ fn offset_sentences(start: Option<usize>, next: Option<usize>) -> Reasons
     ])
 }
 
-/// The header whose length is wrong; `None` if the sizes of the outermost elements do not agree with that of the input,
-/// since octets are then missing or left over.
-fn named_length(
+/// The sentence about the lengths that are named: three at most.
+fn length_sentence(wrong: &[WrongLength]) -> Option<Sentence>
+    ensures { result ≡ length_sentence wrong.now }
+{
+    match wrong {
+        [] => None,
+        [first] => Some(Sentence::OtherLength(*first)),
+        [first, second] => Some(Sentence::TwoLengths(*first, *second)),
+        [first, second, third, ..] => Some(Sentence::ThreeLengths(*first, *second, *third)),
+    }
+}
+
+/// Another length that is named for the header at this offset.
+fn named_at(offset: usize, wrong: &[WrongLength]) -> Option<WrongLength>
+    ensures { result ≡ named_at offset wrong.now }
+{
+    for each in wrong {
+        if each.offset == offset {
+            return Some(*each);
+        }
+    }
+    None
+}
+
+/// The headers whose length may be wrong; none if the sizes of the outermost elements do not agree with that of the
+/// input, since octets are then missing or left over.
+fn named_lengths(
     alloc: Global,
     octets: &[u8],
     padding: bool,
-    candidates: &[usize],
-    top: usize,
-) -> Result<Option<WrongLength>, AllocError>
+    facts: &Facts,
+) -> Result<WrongLengths, AllocError>
     requires { length octets.now ≤ input_limit }
-    ensures { IfOk result (λ found. IsNamedLength padding octets.now candidates.now top found) }
+    ensures { IfOk result (λ found. AreNamedLengths padding octets.now facts.now found.items) }
 {
-    if sizes_agree(octets, padding, top) {
-        wrong_length(alloc, octets, &closed_framing(padding), candidates)
-    } else {
-        Ok(None)
+    if !sizes_agree(octets, padding, facts.top as usize) {
+        return Ok(WrongLengths::new());
     }
+    let candidates = suspect_offsets(facts);
+    let holders = facts.holders.as_slice();
+    wrong_lengths(
+        alloc,
+        octets,
+        &closed_framing(padding),
+        holders,
+        candidates.as_slice(),
+    )
 }

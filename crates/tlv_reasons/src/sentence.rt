@@ -140,6 +140,10 @@ pub enum Sentence {
     LengthInFront(Element),
     /// With another length all would parse.
     OtherLength(WrongLength),
+    /// With one of two other lengths all would parse.
+    TwoLengths(WrongLength, WrongLength),
+    /// With one of three other lengths all would parse.
+    ThreeLengths(WrongLength, WrongLength, WrongLength),
     /// With an octet more or fewer all would parse.
     OneOctet(OctetChange),
     /// What was done to it as if it were a text.

@@ -14,12 +14,12 @@ pub(crate) struct Words {
     /// The words, with `%` for each value.
     pub(crate) text: &'static [u8],
     /// The values.
-    pub(crate) values: ArrayVec<Value, 8>,
+    pub(crate) values: ArrayVec<Value, 9>,
 }
 
 /// These words, with these values.
 fn say(text: &'static [u8], values: &[Value]) -> Words
-    requires { length values.now ≤ 8 }
+    requires { length values.now ≤ 9 }
     ensures text { result.text.now ≡ text.now }
     ensures values { result.values.items ≡ values.now }
 {
@@ -258,6 +258,32 @@ pub(crate) fn words_of(sentence: &Sentence) -> Words
                 Value::Number(wrong.offset as u64),
                 Value::Octets(wrong.would),
                 Value::Number(wrong.said),
+            ],
+        ),
+        Sentence::TwoLengths(first, second) => say(
+            b"If the header at offset % said % and not %, or that at offset % said % and not %, all would parse.\n",
+            &[
+                Value::Number(first.offset as u64),
+                Value::Octets(first.would),
+                Value::Number(first.said),
+                Value::Number(second.offset as u64),
+                Value::Octets(second.would),
+                Value::Number(second.said),
+            ],
+        ),
+        Sentence::ThreeLengths(first, second, third) => say(
+            b"If the header at offset % said % and not %, or that at offset % said % and not %, \
+              or that at offset % said % and not %, all would parse.\n",
+            &[
+                Value::Number(first.offset as u64),
+                Value::Octets(first.would),
+                Value::Number(first.said),
+                Value::Number(second.offset as u64),
+                Value::Octets(second.would),
+                Value::Number(second.said),
+                Value::Number(third.offset as u64),
+                Value::Octets(third.would),
+                Value::Number(third.said),
             ],
         ),
         Sentence::OneOctet(OctetChange::Missing(offset)) => say(
