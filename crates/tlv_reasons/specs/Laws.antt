@@ -11,7 +11,7 @@ use Rattle.tlv_reasons.specs.declared.octet_changes.OctetChange.{OctetChange}
 use Rattle.tlv_reasons.specs.NextRecord.{IsNextRecord}
 use Rattle.tlv_reasons.specs.OneOctet.{IsOctetChange}
 use Rattle.tlv_reasons.specs.declared.sentence.Sentence.{Sentence}
-use Rattle.tlv_reasons.specs.Sentences.{text_of}
+use Rattle.tlv_reasons.specs.Sentences.{sentences_text}
 use Rattle.tlv_reasons.specs.WrongLength.{NamesLengths, length_bound, with_length}
 
 -- an input, its open elements and offsets determine the other lengths that are named
@@ -28,9 +28,9 @@ InputsHaveOneOctetChange = (framing : Framing) (octets candidates : List ℕ) (w
 
 -- an input, with what was found before, determines the next record, or that there is none
 abbrev pub InputsHaveOneNextRecord : Type 0
-InputsHaveOneNextRecord = (padding : Bool) (octets : List ℕ) (top : ℕ) (wrong : Option WrongLength)
-    (start a b : Option ℕ) → IsNextRecord padding octets top wrong start a
-    → IsNextRecord padding octets top wrong start b → a ≡ b
+InputsHaveOneNextRecord = (reads : ℕ) (padding : Bool) (octets : List ℕ) (top : ℕ) (wrong : Option WrongLength)
+    (start a b : Option ℕ) → IsNextRecord reads padding octets top wrong start a
+    → IsNextRecord reads padding octets top wrong start b → a ≡ b
 
 -- a header with another length that its length octets can state is a header of the same number of octets
 abbrev pub OtherLengthsMakeHeaders : Type 0
@@ -49,4 +49,4 @@ AreShown text = list_all is_shown_octet text ≡ true
 
 -- the text of sentences about octets is printable ASCII
 abbrev pub SentencesAreShown : Type 0
-SentencesAreShown = (octets : List ℕ) (sentences : List Sentence) → AreOctets octets → AreShown (text_of octets sentences)
+SentencesAreShown = (octets : List ℕ) (sentences : List Sentence) → AreOctets octets → AreShown (sentences_text octets sentences)

@@ -81,7 +81,7 @@ offset_sentences start next =
 
 -- the reasons of an input with these facts to which this was done as if it were a text: what would mend it, the
 -- sentences about the fault, and where else it is sound
-pub record AreRemedies (padding : Bool) (octets : List ℕ) (facts : Facts) (change : Option TextChange)
+pub record AreRemedies (reads : ℕ) (padding : Bool) (octets : List ℕ) (facts : Facts) (change : Option TextChange)
     (sentences : List Sentence) : Type 0 where
   pub wrong : List WrongLength
   pub are_wrong : AreNamedLengths padding octets facts wrong
@@ -90,22 +90,23 @@ pub record AreRemedies (padding : Bool) (octets : List ℕ) (facts : Facts) (cha
   pub start : Option ℕ
   pub is_start : IsNextStart padding octets start
   pub next : Option ℕ
-  pub is_next : IsNextRecord padding octets facts.top (named_at facts.top wrong) start next
+  pub is_next : IsNextRecord reads padding octets facts.top (named_at facts.top wrong) start next
   pub sentences_are : sentences
       ≡ mending_sentences change wrong octet
       ++ (unless_mended (is_some (slice_get wrong 0) || is_some octet) (reasons_of octets facts) ++ offset_sentences start next)
 
 -- all reasons why an input with these facts does not parse: that it is another kind of file, and nothing else; what was
--- done to it as if it were a text, if that can be undone, and the first sentence about the fault; or all others
-pub data AreReasons (padding : Bool) (octets : List ℕ) (facts : Facts) : List Sentence → Type 0 where
+-- done to it as if it were a text, if that can be undone, and the first sentence about the fault; or all others. So many
+-- octets may be read for the next record
+pub data AreReasons (reads : ℕ) (padding : Bool) (octets : List ℕ) (facts : Facts) : List Sentence → Type 0 where
   another_kind : (kind : FileKind) → file_kind octets ≡ Some kind
-      → AreReasons padding octets facts (say.OtherKind kind ∷ [])
+      → AreReasons reads padding octets facts (say.OtherKind kind ∷ [])
   undone : (change : Option TextChange) → file_kind octets ≡ None → IsTextChange padding octets change
       → is_undone change ≡ true
-      → AreReasons padding octets facts (mending_sentences change [] None ++ take 1 (fault_sentences octets facts))
+      → AreReasons reads padding octets facts (mending_sentences change [] None ++ take 1 (fault_sentences octets facts))
   others : (change : Option TextChange) (sentences : List Sentence) → file_kind octets ≡ None
       → IsTextChange padding octets change → is_undone change ≡ false
-      → AreRemedies padding octets facts change sentences → AreReasons padding octets facts sentences
+      → AreRemedies reads padding octets facts change sentences → AreReasons reads padding octets facts sentences
 
 -- all reasons why a string breaks, in a reading with these facts: the lengths that would mend it, and the fault
 pub record AreStringReasons (framing : Framing) (octets candidates : List ℕ) (facts : Facts) (sentences : List Sentence)

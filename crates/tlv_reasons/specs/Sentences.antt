@@ -228,5 +228,5 @@ unfoldable pub sentence_text : List ℕ → Sentence → List ℕ
 sentence_text octets s = filled octets (words_of s).0 (words_of s).1
 
 -- the text of sentences, one after another
-abbrev pub text_of : List ℕ → List Sentence → List ℕ
-text_of octets sentences = flat_map (sentence_text octets) sentences
+abbrev pub sentences_text : List ℕ → List Sentence → List ℕ
+sentences_text octets sentences = flat_map (sentence_text octets) sentences

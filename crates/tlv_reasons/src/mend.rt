@@ -32,7 +32,8 @@ use tlv_walk::Framing;
 /// and the first sentence about the fault. Otherwise: which single length would make it sound, or else after which header
 /// one octet is missing or was put in; the sentences about the fault ([`reasons_of`](crate::reasons_of)), without those
 /// about lengths in front if such a change was found; and from which offset it is sound, near its start or at the next
-/// record. With `padding`, octets `00` are allowed at the top level.
+/// record. The tries for the next record may read `reads` octets in vain. With `padding`, octets `00` are allowed at the
+/// top level.
 ///
 /// # Errors
 ///
@@ -42,9 +43,10 @@ pub fn all_reasons(
     octets: &[u8],
     padding: bool,
     facts: &Facts,
+    reads: u64,
 ) -> Result<Reasons, AllocError>
     requires { length octets.now ≤ input_limit }
-    ensures reasons { IfOk result (λ r. AreReasons padding octets.now facts.now r.items) }
+    ensures reasons { IfOk result (λ r. AreReasons reads padding octets.now facts.now r.items) }
     ensures few { IfOk result (λ r. length r.items ≤ 13) }
     ensures refused { OnErr result (file_kind octets.now ≡ None) }
 {
@@ -55,7 +57,7 @@ pub fn all_reasons(
     if is_undone(change) {
         return Ok(undone_reasons(change, octets, facts));
     }
-    other_reasons(alloc, octets, padding, facts, change)
+    other_reasons(alloc, octets, padding, facts, change, reads)
 }
 
 /// The reasons of an input to which this was done as if it were a text.
@@ -79,9 +81,10 @@ fn other_reasons(
     padding: bool,
     facts: &Facts,
     change: Option<TextChange>,
+    reads: u64,
 ) -> Result<Reasons, AllocError>
     requires { length octets.now ≤ input_limit }
-    ensures reasons { IfOk result (λ r. AreRemedies padding octets.now facts.now change r.items) }
+    ensures reasons { IfOk result (λ r. AreRemedies reads padding octets.now facts.now change r.items) }
     ensures few { IfOk result (λ r. length r.items ≤ 13) }
 {
     let framing = closed_framing(padding);
@@ -91,7 +94,14 @@ fn other_reasons(
     let first = wrong.as_slice().first().copied();
     let octet = octet_change(alloc, octets, &framing, candidates.as_slice(), first)?;
     let start = next_start(octets, padding);
-    let next = next_record(octets, padding, top, named_at(top, wrong.as_slice()), start);
+    let next = next_record(
+        octets,
+        padding,
+        top,
+        named_at(top, wrong.as_slice()),
+        start,
+        reads,
+    );
     let mending = mending_sentences(change, wrong.as_slice(), octet);
     let is_mended = first.is_some() || octet.is_some();
     let reasons = unless_mended(is_mended, reasons_of(octets, facts).as_slice());

@@ -19,7 +19,7 @@ use Rattle.tlv_reasons.specs.declared.value.Value.{Value}
 use Rattle.tlv_reasons.specs.declared.value.Value.TheVariants as value
 use Rattle.tlv_reasons.specs.Laws.{AreShown, SentencesAreShown, is_shown_octet}
 use Rattle.tlv_reasons.specs.Sentences.{file_kind_words, filled, octet_or_value, refused_header_words, sentence_text}
-use Rattle.tlv_reasons.specs.Sentences.{text_change_words, text_of, values_after, words_of}
+use Rattle.tlv_reasons.specs.Sentences.{text_change_words, sentences_text, values_after, words_of}
 use Rattle.tlv_reasons.specs.Values.{lacking_zeros, value_text}
 use Rattle.tlv_reasons.proofs.ShownLemmas.ShownValues.{broken_line-shown, code-shown, decimal-shown, first_pairs-shown, header_sentence-shown}
 use Rattle.tlv_reasons.proofs.ShownLemmas.ShownValues.{named_element-shown, octets_in_words-shown}
@@ -162,5 +162,5 @@ pub sentences-shown : SentencesAreShown
 sentences-shown octets [] o = refl
 sentences-shown octets (s ∷ sentences) o =
     let first : AreShown (sentence_text octets s) = sentence-shown octets o s in
-    let more : AreShown (text_of octets sentences) = sentences-shown octets sentences o in
+    let more : AreShown (sentences_text octets sentences) = sentences-shown octets sentences o in
     simp (list_all-append, first, more)
