@@ -18,6 +18,7 @@ use Rattle.tlv_reasons.specs.NextRecord.{IsNextRecord}
 use Rattle.tlv_reasons.specs.NextStart.{IsNextStart}
 use Rattle.tlv_reasons.specs.OneOctet.{IsOctetChange}
 use Rattle.tlv_reasons.specs.OutermostSizes.{SizesAgree}
+use Rattle.tlv_reasons.specs.Sizes.{size_sentence}
 use Rattle.tlv_reasons.specs.Suspects.{suspect_offsets}
 use Rattle.tlv_reasons.specs.TextCopies.{IsSoundWithLfAlone, IsSoundWithoutUtf8, has_replacement}
 use Rattle.tlv_reasons.specs.Why.{fault_sentences, reasons_of}
@@ -68,6 +69,12 @@ is_suspicion s = false
 abbrev pub unless_mended : Bool → List Sentence → List Sentence
 unless_mended is_mended sentences = if is_mended then filter (λ s. not (is_suspicion s)) sentences else sentences
 
+-- the reasons of an input: what sizes say, and the sentences about the fault; or the latter alone, without those about
+-- lengths in front, if something is known that would mend it
+abbrev pub reasons_if : Bool → List ℕ → Facts → List Sentence
+reasons_if true octets facts = unless_mended true (reasons_of octets facts)
+reasons_if false octets facts = said (size_sentence octets facts ∷ []) ++ reasons_of octets facts
+
 -- the sentences about what would mend the input
 abbrev pub mending_sentences : Option TextChange → List WrongLength → Option OctetChange → List Sentence
 mending_sentences change wrong octet =
@@ -93,7 +100,7 @@ pub record AreRemedies (reads : ℕ) (padding : Bool) (octets : List ℕ) (facts
   pub is_next : IsNextRecord reads padding octets facts.top (named_at facts.top wrong) start next
   pub sentences_are : sentences
       ≡ mending_sentences change wrong octet
-      ++ (unless_mended (is_some (slice_get wrong 0) || is_some octet) (reasons_of octets facts) ++ offset_sentences start next)
+      ++ (reasons_if (is_some (slice_get wrong 0) || is_some octet) octets facts ++ offset_sentences start next)
 
 -- all reasons why an input with these facts does not parse: that it is another kind of file, and nothing else; what was
 -- done to it as if it were a text, if that can be undone, and the first sentence about the fault; or all others. So many

@@ -195,6 +195,18 @@ words_of (say.OneOctet (PutIn offset)) = (
       ++ codes "an octet may have been put in there.\n",
   Number offset ∷ [],
 )
+words_of (say.NoneLost e) = (
+  codes "By its length the % ends with the input, at offset %: no octet was lost or put in.\n",
+  Name e ∷ Number (element_end e) ∷ [],
+)
+words_of (say.SomeLost e end) = (
+  codes "By its length the % ends at offset %, the input at offset %. Missing: %.\n",
+  Name e ∷ Number (element_end e) ∷ Number end ∷ Octets (element_end e - end) ∷ [],
+)
+words_of (say.SomePutIn e end) = (
+  codes "By its length the % ends at offset %, the input at offset %. Too many: %.\n",
+  Name e ∷ Number (element_end e) ∷ Number end ∷ Octets (end - element_end e) ∷ [],
+)
 words_of (say.TextChanged change) = (text_change_words change, [])
 words_of (say.OtherKind kind) = (file_kind_words kind, [])
 -- other offsets: `tail` counts octets from 1

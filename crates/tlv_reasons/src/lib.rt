@@ -19,6 +19,7 @@ mod outermost;
 mod records;
 mod sentence;
 mod silence;
+mod sizes;
 mod sound;
 mod start;
 mod suspects;

@@ -8,7 +8,7 @@ ghost use Rattle.tlv_reasons.specs.NextRecord.{IsNextRecord};
 ghost use Rattle.tlv_reasons.specs.NextStart.{IsNextStart};
 ghost use Rattle.tlv_reasons.specs.OneOctet.{IsOctetChange};
 ghost use Rattle.tlv_reasons.specs.Remedies.{AreNamedLengths, AreReasons, AreRemedies, AreStringReasons, IsTextChange};
-ghost use Rattle.tlv_reasons.specs.Remedies.{is_suspicion, is_undone, length_sentence, mending_sentences, named_at, offset_sentences, unless_mended};
+ghost use Rattle.tlv_reasons.specs.Remedies.{is_suspicion, is_undone, length_sentence, mending_sentences, named_at, offset_sentences, reasons_if, unless_mended};
 ghost use Rattle.tlv_reasons.specs.Suspects.{suspects_from};
 ghost use Rattle.tlv_reasons.specs.Why.{fault_sentences};
 
@@ -18,6 +18,7 @@ use crate::lengths::{WrongLength, WrongLengths, wrong_lengths};
 use crate::octet_changes::{OctetChange, octet_change};
 use crate::outermost::sizes_agree;
 use crate::records::next_record;
+use crate::sizes::size_sentence;
 use crate::sound::closed_framing;
 use crate::start::next_start;
 use crate::suspects::{suspect_offsets, suspects_from};
@@ -30,7 +31,7 @@ use tlv_walk::Framing;
 /// All reasons why an input with these facts ([`facts_of`](crate::facts_of)) does not parse. If it is a file of another
 /// kind: that it is, and nothing else. If undoing what was done to it as if it were a text makes it sound: what was done,
 /// and the first sentence about the fault. Otherwise: which single length would make it sound, or else after which header
-/// one octet is missing or was put in; the sentences about the fault ([`reasons_of`](crate::reasons_of)), without those
+/// one octet is missing or was put in, or else what the length of the outermost element says; the sentences about the fault ([`reasons_of`](crate::reasons_of)), without those
 /// about lengths in front if such a change was found; and from which offset it is sound, near its start or at the next
 /// record. The tries for the next record may read `reads` octets in vain. With `padding`, octets `00` are allowed at the
 /// top level.
@@ -47,7 +48,7 @@ pub fn all_reasons(
 ) -> Result<Reasons, AllocError>
     requires { length octets.now ≤ input_limit }
     ensures reasons { IfOk result (λ r. AreReasons reads padding octets.now facts.now r.items) }
-    ensures few { IfOk result (λ r. length r.items ≤ 13) }
+    ensures few { IfOk result (λ r. length r.items ≤ 14) }
     ensures refused { OnErr result (file_kind octets.now ≡ None) }
 {
     if let Some(kind) = file_kind(octets) {
@@ -85,7 +86,7 @@ fn other_reasons(
 ) -> Result<Reasons, AllocError>
     requires { length octets.now ≤ input_limit }
     ensures reasons { IfOk result (λ r. AreRemedies reads padding octets.now facts.now change r.items) }
-    ensures few { IfOk result (λ r. length r.items ≤ 13) }
+    ensures few { IfOk result (λ r. length r.items ≤ 14) }
 {
     let framing = closed_framing(padding);
     let candidates = suspect_offsets(facts);
@@ -104,7 +105,7 @@ fn other_reasons(
     );
     let mending = mending_sentences(change, wrong.as_slice(), octet);
     let is_mended = first.is_some() || octet.is_some();
-    let reasons = unless_mended(is_mended, reasons_of(octets, facts).as_slice());
+    let reasons = reasons_if(is_mended, octets, facts);
     let offsets = offset_sentences(start, next);
     let others = joined(reasons.as_slice(), offsets.as_slice());
     Ok(joined(mending.as_slice(), others.as_slice()))
@@ -127,7 +128,7 @@ pub fn string_reasons(
 ) -> Result<Reasons, AllocError>
     ensures reasons { IfOk result
         (λ r. AreStringReasons framing.now octets.now (suspects_from offset facts.now) facts.now r.items) }
-    ensures few { IfOk result (λ r. length r.items ≤ 13) }
+    ensures few { IfOk result (λ r. length r.items ≤ 14) }
 {
     let candidates = suspects_from(offset, facts);
     let holders = facts.holders.as_slice();
@@ -136,6 +137,20 @@ pub fn string_reasons(
     let reasons = unless_mended(is_mended, reasons_of(octets, facts).as_slice());
     let mending = mending_sentences(None, wrong.as_slice(), None);
     Ok(joined(mending.as_slice(), reasons.as_slice()))
+}
+
+/// The reasons of an input: what sizes say, and the sentences about the fault; or the latter alone, without those about
+/// lengths in front, if something is known that would mend it.
+fn reasons_if(is_mended: bool, octets: &[u8], facts: &Facts) -> Reasons
+    ensures reasons { result.items ≡ reasons_if is_mended octets.now facts.now }
+    ensures few { length result.items ≤ 9 }
+{
+    let reasons = reasons_of(octets, facts);
+    if is_mended {
+        return without_suspicions(reasons.as_slice());
+    }
+    let sizes = said(&[size_sentence(octets, facts)]);
+    joined(sizes.as_slice(), reasons.as_slice())
 }
 
 /// Whether what was done to an input as if it were a text is known, and can be undone.

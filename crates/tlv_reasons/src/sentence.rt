@@ -146,6 +146,18 @@ pub enum Sentence {
     ThreeLengths(WrongLength, WrongLength, WrongLength),
     /// With an octet more or fewer all would parse.
     OneOctet(OctetChange),
+    /// The outermost open element ends with the input.
+    NoneLost(Element),
+    /// The outermost open element ends behind the input, which ends at `end`.
+    SomeLost {
+        element: Element,
+        end: u64,
+    },
+    /// The outermost open element ends in front of the end of the input, which is at `end`.
+    SomePutIn {
+        element: Element,
+        end: u64,
+    },
     /// What was done to it as if it were a text.
     TextChanged(TextChange),
     /// It is a file of another kind.

@@ -296,6 +296,28 @@ pub(crate) fn words_of(sentence: &Sentence) -> Words
               an octet may have been put in there.\n",
             &[Value::Number(offset as u64)],
         ),
+        Sentence::NoneLost(element) => say(
+            b"By its length the % ends with the input, at offset %: no octet was lost or put in.\n",
+            &[Value::Name(element), Value::Number(element_end(&element))],
+        ),
+        Sentence::SomeLost { element, end } => say(
+            b"By its length the % ends at offset %, the input at offset %. Missing: %.\n",
+            &[
+                Value::Name(element),
+                Value::Number(element_end(&element)),
+                Value::Number(end),
+                Value::Octets(element_end(&element).saturating_sub(end)),
+            ],
+        ),
+        Sentence::SomePutIn { element, end } => say(
+            b"By its length the % ends at offset %, the input at offset %. Too many: %.\n",
+            &[
+                Value::Name(element),
+                Value::Number(element_end(&element)),
+                Value::Number(end),
+                Value::Octets(end.saturating_sub(element_end(&element))),
+            ],
+        ),
         Sentence::TextChanged(change) => say(text_change_words(change), &[]),
         Sentence::OtherKind(kind) => say(file_kind_words(kind), &[]),
         Sentence::ParsesFrom(offset) => say(

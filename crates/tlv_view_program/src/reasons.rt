@@ -149,8 +149,8 @@ fn send_reasons<D: Drain>(
     drain: &mut D,
 ) -> Result<Result<(), WriteFault>, AllocError>
     requires front { length front.now.items ≤ 1 }
-    requires reasons { IfOk reasons (λ r. length r.items ≤ 13) }
-    requires few { length few.now.items ≤ 13 }
+    requires reasons { IfOk reasons (λ r. length r.items ≤ 14) }
+    requires few { length few.now.items ≤ 14 }
     ensures { SendsReasons octets.now front.now.items (λ sentences. IsOkAnd reasons (λ r. r.items ≡ sentences))
         few.now.items (IsErr reasons) (D.state drain.old) (D.state drain.new) result }
 {
