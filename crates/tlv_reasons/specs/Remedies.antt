@@ -1,7 +1,7 @@
 -- What may be done with an input that does not parse: which change would make it sound, and where else it is sound.
 use Rattle.std.specs.Prelude.{◌≡◌, ℕ, Bool, false, true, ◌||◌, eqb, not, if◌then◌else◌, slice_get, take, List, [], ◌∷◌, ◌++◌, Option, None, Some}
 use Rattle.std.specs.List.{filter, find}
-use Rattle.std.specs.Option.{is_some, option_map}
+use Rattle.std.specs.Option.{is_some, option_map, option_map_or}
 use Rattle.tlv_open.specs.Opens.{closed_framing}
 use Rattle.tlv_walk.specs.declared.framing.Framing.{Framing}
 use Rattle.tlv_reasons.specs.declared.facts.Facts.{Facts}
@@ -75,32 +75,43 @@ abbrev pub reasons_if : Bool → List ℕ → Facts → List Sentence
 reasons_if true octets facts = unless_mended true (reasons_of octets facts)
 reasons_if false octets facts = said (size_sentence octets facts ∷ []) ++ reasons_of octets facts
 
--- the sentences about what would mend the input
-abbrev pub mending_sentences : Option TextChange → List WrongLength → Option OctetChange → List Sentence
-mending_sentences change wrong octet =
-    said (option_map (λ c. say.TextChanged c) change ∷ length_sentence wrong ∷ option_map (λ c. say.OneOctet c) octet
-    ∷ [])
+-- where the fault is
+abbrev pub fault_offset : Facts → ℕ
+fault_offset facts = option_map_or (λ fault. fault.offset) facts.fault 0
 
--- the sentences about offsets from which on the input is sound
-abbrev pub offset_sentences : Option ℕ → Option ℕ → List Sentence
-offset_sentences start next =
-    said (option_map (λ n. say.ParsesFrom n) start ∷ option_map (λ n. say.NextRecord n) next ∷ [])
+-- the other lengths that are named, and the octet that is missing or was put in, if no other start was found
+pub data IsMended (padding : Bool) (octets : List ℕ) (facts : Facts)
+    : Option ℕ → List WrongLength → Option OctetChange → Type 0 where
+  elsewhere : (start : ℕ) → IsMended padding octets facts (Some start) [] None
+  here : {wrong : List WrongLength} {octet : Option OctetChange} → AreNamedLengths padding octets facts wrong
+      → IsOctetChange (closed_framing padding) octets (suspect_offsets facts) (slice_get wrong 0) octet
+      → IsMended padding octets facts None wrong octet
+
+-- the sentences about what would mend the input: where else it is sound, or what would make all of it sound
+abbrev pub mending_sentences : Option TextChange → Option ℕ → List WrongLength → Option OctetChange → List Sentence
+mending_sentences change start wrong octet =
+    said (option_map (λ c. say.TextChanged c) change ∷ option_map (λ n. say.ParsesFrom n) start
+    ∷ length_sentence wrong ∷ option_map (λ c. say.OneOctet c) octet ∷ [])
+
+-- something is known that would mend the input
+abbrev pub is_mended : Option ℕ → List WrongLength → Option OctetChange → Bool
+is_mended start wrong octet = is_some start || is_some (slice_get wrong 0) || is_some octet
 
 -- the reasons of an input with these facts to which this was done as if it were a text: what would mend it, the
--- sentences about the fault, and where else it is sound
+-- sentences about the fault, and the next record
 pub record AreRemedies (reads : ℕ) (padding : Bool) (octets : List ℕ) (facts : Facts) (change : Option TextChange)
     (sentences : List Sentence) : Type 0 where
-  pub wrong : List WrongLength
-  pub are_wrong : AreNamedLengths padding octets facts wrong
-  pub octet : Option OctetChange
-  pub is_octet : IsOctetChange (closed_framing padding) octets (suspect_offsets facts) (slice_get wrong 0) octet
   pub start : Option ℕ
-  pub is_start : IsNextStart padding octets start
+  pub is_start : IsNextStart padding octets (fault_offset facts) start
+  pub wrong : List WrongLength
+  pub octet : Option OctetChange
+  pub are_mended : IsMended padding octets facts start wrong octet
   pub next : Option ℕ
   pub is_next : IsNextRecord reads padding octets facts.top (named_at facts.top wrong) start next
   pub sentences_are : sentences
-      ≡ mending_sentences change wrong octet
-      ++ (reasons_if (is_some (slice_get wrong 0) || is_some octet) octets facts ++ offset_sentences start next)
+      ≡ mending_sentences change start wrong octet
+      ++ (reasons_if (is_mended start wrong octet) octets facts
+      ++ said (option_map (λ n. say.NextRecord n) next ∷ []))
 
 -- all reasons why an input with these facts does not parse: that it is another kind of file, and nothing else; what was
 -- done to it as if it were a text, if that can be undone, and the first sentence about the fault; or all others. So many
@@ -110,7 +121,7 @@ pub data AreReasons (reads : ℕ) (padding : Bool) (octets : List ℕ) (facts : 
       → AreReasons reads padding octets facts (say.OtherKind kind ∷ [])
   undone : (change : Option TextChange) → file_kind octets ≡ None → IsTextChange padding octets change
       → is_undone change ≡ true
-      → AreReasons reads padding octets facts (mending_sentences change [] None ++ take 1 (fault_sentences octets facts))
+      → AreReasons reads padding octets facts (mending_sentences change None [] None ++ take 1 (fault_sentences octets facts))
   others : (change : Option TextChange) (sentences : List Sentence) → file_kind octets ≡ None
       → IsTextChange padding octets change → is_undone change ≡ false
       → AreRemedies reads padding octets facts change sentences → AreReasons reads padding octets facts sentences
@@ -121,4 +132,4 @@ pub record AreStringReasons (framing : Framing) (octets candidates : List ℕ) (
   pub wrong : List WrongLength
   pub are_wrong : NamesLengths framing octets facts.holders.items candidates wrong
   pub sentences_are : sentences
-      ≡ mending_sentences None wrong None ++ unless_mended (is_some (slice_get wrong 0)) (reasons_of octets facts)
+      ≡ mending_sentences None None wrong None ++ unless_mended (is_some (slice_get wrong 0)) (reasons_of octets facts)

@@ -38,7 +38,7 @@ contents_start h = h.offset + length (octets_of h)
 
 -- of an input of more octets only the lengths nearby are tried, and one header is named: a limit of our own
 abbrev pub wide_limit : ℕ
-wide_limit = 2 ^ 16
+wide_limit = 2 ^ 18
 
 -- the number that differs from this one in the bit of value 2^bit
 abbrev pub flipped : ℕ → ℕ → ℕ

@@ -18,7 +18,7 @@ use tlv_walk::Framing;
 pub const SEARCH_LIMIT: usize = 1 << 20;
 
 /// The greatest number of octets of an input of which further lengths are tried.
-pub(crate) const WIDE_LIMIT: usize = 1 << 16;
+pub(crate) const WIDE_LIMIT: usize = 1 << 18;
 
 /// Headers whose length may be wrong.
 pub type WrongLengths = ArrayVec<WrongLength, 3>;
@@ -50,7 +50,7 @@ impl Default for WrongLength {
 /// 1 to 5 octets more or fewer, nearer ones first, and of two that are equally near the greater first; those that differ
 /// in one bit; the octets of the length in reverse order; 256 octets more or fewer; and, if the element is constructed, the
 /// length with which it ends where the innermost of the open elements (`holders`) in front of it ends, or with the input.
-/// The other length takes as many length octets as before. Of an input of more than 65536 octets only those at most 5
+/// The other length takes as many length octets as before. Of an input of more than 262144 octets only those at most 5
 /// octets away are tried, and one header is named; if it has more than [`SEARCH_LIMIT`] octets, there is none. `framing`
 /// says how the input is read: which strings hold encodings, and whether octets `00` are allowed at the top level.
 ///

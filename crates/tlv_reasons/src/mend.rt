@@ -7,8 +7,8 @@ ghost use Rattle.tlv_reasons.specs.FileKinds.{file_kind};
 ghost use Rattle.tlv_reasons.specs.NextRecord.{IsNextRecord};
 ghost use Rattle.tlv_reasons.specs.NextStart.{IsNextStart};
 ghost use Rattle.tlv_reasons.specs.OneOctet.{IsOctetChange};
-ghost use Rattle.tlv_reasons.specs.Remedies.{AreNamedLengths, AreReasons, AreRemedies, AreStringReasons, IsTextChange};
-ghost use Rattle.tlv_reasons.specs.Remedies.{is_suspicion, is_undone, length_sentence, mending_sentences, named_at, offset_sentences, reasons_if, unless_mended};
+ghost use Rattle.tlv_reasons.specs.Remedies.{AreNamedLengths, AreReasons, AreRemedies, AreStringReasons, IsMended, IsTextChange};
+ghost use Rattle.tlv_reasons.specs.Remedies.{is_suspicion, is_undone, fault_offset, is_mended, length_sentence, mending_sentences, named_at, reasons_if, unless_mended};
 ghost use Rattle.tlv_reasons.specs.Suspects.{suspects_from};
 ghost use Rattle.tlv_reasons.specs.Why.{fault_sentences};
 
@@ -30,11 +30,16 @@ use tlv_walk::Framing;
 
 /// All reasons why an input with these facts ([`facts_of`](crate::facts_of)) does not parse. If it is a file of another
 /// kind: that it is, and nothing else. If undoing what was done to it as if it were a text makes it sound: what was done,
-/// and the first sentence about the fault. Otherwise: which single length would make it sound, or else after which header
-/// one octet is missing or was put in, or else what the length of the outermost element says; the sentences about the fault ([`reasons_of`](crate::reasons_of)), without those
-/// about lengths in front if such a change was found; and from which offset it is sound, near its start or at the next
-/// record. The tries for the next record may read `reads` octets in vain. With `padding`, octets `00` are allowed at the
-/// top level.
+/// and the first sentence about the fault. Otherwise these come, one after another:
+///
+/// - from which offset near its start it is sound; or else which single length would make all of it sound; or else after
+///   which header one octet is missing or was put in;
+/// - if nothing of this was found, what the length of the outermost element says about lost octets;
+/// - the sentences about the fault ([`reasons_of`](crate::reasons_of)), without those about lengths in front if something
+///   of this was found;
+/// - where the next record begins. The tries for it may read `reads` octets in vain.
+///
+/// With `padding`, octets `00` are allowed at the top level.
 ///
 /// # Errors
 ///
@@ -63,14 +68,14 @@ pub fn all_reasons(
 
 /// The reasons of an input to which this was done as if it were a text.
 fn undone_reasons(change: Option<TextChange>, octets: &[u8], facts: &Facts) -> Reasons
-    ensures reasons { result.items ≡ mending_sentences change [] None
+    ensures reasons { result.items ≡ mending_sentences change None [] None
         ++ take 1 (fault_sentences octets.now facts.now) }
-    ensures few { length result.items ≤ 4 }
+    ensures few { length result.items ≤ 5 }
 {
     let mut first = fault_sentences(octets, facts);
     first.truncate(1);
     joined(
-        mending_sentences(change, &[], None).as_slice(),
+        mending_sentences(change, None, &[], None).as_slice(),
         first.as_slice(),
     )
 }
@@ -88,27 +93,67 @@ fn other_reasons(
     ensures reasons { IfOk result (λ r. AreRemedies reads padding octets.now facts.now change r.items) }
     ensures few { IfOk result (λ r. length r.items ≤ 14) }
 {
+    let top = facts.top as usize;
+    let start = next_start(octets, padding, fault_offset(facts));
+    let mended = mended(alloc, octets, padding, facts, start)?;
+    let wrong = mended.wrong.as_slice();
+    let next = next_record(octets, padding, top, named_at(top, wrong), start, reads);
+    let mending = mending_sentences(change, start, wrong, mended.octet);
+    let reasons = reasons_if(is_mended(start, wrong, mended.octet), octets, facts);
+    let record = said(&[next.map(|offset| Sentence::NextRecord(offset as u64))]);
+    let others = joined(reasons.as_slice(), record.as_slice());
+    Ok(joined(mending.as_slice(), others.as_slice()))
+}
+
+/// What would make all of an input sound.
+#[derive(Drop)]
+struct Mending {
+    /// The headers whose length may be wrong.
+    wrong: WrongLengths,
+    /// The octet that is missing or was put in.
+    octet: Option<OctetChange>,
+}
+
+/// What would make all of an input sound; nothing if another start was found.
+fn mended(
+    alloc: Global,
+    octets: &[u8],
+    padding: bool,
+    facts: &Facts,
+    start: Option<usize>,
+) -> Result<Mending, AllocError>
+    requires { length octets.now ≤ input_limit }
+    ensures { IfOk result (λ m. IsMended padding octets.now facts.now start m.wrong.items m.octet) }
+{
+    if start.is_some() {
+        return Ok(Mending {
+            wrong: WrongLengths::new(),
+            octet: None,
+        });
+    }
     let framing = closed_framing(padding);
     let candidates = suspect_offsets(facts);
-    let top = facts.top as usize;
     let wrong = named_lengths(alloc, octets, padding, facts)?;
     let first = wrong.as_slice().first().copied();
     let octet = octet_change(alloc, octets, &framing, candidates.as_slice(), first)?;
-    let start = next_start(octets, padding);
-    let next = next_record(
-        octets,
-        padding,
-        top,
-        named_at(top, wrong.as_slice()),
-        start,
-        reads,
-    );
-    let mending = mending_sentences(change, wrong.as_slice(), octet);
-    let is_mended = first.is_some() || octet.is_some();
-    let reasons = reasons_if(is_mended, octets, facts);
-    let offsets = offset_sentences(start, next);
-    let others = joined(reasons.as_slice(), offsets.as_slice());
-    Ok(joined(mending.as_slice(), others.as_slice()))
+    Ok(Mending { wrong, octet })
+}
+
+/// Whether something is known that would mend the input.
+fn is_mended(start: Option<usize>, wrong: &[WrongLength], octet: Option<OctetChange>) -> bool
+    ensures { result ≡ is_mended start wrong.now octet }
+{
+    start.is_some() || wrong.first().is_some() || octet.is_some()
+}
+
+/// Where the fault is; 0 if the octets parse.
+fn fault_offset(facts: &Facts) -> usize
+    ensures { result ≡ fault_offset facts.now }
+{
+    match facts.fault {
+        Some(fault) => fault.offset as usize,
+        None => 0,
+    }
 }
 
 /// All reasons why the string at this offset breaks, in a reading of the input with these facts: the single length that
@@ -135,7 +180,7 @@ pub fn string_reasons(
     let wrong = wrong_lengths(alloc, octets, framing, holders, candidates.as_slice())?;
     let is_mended = wrong.as_slice().first().is_some();
     let reasons = unless_mended(is_mended, reasons_of(octets, facts).as_slice());
-    let mending = mending_sentences(None, wrong.as_slice(), None);
+    let mending = mending_sentences(None, None, wrong.as_slice(), None);
     Ok(joined(mending.as_slice(), reasons.as_slice()))
 }
 
@@ -200,27 +245,18 @@ fn is_suspicion(sentence: &Sentence) -> bool
 /// The sentences about what would mend the input.
 fn mending_sentences(
     change: Option<TextChange>,
+    start: Option<usize>,
     wrong: &[WrongLength],
     octet: Option<OctetChange>,
 ) -> Reasons
-    ensures sentences { result.items ≡ mending_sentences change wrong.now octet }
-    ensures few { length result.items ≤ 3 }
+    ensures sentences { result.items ≡ mending_sentences change start wrong.now octet }
+    ensures few { length result.items ≤ 4 }
 {
     said(&[
         change.map(Sentence::TextChanged),
+        start.map(|offset| Sentence::ParsesFrom(offset as u64)),
         length_sentence(wrong),
         octet.map(Sentence::OneOctet),
-    ])
-}
-
-/// The sentences about offsets from which on the input is sound.
-fn offset_sentences(start: Option<usize>, next: Option<usize>) -> Reasons
-    ensures sentences { result.items ≡ offset_sentences start next }
-    ensures few { length result.items ≤ 2 }
-{
-    said(&[
-        start.map(|offset| Sentence::ParsesFrom(offset as u64)),
-        next.map(|offset| Sentence::NextRecord(offset as u64)),
     ])
 }
 
