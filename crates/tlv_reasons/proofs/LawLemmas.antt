@@ -1,6 +1,6 @@
 -- One wrong length, and headers that say other lengths.
 use Rattle.std.proofs.Common.{◌≡◌, ℕ, ◌+◌, ◌*◌, ◌-◌, ◌/◌, ◌%◌, ◌^◌, ◌<◌, ◌≤◌, false, List, [], ◌∷◌}
-use Rattle.std.proofs.Common.{All, length, ap, refl, sym, subst, arith, inl, inr, length-append, suc}
+use Rattle.std.proofs.Common.{◌∙◌, All, length, ap, refl, sym, subst, arith, inl, inr, length-append, suc}
 use Rattle.std.proofs.Common.{zero, eqb, ne_eqb, lit<}
 use Rattle.std.specs.Prelude.{Option, Some, None}
 use Rattle.std.proofs.lemmas.Nat.{div-add-mod', div_below, mod_below}
@@ -13,11 +13,13 @@ use Rattle.tlv_head.specs.declared.header.Size.TheVariants.{Definite}
 use Rattle.tlv_head.specs.Header.{HeaderValue, IsHeader, IsLength, IsLongForm, announced_length, octets_of, value_of}
 use Rattle.tlv_walk.specs.declared.framing.Framing.{Framing}
 use Rattle.tlv_reasons.proofs.LengthLemmas.{begun-one}
+use Rattle.tlv_reasons.specs.declared.element.Element.{Element}
 use Rattle.tlv_reasons.specs.declared.lengths.WrongLength.{WrongLength}
 use Rattle.tlv_reasons.specs.FirstOf.{IsFirstOf, IsFirstWithin}
 use Rattle.tlv_reasons.specs.FirstOf as first
-use Rattle.tlv_reasons.specs.WrongLength.{IsFirstWrongLength, WouldBeSound, base_256, length_bound, length_octets_saying}
-use Rattle.tlv_reasons.specs.WrongLength.{other_lengths, with_length}
+use Rattle.tlv_reasons.specs.WrongLength.{AreWrongLengths, HasNoOtherLength, IsOtherLength, IsRightLength, base_256}
+use Rattle.tlv_reasons.specs.WrongLength.{length_bound, length_octets_saying}
+use Rattle.tlv_reasons.specs.WrongLength.{with_length}
 use Rattle.tlv_reasons.specs.WrongLength as wrong
 
 -- a list has one first number of which something holds, or none
@@ -48,27 +50,42 @@ within-one {P} {Costs} {b = r} one (first.tried_in_vain {budget} {cost = i} {x} 
     let same : j ≡ i = one x j i d c in
     within-one one f (subst (λ (k : ℕ). IsFirstWithin P Costs (budget - k) more r) same g)
 
-first-at : (framing : Framing) (octets : List ℕ) (h g : HeaderValue) (a : Option ℕ) → h ≡ g
-    → IsFirstOf (WouldBeSound framing octets h) (other_lengths h) a
-    → IsFirstOf (WouldBeSound framing octets g) (other_lengths g) a
-first-at framing octets h g a e f =
-    subst (λ (x : HeaderValue). IsFirstOf (WouldBeSound framing octets x) (other_lengths x) a) e f
+module _ (framing : Framing) (octets : List ℕ) (holders : List Element) where
+  -- an offset has one other length
+  other-one : {offset : ℕ} {v w : WrongLength} → IsOtherLength framing octets holders offset v
+      → IsOtherLength framing octets holders offset w → v ≡ w
+  other-one {offset = offset} {v = v} {w = w} p q =
+      let same : p.header ≡ q.header = begun-one p.header q.header p.begins q.begins in
+      let right : IsRightLength framing octets holders offset q.header (Some v.would) =
+      subst (λ (h : HeaderValue). IsRightLength framing octets holders offset h (Some v.would)) same p.right in
+      let e : Some v.would ≡ Some w.would = first-one right q.right in
+      let would : v.would ≡ w.would = cc in
+      let place : v.offset ≡ w.offset = p.offset_is ∙ sym q.offset_is in
+      let said : v.said ≡ w.said =
+      p.said_is ∙ ap (λ (h : HeaderValue). announced_length h.size) same ∙ sym q.said_is in
+      λ i. record { offset = place i; said = said i; would = would i }
 
-pub wrong-one : (framing : Framing) (octets : List ℕ) {candidates : List ℕ} {a b : Option WrongLength}
-    → IsFirstWrongLength framing octets candidates a → IsFirstWrongLength framing octets candidates b → a ≡ b
-wrong-one framing octets wrong.no_more wrong.no_more = refl
-wrong-one framing octets (wrong.here {offset = o} {would = m} h x f) (wrong.here {would = n} g y k) =
-    let same : h ≡ g = begun-one h g x y in
-    let e : Some m ≡ Some n = first-one (first-at framing octets h g (Some m) same f) k in
-    let would : m ≡ n = cc in
-    let said : announced_length h.size ≡ announced_length g.size =
-    ap (λ (z : HeaderValue). announced_length z.size) same in
-    λ i. Some (record { offset = o; said = said i; would = would i })
-wrong-one framing octets (wrong.here {would = m} h x f) (wrong.later none k) =
-    let e : Some m ≡ None = first-one f (none h x) in absurd (cc)
-wrong-one framing octets (wrong.later none k) (wrong.here {would = m} h x f) =
-    let e : Some m ≡ None = first-one f (none h x) in absurd (cc)
-wrong-one framing octets (wrong.later m f) (wrong.later n g) = wrong-one framing octets f g
+  -- it has one, or none
+  other-none : {offset : ℕ} {w : WrongLength} → IsOtherLength framing octets holders offset w
+      → HasNoOtherLength framing octets holders offset → ⊥
+  other-none {w = w} p none = let e : Some w.would ≡ None = first-one p.right (none p.header p.begins) in cc
+
+  pub wrong-one : {most : ℕ} {candidates : List ℕ} {a b : List WrongLength}
+      → AreWrongLengths framing octets holders most candidates a
+      → AreWrongLengths framing octets holders most candidates b → a ≡ b
+  wrong-one wrong.no_more wrong.no_more = refl
+  wrong-one wrong.no_more wrong.enough = refl
+  wrong-one wrong.enough wrong.no_more = refl
+  wrong-one wrong.enough wrong.enough = refl
+  wrong-one wrong.enough (wrong.named some p f) = absurd (omega (arith, some))
+  wrong-one wrong.enough (wrong.passed_over some p f) = absurd (omega (arith, some))
+  wrong-one (wrong.named some p f) wrong.enough = absurd (omega (arith, some))
+  wrong-one (wrong.passed_over some p f) wrong.enough = absurd (omega (arith, some))
+  wrong-one (wrong.named {w = v} some p f) (wrong.named {w = w} other q g) =
+      let e : v ≡ w = other-one p q in let more = wrong-one f g in λ i. e i ∷ more i
+  wrong-one (wrong.named some p f) (wrong.passed_over other none g) = absurd (other-none p none)
+  wrong-one (wrong.passed_over other none g) (wrong.named some p f) = absurd (other-none p none)
+  wrong-one (wrong.passed_over some m f) (wrong.passed_over other n g) = wrong-one f g
 
 base-length : (k n : ℕ) → length (base_256 k n) ≡ k
 base-length zero n = refl

@@ -1,14 +1,14 @@
 -- Length octets that are changed in place are those of another header.
 use Rattle.std.proofs.Common.{◌≡◌, ℕ, ◌+◌, ◌-◌, ◌^◌, ◌<◌, ◌≤◌, false, List, [], ◌∷◌, ◌++◌, length, drop, take}
 use Rattle.std.proofs.Common.{◌∙◌, inl, inr, sym, subst, append_assoc, arith, length-append, length-drop, ap, refl}
-use Rattle.std.proofs.Common.{get_or, take-append-drop}
-use Rattle.std.specs.Prelude.{Option, Some, None, slice_range, nat_lt}
-use Rattle.std.specs.List.{filter}
+use Rattle.std.proofs.Common.{◌*◌, ◌/◌, ◌%◌, add-one, append-nil, get_or, suc, take-append-drop, zero}
+use Rattle.std.specs.Prelude.{Bool, MatchOption, Option, Some, None, slice_range, nat_lt}
+use Rattle.std.specs.List.{cons_option, filter}
 use Rattle.std.specs.Option.{option_map_or}
 use Rattle.std.proofs.Common.{lit<, true, eqb}
 use Rattle.std.proofs.lemmas.Bool.{lt-ltb}
 use Rattle.std.proofs.lemmas.Bool.Decides.{eqb_tells}
-use Rattle.std.proofs.Math.Nat.{pow-le-pow_right}
+use Rattle.std.proofs.Math.Nat.{pow-le-pow_right, pow-suc}
 use Rattle.std.proofs.lemmas.List.{drop_all, length-take-le, take_rest}
 use Rattle.std.proofs.Math.Seq.{drop-append_seam, drop-append-add, take-append_seam, take-append-add}
 use Rattle.tlv_head.proofs.GrammarLemmas.Headers.{one-header}
@@ -23,12 +23,14 @@ use Rattle.tlv_head.specs.Refusal.{BeginsWith}
 use Rattle.tlv_walk.specs.declared.framing.Framing.{Framing}
 use Rattle.tlv_walk.specs.Reading.{IsSoundList}
 use Rattle.tlv_reasons.proofs.FirstLemmas.{first-along, from-next}
+use Rattle.tlv_reasons.specs.declared.element.Element.{Element}
 use Rattle.tlv_reasons.specs.declared.lengths.WrongLength.{WrongLength}
 use Rattle.tlv_reasons.specs.FirstOf.{IsFirstOf, no_more}
 use Rattle.tlv_reasons.specs.Private.Lengths.{SoundWithOctets, sayable, with_octets_saying}
-use Rattle.tlv_reasons.specs.WrongLength.{IsFirstWrongLength, WouldBeSound, here, input_with_length, length_bound}
+use Rattle.tlv_reasons.specs.WrongLength.{AreWrongLengths, HasNoOtherLength, IsOtherLength, IsRightLength, WouldBeSound}
+use Rattle.tlv_reasons.specs.WrongLength.{contents_start, input_with_length, length_bound, reach_in, reversed, tried_lengths}
 use Rattle.tlv_reasons.specs.WrongLength as wrong
-use Rattle.tlv_reasons.specs.WrongLength.{length_octets_saying, lengths_within, other_lengths}
+use Rattle.tlv_reasons.specs.WrongLength.{length_octets_saying, other_lengths}
 
 -- two headers with which an input begins are the same
 pub begun-one : {input : List ℕ} {offset : ℕ} (h g : HeaderValue) → BeginsWith input offset false h
@@ -88,102 +90,147 @@ changed-with n octets rest h offset id count within o i k d =
     (subst (λ (s : ℕ). with_octets_saying (length front + length h.identifier_octets) s n (front ++ (octets_of h ++ rest))
     ≡ input_with_length (front ++ (octets_of h ++ rest)) h n) end e))
 
-others-are : (w v : ℕ) (size : Size) (said : ℕ) (lengths : List ℕ) → w ≡ v → size ≡ Definite said
-    → lengths ≡ lengths_within said 5
-    → filter (λ n. nat_lt n (length_bound w)) (option_map_or (λ s. lengths_within s 5) (definite_length size) [])
-    ≡ sayable v lengths
-others-are w v size said lengths e s l =
-    ap (λ (x : Size). filter (λ n. nat_lt n (length_bound w))
-    (option_map_or (λ s. lengths_within s 5) (definite_length x) [])) s
-    ∙ ap (λ (x : ℕ). sayable x (lengths_within said 5)) e
-    ∙ ap (λ (xs : List ℕ). sayable v xs) (sym l)
+others-are : (w v : ℕ) (c d : Bool) (s t : ℕ) (size : Size) (all reach said : ℕ) (lengths : List ℕ) → w ≡ v → c ≡ d
+    → s ≡ t → size ≡ Definite said → lengths ≡ tried_lengths v d t all reach said
+    → filter (λ n. nat_lt n (length_bound w))
+    (option_map_or (λ x. tried_lengths w c s all reach x) (definite_length size) []) ≡ sayable v lengths
+others-are w v c d s t size all reach said lengths e f g z l =
+    rw (e, f, g, z) (ap (λ (xs : List ℕ). sayable v xs) (sym l))
 
--- the first length that does if its octets are changed in place is the first that does if the header says it
-first-with : (framing : Framing) (octets : List ℕ) (offset start count : ℕ) (fields : HeaderFields) (said : ℕ)
-    (lengths : List ℕ) (r : Option ℕ) → offset ≤ length octets
-    → BeginsWithFields (drop offset octets) offset false fields count → start ≡ offset + fields.id_len
-    → fields.size ≡ Definite said → lengths ≡ lengths_within said 5
-    → IsFirstOf (SoundWithOctets framing start (offset + count) octets) (sayable ((offset + count) - start) lengths) r
-    → IsFirstOf (WouldBeSound framing octets (new_header fields (take count (drop offset octets))))
-    (other_lengths (new_header fields (take count (drop offset octets)))) r
-first-with framing octets offset start count fields said lengths r within b s size l f =
-    let raw : List ℕ = take count (drop offset octets) in
-    let h : HeaderValue = new_header fields raw in
-    let whole : length raw ≡ count = length-take-le count (drop offset octets) b.within in
-    let id : length h.identifier_octets ≡ fields.id_len =
-    length-take-le fields.id_len raw (omega (arith, b.sized.identifier)) in
-    let all : length (octets_of h) ≡ count = ap length (take-append-drop fields.id_len raw) ∙ whole in
-    let room : length h.length_octets ≡ (offset + count) - start =
-    omega (arith, length-drop fields.id_len raw, whole, s) in
-    let same : (n : ℕ) → with_octets_saying start (offset + count) n octets ≡ input_with_length octets h n =
-    λ n. subst (λ (i : ℕ). with_octets_saying i (offset + count) n octets ≡ input_with_length octets h n) (sym s)
-    (changed-with n octets b.begins.rest h offset fields.id_len count within b.begins.offset id all
-    b.begins.octets_are) in
-    let others : other_lengths h ≡ sayable ((offset + count) - start) lengths =
-    others-are (length h.length_octets) ((offset + count) - start) fields.size said lengths room size l in
-    subst (λ (xs : List ℕ). IsFirstOf (WouldBeSound framing octets h) xs r) (sym others)
-    (first-along (λ n. subst (λ (xs : List ℕ). IsSoundList framing xs) (same n))
-    (λ n. subst (λ (xs : List ℕ). IsSoundList framing xs) (sym (same n))) f)
+-- what is tried for a header
+pub record IsTried (octets : List ℕ) (offset start count : ℕ) (fields : HeaderFields) (said : ℕ) (holders : List Element)
+    (lengths : List ℕ) : Type 0 where
+  pub within : offset ≤ length octets
+  pub begins : BeginsWithFields (drop offset octets) offset false fields count
+  pub start_is : start ≡ offset + fields.id_len
+  pub size_is : fields.size ≡ Definite said
+  pub lengths_are : lengths
+      ≡ tried_lengths ((offset + count) - start) fields.constructed (offset + count) (length octets)
+      (reach_in holders offset (length octets)) said
 
--- a length is found there
-pub found-at : (framing : Framing) (octets : List ℕ) (offset start count : ℕ) (fields : HeaderFields) (said would : ℕ)
-    (lengths more : List ℕ) → offset ≤ length octets
-    → BeginsWithFields (drop offset octets) offset false fields count → start ≡ offset + fields.id_len
-    → fields.size ≡ Definite said → lengths ≡ lengths_within said 5
-    → IsFirstOf (SoundWithOctets framing start (offset + count) octets) (sayable ((offset + count) - start) lengths)
-    (Some would)
-    → IsFirstWrongLength framing octets (offset ∷ more)
-    (Some (record { offset = offset; said = said; would = would }))
-found-at framing octets offset start count fields said would lengths more within b s size l f =
-    let h : HeaderValue = new_header fields (take count (drop offset octets)) in
-    let e : announced_length h.size ≡ said = ap announced_length size in
-    subst (λ (n : ℕ). IsFirstWrongLength framing octets (offset ∷ more)
-    (Some (record { offset = offset; said = n; would = would }))) e
-    (here h b.begins
-    (first-with framing octets offset start count fields said lengths (Some would) within b s size l f))
+module _ {octets : List ℕ} {offset start count : ℕ} {fields : HeaderFields} {said : ℕ} {holders : List Element}
+    {lengths : List ℕ} (framing : Framing) (t : IsTried octets offset start count fields said holders lengths) where
+  abbrev raw : List ℕ
+  raw = take count (drop offset octets)
 
--- none is found there
-pub none-at : (framing : Framing) (octets : List ℕ) (offset start count : ℕ) (fields : HeaderFields) (said : ℕ)
-    (lengths : List ℕ) → offset ≤ length octets
-    → BeginsWithFields (drop offset octets) offset false fields count → start ≡ offset + fields.id_len
-    → fields.size ≡ Definite said → lengths ≡ lengths_within said 5
-    → IsFirstOf (SoundWithOctets framing start (offset + count) octets) (sayable ((offset + count) - start) lengths)
-    None
-    → (h : HeaderValue) → BeginsWith (drop offset octets) offset false h
-    → IsFirstOf (WouldBeSound framing octets h) (other_lengths h) None
-none-at framing octets offset start count fields said lengths within b s size l f h p =
-    let g : HeaderValue = new_header fields (take count (drop offset octets)) in
-    subst (λ (x : HeaderValue). IsFirstOf (WouldBeSound framing octets x) (other_lengths x) None)
-    (begun-one g h b.begins p)
-    (first-with framing octets offset start count fields said lengths None within b s size l f)
+  abbrev header : HeaderValue
+  header = new_header fields raw
 
-no-others : (P : ℕ → Type 0) (w : ℕ) (size : Size) → ((n : ℕ) → size ≡ Definite n → ⊥)
+  -- the first length that does if its octets are changed in place is the first that does if the header says it
+  first-with : (r : Option ℕ)
+      → IsFirstOf (SoundWithOctets framing start (offset + count) octets) (sayable ((offset + count) - start) lengths) r
+      → IsRightLength framing octets holders offset header r
+  first-with r f =
+      let whole : length raw ≡ count = length-take-le count (drop offset octets) t.begins.within in
+      let id : length header.identifier_octets ≡ fields.id_len =
+      length-take-le fields.id_len raw (omega (arith, t.begins.sized.identifier)) in
+      let all : length (octets_of header) ≡ count = ap length (take-append-drop fields.id_len raw) ∙ whole in
+      let room : length header.length_octets ≡ (offset + count) - start =
+      omega (arith, length-drop fields.id_len raw, whole, t.start_is) in
+      let contents : contents_start header ≡ offset + count =
+      ap (λ (n : ℕ). n + length (octets_of header)) t.begins.begins.offset ∙ ap (λ (n : ℕ). offset + n) all in
+      let same : (n : ℕ) → with_octets_saying start (offset + count) n octets ≡ input_with_length octets header n =
+      λ n. subst (λ (i : ℕ). with_octets_saying i (offset + count) n octets ≡ input_with_length octets header n)
+      (sym t.start_is)
+      (changed-with n octets t.begins.begins.rest header offset fields.id_len count t.within t.begins.begins.offset id all
+      t.begins.begins.octets_are) in
+      let others : other_lengths header (length octets) (reach_in holders offset (length octets))
+      ≡ sayable ((offset + count) - start) lengths =
+      others-are (length header.length_octets) ((offset + count) - start) fields.constructed fields.constructed
+      (contents_start header) (offset + count) fields.size (length octets) (reach_in holders offset (length octets)) said
+      lengths room refl contents t.size_is t.lengths_are in
+      subst (λ (xs : List ℕ). IsFirstOf (WouldBeSound framing octets header) xs r) (sym others)
+      (first-along (λ n. subst (λ (xs : List ℕ). IsSoundList framing xs) (same n))
+      (λ n. subst (λ (xs : List ℕ). IsSoundList framing xs) (sym (same n))) f)
+
+  -- a length is found there
+  pub found-at : (would : ℕ)
+      → IsFirstOf (SoundWithOctets framing start (offset + count) octets) (sayable ((offset + count) - start) lengths)
+      (Some would)
+      → IsOtherLength framing octets holders offset (record { offset = offset; said = said; would = would })
+  found-at would f = record {
+    header = header;
+    begins = t.begins.begins;
+    right = first-with (Some would) f;
+    offset_is = refl;
+    said_is = sym (ap announced_length t.size_is);
+  }
+
+  -- none is found there
+  pub none-at :
+      IsFirstOf (SoundWithOctets framing start (offset + count) octets) (sayable ((offset + count) - start) lengths) None
+      → HasNoOtherLength framing octets holders offset
+  none-at f h p =
+      subst (λ (x : HeaderValue). IsRightLength framing octets holders offset x None) (begun-one header h t.begins.begins p)
+      (first-with None f)
+
+no-others : (P : ℕ → Type 0) (w : ℕ) (c : Bool) (s all reach : ℕ) (size : Size) → ((n : ℕ) → size ≡ Definite n → ⊥)
     → IsFirstOf P (filter (λ n. nat_lt n (length_bound w))
-    (option_map_or (λ s. lengths_within s 5) (definite_length size) [])) None
-no-others P w (Definite n) k = absurd (k n refl)
-no-others P w Indefinite k = no_more
+    (option_map_or (λ x. tried_lengths w c s all reach x) (definite_length size) [])) None
+no-others P w c s all reach (Definite n) k = absurd (k n refl)
+no-others P w c s all reach Indefinite k = no_more
 
 -- of a header in the indefinite form there are no other lengths
-pub indefinite-none : (framing : Framing) (octets : List ℕ) (offset count : ℕ) (fields : HeaderFields)
-    → BeginsWithFields (drop offset octets) offset false fields count
-    → ((n : ℕ) → fields.size ≡ Definite n → ⊥) → (h : HeaderValue) → BeginsWith (drop offset octets) offset false h
-    → IsFirstOf (WouldBeSound framing octets h) (other_lengths h) None
-indefinite-none framing octets offset count fields b k h p =
+pub indefinite-none : (framing : Framing) (octets : List ℕ) (holders : List Element) (offset count : ℕ)
+    (fields : HeaderFields) → BeginsWithFields (drop offset octets) offset false fields count
+    → ((n : ℕ) → fields.size ≡ Definite n → ⊥) → HasNoOtherLength framing octets holders offset
+indefinite-none framing octets holders offset count fields b k h p =
     let g : HeaderValue = new_header fields (take count (drop offset octets)) in
     let e : g ≡ h = begun-one g h b.begins p in
-    no-others (WouldBeSound framing octets h) (length h.length_octets) h.size
-    (λ n s. k n (ap (λ (x : HeaderValue). x.size) e ∙ s))
+    no-others (WouldBeSound framing octets h) (length h.length_octets) h.constructed (contents_start h) (length octets)
+    (reach_in holders offset (length octets)) h.size (λ n s. k n (ap (λ (x : HeaderValue). x.size) e ∙ s))
 
--- offsets that are searched one after another
-pub candidate-later : (framing : Framing) (octets xs : List ℕ) (i : ℕ) {found : Option WrongLength} → i < length xs
-    → ((h : HeaderValue) → BeginsWith (drop (get_or xs i 0) octets) (get_or xs i 0) false h
-    → IsFirstOf (WouldBeSound framing octets h) (other_lengths h) None)
-    → IsFirstWrongLength framing octets (drop (i + 1) xs) found → IsFirstWrongLength framing octets (drop i xs) found
-candidate-later framing octets xs i h none f = rw (from-next xs i h) (wrong.later none f)
+-- ---- offsets that are searched one after another
 
-pub candidates-end : (framing : Framing) (octets xs : List ℕ) (i : ℕ) → length xs ≤ i
-    → IsFirstWrongLength framing octets (drop i xs) None
-candidates-end framing octets xs i h = rw (drop_all i xs h) wrong.no_more
+module _ (framing : Framing) (octets : List ℕ) (holders : List Element) where
+  -- one more was looked at
+  pub candidates-more : (xs : List ℕ) (i most : ℕ) (found : List WrongLength) (r : Option WrongLength) → i < length xs
+      → length found < most
+      → MatchOption r (HasNoOtherLength framing octets holders (get_or xs i 0))
+      (λ w. IsOtherLength framing octets holders (get_or xs i 0) w)
+      → ((rest : List WrongLength)
+      → AreWrongLengths framing octets holders (most - length found) (drop i xs) rest
+      → AreWrongLengths framing octets holders most xs (found ++ rest))
+      → (rest : List WrongLength)
+      → AreWrongLengths framing octets holders (most - length (found ++ cons_option r [])) (drop (i + 1) xs) rest
+      → AreWrongLengths framing octets holders most xs ((found ++ cons_option r []) ++ rest)
+  candidates-more xs i most found None h few none so_far rest p =
+      let same : found ++ [] ≡ found = append-nil found in
+      rw same
+      (so_far rest
+      (rw (from-next xs i h)
+      (wrong.passed_over {most = most - length found} (omega (arith, few)) none
+      (subst (λ (l : List WrongLength). AreWrongLengths framing octets holders (most - length l) (drop (i + 1) xs) rest)
+      same p))))
+  candidates-more xs i most found (Some w) h few is so_far rest p =
+      let count : length (found ++ w ∷ []) ≡ length found + 1 = length-append found (w ∷ []) in
+      let less : most - length (found ++ w ∷ []) ≡ (most - length found) - 1 = omega (arith, count, few) in
+      subst (λ (l : List WrongLength). AreWrongLengths framing octets holders most xs l)
+      (sym (append_assoc found (w ∷ []) rest))
+      (so_far (w ∷ rest)
+      (rw (from-next xs i h)
+      (wrong.named {most = most - length found} (omega (arith, few)) is
+      (subst (λ (n : ℕ). AreWrongLengths framing octets holders n (drop (i + 1) xs) rest) less p))))
+
+  -- enough are named, or there are no more
+  pub candidates-enough : (xs : List ℕ) (i most : ℕ) (found : List WrongLength) → most ≤ length found
+      → ((rest : List WrongLength)
+      → AreWrongLengths framing octets holders (most - length found) (drop i xs) rest
+      → AreWrongLengths framing octets holders most xs (found ++ rest))
+      → AreWrongLengths framing octets holders most xs found
+  candidates-enough xs i most found h so_far =
+      let none : most - length found ≡ 0 = omega (arith, h) in
+      subst (λ (l : List WrongLength). AreWrongLengths framing octets holders most xs l) (append-nil found)
+      (so_far [] (rw none wrong.enough))
+
+  pub candidates-end : (xs : List ℕ) (i most : ℕ) (found : List WrongLength) → length xs ≤ i
+      → ((rest : List WrongLength)
+      → AreWrongLengths framing octets holders (most - length found) (drop i xs) rest
+      → AreWrongLengths framing octets holders most xs (found ++ rest))
+      → AreWrongLengths framing octets holders most xs found
+  candidates-end xs i most found h so_far =
+      subst (λ (l : List WrongLength). AreWrongLengths framing octets holders most xs l) (append-nil found)
+      (so_far [] (rw (drop_all i xs h) wrong.no_more))
 
 -- a slice from an offset on is all that comes after it
 pub begins-there : (octets : List ℕ) (offset count : ℕ) (fields : HeaderFields)
@@ -210,3 +257,35 @@ bound-fits count few =
     let short : count - 1 ≤ 5 = omega arith in
     let power : 256 ^ (count - 1) ≤ 256 ^ 5 = pow-le-pow_right (lit< tt) short in
     omega arith
+
+-- no more are named than may be
+pub few-named : (most : ℕ) (found : List WrongLength) (r : Option WrongLength) → length found < most
+    → length (found ++ cons_option r []) ≤ most
+few-named most found None few = omega (arith, length-append found [], few)
+few-named most found (Some w) few = omega (arith, length-append found (w ∷ []), few)
+
+-- ---- numbers with their octets reversed
+
+pub reversed-step : (k n front : ℕ) → 0 < k → reversed k n front ≡ reversed (k - 1) (n / 256) (front * 256 + n % 256)
+reversed-step zero n front some = absurd (omega (arith, some))
+reversed-step (suc k) n front some =
+    let less : k ≡ suc k - 1 = omega arith in ap (λ j. reversed j (n / 256) (front * 256 + n % 256)) less
+
+pub more-front : (k front r : ℕ) → front < 256 ^ k → r < 256 → front * 256 + r < 256 ^ (k + 1)
+more-front k front r f small =
+    let power : 256 ^ suc k ≡ 256 ^ k * 256 = pow-suc 256 k in
+    let next : 256 ^ (k + 1) ≡ 256 ^ suc k = ap (λ n. 256 ^ n) (add-one k) in
+    omega (arith, power, next, f, small)
+
+pub front-below : (k front : ℕ) → k ≤ 5 → front < 256 ^ k → front < 2 ^ 40
+front-below k front few f =
+    let power : 256 ^ k ≤ 256 ^ 5 = pow-le-pow_right (lit< tt) few in omega (arith, power, f)
+
+pub front-fits : (k front : ℕ) → k ≤ 4 → front < 256 ^ k → front * 256 < 2 ^ 40
+front-fits k front few f =
+    let power : 256 ^ k ≤ 256 ^ 4 = pow-le-pow_right (lit< tt) few in omega (arith, power, f)
+
+pub flipped-below : (said bit value : ℕ) → said < 2 ^ 40 → bit < 40 → value ≡ 2 ^ bit → said + value < 2 ^ 41
+flipped-below said bit value small few v =
+    let below : bit ≤ 39 = omega (arith, few) in
+    let power : 2 ^ bit ≤ 2 ^ 39 = pow-le-pow_right (lit< tt) below in omega (arith, power, v, small)

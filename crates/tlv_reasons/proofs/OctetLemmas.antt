@@ -18,7 +18,8 @@ use Rattle.tlv_reasons.specs.declared.octet_changes.OctetChange.{OctetChange}
 use Rattle.tlv_reasons.specs.declared.octet_changes.OctetChange.TheVariants.{Missing, PutIn}
 use Rattle.tlv_reasons.specs.declared.lengths.WrongLength.{WrongLength}
 use Rattle.tlv_reasons.specs.OneOctet.{IsChangeAt, IsFirstChange, IsOctetChange, WouldBeSoundWithOctet}
-use Rattle.tlv_reasons.specs.OneOctet.{WouldBeSoundWithoutOctet, another_length, contents_start, here, later, left_over}
+use Rattle.tlv_reasons.specs.OneOctet.{WouldBeSoundWithoutOctet, another_length, here, later, left_over}
+use Rattle.tlv_reasons.specs.WrongLength.{contents_start}
 use Rattle.tlv_reasons.specs.OneOctet.{missing, neither, no_more, not_searched, put_in, searched, with_octet_at}
 use Rattle.tlv_reasons.specs.OneOctet.{without_octet_at}
 

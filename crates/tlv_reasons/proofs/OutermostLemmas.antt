@@ -16,11 +16,9 @@ use Rattle.tlv_reasons.proofs.OctetLemmas.{starts-at}
 use Rattle.tlv_open.specs.Opens.{closed_framing}
 use Rattle.tlv_walk.specs.declared.framing.Framing.{Framing}
 use Rattle.tlv_reasons.specs.declared.lengths.WrongLength.{WrongLength}
-use Rattle.tlv_reasons.specs.OneOctet.{contents_start}
+use Rattle.tlv_reasons.specs.WrongLength.{contents_start}
 use Rattle.tlv_reasons.specs.OutermostSizes.{SizesAgree, agree_at_end, agree_behind_element, agree_behind_padding}
 use Rattle.tlv_reasons.specs.OutermostSizes.{agree_without_end, is_padded_at}
-use Rattle.tlv_reasons.specs.Remedies.{IsNamedLength, in_agreement}
-use Rattle.tlv_reasons.specs.WrongLength.{IsWrongLength}
 
 -- a header begins inside the input
 header-inside : (octets : List ℕ) (offset : ℕ) (h : HeaderValue) → BeginsWith (drop offset octets) offset false h
@@ -122,13 +120,3 @@ module _ (padding : Bool) (octets : List ℕ) where
         -- the element ends behind the input
         pub element-behind : length octets < offset + count + n → Agree offset → ⊥
         element-behind far agree = absurd (omega (arith, far, agree-within (offset + count + n) (back agree)))
-
--- ---- the length that is named
-
-pub named-length : {E : Type 0} (framing : Framing) (padding : Bool) (octets candidates : List ℕ) (top : ℕ)
-    (r : Result (Option WrongLength) E) → framing ≡ closed_framing padding → SizesAgree padding octets top
-    → IfOk r (λ found. IsWrongLength framing octets candidates found)
-    → IfOk r (λ found. IsNamedLength padding octets candidates top found)
-named-length framing padding octets candidates top (Ok found) e agree wrong =
-    in_agreement agree (subst (λ (f : Framing). IsWrongLength f octets candidates found) e wrong)
-named-length framing padding octets candidates top (Err error) e agree wrong = tt

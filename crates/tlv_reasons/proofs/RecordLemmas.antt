@@ -25,12 +25,12 @@ use Rattle.tlv_reasons.proofs.FirstLemmas.{from-next}
 use Rattle.tlv_reasons.proofs.LawLemmas.{within-one}
 use Rattle.tlv_reasons.proofs.LengthLemmas.{begun-one}
 use Rattle.tlv_reasons.proofs.OctetLemmas.{starts-at}
-use Rattle.tlv_reasons.specs.OneOctet.{contents_start}
+use Rattle.tlv_reasons.specs.WrongLength.{contents_start}
 use Rattle.tlv_reasons.specs.declared.lengths.WrongLength.{WrongLength}
 use Rattle.tlv_reasons.specs.FirstOf.{IsFirstWithin, all_spent, all_tried, tried_in_vain, tried_well}
 use Rattle.tlv_reasons.specs.NextRecord.{EndsNear, IsNextRecord, ReadsInVain, another_length, another_start, at}
 use Rattle.tlv_reasons.specs.NextRecord.{IsRecordAfter, none_in_front, not_searched, nothing, nowhere, offsets_where}
-use Rattle.tlv_reasons.specs.NextRecord.{reads_for_each, searched, tried_offsets, up_to_fault}
+use Rattle.tlv_reasons.specs.NextRecord.{searched, tried_offsets, up_to_fault}
 use Rattle.tlv_reasons.specs.NextStart.{IsStart}
 
 -- ---- offsets of octets for which p holds
@@ -259,31 +259,31 @@ vain-one padding octets offset a b (nothing none) (up_to_fault h x e code ends) 
     let other : true ≡ false = sym e ∙ none h x in absurd (cc (other))
 vain-one padding octets offset a b (nothing none) (nothing other) = refl
 
-record-one : (padding : Bool) (octets : List ℕ) (offset : ℕ) (a b : Option ℕ) → IsRecordAfter padding octets offset a
-    → IsRecordAfter padding octets offset b → a ≡ b
-record-one padding octets offset a b x y =
+record-one : (reads : ℕ) (padding : Bool) (octets : List ℕ) (offset : ℕ) (a b : Option ℕ) → IsRecordAfter reads padding octets offset a
+    → IsRecordAfter reads padding octets offset b → a ≡ b
+record-one reads padding octets offset a b x y =
     let same : y.end ≡ x.end = ends-one octets offset y.end x.end y.ends x.ends in
     within-one (vain-one padding octets) x.first
-    (subst (λ (e : Option ℕ). IsFirstTried padding octets (reads_for_each * length octets)
+    (subst (λ (e : Option ℕ). IsFirstTried padding octets reads
     (tried_offsets octets offset e) b) same y.first)
 
-pub next-one : (padding : Bool) (octets : List ℕ) (top : ℕ) (wrong : Option WrongLength) (start a b : Option ℕ)
-    → IsNextRecord padding octets top wrong start a → IsNextRecord padding octets top wrong start b → a ≡ b
-next-one padding octets top wrong start a b (another_start n) (another_start m) = refl
-next-one padding octets top wrong start a b (none_in_front z) (none_in_front y) = refl
-next-one padding octets top wrong start a b (none_in_front z) (another_length w) = refl
-next-one padding octets top wrong start a b (none_in_front z) (not_searched l) = refl
-next-one padding octets top wrong start a b (none_in_front z) (searched some u l r) = absurd (omega (arith, z, some))
-next-one padding octets top wrong start a b (another_length w) (none_in_front z) = refl
-next-one padding octets top wrong start a b (another_length w) (another_length v) = refl
-next-one padding octets top wrong start a b (another_length w) (not_searched l) = refl
-next-one padding octets top wrong start a b (another_length w) (searched some u l r) = absurd (cc)
-next-one padding octets top wrong start a b (not_searched l) (none_in_front z) = refl
-next-one padding octets top wrong start a b (not_searched l) (another_length w) = refl
-next-one padding octets top wrong start a b (not_searched l) (not_searched m) = refl
-next-one padding octets top wrong start a b (not_searched l) (searched some u m r) = absurd (omega (arith, l, m))
-next-one padding octets top wrong start a b (searched some u l r) (none_in_front z) = absurd (omega (arith, z, some))
-next-one padding octets top wrong start a b (searched some u l r) (another_length w) = absurd (cc)
-next-one padding octets top wrong start a b (searched some u m r) (not_searched l) = absurd (omega (arith, l, m))
-next-one padding octets top wrong start a b (searched some u l r) (searched other v m s) =
-    record-one padding octets top a b r s
+pub next-one : (reads : ℕ) (padding : Bool) (octets : List ℕ) (top : ℕ) (wrong : Option WrongLength) (start a b : Option ℕ)
+    → IsNextRecord reads padding octets top wrong start a → IsNextRecord reads padding octets top wrong start b → a ≡ b
+next-one reads padding octets top wrong start a b (another_start n) (another_start m) = refl
+next-one reads padding octets top wrong start a b (none_in_front z) (none_in_front y) = refl
+next-one reads padding octets top wrong start a b (none_in_front z) (another_length w) = refl
+next-one reads padding octets top wrong start a b (none_in_front z) (not_searched l) = refl
+next-one reads padding octets top wrong start a b (none_in_front z) (searched some u l r) = absurd (omega (arith, z, some))
+next-one reads padding octets top wrong start a b (another_length w) (none_in_front z) = refl
+next-one reads padding octets top wrong start a b (another_length w) (another_length v) = refl
+next-one reads padding octets top wrong start a b (another_length w) (not_searched l) = refl
+next-one reads padding octets top wrong start a b (another_length w) (searched some u l r) = absurd (cc)
+next-one reads padding octets top wrong start a b (not_searched l) (none_in_front z) = refl
+next-one reads padding octets top wrong start a b (not_searched l) (another_length w) = refl
+next-one reads padding octets top wrong start a b (not_searched l) (not_searched m) = refl
+next-one reads padding octets top wrong start a b (not_searched l) (searched some u m r) = absurd (omega (arith, l, m))
+next-one reads padding octets top wrong start a b (searched some u l r) (none_in_front z) = absurd (omega (arith, z, some))
+next-one reads padding octets top wrong start a b (searched some u l r) (another_length w) = absurd (cc)
+next-one reads padding octets top wrong start a b (searched some u m r) (not_searched l) = absurd (omega (arith, l, m))
+next-one reads padding octets top wrong start a b (searched some u l r) (searched other v m s) =
+    record-one reads padding octets top a b r s

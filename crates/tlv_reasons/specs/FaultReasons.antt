@@ -1,5 +1,6 @@
 -- The sentences about each fault, and when they come: X.690 8.1.2, 8.1.3 and 8.1.5.
-use Rattle.std.specs.Prelude.{ℕ, ◌+◌, ◌-◌, Bool, false, eqb, nat_le, if◌then◌else◌, List, [], ◌∷◌, Option, Some, None}
+use Rattle.std.specs.Prelude.{ℕ, ◌+◌, ◌-◌, Bool, false, eqb, nat_le, if◌then◌else◌, List, [], ◌∷◌, ◌++◌, Option, Some}
+use Rattle.std.specs.Prelude.{None}
 use Rattle.std.specs.Prelude.{drop, length}
 use Rattle.std.specs.List.{filter_map}
 use Rattle.std.specs.Option.{option_map, option_map_or}
@@ -32,9 +33,14 @@ empty_reasons size = (if eqb size 0 then say.NoOctets else say.ZerosAlone size) 
 -- what lacks octets, in an input that ends at this offset
 abbrev pub cut_place : ℕ → ℕ → Option Element → Unfinished → Option Sentence
 cut_place next end inner at.Header = Some (say.EndsInHeader next end)
-cut_place next end inner (at.Primitive e) = Some (say.EndsInPrimitive e end)
+cut_place next end inner (at.Primitive e) = Some (say.EndsInPrimitive e)
 cut_place next end inner at.EndOctets = option_map (λ e. say.EndsBetweenZeros e) inner
 cut_place next end inner at.Nothing = option_map (λ e. say.EndsInHolder e) inner
+
+-- how many octets a primitive lacks
+abbrev pub lacking : ℕ → Unfinished → Option Sentence
+lacking end (at.Primitive e) = Some (say.MissingThere (element_end e - end))
+lacking end unfinished = None
 
 -- an element ends with an input of `size` octets
 abbrev pub ends_with_input : ℕ → Option Element → Bool
@@ -54,7 +60,7 @@ cut_try size outer = if ends_with_input size outer then say.TryGreater else say.
 
 abbrev pub cut_reasons : ℕ → Facts → List Sentence
 cut_reasons size facts =
-    said (cut_place facts.next size (innermost_holder facts) facts.unfinished
+    said (cut_place facts.next size (innermost_holder facts) facts.unfinished ∷ lacking size facts.unfinished
     ∷ outer_end size (outermost_definite facts.holders.items) ∷ not_ended (indefinite_count facts.holders.items)
     ∷ Some (cut_try size (outermost_definite facts.holders.items)) ∷ suspect facts.before ∷ [])
 
@@ -80,7 +86,8 @@ length_reasons s before = said (Some s ∷ Some say.TryAnew ∷ suspect before �
 -- F03, in an element or outside of all
 abbrev pub stray_reasons : List ℕ → ℕ → Option Element → Option Element → List Sentence
 stray_reasons octets offset None before = zeros_reasons octets offset
-stray_reasons octets offset (Some e) before = length_reasons (say.ZeroInside e offset) before
+stray_reasons octets offset (Some e) before =
+    say.ZeroInside e offset ∷ length_reasons (say.LeftInside (element_end e - offset)) before
 
 -- F04
 abbrev pub bad_end_reasons : ℕ → Option Element → Option Element → List Sentence
@@ -109,16 +116,16 @@ abbrev pub deep_reasons : ℕ → List Sentence
 deep_reasons next = say.TooDeep next ∷ say.TryDeeper ∷ []
 
 -- F11: about the element, if its whole header is there and ends in the holder; else about the header
-abbrev pub past_place : ℕ → ℕ → Element → Option Element → Sentence
-past_place offset next holder None = say.HeaderPast next holder
-past_place offset next holder (Some e) =
-    if nat_le e.contents (element_end holder) then say.ElementPast offset e holder else say.HeaderPast next holder
+abbrev pub past_places : ℕ → ℕ → Element → Option Element → List Sentence
+past_places offset next holder None = say.HeaderPast next holder ∷ say.LeftInHolder next holder ∷ []
+past_places offset next holder (Some e) =
+    if nat_le e.contents (element_end holder) then say.CompletesHeader offset e ∷ say.ElementPast e holder ∷ []
+    else say.HeaderPast next holder ∷ say.LeftInHolder next holder ∷ []
 
 abbrev pub past_reasons : ℕ → Facts → Option Element → List Sentence
 past_reasons offset facts None = []
 past_reasons offset facts (Some holder) =
-    said (Some (past_place offset facts.next holder facts.there) ∷ Some say.OneOfTwo ∷ Some say.TryAnew
-    ∷ suspect facts.before ∷ [])
+    past_places offset facts.next holder facts.there ++ length_reasons say.OneOfTwo facts.before
 
 -- ---- all
 

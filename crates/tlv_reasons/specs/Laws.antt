@@ -5,20 +5,22 @@ use Rattle.tlv_head.specs.declared.header.Size.TheVariants.{Definite}
 use Rattle.tlv_head.specs.Header.{HeaderValue, IsHeader, octets_of}
 use Rattle.tlv_walk.specs.declared.framing.Framing.{Framing}
 use Rattle.tlv_walk.specs.Reading.{AreOctets}
+use Rattle.tlv_reasons.specs.declared.element.Element.{Element}
 use Rattle.tlv_reasons.specs.declared.lengths.WrongLength.{WrongLength}
 use Rattle.tlv_reasons.specs.declared.octet_changes.OctetChange.{OctetChange}
 use Rattle.tlv_reasons.specs.NextRecord.{IsNextRecord}
 use Rattle.tlv_reasons.specs.OneOctet.{IsOctetChange}
 use Rattle.tlv_reasons.specs.declared.sentence.Sentence.{Sentence}
-use Rattle.tlv_reasons.specs.Sentences.{text_of}
-use Rattle.tlv_reasons.specs.WrongLength.{IsWrongLength, length_bound, with_length}
+use Rattle.tlv_reasons.specs.Sentences.{sentences_text}
+use Rattle.tlv_reasons.specs.WrongLength.{NamesLengths, length_bound, with_length}
 
--- an input and offsets determine the wrong length, or that there is none
+-- an input, its open elements and offsets determine the other lengths that are named
 abbrev pub InputsHaveOneWrongLength : Type 0
-InputsHaveOneWrongLength = (framing : Framing) (octets candidates : List ℕ) (a b : Option WrongLength)
-    → IsWrongLength framing octets candidates a → IsWrongLength framing octets candidates b → a ≡ b
+InputsHaveOneWrongLength =
+    (framing : Framing) (octets : List ℕ) (holders : List Element) (candidates : List ℕ) (a b : List WrongLength)
+    → NamesLengths framing octets holders candidates a → NamesLengths framing octets holders candidates b → a ≡ b
 
--- with the wrong length they also determine the octet that is missing or was put in, or that there is none
+-- with the first of these they also determine the octet that is missing or was put in, or that there is none
 abbrev pub InputsHaveOneOctetChange : Type 0
 InputsHaveOneOctetChange = (framing : Framing) (octets candidates : List ℕ) (wrong : Option WrongLength)
     (a b : Option OctetChange) → IsOctetChange framing octets candidates wrong a
@@ -26,9 +28,9 @@ InputsHaveOneOctetChange = (framing : Framing) (octets candidates : List ℕ) (w
 
 -- an input, with what was found before, determines the next record, or that there is none
 abbrev pub InputsHaveOneNextRecord : Type 0
-InputsHaveOneNextRecord = (padding : Bool) (octets : List ℕ) (top : ℕ) (wrong : Option WrongLength)
-    (start a b : Option ℕ) → IsNextRecord padding octets top wrong start a
-    → IsNextRecord padding octets top wrong start b → a ≡ b
+InputsHaveOneNextRecord = (reads : ℕ) (padding : Bool) (octets : List ℕ) (top : ℕ) (wrong : Option WrongLength)
+    (start a b : Option ℕ) → IsNextRecord reads padding octets top wrong start a
+    → IsNextRecord reads padding octets top wrong start b → a ≡ b
 
 -- a header with another length that its length octets can state is a header of the same number of octets
 abbrev pub OtherLengthsMakeHeaders : Type 0
@@ -47,4 +49,4 @@ AreShown text = list_all is_shown_octet text ≡ true
 
 -- the text of sentences about octets is printable ASCII
 abbrev pub SentencesAreShown : Type 0
-SentencesAreShown = (octets : List ℕ) (sentences : List Sentence) → AreOctets octets → AreShown (text_of octets sentences)
+SentencesAreShown = (octets : List ℕ) (sentences : List Sentence) → AreOctets octets → AreShown (sentences_text octets sentences)

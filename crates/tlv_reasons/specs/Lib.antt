@@ -8,6 +8,7 @@ pub mod Leftovers
 pub mod Why
 pub mod FileKinds
 pub mod Suspects
+pub mod Sizes
 pub mod FirstOf
 pub mod WrongLength
 pub mod OneOctet

@@ -8,7 +8,7 @@ use Rattle.tlv_head.specs.Refusal.{BeginsWith}
 use Rattle.tlv_reasons.specs.declared.lengths.WrongLength.{WrongLength}
 use Rattle.tlv_reasons.specs.FirstOf.{IsFirstWithin}
 use Rattle.tlv_reasons.specs.NextStart.{IsStart}
-use Rattle.tlv_reasons.specs.OneOctet.{contents_start}
+use Rattle.tlv_reasons.specs.WrongLength.{contents_start}
 use Rattle.tlv_reasons.specs.WrongLength.{search_limit}
 use Rattle.tlv_open.specs.Opens.{closed_framing}
 use Rattle.tlv_walk.specs.Ending.{IsEnding, fault_ending}
@@ -75,19 +75,15 @@ pub data ReadsInVain (padding : Bool) (octets : List ℕ) (offset : ℕ) : ℕ �
   nothing : ((h : HeaderValue) → BeginsWith (drop offset octets) offset false h → h.constructed ≡ false)
       → ReadsInVain padding octets offset 0
 
--- for each octet of the input the tries may read so many in vain: a limit of our own
-abbrev pub reads_for_each : ℕ
-reads_for_each = 16
-
 -- ---- the next record
 
 -- where the record after the damaged element begins, which is at this offset: at the first of the tried offsets at
--- which a constructed element begins, and from which on the input is sound. Once the tries have read that much in vain,
--- no other is made
-pub record IsRecordAfter (padding : Bool) (octets : List ℕ) (offset : ℕ) (found : Option ℕ) : Type 0 where
+-- which a constructed element begins, and from which on the input is sound. Once the tries have read `reads` octets in
+-- vain, no other is made
+pub record IsRecordAfter (reads : ℕ) (padding : Bool) (octets : List ℕ) (offset : ℕ) (found : Option ℕ) : Type 0 where
   pub end : Option ℕ
   pub ends : EndsNear octets offset end
-  pub first : IsFirstWithin (IsStart padding octets) (ReadsInVain padding octets) (reads_for_each * length octets)
+  pub first : IsFirstWithin (IsStart padding octets) (ReadsInVain padding octets) reads
       (tried_offsets octets offset end) found
 
 -- another length is named for the element at this offset
@@ -98,13 +94,13 @@ is_length_of offset (Some w) = w.offset == offset
 -- where the next record begins, after a damaged element at the offset `top`. None is looked for if another start was
 -- found, if no whole element stands in front, if another length is named for the damaged element, and in inputs that
 -- are not searched
-pub data IsNextRecord (padding : Bool) (octets : List ℕ) (top : ℕ) (wrong : Option WrongLength)
+pub data IsNextRecord (reads : ℕ) (padding : Bool) (octets : List ℕ) (top : ℕ) (wrong : Option WrongLength)
     : Option ℕ → Option ℕ → Type 0 where
-  another_start : (start : ℕ) → IsNextRecord padding octets top wrong (Some start) None
-  none_in_front : top ≡ 0 → IsNextRecord padding octets top wrong None None
+  another_start : (start : ℕ) → IsNextRecord reads padding octets top wrong (Some start) None
+  none_in_front : top ≡ 0 → IsNextRecord reads padding octets top wrong None None
   another_length : is_length_of top wrong ≡ true
-      → IsNextRecord padding octets top wrong None None
-  not_searched : search_limit < length octets → IsNextRecord padding octets top wrong None None
+      → IsNextRecord reads padding octets top wrong None None
+  not_searched : search_limit < length octets → IsNextRecord reads padding octets top wrong None None
   searched : {found : Option ℕ} → 0 < top → is_length_of top wrong ≡ false
-      → length octets ≤ search_limit → IsRecordAfter padding octets top found
-      → IsNextRecord padding octets top wrong None found
+      → length octets ≤ search_limit → IsRecordAfter reads padding octets top found
+      → IsNextRecord reads padding octets top wrong None found

@@ -1,10 +1,12 @@
 -- Where else encodings begin in an input: X.690 8.1.1.
-use Rattle.std.specs.Prelude.{◌≡◌, ◌⊎◌, ℕ, Bool, false, true, List, ◌++◌, length, take, drop, min, Option, None, Some}
+use Rattle.std.specs.Prelude.{◌≡◌, ◌⊎◌, ℕ, Bool, false, true, List, ◌++◌, length, take, drop, min, Option, Some, eqb}
+use Rattle.std.specs.Prelude.{◌≤◌, slice_index}
 use Rattle.std.specs.Option.{option_map_or}
 use Rattle.std.specs.Str.TwoWay.{IsFirst}
 use Rattle.tlv_head.specs.Header.{HeaderValue, definite_length}
 use Rattle.tlv_head.specs.Refusal.{BeginsWith}
 use Rattle.tlv_open.specs.Opens.{closed_framing}
+use Rattle.tlv_reasons.specs.Elements.{offset_sum}
 use Rattle.tlv_walk.specs.Reading.{IsSoundList}
 
 -- the octets begin with one or more whole encodings
@@ -37,7 +39,19 @@ pub record IsStart (padding : Bool) (octets : List ℕ) (offset : ℕ) : Type 0 
   pub constructed : header.constructed ≡ true
   pub sound : IsSoundList (closed_framing padding) (drop offset octets)
 
--- the offset from which the input is sound, if its first element does not seem right: the first from 1 to 64
-pub record IsNextStart (padding : Bool) (octets : List ℕ) (found : Option ℕ) : Type 0 where
-  pub otherwise : (SeemsRight octets → ⊥) → IsFirst (IsStart padding octets) 1 (min 65 (length octets)) found
-  pub none : SeemsRight octets → found ≡ None
+-- at least ten octets are there, and the first is no space
+pub record IsOtherStart (padding : Bool) (octets : List ℕ) (offset : ℕ) : Type 0 where
+  pub start : IsStart padding octets offset
+  pub long : 10 ≤ length (drop offset octets)
+  pub no_space : eqb (slice_index octets offset) 0x20 ≡ false
+
+-- the first offset from `first` to 256 from which the input is so
+abbrev pub IsFirstStart : Bool → List ℕ → ℕ → Option ℕ → Type 0
+IsFirstStart padding octets first found =
+    IsFirst (IsOtherStart padding octets) first (min 257 (length octets)) found
+
+-- the offset from which an input with a fault at this offset is sound: the first from 1 on, or, if the first element of
+-- the input seems right, behind the fault
+pub record IsNextStart (padding : Bool) (octets : List ℕ) (fault : ℕ) (found : Option ℕ) : Type 0 where
+  pub otherwise : (SeemsRight octets → ⊥) → IsFirstStart padding octets 1 found
+  pub right : SeemsRight octets → IsFirstStart padding octets (offset_sum fault 1) found

@@ -7,11 +7,7 @@ use Rattle.tlv_walk.specs.Reading.{IsSoundList}
 use Rattle.tlv_reasons.specs.declared.lengths.WrongLength.{WrongLength}
 use Rattle.tlv_reasons.specs.declared.octet_changes.OctetChange.{OctetChange}
 use Rattle.tlv_reasons.specs.declared.octet_changes.OctetChange.TheVariants.{Missing, PutIn}
-use Rattle.tlv_reasons.specs.WrongLength.{search_limit}
-
--- 8.1.1.3: where the contents of the element with this header begin
-abbrev pub contents_start : HeaderValue → ℕ
-contents_start h = h.offset + length (octets_of h)
+use Rattle.tlv_reasons.specs.WrongLength.{contents_start, search_limit}
 
 -- the input with an octet more, after so many octets. It is 00, since contents may have any octet
 abbrev pub with_octet_at : ℕ → List ℕ → List ℕ

@@ -2,7 +2,7 @@
 use Rattle.std.specs.Prelude.{◌≡◌, ℕ, ◌+◌, ◌<◌, ◌==◌, ◌&&◌, Bool, true, false, List, length, drop, Some, None, slice_index}
 use Rattle.tlv_head.specs.Header.{HeaderValue, definite_length}
 use Rattle.tlv_head.specs.Refusal.{BeginsWith}
-use Rattle.tlv_reasons.specs.OneOctet.{contents_start}
+use Rattle.tlv_reasons.specs.WrongLength.{contents_start}
 
 -- an octet of padding, between outermost elements, is at this offset
 abbrev pub is_padded_at : Bool → List ℕ → ℕ → Bool

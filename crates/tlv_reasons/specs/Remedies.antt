@@ -1,6 +1,7 @@
 -- What may be done with an input that does not parse: which change would make it sound, and where else it is sound.
-use Rattle.std.specs.Prelude.{◌≡◌, ℕ, Bool, false, true, List, [], ◌∷◌, ◌++◌, Option, None, Some}
-use Rattle.std.specs.Option.{option_map}
+use Rattle.std.specs.Prelude.{◌≡◌, ℕ, Bool, false, true, ◌||◌, eqb, not, if◌then◌else◌, slice_get, take, List, [], ◌∷◌, ◌++◌, Option, None, Some}
+use Rattle.std.specs.List.{filter, find}
+use Rattle.std.specs.Option.{is_some, option_map, option_map_or}
 use Rattle.tlv_open.specs.Opens.{closed_framing}
 use Rattle.tlv_walk.specs.declared.framing.Framing.{Framing}
 use Rattle.tlv_reasons.specs.declared.facts.Facts.{Facts}
@@ -17,10 +18,11 @@ use Rattle.tlv_reasons.specs.NextRecord.{IsNextRecord}
 use Rattle.tlv_reasons.specs.NextStart.{IsNextStart}
 use Rattle.tlv_reasons.specs.OneOctet.{IsOctetChange}
 use Rattle.tlv_reasons.specs.OutermostSizes.{SizesAgree}
+use Rattle.tlv_reasons.specs.Sizes.{size_sentence}
 use Rattle.tlv_reasons.specs.Suspects.{suspect_offsets}
 use Rattle.tlv_reasons.specs.TextCopies.{IsSoundWithLfAlone, IsSoundWithoutUtf8, has_replacement}
-use Rattle.tlv_reasons.specs.Why.{reasons_of}
-use Rattle.tlv_reasons.specs.WrongLength.{IsWrongLength}
+use Rattle.tlv_reasons.specs.Why.{fault_sentences, reasons_of}
+use Rattle.tlv_reasons.specs.WrongLength.{NamesLengths}
 
 -- what was done to the input as if it were a text: what makes the input sound if it is undone, UTF-8 first; else, what
 -- has left octets ef bf bd
@@ -33,49 +35,101 @@ pub data IsTextChange (padding : Bool) (octets : List ℕ) : Option TextChange �
   none : (IsSoundWithoutUtf8 padding octets → ⊥) → (IsSoundWithLfAlone padding octets → ⊥)
       → has_replacement octets ≡ false → IsTextChange padding octets None
 
--- the other length that is named: the wrong length, if the sizes of the outermost elements agree with that of the input,
--- from the offset `top` on. Otherwise octets are missing or left over, and none is named
-pub data IsNamedLength (padding : Bool) (octets candidates : List ℕ) (top : ℕ) : Option WrongLength → Type 0 where
-  in_agreement : {found : Option WrongLength} → SizesAgree padding octets top
-      → IsWrongLength (closed_framing padding) octets candidates found
-      → IsNamedLength padding octets candidates top found
-  in_disagreement : (SizesAgree padding octets top → ⊥) → IsNamedLength padding octets candidates top None
+-- the other lengths that are named, if the sizes of the outermost elements agree with that of the input, from the top end
+-- on. Otherwise octets are missing or left over, and none is named
+pub data AreNamedLengths (padding : Bool) (octets : List ℕ) (facts : Facts) : List WrongLength → Type 0 where
+  in_agreement : {found : List WrongLength} → SizesAgree padding octets facts.top
+      → NamesLengths (closed_framing padding) octets facts.holders.items (suspect_offsets facts) found
+      → AreNamedLengths padding octets facts found
+  in_disagreement : (SizesAgree padding octets facts.top → ⊥) → AreNamedLengths padding octets facts []
 
--- the sentences about what was found
-abbrev pub remedy_sentences : Option WrongLength → Option OctetChange → Option TextChange → Option ℕ → Option ℕ
-    → List Sentence
-remedy_sentences wrong octet change start next =
-    said (option_map (λ w. say.OtherLength w) wrong ∷ option_map (λ c. say.OneOctet c) octet
-    ∷ option_map (λ c. say.TextChanged c) change ∷ option_map (λ n. say.ParsesFrom n) start
-    ∷ option_map (λ n. say.NextRecord n) next ∷ [])
+-- another length that is named for the header at this offset
+abbrev pub named_at : ℕ → List WrongLength → Option WrongLength
+named_at offset found = find (λ w. eqb w.offset offset) found
 
--- the sentences about an input, with the headers at these offsets as candidates; `top` is the offset after its whole
--- elements at the top level
-pub record AreRemedies (padding : Bool) (octets candidates : List ℕ) (top : ℕ) (sentences : List Sentence) : Type 0 where
-  pub wrong : Option WrongLength
-  pub is_wrong : IsNamedLength padding octets candidates top wrong
-  pub octet : Option OctetChange
-  pub is_octet : IsOctetChange (closed_framing padding) octets candidates wrong octet
-  pub change : Option TextChange
-  pub is_change : IsTextChange padding octets change
+-- the sentence about the lengths that are named: three at most
+abbrev pub length_sentence : List WrongLength → Option Sentence
+length_sentence [] = None
+length_sentence (v ∷ []) = Some (say.OtherLength v)
+length_sentence (v ∷ w ∷ []) = Some (say.TwoLengths v w)
+length_sentence (v ∷ w ∷ x ∷ more) = Some (say.ThreeLengths v w x)
+
+-- what was done to the input as if it were a text is known, and can be undone
+abbrev pub is_undone : Option TextChange → Bool
+is_undone None = false
+is_undone (Some Replaced) = false
+is_undone (Some change) = true
+
+-- a sentence about a length in front
+abbrev pub is_suspicion : Sentence → Bool
+is_suspicion (say.LengthInFront e) = true
+is_suspicion s = false
+
+-- these sentences, without those about lengths in front if something is known that would mend the input
+abbrev pub unless_mended : Bool → List Sentence → List Sentence
+unless_mended is_mended sentences = if is_mended then filter (λ s. not (is_suspicion s)) sentences else sentences
+
+-- the reasons of an input: what sizes say, and the sentences about the fault; or the latter alone, without those about
+-- lengths in front, if something is known that would mend it
+abbrev pub reasons_if : Bool → List ℕ → Facts → List Sentence
+reasons_if true octets facts = unless_mended true (reasons_of octets facts)
+reasons_if false octets facts = said (size_sentence octets facts ∷ []) ++ reasons_of octets facts
+
+-- where the fault is
+abbrev pub fault_offset : Facts → ℕ
+fault_offset facts = option_map_or (λ fault. fault.offset) facts.fault 0
+
+-- the other lengths that are named, and the octet that is missing or was put in, if no other start was found
+pub data IsMended (padding : Bool) (octets : List ℕ) (facts : Facts)
+    : Option ℕ → List WrongLength → Option OctetChange → Type 0 where
+  elsewhere : (start : ℕ) → IsMended padding octets facts (Some start) [] None
+  here : {wrong : List WrongLength} {octet : Option OctetChange} → AreNamedLengths padding octets facts wrong
+      → IsOctetChange (closed_framing padding) octets (suspect_offsets facts) (slice_get wrong 0) octet
+      → IsMended padding octets facts None wrong octet
+
+-- the sentences about what would mend the input: where else it is sound, or what would make all of it sound
+abbrev pub mending_sentences : Option TextChange → Option ℕ → List WrongLength → Option OctetChange → List Sentence
+mending_sentences change start wrong octet =
+    said (option_map (λ c. say.TextChanged c) change ∷ option_map (λ n. say.ParsesFrom n) start
+    ∷ length_sentence wrong ∷ option_map (λ c. say.OneOctet c) octet ∷ [])
+
+-- something is known that would mend the input
+abbrev pub is_mended : Option ℕ → List WrongLength → Option OctetChange → Bool
+is_mended start wrong octet = is_some start || is_some (slice_get wrong 0) || is_some octet
+
+-- the reasons of an input with these facts to which this was done as if it were a text: what would mend it, the
+-- sentences about the fault, and the next record
+pub record AreRemedies (reads : ℕ) (padding : Bool) (octets : List ℕ) (facts : Facts) (change : Option TextChange)
+    (sentences : List Sentence) : Type 0 where
   pub start : Option ℕ
-  pub is_start : IsNextStart padding octets start
+  pub is_start : IsNextStart padding octets (fault_offset facts) start
+  pub wrong : List WrongLength
+  pub octet : Option OctetChange
+  pub are_mended : IsMended padding octets facts start wrong octet
   pub next : Option ℕ
-  pub is_next : IsNextRecord padding octets top wrong start next
-  pub sentences_are : sentences ≡ remedy_sentences wrong octet change start next
+  pub is_next : IsNextRecord reads padding octets facts.top (named_at facts.top wrong) start next
+  pub sentences_are : sentences
+      ≡ mending_sentences change start wrong octet
+      ++ (reasons_if (is_mended start wrong octet) octets facts
+      ++ said (option_map (λ n. say.NextRecord n) next ∷ []))
 
--- all reasons why an input with these facts does not parse: that it is another kind of file, and nothing else; or the
--- fault, and then what may be done
-pub data AreReasons (padding : Bool) (octets : List ℕ) (facts : Facts) : List Sentence → Type 0 where
+-- all reasons why an input with these facts does not parse: that it is another kind of file, and nothing else; what was
+-- done to it as if it were a text, if that can be undone, and the first sentence about the fault; or all others. So many
+-- octets may be read for the next record
+pub data AreReasons (reads : ℕ) (padding : Bool) (octets : List ℕ) (facts : Facts) : List Sentence → Type 0 where
   another_kind : (kind : FileKind) → file_kind octets ≡ Some kind
-      → AreReasons padding octets facts (say.OtherKind kind ∷ [])
-  no_kind : (remedies : List Sentence) → file_kind octets ≡ None
-      → AreRemedies padding octets (suspect_offsets facts) facts.top remedies
-      → AreReasons padding octets facts (reasons_of octets facts ++ remedies)
+      → AreReasons reads padding octets facts (say.OtherKind kind ∷ [])
+  undone : (change : Option TextChange) → file_kind octets ≡ None → IsTextChange padding octets change
+      → is_undone change ≡ true
+      → AreReasons reads padding octets facts (mending_sentences change None [] None ++ take 1 (fault_sentences octets facts))
+  others : (change : Option TextChange) (sentences : List Sentence) → file_kind octets ≡ None
+      → IsTextChange padding octets change → is_undone change ≡ false
+      → AreRemedies reads padding octets facts change sentences → AreReasons reads padding octets facts sentences
 
--- all reasons why a string breaks, in a reading with these facts: the fault, and then the length that would mend it
+-- all reasons why a string breaks, in a reading with these facts: the lengths that would mend it, and the fault
 pub record AreStringReasons (framing : Framing) (octets candidates : List ℕ) (facts : Facts) (sentences : List Sentence)
     : Type 0 where
-  pub wrong : Option WrongLength
-  pub is_wrong : IsWrongLength framing octets candidates wrong
-  pub sentences_are : sentences ≡ reasons_of octets facts ++ said (option_map (λ w. say.OtherLength w) wrong ∷ [])
+  pub wrong : List WrongLength
+  pub are_wrong : NamesLengths framing octets facts.holders.items candidates wrong
+  pub sentences_are : sentences
+      ≡ mending_sentences None None wrong None ++ unless_mended (is_some (slice_get wrong 0)) (reasons_of octets facts)

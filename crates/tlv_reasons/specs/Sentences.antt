@@ -1,4 +1,4 @@
--- The words of the sentences. Each ends with a line feed; some have two lines.
+-- The words of the sentences. Each ends with a line feed.
 use Rattle.std.specs.Prelude.{ℕ, ◌-◌, eqb, if◌then◌else◌, List, [], ◌∷◌, ◌++◌, codes, flat_map}
 use Rattle.tlv_head.specs.declared.fault.FaultCode.{FaultCode}
 use Rattle.tlv_head.specs.declared.fault.FaultCode.TheVariants.{IndefinitePrimitive, LengthTooLarge, ReservedLength}
@@ -69,6 +69,10 @@ words_of (say.FillerFollows end left) = (
   codes "Whole encodings end at offset %. The octets after them are% alone, as filler is: %.\n",
   Number end ∷ Pairs end (offset_sum end 1) ∷ Number left ∷ [],
 )
+words_of (say.TextFollows end left) = (
+  codes "Whole encodings end at offset %. The octets after them are printable text: %.\n",
+  Number end ∷ Number left ∷ [],
+)
 words_of (say.TryWhole end) = (codes "Try: head -c % FILE, for the whole encodings.\n", Number end ∷ [])
 -- F01
 words_of say.NoOctets = (codes "The input is empty.\n", [])
@@ -77,10 +81,8 @@ words_of say.TryWriter = (codes "Try: look whether the program that should write
 -- F02
 words_of (say.EndsInHeader offset end) =
     (codes "The input ends inside the header at offset %:%.\n", Number offset ∷ Pairs offset end ∷ [])
-words_of (say.EndsInPrimitive e end) = (
-  codes "The input ends inside the %. %\nMissing there: %.\n",
-  Name e ∷ Header e ∷ Octets (element_end e - end) ∷ [],
-)
+words_of (say.EndsInPrimitive e) = (codes "The input ends inside the %. %\n", Name e ∷ Header e ∷ [])
+words_of (say.MissingThere count) = (codes "Missing there: %.\n", Octets count ∷ [])
 words_of (say.EndsBetweenZeros e) =
     (codes "The input ends between the two octets 00 that end the %.\n", Name e ∷ [])
 words_of (say.EndsInHolder e) = (codes "The input ends inside the %. %\n", Name e ∷ Header e ∷ [])
@@ -114,10 +116,11 @@ words_of (say.TryFront offset) =
     (codes "Try: head -c % FILE, for what stands in front of them.\n", Number offset ∷ [])
 words_of (say.ZeroInside e offset) = (
   codes "Inside the %, which ends at offset %, an element should begin at offset %. "
-      ++ codes "There is an octet 00, with which none begins. %\n"
-      ++ codes "Left over: %. Its length, or one in front of that offset, is wrong.\n",
-  Name e ∷ Number (element_end e) ∷ Number offset ∷ Header e ∷ Octets (element_end e - offset) ∷ [],
+      ++ codes "There is an octet 00, with which none begins. %\n",
+  Name e ∷ Number (element_end e) ∷ Number offset ∷ Header e ∷ [],
 )
+words_of (say.LeftInside left) =
+    (codes "Left over: %. Its length, or one in front of that offset, is wrong.\n", Octets left ∷ [])
 -- F04
 words_of (say.NoSecondZero e offset) = (
   codes "At offset % the octets 00 00 should end the %, but the second is%. %\n",
@@ -145,14 +148,16 @@ words_of say.TryDeeper =
     (codes "Try: tail -c +M FILE, where M is 1 and the offset of an element some levels deep.\n", [])
 -- F11
 words_of (say.HeaderPast offset holder) = (
-  codes "The header at offset % runs past the end of the %, which ends at offset %. %\nLeft over: %,%.\n",
-  Number offset ∷ Name holder ∷ Number (element_end holder) ∷ Header holder ∷ Octets (element_end holder - offset)
-      ∷ Pairs offset (element_end holder) ∷ [],
+  codes "The header at offset % runs past the end of the %, which ends at offset %. %\n",
+  Number offset ∷ Name holder ∷ Number (element_end holder) ∷ Header holder ∷ [],
 )
-words_of (say.ElementPast offset e holder) = (
-  codes "The octet at offset % completes the header of the %. %\nIt would end at offset %, but the % ends at "
-      ++ codes "offset %. Missing there: %. %\n",
-  Number offset ∷ Name e ∷ Header e ∷ Number (element_end e) ∷ Name holder ∷ Number (element_end holder)
+words_of (say.LeftInHolder offset holder) =
+    (codes "Left over: %,%.\n", Octets (element_end holder - offset) ∷ Pairs offset (element_end holder) ∷ [])
+words_of (say.CompletesHeader offset e) =
+    (codes "The octet at offset % completes the header of the %. %\n", Number offset ∷ Name e ∷ Header e ∷ [])
+words_of (say.ElementPast e holder) = (
+  codes "It would end at offset %, but the % ends at offset %. Missing there: %. %\n",
+  Number (element_end e) ∷ Name holder ∷ Number (element_end holder)
       ∷ Octets (element_end e - element_end holder) ∷ Header holder ∷ [],
 )
 words_of say.OneOfTwo =
@@ -170,6 +175,16 @@ words_of (say.OtherLength w) = (
   codes "If the header at offset % said % and not %, all would parse.\n",
   Number w.offset ∷ Octets w.would ∷ Number w.said ∷ [],
 )
+words_of (say.TwoLengths v w) = (
+  codes "If the header at offset % said % and not %, or that at offset % said % and not %, all would parse.\n",
+  Number v.offset ∷ Octets v.would ∷ Number v.said ∷ Number w.offset ∷ Octets w.would ∷ Number w.said ∷ [],
+)
+words_of (say.ThreeLengths v w x) = (
+  codes "If the header at offset % said % and not %, or that at offset % said % and not %, "
+      ++ codes "or that at offset % said % and not %, all would parse.\n",
+  Number v.offset ∷ Octets v.would ∷ Number v.said ∷ Number w.offset ∷ Octets w.would ∷ Number w.said
+      ∷ Number x.offset ∷ Octets x.would ∷ Number x.said ∷ [],
+)
 words_of (say.OneOctet (Missing offset)) = (
   codes "If one octet more stood after the header at offset %, all would parse: "
       ++ codes "an octet of its contents may be missing.\n",
@@ -179,6 +194,18 @@ words_of (say.OneOctet (PutIn offset)) = (
   codes "If one octet fewer stood after the header at offset %, all would parse: "
       ++ codes "an octet may have been put in there.\n",
   Number offset ∷ [],
+)
+words_of (say.NoneLost e) = (
+  codes "By its length the % ends with the input, at offset %: no octet was lost or put in.\n",
+  Name e ∷ Number (element_end e) ∷ [],
+)
+words_of (say.SomeLost e end) = (
+  codes "By its length the % ends at offset %, the input at offset %. Missing: %.\n",
+  Name e ∷ Number (element_end e) ∷ Number end ∷ Octets (element_end e - end) ∷ [],
+)
+words_of (say.SomePutIn e end) = (
+  codes "By its length the % ends at offset %, the input at offset %. Too many: %.\n",
+  Name e ∷ Number (element_end e) ∷ Number end ∷ Octets (end - element_end e) ∷ [],
 )
 words_of (say.TextChanged change) = (text_change_words change, [])
 words_of (say.OtherKind kind) = (file_kind_words kind, [])
@@ -213,5 +240,5 @@ unfoldable pub sentence_text : List ℕ → Sentence → List ℕ
 sentence_text octets s = filled octets (words_of s).0 (words_of s).1
 
 -- the text of sentences, one after another
-abbrev pub text_of : List ℕ → List Sentence → List ℕ
-text_of octets sentences = flat_map (sentence_text octets) sentences
+abbrev pub sentences_text : List ℕ → List Sentence → List ℕ
+sentences_text octets sentences = flat_map (sentence_text octets) sentences

@@ -9,7 +9,7 @@ use Rattle.tlv_reasons.specs.declared.facts.Facts.{Facts}
 use Rattle.tlv_reasons.specs.declared.sentence.Sentence.{Sentence}
 use Rattle.tlv_reasons.specs.declared.sentence.Sentence.TheVariants as say
 use Rattle.tlv_reasons.specs.FaultReasons.{code_reasons}
-use Rattle.tlv_reasons.specs.Leftovers.{following_reasons, is_followed_by_filler, left_over}
+use Rattle.tlv_reasons.specs.Leftovers.{following_reasons, is_followed_by_other, left_over}
 use Rattle.tlv_reasons.specs.OpenHolders.{innermost_holder}
 
 -- the first sentence about octets with this fault, if they have one
@@ -20,6 +20,14 @@ first_sentence_by (Some fault) octets = say.DoesNotParse fault
 -- the first sentence about octets with these facts: that they parse, or the message of the fault
 abbrev pub first_sentence : List ℕ → Facts → Sentence
 first_sentence octets facts = first_sentence_by facts.fault octets
+
+-- the sentences about the fault alone
+abbrev pub fault_sentences_by : Option Fault → List ℕ → Facts → List Sentence
+fault_sentences_by None octets facts = []
+fault_sentences_by (Some fault) octets facts = code_reasons fault.code fault.offset octets facts
+
+abbrev pub fault_sentences : List ℕ → Facts → List Sentence
+fault_sentences octets facts = fault_sentences_by facts.fault octets facts
 
 -- the sentences about this code already say what is left over: there is no element, or 00 outside of all elements
 abbrev pub says_rest : FaultCode → Facts → Bool
@@ -39,7 +47,7 @@ with_rest size top reasons =
 -- the sentences about this fault, and about what is left over
 abbrev pub fault_reasons : Fault → List ℕ → Facts → List Sentence
 fault_reasons fault octets facts =
-    if is_followed_by_filler octets facts.top then following_reasons octets facts.top
+    if is_followed_by_other octets facts.top then following_reasons octets facts.top
     else (if says_rest fault.code facts then code_reasons fault.code fault.offset octets facts
     else with_rest (length octets) facts.top (code_reasons fault.code fault.offset octets facts))
 

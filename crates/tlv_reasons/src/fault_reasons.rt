@@ -1,9 +1,10 @@
 //! The sentences about each fault.
-ghost use Rattle.std.specs.Prelude.{◌≡◌, ◌≤◌, length};
+ghost use Rattle.std.specs.List.{cons_option};
+ghost use Rattle.std.specs.Prelude.{◌≡◌, ◌<◌, ◌≤◌, ◌+◌, ◌++◌, [], length};
 ghost use Rattle.tlv_reasons.specs.FaultReasons.{bad_end_reasons, code_reasons, cut_place, cut_reasons, cut_try};
 ghost use Rattle.tlv_reasons.specs.FaultReasons.{deep_reasons, empty_reasons, ends_with_input, header_reasons};
-ghost use Rattle.tlv_reasons.specs.FaultReasons.{length_reasons, look_try, missing_end_reasons, not_ended, outer_end};
-ghost use Rattle.tlv_reasons.specs.FaultReasons.{past_place, past_reasons, said, stray_reasons, suspect, zero_count};
+ghost use Rattle.tlv_reasons.specs.FaultReasons.{lacking, length_reasons, look_try, missing_end_reasons, not_ended, outer_end};
+ghost use Rattle.tlv_reasons.specs.FaultReasons.{past_places, past_reasons, said, stray_reasons, suspect, zero_count};
 ghost use Rattle.tlv_reasons.specs.FaultReasons.{zeros_reasons};
 
 use crate::facts_call::octets_from;
@@ -21,7 +22,7 @@ pub type Reasons = ArrayVec<Sentence, 16>;
 /// The sentences about a fault of octets with these facts.
 pub(crate) fn code_reasons(fault: Fault, octets: &[u8], facts: &Facts) -> Reasons
     ensures reasons { result.items ≡ code_reasons fault.code fault.offset octets.now facts.now }
-    ensures few { length result.items ≤ 5 }
+    ensures few { length result.items ≤ 6 }
 {
     let (offset, inner) = (fault.offset, innermost_holder(facts));
     match fault.code {
@@ -53,17 +54,26 @@ pub(crate) fn code_reasons(fault: Fault, octets: &[u8], facts: &Facts) -> Reason
 
 /// Those of these sentences that are said.
 pub(crate) fn said(sentences: &[Option<Sentence>]) -> Reasons
-    requires { length sentences.now ≤ 5 }
+    requires { length sentences.now ≤ 6 }
     ensures said { result.items ≡ said sentences.now }
     ensures few { length result.items ≤ length sentences.now }
 {
     let mut reasons = Reasons::new();
     for sentence in sentences {
-        if let Some(sentence) = sentence {
-            reasons.push(*sentence);
-        }
+        add(*sentence, &mut reasons);
     }
     reasons
+}
+
+/// Adds a sentence, if it is said, to a list that has room for it.
+fn add(sentence: Option<Sentence>, reasons: &mut Reasons)
+    requires { length reasons.old.items < 16 }
+    ensures added { reasons.new.items ≡ reasons.old.items ++ cons_option sentence [] }
+    ensures few { length reasons.new.items ≤ length reasons.old.items + 1 }
+{
+    if let Some(sentence) = sentence {
+        reasons.push(sentence);
+    }
 }
 
 /// That the length of this element may be wrong, if there is one and its length is definite.
@@ -92,12 +102,13 @@ fn empty_reasons(size: u64) -> Reasons
 /// The sentences about an input of this size that ends inside an encoding.
 fn cut_reasons(size: u64, facts: &Facts) -> Reasons
     ensures reasons { result.items ≡ cut_reasons size facts.now }
-    ensures few { length result.items ≤ 5 }
+    ensures few { length result.items ≤ 6 }
 {
     let holders = facts.holders.as_slice();
     let outer = outermost_definite(holders);
     said(&[
         cut_place(facts.next, size, innermost_holder(facts), facts.unfinished),
+        lacking(size, facts.unfinished),
         outer_end(size, outer),
         not_ended(indefinite_count(holders)),
         Some(cut_try(size, outer)),
@@ -116,9 +127,22 @@ fn cut_place(
 {
     match unfinished {
         Unfinished::Header => Some(Sentence::EndsInHeader { offset: next, end }),
-        Unfinished::Primitive(element) => Some(Sentence::EndsInPrimitive { element, end }),
+        Unfinished::Primitive(element) => Some(Sentence::EndsInPrimitive(element)),
         Unfinished::EndOctets => Some(Sentence::EndsBetweenZeros(inner?)),
         Unfinished::Nothing => Some(Sentence::EndsInHolder(inner?)),
+    }
+}
+
+/// How many octets a primitive lacks in an input that ends at this offset.
+fn lacking(end: u64, unfinished: Unfinished) -> Option<Sentence>
+    ensures { result ≡ lacking end unfinished }
+{
+    match unfinished {
+        Unfinished::Primitive(element) => {
+            let missing = element_end(&element).saturating_sub(end);
+            Some(Sentence::MissingThere(missing))
+        }
+        _ => None,
     }
 }
 
@@ -220,12 +244,17 @@ fn stray_reasons(
     before: Option<Element>,
 ) -> Reasons
     ensures reasons { result.items ≡ stray_reasons octets.now offset inner before }
-    ensures few { length result.items ≤ 3 }
+    ensures few { length result.items ≤ 4 }
 {
-    match inner {
-        Some(element) => length_reasons(Sentence::ZeroInside { element, offset }, before),
-        None => zeros_reasons(octets, offset),
-    }
+    let Some(element) = inner else {
+        return zeros_reasons(octets, offset);
+    };
+    let left = element_end(&element).saturating_sub(offset);
+    let others = length_reasons(Sentence::LeftInside(left), before);
+    joined(
+        &[Sentence::ZeroInside { element, offset }],
+        others.as_slice(),
+    )
 }
 
 /// The sentences about an octet that is not `00` in place of the second `00` that should end this element.
@@ -292,36 +321,48 @@ fn header_reasons(code: FaultCode, refused: u64, facts: &Facts) -> Reasons
 
 /// What runs past the end of the holder: the element that begins at the offset `next`, if its whole header is there and
 /// ends in the holder; else the header.
-fn past_place(offset: u64, next: u64, holder: Element, there: Option<Element>) -> Sentence
-    ensures { result ≡ past_place offset next holder there }
+fn past_places(offset: u64, next: u64, holder: Element, there: Option<Element>) -> Reasons
+    ensures reasons { result.items ≡ past_places offset next holder there }
+    ensures few { length result.items ≤ 2 }
 {
     match there {
-        Some(element) if element.contents <= element_end(&holder) => {
-            Sentence::ElementPast {
-                offset,
-                element,
+        Some(element) if element.contents <= element_end(&holder) => said(&[
+            Some(Sentence::CompletesHeader { offset, element }),
+            Some(Sentence::ElementPast { element, holder }),
+        ]),
+        _ => said(&[
+            Some(Sentence::HeaderPast {
+                offset: next,
                 holder,
-            }
-        }
-        _ => Sentence::HeaderPast {
-            offset: next,
-            holder,
-        },
+            }),
+            Some(Sentence::LeftInHolder {
+                offset: next,
+                holder,
+            }),
+        ]),
     }
 }
 
 /// The sentences about an element that runs past the end of this holder.
 fn past_reasons(offset: u64, facts: &Facts, holder: Option<Element>) -> Reasons
     ensures reasons { result.items ≡ past_reasons offset facts.now holder }
-    ensures few { length result.items ≤ 4 }
+    ensures few { length result.items ≤ 5 }
 {
     let Some(holder) = holder else {
         return Reasons::new();
     };
-    said(&[
-        Some(past_place(offset, facts.next, holder, facts.there)),
-        Some(Sentence::OneOfTwo),
-        Some(Sentence::TryAnew),
-        suspect(facts.before),
-    ])
+    let places = past_places(offset, facts.next, holder, facts.there);
+    let others = length_reasons(Sentence::OneOfTwo, facts.before);
+    joined(places.as_slice(), others.as_slice())
+}
+
+/// These sentences, and then those.
+pub(crate) fn joined(first: &[Sentence], second: &[Sentence]) -> Reasons
+    requires { length first.now + length second.now ≤ 16 }
+    ensures { result.items ≡ first.now ++ second.now }
+{
+    let mut all = Reasons::new();
+    let _ = all.try_extend_from_slice(first);
+    let _ = all.try_extend_from_slice(second);
+    all
 }

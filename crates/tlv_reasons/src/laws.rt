@@ -2,12 +2,12 @@
 ghost use Rattle.tlv_reasons.specs.Laws.{InputsHaveOneNextRecord, InputsHaveOneOctetChange, InputsHaveOneWrongLength};
 ghost use Rattle.tlv_reasons.specs.Laws.{OtherLengthsMakeHeaders, SentencesAreShown};
 
-/// An input and candidates determine the wrong length, or that there is none.
+/// An input, its open elements and candidates determine the other lengths that are named.
 pub fn inputs_have_one_wrong_length()
     ensures { InputsHaveOneWrongLength }
 {}
 
-/// With the wrong length they also determine the octet that is missing or was put in, or that there is none.
+/// With the first of these they also determine the octet that is missing or was put in, or that there is none.
 pub fn inputs_have_one_octet_change()
     ensures { InputsHaveOneOctetChange }
 {}

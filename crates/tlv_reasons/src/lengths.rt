@@ -1,14 +1,14 @@
-//! Which single length, changed a little, would make an input sound.
-ghost use Rattle.std.specs.Prelude.{◌≡◌, ◌<◌, ◌≤◌, ◌+◌, ◌-◌, ◌^◌, All, IfOk, List, MatchOption, drop, false};
-ghost use Rattle.std.specs.Prelude.{length, ◌∷◌, ℕ};
-ghost use Rattle.tlv_head.specs.Header.{HeaderValue};
-ghost use Rattle.tlv_head.specs.Refusal.{BeginsWith};
+//! Which single length, changed, would make an input sound.
+ghost use Rattle.std.specs.Prelude.{◌≡◌, ◌<◌, ◌≤◌, ◌+◌, ◌++◌, ◌-◌, ◌^◌, All, IfOk, MatchOption, [], length};
+ghost use Rattle.std.specs.List.{cons_option};
 ghost use Rattle.tlv_reasons.specs.FirstOf.{IsFirstOf};
 ghost use Rattle.tlv_reasons.specs.Private.Lengths.{SoundWithOctets, sayable};
-ghost use Rattle.tlv_reasons.specs.WrongLength.{IsFirstWrongLength, IsWrongLength, WouldBeSound, lengths_within};
-ghost use Rattle.tlv_reasons.specs.WrongLength.{other_lengths, search_limit};
+ghost use Rattle.tlv_reasons.specs.WrongLength.{AreWrongLengths, HasNoOtherLength, IsOtherLength, NamesLengths};
+ghost use Rattle.tlv_reasons.specs.WrongLength.{most_named, nearer_reach, reach_in, reach_of, search_limit};
 
+use crate::Element;
 use crate::length_octets::{LengthPlace, can_say, is_sound_with};
+use crate::tried_lengths::tried_lengths;
 use arrayvec::ArrayVec;
 use std::alloc::{AllocError, Global};
 use tlv_head::{Size, read_header};
@@ -17,7 +17,13 @@ use tlv_walk::Framing;
 /// The greatest number of octets of an input that is searched.
 pub const SEARCH_LIMIT: usize = 1 << 20;
 
-/// A header whose length is wrong: with another length, the input would be sound.
+/// The greatest number of octets of an input of which further lengths are tried.
+pub(crate) const WIDE_LIMIT: usize = 1 << 18;
+
+/// Headers whose length may be wrong.
+pub type WrongLengths = ArrayVec<WrongLength, 3>;
+
+/// A header whose length may be wrong: with another length, the input would be sound.
 #[derive(Clone, Copy, PartialEq, Eq, Debug)]
 pub struct WrongLength {
     /// Where the header begins, in octets from the start of the input.
@@ -28,48 +34,88 @@ pub struct WrongLength {
     pub would: u64,
 }
 
-/// Finds which of the headers at these offsets, in octets from the start of the input, has a wrong length: the first
-/// for which another length, at most 5 octets more or fewer, would make the input sound. Tries nearer lengths first,
-/// and of two that are equally near the greater first. The other length takes as many length octets as before. `None`
-/// if there is no such header, or if the input has more than [`SEARCH_LIMIT`] octets. `framing` says how the input is
-/// read: which strings hold encodings, and whether octets `00` are allowed at the top level.
+/// Only for filling arrays.
+impl Default for WrongLength {
+    fn default() -> WrongLength {
+        WrongLength {
+            offset: 0,
+            said: 0,
+            would: 0,
+        }
+    }
+}
+
+/// Finds which of the headers at these offsets, in octets from the start of the input, may have a wrong length: the first
+/// three for which another length would make the input sound, each with the first such length. These lengths are tried:
+/// 1 to 5 octets more or fewer, nearer ones first, and of two that are equally near the greater first; those that differ
+/// in one bit; the octets of the length in reverse order; 256 octets more or fewer; and, if the element is constructed, the
+/// length with which it ends where the innermost of the open elements (`holders`) in front of it ends, or with the input.
+/// The other length takes as many length octets as before. Of an input of more than 262144 octets only those at most 5
+/// octets away are tried, and one header is named; if it has more than [`SEARCH_LIMIT`] octets, there is none. `framing`
+/// says how the input is read: which strings hold encodings, and whether octets `00` are allowed at the top level.
 ///
 /// # Errors
 ///
 /// `AllocError` if memory for a copy of the input is refused.
-pub fn wrong_length(
+pub fn wrong_lengths(
     alloc: Global,
     octets: &[u8],
     framing: &Framing<'_>,
+    holders: &[Element],
     candidates: &[usize],
-) -> Result<Option<WrongLength>, AllocError>
-    ensures { IfOk result (λ found. IsWrongLength framing.now octets.now candidates.now found) }
+) -> Result<WrongLengths, AllocError>
+    ensures { IfOk result
+        (λ found. NamesLengths framing.now octets.now holders.now candidates.now found.items) }
 {
     if octets.len() > SEARCH_LIMIT {
-        return Ok(None);
+        return Ok(WrongLengths::new());
     }
     let mut copy = Vec::new(alloc);
     copy.extend_from_slice(octets)?;
-    Ok(first_wrong_length(octets, copy.as_mut_slice(), framing, candidates))
+    Ok(lengths_among(octets, copy.as_mut_slice(), framing, holders, candidates))
 }
 
-/// [`wrong_length`] of an input that is searched. Changes a copy of the input, and restores it in the end.
-fn first_wrong_length(
+/// [`wrong_lengths`] of an input that is searched. Changes a copy of the input, and restores it in the end.
+fn lengths_among(
     octets: &[u8],
     copy: &mut [u8],
     framing: &Framing<'_>,
+    holders: &[Element],
     candidates: &[usize],
-) -> Option<WrongLength>
+) -> WrongLengths
     requires copied { copy.old ≡ octets.now }
     requires limit { length octets.now ≤ search_limit }
-    ensures { IsFirstWrongLength framing.now octets.now candidates.now result }
+    ensures { AreWrongLengths framing.now octets.now holders.now (most_named (length octets.now)) candidates.now
+        result.items }
 {
+    let most = most_named(octets.len());
+    let mut found = WrongLengths::new();
     for &candidate in candidates {
-        if let Some(found) = wrong_length_at(octets, copy, framing, candidate) {
-            return Some(found);
+        if found.len() >= most {
+            return found;
         }
+        let wrong = wrong_length_at(octets, copy, framing, holders, candidate);
+        add_length(wrong, &mut found);
     }
-    None
+    found
+}
+
+/// The most headers that are named.
+fn most_named(size: usize) -> usize
+    ensures most { result ≡ most_named size }
+    ensures few { result ≤ 3 }
+{
+    if size <= WIDE_LIMIT { 3 } else { 1 }
+}
+
+/// Adds a length, if there is one, to a list that has room for it.
+fn add_length(wrong: Option<WrongLength>, found: &mut WrongLengths)
+    requires { length found.old.items < 3 }
+    ensures { found.new.items ≡ found.old.items ++ cons_option wrong [] }
+{
+    if let Some(wrong) = wrong {
+        found.push(wrong);
+    }
 }
 
 /// The length that the header at this offset states, and the length with which the input would be sound.
@@ -77,15 +123,14 @@ fn wrong_length_at(
     octets: &[u8],
     copy: &mut [u8],
     framing: &Framing<'_>,
+    holders: &[Element],
     offset: usize,
 ) -> Option<WrongLength>
     requires copied { copy.old ≡ octets.now }
     requires limit { length octets.now ≤ search_limit }
     ensures copied { copy.new ≡ octets.now }
-    ensures found { (more : List ℕ) → MatchOption result
-        ((h : HeaderValue) → BeginsWith (drop offset octets.now) offset false h
-        → IsFirstOf (WouldBeSound framing.now octets.now h) (other_lengths h) None)
-        (λ w. IsFirstWrongLength framing.now octets.now (offset ∷ more) (Some w)) }
+    ensures found { MatchOption result (HasNoOtherLength framing.now octets.now holders.now offset)
+        (λ w. IsOtherLength framing.now octets.now holders.now offset w) }
 {
     if offset > octets.len() {
         return None;
@@ -98,7 +143,8 @@ fn wrong_length_at(
         start: offset + usize::from(fields.id_len),
         end: offset + count,
     };
-    let lengths = near_lengths(said);
+    let reach = reach_in(holders, offset, octets.len());
+    let lengths = tried_lengths(place, fields.constructed, octets.len(), reach, said);
     match first_right_length(octets, copy, framing, place, lengths.as_slice()) {
         Some(would) => Some(WrongLength {
             offset,
@@ -109,20 +155,27 @@ fn wrong_length_at(
     }
 }
 
-/// The lengths at distances from 1 to 5 from this one: nearer ones first, and of two that are equally near the greater.
-fn near_lengths(said: u64) -> ArrayVec<u64, 10>
-    requires { said < 2 ^ 40 }
-    ensures lengths { result.items ≡ lengths_within said 5 }
-    ensures below { All (λ n. n < 2 ^ 41) result.items }
+/// Where an element at this offset should end: where the innermost of the open elements of definite length that begins in
+/// front of it ends; or with the input, which has this size, behind whose end nothing ends.
+fn reach_in(holders: &[Element], offset: usize, size: usize) -> usize
+    ensures { result ≡ reach_in holders.now offset size }
 {
-    let mut lengths = ArrayVec::new();
-    for by in 0..5 {
-        lengths.push(said + (by + 1));
-        if by < said {
-            lengths.push(said - (by + 1));
-        }
+    let mut reach = size as u64;
+    for holder in holders {
+        reach = nearer_reach(holder, offset as u64, reach);
     }
-    lengths
+    reach.min(size as u64) as usize
+}
+
+/// Where this open element ends, if it begins in front of the offset and has a definite length; else `reach`.
+fn nearer_reach(holder: &Element, offset: u64, reach: u64) -> u64
+    ensures { result ≡ nearer_reach holder.now offset reach }
+{
+    if holder.offset < offset {
+        holder.end.unwrap_or(reach)
+    } else {
+        reach
+    }
 }
 
 /// The first of these lengths that the length octets there can state and that makes the input sound.

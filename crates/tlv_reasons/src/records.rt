@@ -21,15 +21,12 @@ const RECORD_TRIES: usize = 1024;
 /// The number of all offsets that are tried: three near the end of the damaged element, and those.
 const ALL_TRIES: usize = 1027;
 
-/// The number of octets that the tries may read in vain for each octet of the input.
-const READS_FOR_EACH: u64 = 16;
-
 /// The offset at which the next record begins, in octets from the start of the input, if one of several records is
 /// damaged. A constructed element begins there, and from there on the input is sound. The octet there is that at the
 /// start of the damaged record, or of the input. The damaged record begins at `top`, after whole elements. Its end is
 /// tried first, and the offsets one octet before and after that; then the first 1024 offsets after `top` with such an
-/// octet. A try reads up to the fault of what stands there. Once the tries have read 16 octets for each octet of the
-/// input, no other is made. `None` if there is no such offset, if no whole element stands in front, if the input ends
+/// octet. A try reads up to the fault of what stands there. Once the tries have read `reads` octets, no other is
+/// made. `None` if there is no such offset, if no whole element stands in front, if the input ends
 /// near the end of the damaged record, if another length is named for that record (`wrong`), if another start was found
 /// (`start`), or if the input has more than [`SEARCH_LIMIT`] octets. With `padding`, octets `00` are allowed between
 /// encodings and after them.
@@ -39,13 +36,14 @@ pub fn next_record(
     top: usize,
     wrong: Option<WrongLength>,
     start: Option<usize>,
+    reads: u64,
 ) -> Option<usize>
-    ensures record { IsNextRecord padding octets.now top wrong start result }
+    ensures record { IsNextRecord reads padding octets.now top wrong start result }
     ensures within { IfSome result (λ n. n ≤ length octets.now) }
 {
     match start {
         Some(_) => None,
-        None => record_without_start(octets, padding, top, wrong),
+        None => record_without_start(octets, padding, top, wrong, reads),
     }
 }
 
@@ -55,8 +53,9 @@ fn record_without_start(
     padding: bool,
     top: usize,
     wrong: Option<WrongLength>,
+    reads: u64,
 ) -> Option<usize>
-    ensures record { IsNextRecord padding octets.now top wrong None result }
+    ensures record { IsNextRecord reads padding octets.now top wrong None result }
     ensures within { IfSome result (λ n. n ≤ length octets.now) }
 {
     if top == 0 {
@@ -68,7 +67,7 @@ fn record_without_start(
     if is_length_of(top, wrong) {
         return None;
     }
-    record_after(octets, padding, top)
+    record_after(octets, padding, top, reads)
 }
 
 /// Whether another length is named for the element at this offset.
@@ -82,18 +81,13 @@ fn is_length_of(offset: usize, wrong: Option<WrongLength>) -> bool
 }
 
 /// Where the record after the damaged element at this offset begins.
-fn record_after(octets: &[u8], padding: bool, offset: usize) -> Option<usize>
+fn record_after(octets: &[u8], padding: bool, offset: usize, reads: u64) -> Option<usize>
     requires { length octets.now ≤ search_limit }
-    ensures record { IsRecordAfter padding octets.now offset result }
+    ensures record { IsRecordAfter reads padding octets.now offset result }
     ensures within { IfSome result (λ n. n ≤ length octets.now) }
 {
     let offsets = tried_offsets(octets, offset);
-    first_within(
-        octets,
-        padding,
-        offsets.as_slice(),
-        READS_FOR_EACH * octets.len() as u64,
-    )
+    first_within(octets, padding, offsets.as_slice(), reads)
 }
 
 /// The first of these offsets at which a constructed element begins, and from which on the input is sound, if the tries

@@ -4,7 +4,7 @@ use crate::{Element, FileKind, OctetChange, TextChange, Unfinished, WrongLength}
 use tlv_head::{Fault, FaultCode};
 use tlv_open::BrokenString;
 
-/// A sentence, or the two or three of a line, about an input. Its words are those of the contract of
+/// A line about an input. Its words are those of the contract of
 /// [`write_sentences`](crate::write_sentences). Offsets are in octets from the start of the input.
 #[derive(Clone, Copy)]
 pub enum Sentence {
@@ -29,6 +29,11 @@ pub enum Sentence {
         end: u64,
         left: u64,
     },
+    /// So many octets of printable text follow where whole encodings end.
+    TextFollows {
+        end: u64,
+        left: u64,
+    },
     /// How to have the whole encodings alone, which end there.
     TryWhole(u64),
     /// It has no octets.
@@ -42,11 +47,10 @@ pub enum Sentence {
         offset: u64,
         end: u64,
     },
-    /// It ends, at `end`, in the contents of a primitive.
-    EndsInPrimitive {
-        element: Element,
-        end: u64,
-    },
+    /// It ends in the contents of a primitive.
+    EndsInPrimitive(Element),
+    /// So many octets are missing there.
+    MissingThere(u64),
     /// It ends after the first of the two octets `00` that end this element.
     EndsBetweenZeros(Element),
     /// It ends in an element that holds others.
@@ -81,6 +85,8 @@ pub enum Sentence {
         element: Element,
         offset: u64,
     },
+    /// So many octets of that element are left over.
+    LeftInside(u64),
     /// The octet there is not the second `00` that should end this element.
     NoSecondZero {
         element: Element,
@@ -111,9 +117,18 @@ pub enum Sentence {
         offset: u64,
         holder: Element,
     },
-    /// The octet there completes the header of an element that runs past the end of its holder.
-    ElementPast {
+    /// The octets from there up to the end of the holder are left over.
+    LeftInHolder {
         offset: u64,
+        holder: Element,
+    },
+    /// The octet there completes the header of this element.
+    CompletesHeader {
+        offset: u64,
+        element: Element,
+    },
+    /// The element runs past the end of its holder.
+    ElementPast {
         element: Element,
         holder: Element,
     },
@@ -125,8 +140,24 @@ pub enum Sentence {
     LengthInFront(Element),
     /// With another length all would parse.
     OtherLength(WrongLength),
+    /// With one of two other lengths all would parse.
+    TwoLengths(WrongLength, WrongLength),
+    /// With one of three other lengths all would parse.
+    ThreeLengths(WrongLength, WrongLength, WrongLength),
     /// With an octet more or fewer all would parse.
     OneOctet(OctetChange),
+    /// The outermost open element ends with the input.
+    NoneLost(Element),
+    /// The outermost open element ends behind the input, which ends at `end`.
+    SomeLost {
+        element: Element,
+        end: u64,
+    },
+    /// The outermost open element ends in front of the end of the input, which is at `end`.
+    SomePutIn {
+        element: Element,
+        end: u64,
+    },
     /// What was done to it as if it were a text.
     TextChanged(TextChange),
     /// It is a file of another kind.

@@ -1,12 +1,11 @@
 //! Where else encodings begin in an input.
 ghost use Rattle.std.specs.Option.{option_map_or};
-ghost use Rattle.std.specs.Prelude.{◌≡◌, ◌≤◌, ◌+◌, ◌↔◌, IfSome, IsTrue, Some, false, length, min, take, ℕ};
-ghost use Rattle.std.specs.Str.TwoWay.{IsFirst};
+ghost use Rattle.std.specs.Prelude.{◌≡◌, ◌<◌, ◌≤◌, ◌+◌, ◌↔◌, IfSome, IsTrue, Some, false, length, take, ℕ};
 ghost use Rattle.tlv_head.specs.declared.fault.FaultCode.TheVariants.{StrayEnd};
 ghost use Rattle.tlv_head.specs.declared.header.Size.TheVariants.{Definite, Indefinite};
 ghost use Rattle.tlv_head.specs.Header.{definite_length};
 ghost use Rattle.tlv_head.specs.Limits.{input_limit};
-ghost use Rattle.tlv_reasons.specs.NextStart.{BeginsWithEncodings, IsNextStart, IsStart, SeemsRight};
+ghost use Rattle.tlv_reasons.specs.NextStart.{BeginsWithEncodings, IsFirstStart, IsNextStart, IsOtherStart, IsStart, SeemsRight};
 ghost use Rattle.tlv_open.specs.Opens.{closed_framing};
 ghost use Rattle.tlv_walk.specs.Ending.{IsEnding, fault_ending};
 ghost use Rattle.tlv_walk.specs.Reading.{IsSoundList};
@@ -17,35 +16,43 @@ use tlv_open::ending_of;
 use tlv_walk::Ending;
 
 /// The greatest offset at which encodings are looked for, in octets from the start of the input.
-const START_LIMIT: usize = 64;
+const START_LIMIT: usize = 256;
 
-/// The offset from which the input is sound, in octets from its start: the first offset from 1 to 64 where this holds
-/// and a constructed element begins. `None` if there is no such offset, or if the first element of the input seems
-/// right: it ends with the input, or it is constructed and its contents begin with whole encodings. With `padding`,
-/// octets `00` are allowed between encodings and after them.
-pub fn next_start(octets: &[u8], padding: bool) -> Option<usize>
+/// The offset from which an input with a fault at the offset `fault` is sound, in octets from its start: the first from 1
+/// to 256 at which a constructed element begins whose first octet is no space (`20`), with at least 10 octets from there
+/// on. If the first element of the input seems right, the offset lies behind the fault: that element ends with the input,
+/// or it is constructed and its contents begin with whole encodings. With `padding`, octets `00` are allowed between
+/// encodings and after them.
+pub fn next_start(octets: &[u8], padding: bool, fault: usize) -> Option<usize>
     requires { length octets.now ≤ input_limit }
-    ensures { IsNextStart padding octets.now result }
+    ensures { IsNextStart padding octets.now fault result }
 {
-    if seems_right(octets) {
-        None
-    } else {
-        first_start(octets, padding)
-    }
+    let first = if seems_right(octets) { fault.saturating_add(1) } else { 1 };
+    first_start(octets, padding, first)
 }
 
-/// The first offset from 1 to 64 from which the input is sound, and where a constructed element begins.
-fn first_start(octets: &[u8], padding: bool) -> Option<usize>
+/// The first such offset, from this one on.
+fn first_start(octets: &[u8], padding: bool, first: usize) -> Option<usize>
     requires { length octets.now ≤ input_limit }
-    ensures { IsFirst (IsStart padding octets.now) 1 (min 65 (length octets.now)) result }
+    ensures { IsFirstStart padding octets.now first result }
 {
     let end = octets.len().min(START_LIMIT + 1);
-    for offset in 1..end {
-        if is_start(octets, offset, padding) {
+    for offset in first..end {
+        if is_other_start(octets, offset, padding) {
             return Some(offset);
         }
     }
     None
+}
+
+/// Whether the input is sound from this offset on, a constructed element begins there, its first octet is no space, and
+/// at least 10 octets are there.
+fn is_other_start(octets: &[u8], offset: usize, padding: bool) -> bool
+    requires limit { length octets.now ≤ input_limit }
+    requires within { offset < length octets.now }
+    ensures { IsTrue result ↔ IsOtherStart padding octets.now offset }
+{
+    octets.len() - offset >= 10 && octets[offset] != b' ' && is_start(octets, offset, padding)
 }
 
 /// Whether the input is sound from this offset on, and a constructed element begins there.

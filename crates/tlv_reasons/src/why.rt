@@ -1,10 +1,10 @@
 //! Why octets do not parse.
 ghost use Rattle.std.specs.Prelude.{◌≡◌, ◌≤◌, ◌+◌, ◌++◌, length};
-ghost use Rattle.tlv_reasons.specs.Why.{fault_reasons, first_sentence, is_mostly_whole, reasons_of, says_rest, with_rest};
+ghost use Rattle.tlv_reasons.specs.Why.{fault_reasons, fault_sentences, first_sentence, is_mostly_whole, reasons_of, says_rest, with_rest};
 
-use crate::fault_reasons::{Reasons, code_reasons};
+use crate::fault_reasons::{Reasons, code_reasons, joined};
 use crate::holders::innermost_holder;
-use crate::leftovers::{following_reasons, is_followed_by_filler, left_over};
+use crate::leftovers::{following_reasons, is_followed_by_other, left_over};
 use crate::{Facts, Sentence};
 use tlv_head::{Fault, FaultCode};
 
@@ -23,7 +23,7 @@ pub fn first_sentence(octets: &[u8], facts: &Facts) -> Sentence
 /// what to try. There are none if the octets parse.
 pub fn reasons_of(octets: &[u8], facts: &Facts) -> Reasons
     ensures reasons { result.items ≡ reasons_of octets.now facts.now }
-    ensures few { length result.items ≤ 7 }
+    ensures few { length result.items ≤ 8 }
 {
     match facts.fault {
         None => Reasons::new(),
@@ -31,12 +31,23 @@ pub fn reasons_of(octets: &[u8], facts: &Facts) -> Reasons
     }
 }
 
+/// The sentences about the fault alone. There are none if the octets parse.
+pub(crate) fn fault_sentences(octets: &[u8], facts: &Facts) -> Reasons
+    ensures reasons { result.items ≡ fault_sentences octets.now facts.now }
+    ensures few { length result.items ≤ 6 }
+{
+    match facts.fault {
+        None => Reasons::new(),
+        Some(fault) => code_reasons(fault, octets, facts),
+    }
+}
+
 /// The sentences about this fault, and about what is left over.
 fn fault_reasons(fault: Fault, octets: &[u8], facts: &Facts) -> Reasons
     ensures reasons { result.items ≡ fault_reasons fault octets.now facts.now }
-    ensures few { length result.items ≤ 7 }
+    ensures few { length result.items ≤ 8 }
 {
-    if is_followed_by_filler(octets, facts.top) {
+    if is_followed_by_other(octets, facts.top) {
         return following_reasons(octets, facts.top);
     }
     let reasons = code_reasons(fault, octets, facts);
@@ -48,9 +59,9 @@ fn fault_reasons(fault: Fault, octets: &[u8], facts: &Facts) -> Reasons
 
 /// These sentences, with what is left over before them or after them.
 fn with_rest(size: u64, top: u64, reasons: &[Sentence]) -> Reasons
-    requires { length reasons.now ≤ 5 }
+    requires { length reasons.now ≤ 6 }
     ensures reasons { result.items ≡ with_rest size top reasons.now }
-    ensures few { length result.items ≤ 7 }
+    ensures few { length result.items ≤ 8 }
 {
     let rest = left_over(top, size.saturating_sub(top));
     if is_mostly_whole(size, top) {
@@ -58,17 +69,6 @@ fn with_rest(size: u64, top: u64, reasons: &[Sentence]) -> Reasons
     } else {
         joined(reasons, rest.as_slice())
     }
-}
-
-/// These sentences, and then those.
-pub(crate) fn joined(first: &[Sentence], second: &[Sentence]) -> Reasons
-    requires { length first.now + length second.now ≤ 16 }
-    ensures { result.items ≡ first.now ++ second.now }
-{
-    let mut all = Reasons::new();
-    let _ = all.try_extend_from_slice(first);
-    let _ = all.try_extend_from_slice(second);
-    all
 }
 
 /// Whether the sentences about this fault code already say what is left over.

@@ -14,12 +14,12 @@ pub(crate) struct Words {
     /// The words, with `%` for each value.
     pub(crate) text: &'static [u8],
     /// The values.
-    pub(crate) values: ArrayVec<Value, 8>,
+    pub(crate) values: ArrayVec<Value, 9>,
 }
 
 /// These words, with these values.
 fn say(text: &'static [u8], values: &[Value]) -> Words
-    requires { length values.now ≤ 8 }
+    requires { length values.now ≤ 9 }
     ensures text { result.text.now ≡ text.now }
     ensures values { result.values.items ≡ values.now }
 {
@@ -63,6 +63,10 @@ pub(crate) fn words_of(sentence: &Sentence) -> Words
                 Value::Number(left),
             ],
         ),
+        Sentence::TextFollows { end, left } => say(
+            b"Whole encodings end at offset %. The octets after them are printable text: %.\n",
+            &[Value::Number(end), Value::Number(left)],
+        ),
         Sentence::TryWhole(end) => say(
             b"Try: head -c % FILE, for the whole encodings.\n",
             &[Value::Number(end)],
@@ -80,21 +84,14 @@ pub(crate) fn words_of(sentence: &Sentence) -> Words
             b"The input ends inside the header at offset %:%.\n",
             &[Value::Number(offset), Value::Pairs(offset, end)],
         ),
-        Sentence::EndsInPrimitive { element, end } => say(
-            b"The input ends inside the %. %\nMissing there: %.\n",
-            &[
-                Value::Name(element),
-                Value::Header(element),
-                Value::Octets(element_end(&element).saturating_sub(end)),
-            ],
+        Sentence::EndsInPrimitive(element) | Sentence::EndsInHolder(element) => say(
+            b"The input ends inside the %. %\n",
+            &[Value::Name(element), Value::Header(element)],
         ),
+        Sentence::MissingThere(count) => say(b"Missing there: %.\n", &[Value::Octets(count)]),
         Sentence::EndsBetweenZeros(element) => say(
             b"The input ends between the two octets 00 that end the %.\n",
             &[Value::Name(element)],
-        ),
-        Sentence::EndsInHolder(element) => say(
-            b"The input ends inside the %. %\n",
-            &[Value::Name(element), Value::Header(element)],
         ),
         Sentence::EndsWithInput(element) => say(
             b"The % ends with the input, at offset %: its length leaves no room for what is missing.\n",
@@ -144,15 +141,17 @@ pub(crate) fn words_of(sentence: &Sentence) -> Words
         ),
         Sentence::ZeroInside { element, offset } => say(
             b"Inside the %, which ends at offset %, an element should begin at offset %. \
-              There is an octet 00, with which none begins. %\n\
-              Left over: %. Its length, or one in front of that offset, is wrong.\n",
+              There is an octet 00, with which none begins. %\n",
             &[
                 Value::Name(element),
                 Value::Number(element_end(&element)),
                 Value::Number(offset),
                 Value::Header(element),
-                Value::Octets(element_end(&element).saturating_sub(offset)),
             ],
+        ),
+        Sentence::LeftInside(left) => say(
+            b"Left over: %. Its length, or one in front of that offset, is wrong.\n",
+            &[Value::Octets(left)],
         ),
         Sentence::NoSecondZero { element, offset } => say(
             b"At offset % the octets 00 00 should end the %, but the second is%. %\n",
@@ -207,27 +206,32 @@ pub(crate) fn words_of(sentence: &Sentence) -> Words
             &[],
         ),
         Sentence::HeaderPast { offset, holder } => say(
-            b"The header at offset % runs past the end of the %, which ends at offset %. %\nLeft over: %,%.\n",
+            b"The header at offset % runs past the end of the %, which ends at offset %. %\n",
             &[
                 Value::Number(offset),
                 Value::Name(holder),
                 Value::Number(element_end(&holder)),
                 Value::Header(holder),
+            ],
+        ),
+        Sentence::LeftInHolder { offset, holder } => say(
+            b"Left over: %,%.\n",
+            &[
                 Value::Octets(element_end(&holder).saturating_sub(offset)),
                 Value::Pairs(offset, element_end(&holder)),
             ],
         ),
-        Sentence::ElementPast {
-            offset,
-            element,
-            holder,
-        } => say(
-            b"The octet at offset % completes the header of the %. %\nIt would end at offset %, but the % ends at \
-              offset %. Missing there: %. %\n",
+        Sentence::CompletesHeader { offset, element } => say(
+            b"The octet at offset % completes the header of the %. %\n",
             &[
                 Value::Number(offset),
                 Value::Name(element),
                 Value::Header(element),
+            ],
+        ),
+        Sentence::ElementPast { element, holder } => say(
+            b"It would end at offset %, but the % ends at offset %. Missing there: %. %\n",
+            &[
                 Value::Number(element_end(&element)),
                 Value::Name(holder),
                 Value::Number(element_end(&holder)),
@@ -256,6 +260,32 @@ pub(crate) fn words_of(sentence: &Sentence) -> Words
                 Value::Number(wrong.said),
             ],
         ),
+        Sentence::TwoLengths(first, second) => say(
+            b"If the header at offset % said % and not %, or that at offset % said % and not %, all would parse.\n",
+            &[
+                Value::Number(first.offset as u64),
+                Value::Octets(first.would),
+                Value::Number(first.said),
+                Value::Number(second.offset as u64),
+                Value::Octets(second.would),
+                Value::Number(second.said),
+            ],
+        ),
+        Sentence::ThreeLengths(first, second, third) => say(
+            b"If the header at offset % said % and not %, or that at offset % said % and not %, \
+              or that at offset % said % and not %, all would parse.\n",
+            &[
+                Value::Number(first.offset as u64),
+                Value::Octets(first.would),
+                Value::Number(first.said),
+                Value::Number(second.offset as u64),
+                Value::Octets(second.would),
+                Value::Number(second.said),
+                Value::Number(third.offset as u64),
+                Value::Octets(third.would),
+                Value::Number(third.said),
+            ],
+        ),
         Sentence::OneOctet(OctetChange::Missing(offset)) => say(
             b"If one octet more stood after the header at offset %, all would parse: \
               an octet of its contents may be missing.\n",
@@ -265,6 +295,28 @@ pub(crate) fn words_of(sentence: &Sentence) -> Words
             b"If one octet fewer stood after the header at offset %, all would parse: \
               an octet may have been put in there.\n",
             &[Value::Number(offset as u64)],
+        ),
+        Sentence::NoneLost(element) => say(
+            b"By its length the % ends with the input, at offset %: no octet was lost or put in.\n",
+            &[Value::Name(element), Value::Number(element_end(&element))],
+        ),
+        Sentence::SomeLost { element, end } => say(
+            b"By its length the % ends at offset %, the input at offset %. Missing: %.\n",
+            &[
+                Value::Name(element),
+                Value::Number(element_end(&element)),
+                Value::Number(end),
+                Value::Octets(element_end(&element).saturating_sub(end)),
+            ],
+        ),
+        Sentence::SomePutIn { element, end } => say(
+            b"By its length the % ends at offset %, the input at offset %. Too many: %.\n",
+            &[
+                Value::Name(element),
+                Value::Number(element_end(&element)),
+                Value::Number(end),
+                Value::Octets(end.saturating_sub(element_end(&element))),
+            ],
         ),
         Sentence::TextChanged(change) => say(text_change_words(change), &[]),
         Sentence::OtherKind(kind) => say(file_kind_words(kind), &[]),

@@ -1,7 +1,7 @@
 //! Writes sentences.
 ghost use Rattle.std.specs.Prelude.{◌≡◌};
 ghost use Rattle.tlv_io.specs.Out.{Puts, Sends};
-ghost use Rattle.tlv_reasons.specs.Sentences.{filled, octet_or_value, sentence_text, text_of, values_after};
+ghost use Rattle.tlv_reasons.specs.Sentences.{filled, octet_or_value, sentence_text, sentences_text, values_after};
 
 use crate::Sentence;
 use crate::value::{Value, put_value};
@@ -20,7 +20,7 @@ pub fn write_sentences<D: Drain>(
     sentences: &[Sentence],
     drain: &mut D,
 ) -> Result<(), WriteFault>
-    ensures { Sends (D.state drain.old) (D.state drain.new) (text_of octets.now sentences.now) result }
+    ensures { Sends (D.state drain.old) (D.state drain.new) (sentences_text octets.now sentences.now) result }
 {
     let mut out = Out::new(drain);
     put_sentences(octets, sentences, &mut out)?;
@@ -34,7 +34,7 @@ fn put_sentences<D: Drain>(
     sentences: &[Sentence],
     out: &mut Out<'_, D>,
 ) -> Result<(), WriteFault>
-    ensures { Puts D.state out.old out.new (text_of octets.now sentences.now) result }
+    ensures { Puts D.state out.old out.new (sentences_text octets.now sentences.now) result }
 {
     for sentence in sentences {
         put_sentence(octets, sentence, out)?;

@@ -11,7 +11,7 @@ use Rattle.tlv_open.specs.Opens.{closed_framing}
 use Rattle.tlv_open.specs.declared.strings.BrokenString.{BrokenString}
 use Rattle.tlv_run.specs.Report.{ReportValue, device_report, report_with}
 use Rattle.tlv_reasons.specs.Facts.{AreFacts}
-use Rattle.tlv_reasons.specs.Sentences.{text_of}
+use Rattle.tlv_reasons.specs.Sentences.{sentences_text}
 use Rattle.tlv_reasons.specs.Why.{first_sentence}
 use Rattle.tlv_reasons.specs.declared.facts.Facts.{Facts}
 use Rattle.tlv_view_program.specs.ReadWhole.{input_report}
@@ -62,22 +62,22 @@ explained_report status (Ok (Err fault)) = device_report WriteFailed
 explained_report status (Err error) = input_report Memory
 
 -- what is written and reported of octets, and which strings in them are reported as broken: a line for each case
-pub data ShowsReasons (closed padding : Bool) (table : NamesValue) (octets : List ℕ) (old new : DrainState)
+pub data ShowsReasons (reads : ℕ) (closed padding : Bool) (table : NamesValue) (octets : List ℕ) (old new : DrainState)
     : ReportValue → List BrokenString → Type 0 where
   -- they do not parse: the message of the fault, and all reasons
   refused : (facts : Facts) (outcome : Outcome) → AreFacts (closed_framing padding) octets facts
       → facts.fault ≢ None
-      → ExplainsOctets padding octets facts (first_of true octets facts) old new outcome
-      → ShowsReasons closed padding table octets old new (explained_report 2 outcome) []
+      → ExplainsOctets reads padding octets facts (first_of true octets facts) old new outcome
+      → ShowsReasons reads closed padding table octets old new (explained_report 2 outcome) []
   -- they parse: that they do, the findings, and why the first of the broken strings breaks
   parses : (facts : Facts) (ber der : ReportValue) (broken : List BrokenString) (outcome : Outcome)
       → AreFacts (closed_framing padding) octets facts → facts.fault ≡ None
       → ReportsFindings Ber closed padding table octets ber → ReportsFindings Der closed padding table octets der
       → AreBrokenUnless closed padding octets broken
       → ExplainsParsing padding octets
-      (text_of octets (first_sentence octets facts ∷ []) ++ findings_line ber.message der.message) broken old new
+      (sentences_text octets (first_sentence octets facts ∷ []) ++ findings_line ber.message der.message) broken old new
       outcome
-      → ShowsReasons closed padding table octets old new (explained_report ber.status outcome) broken
+      → ShowsReasons reads closed padding table octets old new (explained_report ber.status outcome) broken
   -- they parse, but memory for finding what is in them is refused: nothing is written
   no_memory : (facts : Facts) → AreFacts (closed_framing padding) octets facts → facts.fault ≡ None → new ≡ old
-      → ShowsReasons closed padding table octets old new (input_report Memory) []
+      → ShowsReasons reads closed padding table octets old new (input_report Memory) []

@@ -75,9 +75,9 @@ pub record TakesShown (old new : DrainState) : Type 0 where
 -- all that is written about octets with `--why`
 abbrev pub ReasonsAreShown : Type 0
 ReasonsAreShown =
-    (closed padding : Bool) (table : NamesValue) (octets : List ℕ) (old new : DrainState) (report : ReportValue)
+    (reads : ℕ) (closed padding : Bool) (table : NamesValue) (octets : List ℕ) (old new : DrainState) (report : ReportValue)
     (broken : List BrokenString)
-    → AreOctets octets → ShowsReasons closed padding table octets old new report broken → TakesShown old new
+    → AreOctets octets → ShowsReasons reads closed padding table octets old new report broken → TakesShown old new
 
 -- the names of object identifiers are printable ASCII
 abbrev pub HasShownNames : NamesValue → Type 0

@@ -31,7 +31,7 @@ use Rattle.tlv_view_program.specs.declared.request.Wanted.TheVariants.{Dump, Che
 use Rattle.tlv_view_program.specs.declared.reasons.Explained.{Explained}
 use Rattle.tlv_view_program.specs.declared.reasons.Explained.TheVariants as what
 use Rattle.tlv_view_program.specs.Reasons.{ShowsReasons}
-use Rattle.tlv_view_program.specs.WritesReasons.{Outcome, WritesReasons, explained_by}
+use Rattle.tlv_view_program.specs.WritesReasons.{Outcome, WritesReasons, block_reads, explained_by}
 use Rattle.tlv_view_program.specs.InputBlocks.{BlockContents, InputBlockValue}
 use Rattle.tlv_view_program.specs.Lines.{MessagePlace, block_line, block_title, placed_line}
 use Rattle.tlv_view_program.specs.Notes.{name_by, note_line}
@@ -138,40 +138,40 @@ raw_report (Err fault) = device_report WriteFailed
 -- ---- octets
 
 -- what is written and reported of octets, and which strings in them are reported as broken: a line for each case
-pub data ShowsOctets (request : Request) (table : NamesValue) (octets : List ℕ) (old new : DrainState)
+pub data ShowsOctets (reads : ℕ) (request : Request) (table : NamesValue) (octets : List ℕ) (old new : DrainState)
     : ReportValue → List BrokenString → Type 0 where
   -- a view of them
   shown : (v : View) (report : ReportValue) (broken : List BrokenString) → view_of request.wanted ≡ Some v
       → Views v table (stays_closed request.wanted) request.padding octets old new report
       → AreBrokenUnless (not (reports_broken request.wanted)) request.padding octets broken
-      → ShowsOctets request table octets old new report broken
+      → ShowsOctets reads request table octets old new report broken
   -- the offsets of the strings that are opened; the report has the ending of the octets
   listed : (offsets : List ℕ) (ending : Ending) (result : Result ⊤ WriteFault) → request.wanted ≡ Offsets
       → AreOpened request.padding octets offsets → IsEnding (closed_framing request.padding) octets ending
       → Sends old new (offsets_line offsets) result
-      → ShowsOctets request table octets old new (offsets_report ending result) []
+      → ShowsOctets reads request table octets old new (offsets_report ending result) []
   -- the octets themselves
   raw : (result : Result ⊤ WriteFault) → request.wanted ≡ Raw → Sends old new octets result
-      → ShowsOctets request table octets old new (raw_report result) []
+      → ShowsOctets reads request table octets old new (raw_report result) []
   -- whether they parse, and if not, why, and what may be done
   explained : (closed : Bool) (report : ReportValue) (broken : List BrokenString) → request.wanted ≡ Why closed
-      → ShowsReasons closed request.padding table octets old new report broken
-      → ShowsOctets request table octets old new report broken
+      → ShowsReasons reads closed request.padding table octets old new report broken
+      → ShowsOctets reads request table octets old new report broken
   -- memory is refused, and nothing is written
-  no_memory : new ≡ old → ShowsOctets request table octets old new (input_report Memory) []
+  no_memory : new ≡ old → ShowsOctets reads request table octets old new (input_report Memory) []
 
 -- ---- blocks
 
 -- what is written and reported of what a block holds: a line for each case
-pub data ShowsContents (request : Request) (table : NamesValue) (old new : DrainState)
+pub data ShowsContents (reads : ℕ) (request : Request) (table : NamesValue) (old new : DrainState)
     : BlockContents → ReportValue → List BrokenString → Type 0 where
   no_block : {report : ReportValue} → new ≡ old
-      → ShowsContents request table old new (BlockContents.reported report) report []
+      → ShowsContents reads request table old new (BlockContents.reported report) report []
   no_octets : {t : TakenValue} → has_octets t.block ≡ false → new ≡ old
-      → ShowsContents request table old new (BlockContents.taken t) (report_with 0 []) []
+      → ShowsContents reads request table old new (BlockContents.taken t) (report_with 0 []) []
   octets : {t : TakenValue} {report : ReportValue} {broken : List BrokenString} → has_octets t.block ≡ true
-      → ShowsOctets request table t.block.octets old new report broken
-      → ShowsContents request table old new (BlockContents.taken t) report broken
+      → ShowsOctets reads request table t.block.octets old new report broken
+      → ShowsContents reads request table old new (BlockContents.taken t) report broken
 
 -- what is said about a block before it is shown
 abbrev pub contents_note : MessagePlace → BlockContents → List ℕ
@@ -187,7 +187,7 @@ pub data ShowsTitled (request : Request) (table : NamesValue) (p : BlockPlace) (
       → ShowsTitled request table p b old new (device_report WriteFailed) []
   titled : (between : DrainState) (result : Result ⊤ WriteFault) (report : ReportValue)
       (broken : List BrokenString) → IsOk result → Sends old between (title request.wanted p b) result
-      → ShowsContents request table between new b.contents report broken
+      → ShowsContents (block_reads p.count) request table between new b.contents report broken
       → ShowsTitled request table p b old new report broken
 
 -- ---- reasons
@@ -241,7 +241,7 @@ pub record ShowsBlock {S : Type 0} (request : Request) (table : NamesValue) (p :
   pub outcome : Outcome
   pub after_reasons : DrainState
   pub reasons :
-      WritesReasons request.padding (octets_of_contents b.contents) after_messages after_reasons
+      WritesReasons (block_reads p.count) request.padding (octets_of_contents b.contents) after_messages after_reasons
       (explained_in request.wanted report broken) outcome
   -- the message that memory for the reasons is refused, if it is
   pub told : Result ⊤ WriteFault

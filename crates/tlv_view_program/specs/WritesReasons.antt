@@ -1,5 +1,5 @@
 -- Why octets do not parse, or a string in them, and what may be done: what is written about it.
-use Rattle.std.specs.Prelude.{◌≡◌, ◌<◌, ◌++◌, ⊤, ℕ, Bool, true, false, eqb, if◌then◌else◌, nat_lt}
+use Rattle.std.specs.Prelude.{◌≡◌, ◌<◌, ◌/◌, ◌^◌, ◌++◌, ⊤, ℕ, max, Bool, true, false, eqb, if◌then◌else◌, nat_lt}
 use Rattle.std.specs.Prelude.{List, [], ◌∷◌, None, Result, Ok, Err}
 use Rattle.std.specs.List.{filter}
 use Rattle.std.specs.declared.alloc.AllocError.{AllocError}
@@ -13,7 +13,7 @@ use Rattle.tlv_open.specs.declared.strings.BrokenString.{BrokenString}
 use Rattle.tlv_reasons.specs.Facts.{AreFacts}
 use Rattle.tlv_reasons.specs.FileKinds.{file_kind}
 use Rattle.tlv_reasons.specs.Remedies.{AreReasons, AreStringReasons}
-use Rattle.tlv_reasons.specs.Sentences.{text_of}
+use Rattle.tlv_reasons.specs.Sentences.{sentences_text}
 use Rattle.tlv_reasons.specs.Suspects.{suspects_from}
 use Rattle.tlv_reasons.specs.Why.{first_sentence, reasons_of}
 use Rattle.tlv_reasons.specs.declared.facts.Facts.{Facts}
@@ -34,12 +34,12 @@ pub data SendsReasons (octets : List ℕ) (front : List Sentence) (AreAll : List
     (few : List Sentence) (MayRefuse : Type 0) (old new : DrainState)
     : Outcome → Type 0 where
   all_sent : (sentences : List Sentence) (result : Result ⊤ WriteFault) → AreAll sentences
-      → Sends old new (text_of octets (front ++ sentences)) result
+      → Sends old new (sentences_text octets (front ++ sentences)) result
       → SendsReasons octets front AreAll few MayRefuse old new (Ok result)
   few_sent : (error : AllocError) (unit : ⊤) → MayRefuse
-      → Sends {E = WriteFault} old new (text_of octets (front ++ few)) (Ok unit)
+      → Sends {E = WriteFault} old new (sentences_text octets (front ++ few)) (Ok unit)
       → SendsReasons octets front AreAll few MayRefuse old new (Err error)
-  few_failed : (fault : WriteFault) → MayRefuse → Sends {T = ⊤} old new (text_of octets (front ++ few)) (Err fault)
+  few_failed : (fault : WriteFault) → MayRefuse → Sends {T = ⊤} old new (sentences_text octets (front ++ few)) (Err fault)
       → SendsReasons octets front AreAll few MayRefuse old new (Ok (Err fault))
 
 -- ---- a string that is broken
@@ -83,10 +83,18 @@ pub data ExplainsFirst (padding : Bool) (octets : List ℕ) (old new : DrainStat
 abbrev pub first_of : Bool → List ℕ → Facts → List Sentence
 first_of has_first octets facts = if has_first then first_sentence octets facts ∷ [] else []
 
+-- all tries for a next record in a run may read so many octets in vain: a limit of our own
+abbrev pub run_reads : ℕ
+run_reads = 2 ^ 24
+
+-- so many of these are for each block of a run of `count` blocks
+abbrev pub block_reads : ℕ → ℕ
+block_reads count = run_reads / max 1 count
+
 -- why octets do not parse, after these sentences. No memory is needed for another kind of file
-abbrev pub ExplainsOctets : Bool → List ℕ → Facts → List Sentence → DrainState → DrainState → Outcome → Type 0
-ExplainsOctets padding octets facts front old new outcome =
-    SendsReasons octets front (AreReasons padding octets facts) (reasons_of octets facts) (file_kind octets ≡ None) old
+abbrev pub ExplainsOctets : ℕ → Bool → List ℕ → Facts → List Sentence → DrainState → DrainState → Outcome → Type 0
+ExplainsOctets reads padding octets facts front old new outcome =
+    SendsReasons octets front (AreReasons reads padding octets facts) (reasons_of octets facts) (file_kind octets ≡ None) old
     new outcome
 
 -- ---- after messages
@@ -102,11 +110,11 @@ explained_by has_failed status broken =
     if has_failed then what.Nothing else (if eqb status 2 then what.Octets else first_string broken)
 
 -- the reasons that come after messages about octets: a line for each case
-pub data WritesReasons (padding : Bool) (octets : List ℕ) (old new : DrainState) : Explained → Outcome → Type 0 where
-  of_nothing : (unit : ⊤) → new ≡ old → WritesReasons padding octets old new what.Nothing (Ok (Ok unit))
+pub data WritesReasons (reads : ℕ) (padding : Bool) (octets : List ℕ) (old new : DrainState) : Explained → Outcome → Type 0 where
+  of_nothing : (unit : ⊤) → new ≡ old → WritesReasons reads padding octets old new what.Nothing (Ok (Ok unit))
   of_octets : (facts : Facts) (outcome : Outcome) → AreFacts (closed_framing padding) octets facts
-      → ExplainsOctets padding octets facts (first_of false octets facts) old new outcome
-      → WritesReasons padding octets old new what.Octets outcome
+      → ExplainsOctets reads padding octets facts (first_of false octets facts) old new outcome
+      → WritesReasons reads padding octets old new what.Octets outcome
   of_string : (x : BrokenString) (outcome : Outcome)
       → ExplainsString padding octets x (heading false x) old new outcome
-      → WritesReasons padding octets old new (what.String x) outcome
+      → WritesReasons reads padding octets old new (what.String x) outcome

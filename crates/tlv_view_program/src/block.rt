@@ -12,7 +12,7 @@ ghost use Rattle.tlv_view_program.specs.ShowsBlock.{contents_status, has_failed_
 ghost use Rattle.tlv_view_program.specs.ShowsBlock.{explained_in, message_place, octets_of_contents, refused_status};
 ghost use Rattle.tlv_view_program.specs.ShowsBlock.{said_message, status_with, title};
 ghost use Rattle.tlv_view_program.specs.Streams.{streams_value};
-ghost use Rattle.tlv_view_program.specs.WritesReasons.{WritesReasons};
+ghost use Rattle.tlv_view_program.specs.WritesReasons.{WritesReasons, block_reads};
 
 use crate::after_messages::{explained_in, octets_of_contents, reasons_report};
 use crate::files::highest;
@@ -20,7 +20,7 @@ use crate::input_blocks::{Contents, InputBlock, report_without_blocks};
 use crate::lines::{BlockName, write_block_line, write_messages, write_note};
 use crate::notes::block_label;
 use crate::octets::show_octets;
-use crate::reasons::write_explained;
+use crate::reasons::{block_reads, write_explained};
 use crate::request::{Request, Wanted};
 use crate::streams::{Output, Streams};
 use crate::view_call::Viewed;
@@ -98,7 +98,7 @@ impl Task<'_> {
         drain: &mut D,
     ) -> Result<Result<(), WriteFault>, AllocError>
         requires { contents_fit contents }
-        ensures reasons { WritesReasons self.now.request.now.padding (octets_of_contents (block_contents contents.entry))
+        ensures reasons { WritesReasons (block_reads self.now.count) self.now.request.now.padding (octets_of_contents (block_contents contents.entry))
             (D.state drain.old) (D.state drain.new)
             (explained_in self.now.request.now.wanted (report_value_of shown.now.report) shown.now.broken.items)
             result }
@@ -107,6 +107,7 @@ impl Task<'_> {
         let explained = explained_in(&self.request.wanted, shown);
         write_explained(
             self.alloc,
+            block_reads(self.count),
             explained,
             self.request.padding,
             octets_of_contents(contents),
@@ -154,13 +155,14 @@ impl Task<'_> {
     /// Shows what a block holds.
     fn contents<D: Drain>(&self, contents: Contents<'_>, drain: &mut D) -> Viewed
         requires { contents_fit contents }
-        ensures { ShowsContents self.now.request.now self.now.names.now (D.state drain.old) (D.state drain.new)
+        ensures { ShowsContents (block_reads self.now.count) self.now.request.now self.now.names.now (D.state drain.old) (D.state drain.new)
             (block_contents contents.entry) (report_value_of result.report) result.broken.items }
     {
         match contents {
             Contents::Nothing(why) => self.reported(report_without_blocks(why)),
             Contents::Taken(taken) if has_octets(&taken.block) => show_octets(
                 self.alloc,
+                block_reads(self.count),
                 self.request,
                 self.names,
                 taken.block.octets.as_slice(),

@@ -5,7 +5,7 @@ ghost use Rattle.tlv_head.specs.Limits.{input_limit};
 ghost use Rattle.tlv_io.specs.Out.{Puts, Sends};
 ghost use Rattle.tlv_run.specs.Report.{report_value_of};
 ghost use Rattle.tlv_view_program.specs.Views.{AreBrokenUnless};
-ghost use Rattle.tlv_reasons.specs.Sentences.{text_of};
+ghost use Rattle.tlv_reasons.specs.Sentences.{sentences_text};
 ghost use Rattle.tlv_reasons.specs.Why.{first_sentence};
 ghost use Rattle.tlv_view_program.specs.Reasons.{ExplainsParsing, ShowsReasons, ReportsFindings};
 ghost use Rattle.tlv_view_program.specs.Reasons.{explained_report, findings_line, findings_words};
@@ -33,6 +33,7 @@ struct Found {
 /// Writes whether octets parse, and if not, why, and what may be done.
 pub(crate) fn explain<N: FiniteNames, D: Drain>(
     alloc: Global,
+    reads: u64,
     closed: bool,
     padding: bool,
     names: &N,
@@ -40,12 +41,12 @@ pub(crate) fn explain<N: FiniteNames, D: Drain>(
     drain: &mut D,
 ) -> Viewed
     requires { length octets.now ≤ input_limit }
-    ensures { ShowsReasons closed padding (N.table names.now) octets.now (D.state drain.old) (D.state drain.new)
+    ensures { ShowsReasons reads closed padding (N.table names.now) octets.now (D.state drain.old) (D.state drain.new)
         (report_value_of result.report) result.broken.items }
 {
     let facts = closed_facts(octets, padding);
     if facts.fault.is_some() {
-        let outcome = explain_octets(alloc, padding, octets, &facts, true, drain);
+        let outcome = explain_octets(alloc, reads, padding, octets, &facts, true, drain);
         return without_strings(alloc, explained_report(2, outcome));
     }
     let Ok(found) = findings_in(alloc, closed, padding, names, octets) else {
@@ -68,7 +69,7 @@ fn explain_parsing<D: Drain>(
     drain: &mut D,
 ) -> Result<Result<(), WriteFault>, AllocError>
     requires { length octets.now ≤ input_limit }
-    ensures { ExplainsParsing padding octets.now (text_of octets.now (first_sentence octets.now facts.now ∷ [])
+    ensures { ExplainsParsing padding octets.now (sentences_text octets.now (first_sentence octets.now facts.now ∷ [])
         ++ findings_line (report_value_of found.now.ber.report).message (report_value_of found.now.der).message)
         found.now.ber.broken.items (D.state drain.old) (D.state drain.new) result }
 {
@@ -86,7 +87,7 @@ fn write_parsing<D: Drain>(
     found: &Found,
     drain: &mut D,
 ) -> Result<(), WriteFault>
-    ensures { Sends (D.state drain.old) (D.state drain.new) (text_of octets.now (first_sentence octets.now facts.now ∷ [])
+    ensures { Sends (D.state drain.old) (D.state drain.new) (sentences_text octets.now (first_sentence octets.now facts.now ∷ [])
         ++ findings_line (report_value_of found.now.ber.report).message (report_value_of found.now.der).message)
         result }
 {

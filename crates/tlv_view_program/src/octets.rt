@@ -1,5 +1,5 @@
 //! What is shown of octets.
-ghost use Rattle.std.specs.Prelude.{◌≡◌, ◌≤◌, [], Some, length};
+ghost use Rattle.std.specs.Prelude.{◌≡◌, ◌≤◌, [], Some, length, ℕ};
 ghost use Rattle.tlv_head.specs.Limits.{input_limit};
 ghost use Rattle.tlv_run.specs.Report.{report_value_of};
 ghost use Rattle.tlv_value.specs.Names.{NamesValue};
@@ -22,17 +22,18 @@ use tlv_run::{Report, device_report, indef_report};
 use tlv_show::FiniteNames;
 use tlv_walk::{DeviceFault, Drain, Ending, Out, WriteFault};
 
-/// Writes what is wanted of the octets. Returns the report on them, and the strings in them that are reported as
+/// Writes what is wanted of the octets. Tries for a next record may read `reads` octets in vain. Returns the report on them, and the strings in them that are reported as
 /// broken.
 pub(crate) fn show_octets<N: FiniteNames, D: Drain>(
     alloc: Global,
+    reads: u64,
     request: &Request,
     names: &N,
     octets: &[u8],
     drain: &mut D,
 ) -> Viewed
     requires { length octets.now ≤ input_limit }
-    ensures { ShowsOctets request.now (N.table names.now) octets.now (D.state drain.old) (D.state drain.new)
+    ensures { ShowsOctets reads request.now (N.table names.now) octets.now (D.state drain.old) (D.state drain.new)
         (report_value_of result.report) result.broken.items }
 {
     match &request.wanted {
@@ -64,7 +65,9 @@ pub(crate) fn show_octets<N: FiniteNames, D: Drain>(
         }
         Wanted::Offsets => list_offsets(alloc, request, octets, drain),
         Wanted::Raw => write_raw(alloc, request, octets, drain),
-        Wanted::Why { closed } => explain(alloc, *closed, request.padding, names, octets, drain),
+        Wanted::Why { closed } => {
+            explain(alloc, reads, *closed, request.padding, names, octets, drain)
+        }
     }
 }
 
@@ -82,7 +85,7 @@ pub(crate) fn no_memory(alloc: Global) -> Viewed
 /// Writes the octets themselves.
 fn write_raw<D: Drain>(alloc: Global, request: &Request, octets: &[u8], drain: &mut D) -> Viewed
     requires { request.now.wanted ≡ Raw }
-    ensures { (table : NamesValue) → ShowsOctets request.now table octets.now
+    ensures { (reads : ℕ) (table : NamesValue) → ShowsOctets reads request.now table octets.now
         (D.state drain.old) (D.state drain.new) (report_value_of result.report) result.broken.items }
 {
     let written = write_octets(octets, drain);
@@ -124,8 +127,8 @@ fn show_view<N: FiniteNames, D: Drain>(
 ) -> Viewed
     requires short { length octets.now ≤ input_limit }
     requires wanted { view_of request.now.wanted ≡ Some view.now }
-    ensures { ShowsOctets request.now (N.table names.now) octets.now (D.state drain.old) (D.state drain.new)
-        (report_value_of result.report) result.broken.items }
+    ensures { (reads : ℕ) → ShowsOctets reads request.now (N.table names.now) octets.now
+        (D.state drain.old) (D.state drain.new) (report_value_of result.report) result.broken.items }
 {
     let closed = stays_closed(&request.wanted);
     match view_octets(alloc, view, names, closed, request.padding, octets, drain) {
@@ -147,7 +150,7 @@ fn show_view<N: FiniteNames, D: Drain>(
 fn list_offsets<D: Drain>(alloc: Global, request: &Request, octets: &[u8], drain: &mut D) -> Viewed
     requires short { length octets.now ≤ input_limit }
     requires wanted { request.now.wanted ≡ Offsets }
-    ensures { (table : NamesValue) → ShowsOctets request.now table octets.now
+    ensures { (reads : ℕ) (table : NamesValue) → ShowsOctets reads request.now table octets.now
         (D.state drain.old) (D.state drain.new) (report_value_of result.report) result.broken.items }
 {
     let Ok(offsets) = opened(alloc, octets, request.padding) else {

@@ -5,11 +5,11 @@ ghost use Rattle.tlv_head.specs.Limits.{input_limit};
 ghost use Rattle.tlv_io.specs.Out.{Sends};
 ghost use Rattle.tlv_open.specs.Opens.{AreOpened, closed_framing};
 ghost use Rattle.tlv_reasons.specs.Facts.{AreFacts};
-ghost use Rattle.tlv_reasons.specs.Sentences.{text_of};
+ghost use Rattle.tlv_reasons.specs.Sentences.{sentences_text};
 ghost use Rattle.tlv_walk.specs.Inside.{are_rising};
 ghost use Rattle.tlv_walk.specs.Reading.{AreOctets};
 ghost use Rattle.tlv_view_program.specs.WritesReasons.{ExplainsFirst, ExplainsOctets, ExplainsString, SendsReasons};
-ghost use Rattle.tlv_view_program.specs.WritesReasons.{WritesReasons, explained_by, first_of, heading, offsets_up_to};
+ghost use Rattle.tlv_view_program.specs.WritesReasons.{WritesReasons, block_reads, explained_by, first_of, heading, offsets_up_to};
 ghost use Rattle.tlv_view_program.specs.declared.reasons.Explained.TheVariants.{Octets};
 
 use std::alloc::{AllocError, Global};
@@ -19,6 +19,16 @@ use tlv_reasons::{
     write_sentences,
 };
 use tlv_walk::{Drain, Framing, INPUT_LIMIT, Inside, WriteFault};
+
+/// The number of octets that all tries for a next record in a run may read in vain.
+const RUN_READS: u64 = 1 << 24;
+
+/// The number of these octets for each block of a run that has so many blocks.
+pub(crate) fn block_reads(count: usize) -> u64
+    ensures { result ≡ block_reads count }
+{
+    RUN_READS / count.max(1) as u64
+}
 
 /// What is explained after the messages of a block.
 #[derive(Clone, Copy)]
@@ -51,18 +61,19 @@ pub(crate) fn explained_by(has_failed: bool, status: u8, broken: &[BrokenString]
 /// Writes the reasons.
 pub(crate) fn write_explained<D: Drain>(
     alloc: Global,
+    reads: u64,
     explained: Explained,
     padding: bool,
     octets: &[u8],
     drain: &mut D,
 ) -> Result<Result<(), WriteFault>, AllocError>
     requires { length octets.now ≤ input_limit }
-    ensures reasons { WritesReasons padding octets.now (D.state drain.old) (D.state drain.new) explained result }
+    ensures reasons { WritesReasons reads padding octets.now (D.state drain.old) (D.state drain.new) explained result }
     ensures octets { AreOctets octets.now }
 {
     match explained {
         Explained::Nothing => Ok(Ok(())),
-        Explained::Octets => write_fault_reasons(alloc, padding, octets, drain),
+        Explained::Octets => write_fault_reasons(alloc, reads, padding, octets, drain),
         Explained::String(string) => {
             explain_string(alloc, padding, octets, &string, false, drain)
         }
@@ -73,15 +84,16 @@ pub(crate) fn write_explained<D: Drain>(
 #[inline(never)]
 fn write_fault_reasons<D: Drain>(
     alloc: Global,
+    reads: u64,
     padding: bool,
     octets: &[u8],
     drain: &mut D,
 ) -> Result<Result<(), WriteFault>, AllocError>
     requires { length octets.now ≤ input_limit }
-    ensures { WritesReasons padding octets.now (D.state drain.old) (D.state drain.new) Octets result }
+    ensures { WritesReasons reads padding octets.now (D.state drain.old) (D.state drain.new) Octets result }
 {
     let facts = closed_facts(octets, padding);
-    explain_octets(alloc, padding, octets, &facts, false, drain)
+    explain_octets(alloc, reads, padding, octets, &facts, false, drain)
 }
 
 /// The facts about octets if no string is named.
@@ -99,6 +111,7 @@ pub(crate) fn closed_facts(octets: &[u8], padding: bool) -> Facts
 /// Writes all reasons why octets do not parse, and, if that is wanted, the message of the fault before them.
 pub(crate) fn explain_octets<D: Drain>(
     alloc: Global,
+    reads: u64,
     padding: bool,
     octets: &[u8],
     facts: &Facts,
@@ -106,10 +119,10 @@ pub(crate) fn explain_octets<D: Drain>(
     drain: &mut D,
 ) -> Result<Result<(), WriteFault>, AllocError>
     requires { length octets.now ≤ input_limit }
-    ensures { ExplainsOctets padding octets.now facts.now (first_of has_first octets.now facts.now)
+    ensures { ExplainsOctets reads padding octets.now facts.now (first_of has_first octets.now facts.now)
         (D.state drain.old) (D.state drain.new) result }
 {
-    let reasons = all_reasons(alloc, octets, padding, facts);
+    let reasons = all_reasons(alloc, octets, padding, facts, reads);
     let few = reasons_of(octets, facts);
     let first = first_of(has_first, octets, facts);
     send_reasons(octets, &first, reasons, &few, drain)
@@ -136,8 +149,8 @@ fn send_reasons<D: Drain>(
     drain: &mut D,
 ) -> Result<Result<(), WriteFault>, AllocError>
     requires front { length front.now.items ≤ 1 }
-    requires reasons { IfOk reasons (λ r. length r.items ≤ 12) }
-    requires few { length few.now.items ≤ 12 }
+    requires reasons { IfOk reasons (λ r. length r.items ≤ 14) }
+    requires few { length few.now.items ≤ 14 }
     ensures { SendsReasons octets.now front.now.items (λ sentences. IsOkAnd reasons (λ r. r.items ≡ sentences))
         few.now.items (IsErr reasons) (D.state drain.old) (D.state drain.new) result }
 {
@@ -158,7 +171,7 @@ fn send_after<D: Drain>(
     drain: &mut D,
 ) -> Result<(), WriteFault>
     requires { length front.now.items + length others.now.items ≤ 16 }
-    ensures { Sends (D.state drain.old) (D.state drain.new) (text_of octets.now (front.now.items ++ others.now.items))
+    ensures { Sends (D.state drain.old) (D.state drain.new) (sentences_text octets.now (front.now.items ++ others.now.items))
         result }
 {
     let mut sentences = Reasons::new();

@@ -19,7 +19,7 @@ use Rattle.tlv_reasons.specs.declared.value.Value.{Value}
 use Rattle.tlv_reasons.specs.declared.value.Value.TheVariants as value
 use Rattle.tlv_reasons.specs.Laws.{AreShown, SentencesAreShown, is_shown_octet}
 use Rattle.tlv_reasons.specs.Sentences.{file_kind_words, filled, octet_or_value, refused_header_words, sentence_text}
-use Rattle.tlv_reasons.specs.Sentences.{text_change_words, text_of, values_after, words_of}
+use Rattle.tlv_reasons.specs.Sentences.{text_change_words, sentences_text, values_after, words_of}
 use Rattle.tlv_reasons.specs.Values.{lacking_zeros, value_text}
 use Rattle.tlv_reasons.proofs.ShownLemmas.ShownValues.{broken_line-shown, code-shown, decimal-shown, first_pairs-shown, header_sentence-shown}
 use Rattle.tlv_reasons.proofs.ShownLemmas.ShownValues.{named_element-shown, octets_in_words-shown}
@@ -82,12 +82,14 @@ words-shown (say.Breaks a) = refl
 words-shown (say.LeftOver a b) = refl
 words-shown (say.BlanksFollow a b) = refl
 words-shown (say.FillerFollows a b) = refl
+words-shown (say.TextFollows a b) = refl
 words-shown (say.TryWhole a) = refl
 words-shown say.NoOctets = refl
 words-shown (say.ZerosAlone a) = refl
 words-shown say.TryWriter = refl
 words-shown (say.EndsInHeader a b) = refl
-words-shown (say.EndsInPrimitive a b) = refl
+words-shown (say.EndsInPrimitive a) = refl
+words-shown (say.MissingThere a) = refl
 words-shown (say.EndsBetweenZeros a) = refl
 words-shown (say.EndsInHolder a) = refl
 words-shown (say.EndsWithInput a) = refl
@@ -100,6 +102,7 @@ words-shown (say.ZerosFollow a b c) = refl
 words-shown say.TryPadding = refl
 words-shown (say.TryFront a) = refl
 words-shown (say.ZeroInside a b) = refl
+words-shown (say.LeftInside a) = refl
 words-shown (say.NoSecondZero a b) = refl
 words-shown (say.EndMissing a b c) = refl
 words-shown (say.RefusedHeader a b c) = refused-shown a
@@ -108,13 +111,20 @@ words-shown (say.TryLook a) = refl
 words-shown (say.TooDeep a) = refl
 words-shown say.TryDeeper = refl
 words-shown (say.HeaderPast a b) = refl
-words-shown (say.ElementPast a b c) = refl
+words-shown (say.LeftInHolder a b) = refl
+words-shown (say.CompletesHeader a b) = refl
+words-shown (say.ElementPast a b) = refl
 words-shown say.OneOfTwo = refl
 words-shown say.TryAnew = refl
 words-shown (say.LengthInFront a) = refl
 words-shown (say.OtherLength a) = refl
+words-shown (say.TwoLengths a b) = refl
+words-shown (say.ThreeLengths a b c) = refl
 words-shown (say.OneOctet (Missing a)) = refl
 words-shown (say.OneOctet (PutIn a)) = refl
+words-shown (say.NoneLost a) = refl
+words-shown (say.SomeLost a b) = refl
+words-shown (say.SomePutIn a b) = refl
 words-shown (say.TextChanged a) = change-shown a
 words-shown (say.OtherKind a) = kind-shown a
 words-shown (say.ParsesFrom a) = refl
@@ -155,5 +165,5 @@ pub sentences-shown : SentencesAreShown
 sentences-shown octets [] o = refl
 sentences-shown octets (s ∷ sentences) o =
     let first : AreShown (sentence_text octets s) = sentence-shown octets o s in
-    let more : AreShown (text_of octets sentences) = sentences-shown octets sentences o in
+    let more : AreShown (sentences_text octets sentences) = sentences-shown octets sentences o in
     simp (list_all-append, first, more)

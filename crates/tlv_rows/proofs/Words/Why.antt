@@ -12,7 +12,7 @@ use Rattle.tlv_walk.proofs.GrammarLemmas.Readings.{Going, Halted, PushRun, push_
 use Rattle.tlv_reasons.specs.declared.element.Element.{Element}
 use Rattle.tlv_reasons.specs.declared.facts.Facts.{Facts}
 use Rattle.tlv_reasons.specs.Facts.{end_of_reading, last_whole, offsets_before, open_holders, unfinished_in, whole_end}
-use Rattle.tlv_reasons.specs.Sentences.{text_of}
+use Rattle.tlv_reasons.specs.Sentences.{sentences_text}
 use Rattle.tlv_reasons.specs.Why.{first_sentence, reasons_of}
 use Rattle.tlv_rows.proofs.Words.Octets.{framing_of}
 
@@ -53,12 +53,12 @@ facts_inside inside octets found =
 -- the lines about them
 abbrev pub why_inside : List ℕ → List ℕ → Option Element → List ℕ
 why_inside inside octets found =
-    text_of octets (first_sentence octets (facts_inside inside octets found)
+    sentences_text octets (first_sentence octets (facts_inside inside octets found)
     ∷ reasons_of octets (facts_inside inside octets found))
 
 -- the same without the first line
 abbrev pub reasons_inside : List ℕ → List ℕ → Option Element → List ℕ
-reasons_inside inside octets found = text_of octets (reasons_of octets (facts_inside inside octets found))
+reasons_inside inside octets found = sentences_text octets (reasons_of octets (facts_inside inside octets found))
 
 -- an element of the class universal: its offset, number and size, the offset of its contents, and its end
 abbrev pub element : ℕ → ℕ → Size → ℕ → Option ℕ → Element

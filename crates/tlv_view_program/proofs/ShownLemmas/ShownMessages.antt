@@ -35,8 +35,8 @@ raw_report-shown (Ok done) = refl
 raw_report-shown (Err fault) = device_report-shown WriteFailed
 
 module _ (request : Request) (table : NamesValue) where
-  octets_report-shown : (octets : List ℕ) (old new : DrainState) (report : ReportValue) (broken : List BrokenString)
-      → ShowsOctets request table octets old new report broken → IsShownReport report
+  octets_report-shown : {reads : ℕ} (octets : List ℕ) (old new : DrainState) (report : ReportValue) (broken : List BrokenString)
+      → ShowsOctets reads request table octets old new report broken → IsShownReport report
   octets_report-shown octets old new _ _ (ShowsOctets.shown v report broken is views are) =
       views-shown v table _ _ octets old new report views
   octets_report-shown octets old new _ _ (ShowsOctets.listed offsets e result is are ends sends) =
@@ -46,9 +46,9 @@ module _ (request : Request) (table : NamesValue) where
       reasons_report-shown closed _ table octets old new report broken shows
   octets_report-shown octets old new _ _ (ShowsOctets.no_memory same) = input_report-shown input.Memory
 
-  contents_report-shown : (old new : DrainState) (contents : BlockContents) (report : ReportValue)
+  contents_report-shown : {reads : ℕ} (old new : DrainState) (contents : BlockContents) (report : ReportValue)
       (broken : List BrokenString)
-      → HasShownReport contents → ShowsContents request table old new contents report broken → IsShownReport report
+      → HasShownReport contents → ShowsContents reads request table old new contents report broken → IsShownReport report
   contents_report-shown old new _ _ _ has (ShowsContents.no_block {report} same) = has
   contents_report-shown old new _ _ _ has (ShowsContents.no_octets {t} none same) = refl
   contents_report-shown old new _ _ _ has (ShowsContents.octets {t} {report} {broken} some shows) =

@@ -58,20 +58,20 @@ module _ (table : NamesValue) (names : HasShownNames table) where
   view-takes (Why stays) v closed padding octets old new report wants is are views = cc is
 
   module _ (request : Request) (wants : wants_lines request.wanted ≡ true) where
-    octets-take : (octets : List ℕ) (old new : DrainState) (report : ReportValue) (broken : List BrokenString)
-        → AreOctets octets → ShowsOctets request table octets old new report broken → TakesShown old new
+    octets-take : {reads : ℕ} (octets : List ℕ) (old new : DrainState) (report : ReportValue) (broken : List BrokenString)
+        → AreOctets octets → ShowsOctets reads request table octets old new report broken → TakesShown old new
     octets-take octets old new _ _ are (ShowsOctets.shown v report broken is views others) =
         view-takes request.wanted v _ request.padding octets old new report wants is are views
     octets-take octets old new _ _ are (ShowsOctets.listed offsets e result is opened ends sends) =
         sends-shown old new (offsets_line offsets) result (offsets_line-shown offsets) sends
     octets-take octets old new _ _ are (ShowsOctets.raw result is sends) = cc (sym wants ∙ ap wants_lines is)
     octets-take octets old new _ _ are (ShowsOctets.explained closed report broken is shows) =
-        reasons-shown closed request.padding table octets old new report broken are shows
+        reasons-shown _ closed request.padding table octets old new report broken are shows
     octets-take octets old new _ _ are (ShowsOctets.no_memory same) = same-takes old new same
 
-    contents-take : (old new : DrainState) (contents : BlockContents) (report : ReportValue)
+    contents-take : {reads : ℕ} (old new : DrainState) (contents : BlockContents) (report : ReportValue)
         (broken : List BrokenString)
-        → AreOctets (octets_of_contents contents) → ShowsContents request table old new contents report broken
+        → AreOctets (octets_of_contents contents) → ShowsContents reads request table old new contents report broken
         → TakesShown old new
     contents-take old new _ _ _ are (ShowsContents.no_block {report} same) = same-takes old new same
     contents-take old new _ _ _ are (ShowsContents.no_octets {t} none same) = same-takes old new same

@@ -11,7 +11,7 @@ use Rattle.tlv_open.specs.declared.strings.BrokenString.{BrokenString}
 use Rattle.tlv_run.specs.Report.{ReportValue}
 use Rattle.tlv_view_program.specs.declared.input.InputFault.TheVariants as input
 use Rattle.tlv_reasons.specs.Laws.{AreShown}
-use Rattle.tlv_reasons.specs.Sentences.{text_of}
+use Rattle.tlv_reasons.specs.Sentences.{sentences_text}
 use Rattle.tlv_reasons.specs.Why.{first_sentence}
 use Rattle.tlv_reasons.specs.declared.sentence.Sentence.{Sentence}
 use Rattle.tlv_reasons.proofs.ShownLemmas.ShownSentences.{sentences-shown}
@@ -67,11 +67,11 @@ module _ (padding : Bool) (octets : List ℕ) (o : AreOctets octets) where
   reasons-sent : (front few : List Sentence) (AreAll : List Sentence → Type 0) (MayRefuse : Type 0) (a b : DrainState)
       (outcome : Outcome) → SendsReasons octets front AreAll few MayRefuse a b outcome → TakesShown a b
   reasons-sent front few AreAll MayRefuse a b _ (SendsReasons.all_sent sentences result are sends) =
-      sends-shown a b (text_of octets (front ++ sentences)) result (sentences-shown octets (front ++ sentences) o) sends
+      sends-shown a b (sentences_text octets (front ++ sentences)) result (sentences-shown octets (front ++ sentences) o) sends
   reasons-sent front few AreAll MayRefuse a b _ (SendsReasons.few_sent error unit may sends) =
-      sends-shown a b (text_of octets (front ++ few)) (Ok unit) (sentences-shown octets (front ++ few) o) sends
+      sends-shown a b (sentences_text octets (front ++ few)) (Ok unit) (sentences-shown octets (front ++ few) o) sends
   reasons-sent front few AreAll MayRefuse a b _ (SendsReasons.few_failed fault may sends) =
-      sends-shown a b (text_of octets (front ++ few)) (Err fault) (sentences-shown octets (front ++ few) o) sends
+      sends-shown a b (sentences_text octets (front ++ few)) (Err fault) (sentences-shown octets (front ++ few) o) sends
 
   string-shown : (x : BrokenString) (front : List Sentence) (a b : DrainState) (outcome : Outcome)
       → ExplainsString padding octets x front a b outcome → TakesShown a b
@@ -95,8 +95,8 @@ module _ (padding : Bool) (octets : List ℕ) (o : AreOctets octets) where
       (first-shown broken between b outcome explains)
 
   -- after messages
-  pub writes-shown : (what : Explained) (a b : DrainState) (outcome : Outcome)
-      → WritesReasons padding octets a b what outcome → TakesShown a b
+  pub writes-shown : {reads : ℕ} (what : Explained) (a b : DrainState) (outcome : Outcome)
+      → WritesReasons reads padding octets a b what outcome → TakesShown a b
   writes-shown _ a b _ (WritesReasons.of_nothing unit same) = same-takes a b same
   writes-shown _ a b _ (WritesReasons.of_octets facts outcome are explains) =
       reasons-sent (first_of false octets facts) _ _ _ a b outcome explains
@@ -106,16 +106,16 @@ module _ (padding : Bool) (octets : List ℕ) (o : AreOctets octets) where
 -- ---- all that is written with `--why`
 
 pub reasons-shown : ReasonsAreShown
-reasons-shown closed padding table octets old new _ _ o (ShowsReasons.refused facts outcome are some explains) =
+reasons-shown reads closed padding table octets old new _ _ o (ShowsReasons.refused facts outcome are some explains) =
     reasons-sent padding octets o (first_of true octets facts) _ _ _ old new outcome explains
-reasons-shown closed padding table octets old new _ _ o
+reasons-shown reads closed padding table octets old new _ _ o
     (ShowsReasons.parses facts ber der broken outcome are none b d breaks explains) =
     let lines : List ℕ = findings_line ber.message der.message in
     let first : List Sentence = first_sentence octets facts ∷ [] in
-    parsing-shown padding octets o (text_of octets first ++ lines) broken old new outcome
-    (joined-shown (text_of octets first) lines (sentences-shown octets first o)
+    parsing-shown padding octets o (sentences_text octets first ++ lines) broken old new outcome
+    (joined-shown (sentences_text octets first) lines (sentences-shown octets first o)
     (findings_lines-shown _ _ closed padding table octets ber der b d)) explains
-reasons-shown closed padding table octets old new _ _ o (ShowsReasons.no_memory facts are none same) =
+reasons-shown reads closed padding table octets old new _ _ o (ShowsReasons.no_memory facts are none same) =
     same-takes old new same
 
 -- ---- what is reported
@@ -125,9 +125,9 @@ explained-shown status (Ok (Ok unit)) = refl
 explained-shown status (Ok (Err fault)) = device_report-shown WriteFailed
 explained-shown status (Err error) = input_report-shown input.Memory
 
-pub reasons_report-shown : (closed padding : Bool) (table : NamesValue) (octets : List ℕ) (old new : DrainState)
+pub reasons_report-shown : {reads : ℕ} (closed padding : Bool) (table : NamesValue) (octets : List ℕ) (old new : DrainState)
     (report : ReportValue) (broken : List BrokenString)
-    → ShowsReasons closed padding table octets old new report broken → IsShownReport report
+    → ShowsReasons reads closed padding table octets old new report broken → IsShownReport report
 reasons_report-shown closed padding table octets old new _ _
     (ShowsReasons.refused facts outcome are some explains) = explained-shown 2 outcome
 reasons_report-shown closed padding table octets old new _ _

@@ -1,10 +1,10 @@
 use Rattle.std.proofs.Common.{arith}
 use Rattle.tlv_reasons.proofs.start.first_start.Goals as goal
 
-pub returns-then-is_start : goal.returns-then-is_start
-returns-then-is_start c = (
+pub returns-then-is_other_start : goal.returns-then-is_other_start
+returns-then-is_other_start c = (
   record { low = omega arith; high = omega arith; before = c.loop-offset.invariant },
-  c.is_start.ensures.0 c.if-is_start.true,
+  c.is_other_start.ensures.0 c.if-is_other_start.true,
 )
 
 pub returns : goal.returns

@@ -27,7 +27,7 @@ unreported true padding octets e = absurd (cc (e))
 unreported false padding octets e = refl
 
 pub returns-then-reports_broken : goal.returns-then-reports_broken
-returns-then-reports_broken g c =
+returns-then-reports_broken g c = λ reads.
     shown c.args.view.now _ c.in-Ok.viewed.broken.items c.requires.wanted
     (rw c.stays_closed-closed.ensures at c.in-Ok.ensures.views)
     (reported c.args.request.now.wanted c.args.request.now.padding c.args.octets.now c.in-Ok.viewed.broken.items
@@ -35,12 +35,12 @@ returns-then-reports_broken g c =
     (rw c.stays_closed-closed.ensures at c.in-Ok.ensures.broken))
 
 pub returns-else-reports_broken : goal.returns-else-reports_broken
-returns-else-reports_broken g c =
+returns-else-reports_broken g c = λ reads.
     rw c.new.ensures.items
     (shown c.args.view.now _ [] c.requires.wanted (rw c.stays_closed-closed.ensures at c.in-Ok.ensures.views)
     (unreported (reports_broken c.args.request.now.wanted) c.args.request.now.padding c.args.octets.now
     (sym c.reports_broken.ensures ∙ c.if-reports_broken.false)))
 
 pub returns-in-Err : goal.returns-in-Err
-returns-in-Err g c =
+returns-in-Err g c = λ reads.
     rw (c.no_memory.ensures.report, c.no_memory.ensures.none) (no_memory c.in-Err.ensures.nothing)

@@ -10,7 +10,7 @@ returns-in-Nothing g c =
 pub returns-in-Taken : goal.returns-in-Taken
 returns-in-Taken g c =
     rw c.in-Taken.is
-    (octets (sym c.has_octets.ensures ∙ c.if-has_octets.true) (rw c.as_slice.ensures.value at c.show_octets.ensures))
+    (octets (sym c.has_octets.ensures ∙ c.if-has_octets.true) (rw (c.block_reads.ensures, c.as_slice.ensures.value) at c.show_octets.ensures))
 
 pub returns-in-Taken-2 : goal.returns-in-Taken-2
 returns-in-Taken-2 g c =

@@ -1,6 +1,6 @@
 use Rattle.std.proofs.Common.{◌≡◌, ◌≤◌, ◌<◌, ◌*◌, ◌^◌, length, All}
 use Rattle.tlv_reasons.specs.WrongLength.{lengths_within}
-use Rattle.tlv_reasons.proofs.lengths.near_lengths.Given as goal
+use Rattle.tlv_reasons.proofs.tried_lengths.near_lengths.Given as goal
 
 abbrev pub invariant-loop-by : goal.invariant-loop-by
 invariant-loop-by l = record {

@@ -1,0 +1,18 @@
+use Rattle.std.proofs.Common.{rules}
+use Rattle.std.proofs.lemmas.Result.{IfOk-weaker}
+use Rattle.tlv_reasons.specs.Remedies.{in_agreement, in_disagreement}
+use Rattle.tlv_reasons.proofs.mend.named_lengths.Goals as goal
+
+pub returns-then-not-sizes_agree : goal.returns-then-not-sizes_agree
+returns-then-not-sizes_agree c =
+    rw c.new.ensures (in_disagreement (λ agree. cc (c.if-not-sizes_agree.true, c.sizes_agree.ensures.1 agree)))
+
+pub returns : goal.returns
+returns c =
+    IfOk-weaker c.wrong_lengths.result _ _ (λ found names. in_agreement (c.sizes_agree.ensures.0 (search rules)) names)
+    (rw (
+      c.closed_framing.ensures,
+      c.as_slice-holders.ensures.value,
+      c.as_slice.ensures.value,
+      c.suspect_offsets-candidates.ensures,
+    ) at c.wrong_lengths.ensures)

@@ -1,0 +1,44 @@
+-- What the length of the outermost element says about octets that are missing or too many: X.690 8.1.3.
+use Rattle.std.specs.Prelude.{ℕ, Bool, true, false, eqb, nat_lt, if◌then◌else◌, List, length, Option, Some, None, slice_get}
+use Rattle.std.specs.Prelude.{slice_index}
+use Rattle.tlv_head.specs.declared.fault.Fault.{Fault}
+use Rattle.tlv_head.specs.declared.fault.FaultCode.{FaultCode}
+use Rattle.tlv_head.specs.declared.fault.FaultCode.TheVariants.{Short}
+use Rattle.tlv_reasons.specs.declared.element.Element.{Element}
+use Rattle.tlv_reasons.specs.declared.facts.Facts.{Facts}
+use Rattle.tlv_reasons.specs.declared.sentence.Sentence.{Sentence}
+use Rattle.tlv_reasons.specs.declared.sentence.Sentence.TheVariants as say
+
+-- the sentence about an element of definite length, which ends at this offset. If an octet with which it begins stands
+-- there, another record may follow, and nothing is said
+abbrev pub size_sentence_of : List ℕ → Element → ℕ → Option Sentence
+size_sentence_of octets e end =
+    if eqb end (length octets) then Some (say.NoneLost e)
+    else (if nat_lt (length octets) end then Some (say.SomeLost e (length octets))
+    else (if eqb (slice_index octets end) (slice_index octets e.offset) then None
+    else Some (say.SomePutIn e (length octets))))
+
+-- the same, if its length is definite
+abbrev pub size_sentence_by : List ℕ → Element → Option ℕ → Option Sentence
+size_sentence_by octets e None = None
+size_sentence_by octets e (Some end) = size_sentence_of octets e end
+
+-- the sentence about the outermost open element
+abbrev pub size_sentence_in : List ℕ → Option Element → Option Sentence
+size_sentence_in octets None = None
+size_sentence_in octets (Some e) = size_sentence_by octets e e.end
+
+-- F02
+abbrev pub is_short : FaultCode → Bool
+is_short Short = true
+is_short code = false
+
+-- then the sentences about the fault say the same
+abbrev pub says_sizes : Option Fault → Bool
+says_sizes None = false
+says_sizes (Some fault) = is_short fault.code
+
+-- the sentence about sizes, if there is one
+abbrev pub size_sentence : List ℕ → Facts → Option Sentence
+size_sentence octets facts =
+    if says_sizes facts.fault then None else size_sentence_in octets (slice_get facts.holders.items 0)
