@@ -3,9 +3,9 @@ use crate::expect::expect_eq;
 use std::process::Abort;
 use std::test::Fail;
 use tlv_reasons::{
-    FileKind, OctetChange, Reasons, TextChange, all_reasons, facts_of, file_kind, latin1_of_utf8,
-    laws, next_record, next_start, octet_change, remedies, string_reasons, text_change,
-    undone_line_ends, undone_utf8, write_sentences,
+    FileKind, OctetChange, Reasons, TextChange, WrongLength, all_reasons, facts_of, file_kind,
+    latin1_of_utf8, laws, next_record, next_start, octet_change, string_reasons, text_change,
+    undone_line_ends, undone_utf8, write_sentences, wrong_lengths,
 };
 use tlv_walk::{Framing, MemDrain};
 
@@ -48,31 +48,28 @@ fn characters_of_latin1_are_found(rt: HostRuntime) -> Result<(), Fail> {
 
 #[test]
 fn another_start_is_found(rt: HostRuntime) {
-    let behind_three = b"\x00\x00\x00\x30\x03\x02\x01\x05";
-    expect_eq(&rt, next_start(behind_three, false), Some(3));
-    let record = next_record(RECORDS, false, 5, None, None);
+    let behind_three = b"\x00\x00\x00\x30\x08\x02\x01\x05\x02\x03\x01\x02\x03";
+    expect_eq(&rt, next_start(behind_three, false, 0), Some(3));
+    let record = next_record(RECORDS, false, 5, None, None, 1 << 24);
     expect_eq(&rt, record, Some(13));
 }
 
 const LENGTH: &[u8] = b"If the header at offset 2 said 1 octet and not 2, all would parse.\n";
 
-/// Writes these sentences about [`TOO_LONG`], and checks that this line is the last one.
-fn expect_last(rt: &impl Abort, reasons: &Reasons, line: &[u8]) {
+/// Writes these sentences about [`TOO_LONG`], and checks that this line is the first one.
+fn expect_first(rt: &impl Abort, reasons: &Reasons, line: &[u8]) {
     let mut room = [0; 1024];
     let mut drain = MemDrain::new(&mut room, 5);
     let sent = write_sentences(TOO_LONG, reasons.as_slice(), &mut drain);
     expect_eq(rt, sent, Ok(()));
-    expect_eq(rt, drain.written().ends_with(line), true);
+    expect_eq(rt, drain.written().starts_with(line), true);
 }
 
 #[test]
 fn all_reasons_are_found(rt: HostRuntime) -> Result<(), Fail> {
     let facts = facts_of(TOO_LONG, &Framing::plain());
-    let reasons = all_reasons(rt.alloc(), TOO_LONG, false, &facts)?;
-    expect_last(&rt, &reasons, LENGTH);
-    let remedies = remedies(rt.alloc(), TOO_LONG, false, &[2, 0], 0)?;
-    expect_eq(&rt, remedies.len(), 1);
-    expect_last(&rt, &remedies, LENGTH);
+    let reasons = all_reasons(rt.alloc(), TOO_LONG, false, &facts, 1 << 24)?;
+    expect_first(&rt, &reasons, LENGTH);
     Ok(())
 }
 
@@ -81,7 +78,7 @@ fn another_kind_of_file_is_the_only_reason(rt: HostRuntime) -> Result<(), Fail> 
     let gzip = b"\x1f\x8b\x08";
     expect_eq(&rt, file_kind(gzip), Some(FileKind::Gzip));
     let facts = facts_of(gzip, &Framing::plain());
-    let reasons = all_reasons(rt.alloc(), gzip, false, &facts)?;
+    let reasons = all_reasons(rt.alloc(), gzip, false, &facts, 1 << 24)?;
     expect_eq(&rt, reasons.len(), 1);
     Ok(())
 }
@@ -91,7 +88,23 @@ fn the_length_that_mends_a_string_is_found(rt: HostRuntime) -> Result<(), Fail> 
     let plain = Framing::plain();
     let facts = facts_of(TOO_LONG, &plain);
     let reasons = string_reasons(rt.alloc(), TOO_LONG, &plain, 0, &facts)?;
-    expect_last(&rt, &reasons, LENGTH);
+    expect_first(&rt, &reasons, LENGTH);
+    Ok(())
+}
+
+/// In an OCTET STRING in a SEQUENCE one bit of the length is wrong: 9 in place of 1.
+#[test]
+fn a_length_with_a_wrong_bit_is_found(rt: HostRuntime) -> Result<(), Fail> {
+    let octets = b"\x30\x05\x04\x09\x07\x05\x00";
+    let plain = Framing::plain();
+    let facts = facts_of(octets, &plain);
+    let found = wrong_lengths(rt.alloc(), octets, &plain, facts.holders.as_slice(), &[2])?;
+    let wanted = WrongLength {
+        offset: 2,
+        said: 9,
+        would: 1,
+    };
+    expect_eq(&rt, found.as_slice(), &[wanted]);
     Ok(())
 }
 
