@@ -1,7 +1,7 @@
 -- Outermost elements, one after another.
 use Rattle.std.proofs.Common.{◌≡◌, ℕ, ◌+◌, ◌-◌, ◌<◌, ◌≤◌, Bool, true, false, List, ◌++◌, length}
 use Rattle.std.proofs.Common.{drop, take, ap, arith, length-append, length-drop, subst, sym, ◌∙◌}
-use Rattle.std.specs.Prelude.{◌↔◌, Err, IfOk, IsTrue, Ok, Option, Result, Some, nat_eq}
+use Rattle.std.specs.Prelude.{◌↔◌, IsTrue, Some, nat_eq}
 use Rattle.std.proofs.lemmas.Bool.{eq-eqb, eqb-true}
 use Rattle.std.proofs.lemmas.List.{take_rest}
 use Rattle.tlv_head.proofs.ReaderLemmas.Prefix.{header-two}
@@ -13,9 +13,6 @@ use Rattle.tlv_head.specs.ReadHeader.{BeginsWithFields}
 use Rattle.tlv_head.specs.Refusal.{BeginsWith, BeginsWithNoHeader}
 use Rattle.tlv_reasons.proofs.LengthLemmas.{begun-one}
 use Rattle.tlv_reasons.proofs.OctetLemmas.{starts-at}
-use Rattle.tlv_open.specs.Opens.{closed_framing}
-use Rattle.tlv_walk.specs.declared.framing.Framing.{Framing}
-use Rattle.tlv_reasons.specs.declared.lengths.WrongLength.{WrongLength}
 use Rattle.tlv_reasons.specs.WrongLength.{contents_start}
 use Rattle.tlv_reasons.specs.OutermostSizes.{SizesAgree, agree_at_end, agree_behind_element, agree_behind_padding}
 use Rattle.tlv_reasons.specs.OutermostSizes.{agree_without_end, is_padded_at}

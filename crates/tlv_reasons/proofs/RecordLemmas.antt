@@ -1,5 +1,5 @@
 -- The offsets at which the next record is looked for, one after another.
-use Rattle.std.proofs.Common.{◌≡◌, ℕ, zero, suc, ◌+◌, ◌-◌, ◌*◌, ◌<◌, ◌≤◌, Bool, true, false, List, [], ◌∷◌, ◌++◌}
+use Rattle.std.proofs.Common.{◌≡◌, ℕ, zero, suc, ◌+◌, ◌-◌, ◌<◌, ◌≤◌, Bool, true, false, List, [], ◌∷◌, ◌++◌}
 use Rattle.std.proofs.Common.{append_assoc, append-nil, length, not}
 use Rattle.std.proofs.Common.{drop, take, ap, arith, get_or, length-append, length-drop, refl, subst, sym, ◌∙◌}
 use Rattle.std.specs.Prelude.{Option, Some, None}

@@ -1,5 +1,5 @@
 -- Where the next record begins in a file of records, one of which is damaged: X.690 8.1.1.
-use Rattle.std.specs.Prelude.{◌≡◌, ◌==◌, ℕ, ◌+◌, ◌-◌, ◌*◌, ◌<◌, ◌≤◌, Bool, true, false, ◌||◌, if◌then◌else◌, List, []}
+use Rattle.std.specs.Prelude.{◌≡◌, ◌==◌, ℕ, ◌+◌, ◌-◌, ◌<◌, ◌≤◌, Bool, true, false, ◌||◌, if◌then◌else◌, List, []}
 use Rattle.std.specs.Prelude.{◌∷◌, ◌++◌, length, take, drop, Option, None, Some, slice_index}
 use Rattle.std.specs.List.{filter, list_any}
 use Rattle.tlv_head.specs.declared.fault.FaultCode.{FaultCode}
