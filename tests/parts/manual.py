@@ -181,6 +181,7 @@ def shown_of(part, octets, *words):
 # The first lines of --why for the file with a damaged length.
 WHY = """\
 It does not parse: fault at 10: F11 element runs past the enclosing length.
+If the header at offset 9 said 1 octet and not 2, or that at offset 7 said 4 octets and not 3, all would parse.
 The octet at offset 10 completes the header of the INTEGER at offset 9. The header at offset 9, 02 02, says that its contents are 2 octets.
 It would end at offset 13, but the SEQUENCE at offset 7 ends at offset 12. Missing there: 1 octet. \
 The header at offset 7, 30 03, says that its contents are 3 octets.

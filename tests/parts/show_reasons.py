@@ -17,7 +17,7 @@ def broken(place):
 
 
 def why_broken(place):
-    """Returns the sentences about the broken string in BREAKS, without the last."""
+    """Returns the sentences about the broken string in BREAKS, without the first."""
     return [f"The octet at offset {10 + place} completes the header of the BIT STRING at offset {9 + place}. "
             + header(9 + place, "03 03", "3 octets"),
             f"It would end at offset {14 + place}, but the OCTET STRING at offset {7 + place} ends at offset {13 + place}. "
@@ -25,21 +25,21 @@ def why_broken(place):
 
 
 def mended(place):
-    """Returns the last sentence about the broken string in BREAKS."""
+    """Returns the first sentence about the broken string in BREAKS."""
     return f"If the header at offset {9 + place} said 2 octets and not 3, all would parse."
 
 
 LEFT, BEFORE = "Whole encodings end at offset {0}. Left over: {1} octets.", element(0x30, string(NULL) * 2)
 # Octets with broken strings, the lines about these strings, and the sentences about the first.
 STRINGS = [
-    (BREAKS, [broken(0)], [*why_broken(0), mended(0)]),
+    (BREAKS, [broken(0)], [mended(0), *why_broken(0)]),
     # A broken string inside a string that is opened.
-    (element(0x30, string(BREAKS) + NULL), [broken(4)], [*why_broken(4), mended(4)]),
+    (element(0x30, string(BREAKS) + NULL), [broken(4)], [mended(4), *why_broken(4)]),
     # A broken string after and before other elements. In the second row these include strings that are opened.
-    (NULL * 9 + BREAKS + NULL, [broken(18)], [LEFT.format(18, 15), WHOLE.format(18), *why_broken(18), mended(18)]),
-    (BEFORE + BREAKS + NULL, [broken(10)], [*why_broken(10), LEFT.format(10, 15), WHOLE.format(10), mended(10)]),
+    (NULL * 9 + BREAKS + NULL, [broken(18)], [mended(18), LEFT.format(18, 15), WHOLE.format(18), *why_broken(18)]),
+    (BEFORE + BREAKS + NULL, [broken(10)], [mended(10), *why_broken(10), LEFT.format(10, 15), WHOLE.format(10)]),
     # Two broken strings. A change of the first alone would make all parse, because the second is not read as encodings.
-    (element(0x30, BREAKS * 2), [broken(2), broken(15)], [*why_broken(2), mended(2)]),
+    (element(0x30, BREAKS * 2), [broken(2), broken(15)], [mended(2), *why_broken(2)]),
     # A string that ends with the input.
     (bytes.fromhex("300c 0603551d0f 0405 3080020105"),
      ["string at 7 is the value of an extension and breaks at 14: F05 no end-of-contents inside the enclosing length"],

@@ -58,7 +58,7 @@ FAULTS = [
      ["The input ends between the two octets 00 that end the SEQUENCE at offset 0.",
       "Elements with an indefinite length that are not ended: 1; each needs two octets 00.", CUT]),
     ("F02", "05 00 30 80 00 00 02 02 01", [],
-     ["Whole encodings end at offset 6. Left over: 3 octets.", WHOLE.format(6),
+     [MORE.format(6), "Whole encodings end at offset 6. Left over: 3 octets.", WHOLE.format(6),
       "The input ends inside the INTEGER at offset 6. " + header(6, "02 02", "2 octets"), "Missing there: 1 octet.", CUT]),
     ("F02", "05 00 02 02 01 05 30 09 02 01 05 04 02 aa", [],
      ["The input ends inside the OCTET STRING at offset 11. " + header(11, "04 02", "2 octets"), "Missing there: 1 octet.",
@@ -80,16 +80,15 @@ FAULTS = [
      ["The input begins with octets 00: 1. No element begins with such an octet.",
       "Try: --padding, which allows octets 00 between the encodings."]),
     ("F03", "30 04 05 00 00 00", [],
-     ["Inside the SEQUENCE at offset 0, which ends at offset 6, an element should begin at offset 4."
+     ["If the header at offset 2 said 2 octets and not 0, all would parse.",
+      "Inside the SEQUENCE at offset 0, which ends at offset 6, an element should begin at offset 4."
       " There is an octet 00, with which none begins. " + header(0, "30 04", "4 octets"),
-      "Left over: 2 octets. Its length, or one in front of that offset, is wrong.", ANEW,
-      in_front("NULL", 2, "05 00", "0 octets")]),
+      "Left over: 2 octets. Its length, or one in front of that offset, is wrong.", ANEW]),
     # One of the two contents octets of the INTEGER is missing.
     ("F03", "30 06 02 02 01 05 00", [],
-     ["Inside the SEQUENCE at offset 0, which ends at offset 8, an element should begin at offset 6."
+     [MORE.format(2), "Inside the SEQUENCE at offset 0, which ends at offset 8, an element should begin at offset 6."
       " There is an octet 00, with which none begins. " + header(0, "30 06", "6 octets"),
-      "Left over: 2 octets. Its length, or one in front of that offset, is wrong.", ANEW,
-      in_front("INTEGER", 2, "02 02", "2 octets"), MORE.format(2)]),
+      "Left over: 2 octets. Its length, or one in front of that offset, is wrong.", ANEW]),
     ("F04", "30 80 00 05", [],
      ["At offset 2 the octets 00 00 should end the SEQUENCE at offset 0, but the second is 05. "
       + header(0, "30 80", INDEFINITE), ANEW]),
@@ -108,25 +107,44 @@ FAULTS = [
       "Try: look at the element that ends at offset 2, or begins there: its length may be wrong; or fetch the input anew, in binary.",
       in_front("SEQUENCE", 0, "30 02", "2 octets")]),
     ("F08", "30 04 05 00 04 80", [],
+     ["If the header at offset 2 said 2 octets and not 0, all would parse.",
+      "The header at offset 4 is that of a primitive, which cannot have the indefinite length: 04 80.",
+      "Try: look at the element that ends at offset 4, or begins there: its length may be wrong; or fetch the input anew, in binary."]),
+    # Nothing that is tried mends it, so two lengths in front are named.
+    ("F08", "30 10 05 00 04 80 04 80 04 80 04 80 04 80 04 80 04 80", [],
      ["The header at offset 4 is that of a primitive, which cannot have the indefinite length: 04 80.",
       "Try: look at the element that ends at offset 4, or begins there: its length may be wrong; or fetch the input anew, in binary.",
-      in_front("SEQUENCE", 0, "30 04", "4 octets"), in_front("NULL", 2, "05 00", "0 octets")]),
+      in_front("SEQUENCE", 0, "30 10", "16 octets"), in_front("NULL", 2, "05 00", "0 octets")]),
     ("F09", "04 86 01", [], ["The header at offset 0 announces a length of 2^40 or more: 04 86 01.", START]),
     ("F10", "30 80 " * 129, [], ["At offset 256 element 129 would be open. The program holds 128.",
       "Try: tail -c +M FILE, where M is 1 and the offset of an element some levels deep."]),
     ("F11", "30 03 02 02 01", [],
-     ["The octet at offset 3 completes the header of the INTEGER at offset 2. " + header(2, "02 02", "2 octets"),
+     ["If the header at offset 2 said 1 octet and not 2, all would parse.",
+      "The octet at offset 3 completes the header of the INTEGER at offset 2. " + header(2, "02 02", "2 octets"),
       "It would end at offset 6, but the SEQUENCE at offset 0 ends at offset 5. Missing there: 1 octet. "
       + header(0, "30 03", "3 octets"), WRONG, ANEW]),
     ("F11", "30 03 02 02 01 05 00", [],
-     ["The octet at offset 3 completes the header of the INTEGER at offset 2. " + header(2, "02 02", "2 octets"),
+     ["If the header at offset 2 said 1 octet and not 2, all would parse.",
+      "The octet at offset 3 completes the header of the INTEGER at offset 2. " + header(2, "02 02", "2 octets"),
       "It would end at offset 6, but the SEQUENCE at offset 0 ends at offset 5. Missing there: 1 octet. "
-      + header(0, "30 03", "3 octets"), WRONG, ANEW, "If the header at offset 2 said 1 octet and not 2, all would parse."]),
+      + header(0, "30 03", "3 octets"), WRONG, ANEW]),
     # The INTEGER has one octet too many.
     ("F11", "30 05 02 01 05 07 05 00", [],
+     [FEWER.format(2), "The octet at offset 6 completes the header of the ObjectDescriptor at offset 5. " + header(5, "07 05", "5 octets"),
+      "It would end at offset 12, but the SEQUENCE at offset 0 ends at offset 7. Missing there: 5 octets. "
+      + header(0, "30 05", "5 octets"), WRONG, ANEW]),
+    # Nothing that is tried mends it: two such elements.
+    ("F11", "30 05 02 01 05 07 05 30 05 02 01 05 07 05 00", [],
      ["The octet at offset 6 completes the header of the ObjectDescriptor at offset 5. " + header(5, "07 05", "5 octets"),
       "It would end at offset 12, but the SEQUENCE at offset 0 ends at offset 7. Missing there: 5 octets. "
-      + header(0, "30 05", "5 octets"), WRONG, ANEW, in_front("INTEGER", 2, "02 01", "1 octet"), FEWER.format(2)]),
+      + header(0, "30 05", "5 octets"), WRONG, ANEW, in_front("INTEGER", 2, "02 01", "1 octet")]),
+    # What is left over is printable text: 8 octets or more.
+    ("F11", "05 00 67 61 72 62 61 67 65 0a", [],
+     ["Whole encodings end at offset 2. The octets after them are printable text: 8.", WHOLE.format(2)]),
+    ("F11", "05 00 67 61 72 62 61 67 65", [],
+     ["The octet at offset 5 completes the header of the [APPLICATION 18] at offset 4. " + header(4, "72 62", "98 octets"),
+      "It would end at offset 104, but the [APPLICATION 7] at offset 2 ends at offset 101. Missing there: 3 octets. "
+      + header(2, "67 61", "97 octets"), WRONG, ANEW, "Whole encodings end at offset 2. Left over: 7 octets.", WHOLE.format(2)]),
     ("F11", "30 02 30 82 01 01", [],
      ["The header at offset 2 runs past the end of the SEQUENCE at offset 0, which ends at offset 4. "
       + header(0, "30 02", "2 octets"),
@@ -169,6 +187,7 @@ HINTS = [
     ("a string with marks, and CR", element(0x30, string(b"\x0a\xef\xbf\xbd")).replace(b"\x0a", b"\r\n"),
      "octets 0d were put in front of 0a", 2),
 ]
+UNDONE = [(what, octets) for what, octets, wanted, _ in HINTS if "ISO-8859-1" in wanted or "0d were" in wanted]
 PCAP = "It begins as a capture of packets (pcap) does: export the octets of a packet first."
 # Files of other kinds, and the line that is the only reason why they do not parse. Behind some of the first octets stand
 # octets for which there would be lines of left-over octets, another length, line ends, or another start.
@@ -189,17 +208,48 @@ KINDS = [
 ]
 # Octets for which no other start may be suggested: those after whole encodings, and the last record.
 NO_START = [BODY + b"garbage\n", BODY + b"\x41\x82\x13\x04\x30", BODY + DAMAGED]
-# Octets that refuse every walk up to them. Between a damaged record and these, each record that stands there is tried.
-WALL = b"\x05\xff"
+# Octets that refuse every walk up to them. Between a damaged record and these, each record that stands there is tried, and a
+# string makes each try long.
+WALL, LONG = b"\x05\xff", 524_000
 
 
 def behind_many(count):
-    """Returns octets in which the last record is the next one, behind a damaged one, so many others, and a wall."""
-    return RECORD + b"\x30\x04\x05\x05\0\0" + b"\x30\0" * count + WALL + b"\x30\0"
+    """Returns octets in which the last record is the next one, behind a damaged one, so many others, a string and a wall."""
+    return RECORD + b"\x30\x04\x05\x05\0\0" + b"\x30\0" * count + element(4, bytes(LONG)) + WALL + b"\x30\0"
 
 
-# A header that is named: "the header at offset 2", "the INTEGER at offset 2", "the [1] at offset 2".
-NAMED = re.compile(r"(?:eader|[A-Z][A-Za-z0-9-]*|\]) at offset (\d+)")
+# Octets in which another length of one header, of two or of three would mend all, and the line about them.
+LENGTHS = [
+    ("a length that differs in one bit", b"\x30\x0b\x04\x19" + b"a" * 9, "If the header at offset 2 said 9 octets and not 25, all would parse."),
+    ("lengths of two headers", bytes.fromhex("3006300202020500"),
+     "If the header at offset 4 said 0 octets and not 2, or that at offset 2 said 4 octets and not 2, all would parse."),
+    ("lengths of three headers", bytes.fromhex("300a040261613002 02020500"),
+     "If the header at offset 8 said 0 octets and not 2, or that at offset 6 said 4 octets and not 2,"
+     " or that at offset 2 said 4 octets and not 2, all would parse."),
+    # 300 is 01 2c, and 2c 01 is 11265.
+    ("length octets in reverse order", b"\x30\x83\0\x2d\x7a" + b"\x04\x82\x2c\x01" + b"a" * 300 + b"\x04\x82\x2c\x46" + b"a" * 11334,
+     "If the header at offset 5 said 300 octets and not 11265, all would parse."),
+    # 1279 is 04 ff, and 1535 is 05 ff: two bits differ.
+    ("256 more", b"\x30\x82\x04\x99" + b"\x30\x82\x03\x01" + b"\x04\x82\x03\xfd" + b"a" * 1021 + element(4, b"a" * 145),
+     "If the header at offset 4 said 1025 octets and not 769, all would parse."),
+    # With 24 octets the inner SEQUENCE ends with the outer one. An INTEGER of three octets ends behind its header.
+    ("the end of an open element", b"\x30\x1d\x02\x01\x05\x30\x07" + element(4, b"a" * 12) + element(4, b"b" * 8),
+     "If the header at offset 5 said 24 octets and not 7, or that at offset 2 said 3 octets and not 1, all would parse."),
+]
+# The size of a long input, what ends it, and the line about lengths. In the first case the OCTET STRING in front could have one
+# octet more, since 03 02 02 01 is a BIT STRING.
+ONE, BIT = bytes.fromhex("3003020201"), b"\x30\x0b\x04\x19" + b"a" * 9
+WIDE, SEARCHED = 1 << 16, 1 << 20
+LONG_LENGTHS = [
+    (WIDE, ONE, "If the header at offset 65533 said 1 octet and not 2, or that at offset 0 said 65528 octets and not 65527, all would parse."),
+    (WIDE + 1, ONE, "If the header at offset 65534 said 1 octet and not 2, all would parse."),
+    (SEARCHED, ONE, "If the header at offset 1048573 said 1 octet and not 2, all would parse."),
+    (SEARCHED + 1, ONE, None),
+    (WIDE, BIT, "If the header at offset 65525 said 9 octets and not 25, all would parse."),
+    (WIDE + 1, BIT, None),
+]
+# A header that is named: "the header at offset 2", "that at offset 2", "the INTEGER at offset 2", "the [1] at offset 2".
+NAMED = re.compile(r"(?:eader|that|[A-Z][A-Za-z0-9-]*|\]) at offset (\d+)")
 # The number of headers of each encoding that are changed, and the step by which certificates of the machine are taken.
 CHANGES, STEP = 12, 8
 PEM = b"-----BEGIN A-----\nMAMCAQU=\n-----END A-----\n-----BEGIN B-----\nMAMCAQ==\n-----END B-----\n"
@@ -241,6 +291,14 @@ def faults(why):
         part.expect(f"why {octets.hex()}", got == (wanted, [sound(octets), findings(ber, der)]), str(got))
 
 
+def undone(why):
+    """If the input would parse without a change that was made to it as a text, that is said, and one line of the fault."""
+    for what, octets in UNDONE:
+        _, lines = why.said(octets)
+        fine = len(lines) == 3 and lines[1].startswith("It was taken for a text") and lines[2].startswith("The ")
+        why.part.expect(f"what was done to {what}", fine, *lines)
+
+
 def open_elements(number):
     """Returns 18 elements, each inside the one before and with a NULL behind it, and the offset of the one with this
     number, of which the length is 1 too great. In the innermost one are 26 elements, read after all these headers.
@@ -256,7 +314,7 @@ def outermost(why):
     for number, is_named in ((2, True), (16, True), (17, False), (18, False)):
         octets, offset = open_elements(number)
         _, lines = why.said(octets)
-        fine = any(f"header at offset {offset} said" in line for line in lines) == is_named
+        fine = any(f" at offset {offset} said" in line for line in lines) == is_named
         why.part.expect(f"a wrong length in open element {number}", fine, *lines)
 
 
@@ -307,21 +365,51 @@ def kinds(why):
     why.part.expect("what parses is of no other kind", lines[:1] == [sound(octets)], *lines)
 
 
-def many_tries(why):
-    """The tries for the next record read 16 octets for each octet of the input, and then no other is made.
+def other_lengths(why):
+    """Up to three headers are named, each with the first length that would mend all."""
+    for what, octets, wanted in LENGTHS:
+        _, lines = why.said(octets)
+        why.part.expect(f"another length: {what}", lines[1:2] == [wanted], *lines)
 
-    With N records in front of the wall, the first of these is tried twice: as the end of the damaged one, and after its
-    start. A walk from a record reads its two octets, those of the records behind it, and one of the wall. So all walks
-    read N * N + 4 * N + 1 octets: of an input of 2 * N + 15 octets, fewer than 16 times as many for 34, and more for 35.
+
+def of_size(size, octets):
+    """Returns an input of this size: an OCTET STRING, and then these octets."""
+    return next(it for head in range(2, 7) if len(it := string(bytes(size - len(octets) - head)) + octets) == size)
+
+
+def long_input(why):
+    """In more than 2^16 octets only lengths nearby are tried, and one header is named. In more than 2^20 none is, and no
+    next record.
     """
-    for count, is_found in ((33, True), (34, True), (35, False), (36, False), (1000, False)):
-        octets = behind_many(count)
-        last = len(octets) - 2
-        read = count * count + 4 * count + 1
-        status, lines = why.said(octets)
-        fine = status == 2 and is_found == (read < 16 * len(octets)) and (NEXT.format(last, last + 1) in lines) == is_found
-        fine = fine and ("From offset" in "\n".join(lines)) == is_found
-        why.part.expect(f"the next record, behind {count} that break", fine, *lines)
+    for size, octets, wanted in LONG_LENGTHS:
+        _, lines = why.said(of_size(size, octets))
+        fine = wanted in lines if wanted else not any(line.startswith("If ") for line in lines)
+        why.part.expect(f"another length in {size} octets, {octets.hex()}", fine, *lines)
+    for size, is_found in ((1 << 20, True), ((1 << 20) + 1, False)):
+        _, lines = why.said(of_size(size, DAMAGED + RECORD))
+        fine = (NEXT.format(size - 5, size - 4) in lines) == is_found
+        why.part.expect(f"the next record in {size} octets", fine, *lines)
+
+
+def many_tries(why):
+    """The tries for the next record read 2^24 octets, divided by the number of blocks, and then no other is made.
+
+    With N records in front of the string, the first of these is tried twice: as the end of the damaged one, and after its
+    start. A walk from a record reads its two octets, those of the records behind it, the string and one octet of the wall. So
+    all walks read N * (N + 3) + (N + 1) * (LONG + 6) octets.
+    """
+    part = why.part
+    part.write("other", RECORD + DAMAGED + RECORD)
+    for blocks, last_found in ((1, 31), (2, 15), (3, 9)):
+        for count in (last_found - 1, last_found, last_found + 1, last_found + 2):
+            octets, is_found = behind_many(count), count <= last_found
+            last, read = len(octets) - 2, count * (count + 3) + (count + 1) * (LONG + 6)
+            part.write("many", octets)
+            got = why.run(["--as", "octets", *["other"] * (blocks - 1), "many"])
+            lines = got.out.decode().splitlines()
+            fine = got.status == 2 and is_found == (read < (1 << 24) // blocks) and (NEXT.format(last, last + 1) in lines) == is_found
+            fine = fine and lines.count(NEXT.format(13, 14)) == blocks - 1
+            part.expect(f"the next record, behind {count} that break, in block {blocks}", fine, *lines)
 
 
 def cuts(why):
@@ -356,7 +444,7 @@ def real_headers(why):
             status, lines = why.said(wrong)
             if status == 2:
                 text = "\n".join(lines)
-                mended += f"If the header at offset {offset} said" in text
+                mended += f" at offset {offset} said" in text
                 is_named = str(offset) in NAMED.findall(text)
                 named, unnamed = named + is_named, unnamed + [f"{name}, {offset}"] * (not is_named)
     count = named + len(unnamed)
@@ -436,8 +524,11 @@ def texts(why):
 def test(part):
     why = Why(part)
     faults(why)
+    undone(why)
     outermost(why)
     no_length(why)
+    other_lengths(why)
+    long_input(why)
     hints(why)
     kinds(why)
     many_tries(why)

@@ -34,10 +34,11 @@ def moved(text, after, by):
     return re.sub(rb"^()(\d+)(?= [A-Z]\d\d )", add, text, flags=re.M)
 
 
-# What follows a sound front: a fault, an end that comes too early, a string that breaks, findings.
+# What follows a sound front: a fault, an end that comes too early, a string that breaks, findings. No line says of any of these
+# that a length in front is wrong: such a line comes only where nothing is found that would mend the input.
 BEHIND = (
     ("a fault", CUT, ([], ["--check"], ["--why"])),
-    ("an end too early", b"\x30\x05\x02\x01\x07", ([], ["--check"], ["--why"])),
+    ("an end too early", b"\x30\x05\x02\x03\x07", ([], ["--check"], ["--why"])),
     ("a string that breaks", BROKEN, ([], ["--check"], ["--why"])),
     ("findings", b"\x01\x01\x01\x04\x81\x01\x00", ([], ["--check"], ["--why"])),
     ("an element", NULL, ([], ["--check"], ["--why"])),

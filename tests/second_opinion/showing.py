@@ -109,7 +109,7 @@ def run(show, names):
             number += 1
             if count > 1 and show.job in ("dump", "check", "why"):
                 whole.out += f"# block {number} of {count}: {title(show, file, block)}\n".encode()
-            shown = of_block(show, file, block, known)
+            shown = of_block(show, file, block, known, count)
             front = "" if file.is_standard_input else f"{file.shown()}: "
             front += f"block {number}: " if len(of_file) > 1 else ""
             whole.status, whole.out = max(whole.status, shown.status), whole.out + shown.out
@@ -126,32 +126,32 @@ def title(show, file, block):
     return name if len(show.files) == 1 else f"{file.shown()}: {name}"
 
 
-def of_block(show, file, block, known):
-    """Returns the result for a block. The first line that is reported is the note."""
+def of_block(show, file, block, known, count):
+    """Returns the result for a block of a run with so many. The first line that is reported is the note."""
     if block is None:
         return Shown(3, lines=[f"E5 cannot open the file{file.cause()}"])
     note, is_raw = block.note(), show.job == "raw"
-    shown = of_octets(show, block.octets, known) if block.is_shown() else Shown(0)
+    shown = of_octets(show, block.octets, known, count) if block.is_shown() else Shown(0)
     shown.status, shown.lines = block.status(shown.status, is_raw), [note] * bool(note) + shown.lines
     return shown
 
 
-def of_octets(show, octets, known):
-    """Returns the result for the octets of a block."""
+def of_octets(show, octets, known, count):
+    """Returns the result for the octets of a block of a run with so many."""
     if show.job == "raw":
         return Shown(0, octets)
     strings = Strings(octets, show.padding)
     if show.closed or show.job in ("offset", "offsets"):
         strings.broken.clear()
     if show.job == "why":
-        return why_shown(show, octets, strings)
+        return why_shown(show, octets, strings, count)
     if show.job == "offsets":
         shown = offsets(octets, show.padding, strings.opened)
     else:
         got = answer(options_of(show), values_of(show, strings.opened), known, octets)
         shown = Shown(got.status, got.out, [got.message] * bool(got.message))
     if show.has_reasons:
-        shown.reasons = why.lines_of(octets, show.padding)[1:] if shown.status == 2 else of_first(strings)
+        shown.reasons = why.lines_of(octets, show.padding, count)[1:] if shown.status == 2 else of_first(strings)
     return with_broken(shown, strings)
 
 
@@ -170,9 +170,9 @@ def of_first(strings):
     return ()
 
 
-def why_shown(show, octets, strings):
-    """Returns the output of --why for the octets of a block."""
-    lines = why.lines_of(octets, show.padding)
+def why_shown(show, octets, strings, count):
+    """Returns the output of --why for the octets of a block of a run with so many."""
+    lines = why.lines_of(octets, show.padding, count)
     if lines:
         return Shown(2, written(lines))
     inside = [] if show.closed else strings.opened

@@ -6,7 +6,9 @@ from second_opinion.commands import fault_text
 from second_opinion.reading import Element, Reading
 
 MOST_BEFORE, MOST_OPEN = 25, 16
+LEAST_TEXT = 8
 BLANK = b" \t\n\r\x1a"
+PRINTABLE = b"\t\n\r" + bytes(range(0x20, 0x7F))
 
 
 class Stand:
@@ -42,15 +44,29 @@ class Stand:
         return [it for it in self.open if it.length is not None]
 
     def candidates(self):
-        """Returns the elements whose length may be wrong, in the order in which they are tried."""
-        read = [it for it in self.reading.elements() if it is not self.primitive]
+        """Returns the elements whose length may be wrong, in the order in which they are tried. With each come the
+        ends of the elements around it, outermost first, None for one of indefinite length.
+        """
+        read = [it for it in with_ends(self.reading.items, ()) if it[0] is not self.primitive]
         recent = read[: -MOST_BEFORE - 1 : -1]
-        return [it for it in [self.there, *recent, *self.open[:MOST_OPEN]] if it is not None]
+        first = [(self.there, tuple(map(why_search.end_of, self.open)))] if self.there else []
+        places = {it.offset for it in self.open[:MOST_OPEN]}
+        outer = [it for it in read if it[0].offset in places]
+        return list({it.offset: (it, ends) for it, ends in (*first, *recent, *outer)}.values())
 
 
 def elements_of(items):
     """Returns the elements among items, without padding."""
     return [it for it in items if isinstance(it, Element)]
+
+
+def with_ends(items, ends):
+    """Yields these elements and those in them, each before the elements in it, with the ends of the elements around
+    it.
+    """
+    for it in elements_of(items):
+        yield it, ends
+        yield from with_ends(it.children, (*ends, why_search.end_of(it)))
 
 
 def last_whole(elements):
@@ -60,8 +76,10 @@ def last_whole(elements):
 
 # A case has several runs on the same octets.
 @functools.lru_cache(maxsize=16)
-def lines_of(octets, padding):
-    """Returns the lines about octets that do not parse, or none if they parse."""
+def lines_of(octets, padding, count=1):
+    """Returns the lines about octets that do not parse, or none if they parse. `count` is the number of blocks of the
+    run.
+    """
     stand = Stand(octets, padding)
     if stand.fault is None:
         return ()
@@ -69,7 +87,17 @@ def lines_of(octets, padding):
     kind = why_search.other_kind(octets)
     if kind:
         return (first, *kind)
-    return (first, *reasons(stand), *why_search.remedies(octets, padding, stand.candidates(), stand.top))
+    undone = why_search.undone_change(octets, padding)
+    if undone:
+        return (first, *undone, why_lines.of_fault(stand)[0])
+    search = why_search.Search(octets, padding)
+    agrees = why_search.sizes_agree(octets, padding, stand.top)
+    named = search.other_lengths(stand.candidates(), stand.open) if agrees else []
+    changed = why_search.line_of_lengths(named) or search.other_count(stand.candidates())
+    start = why_search.other_start(octets, padding)
+    if not start and stand.top not in [it.offset for it, _ in named]:
+        start = why_search.next_record(octets, padding, stand.top, count)
+    return (first, *why_search.replaced(octets), *changed, *reasons(stand, bool(changed)), *start)
 
 
 @functools.lru_cache(maxsize=16)
@@ -78,8 +106,10 @@ def lines_of_string(octets, padding, inside):
     The strings at the others are opened.
     """
     stand = Stand(octets, padding, inside)
-    candidates = [it for it in stand.candidates() if it.offset >= inside[-1]]
-    return (*reasons(stand), *why_search.other_length(octets, padding, candidates, inside))
+    candidates = [it for it in stand.candidates() if it[0].offset >= inside[-1]]
+    search = why_search.Search(octets, padding, inside)
+    changed = why_search.line_of_lengths(search.other_lengths(candidates, stand.open))
+    return (*changed, *reasons(stand, bool(changed)))
 
 
 def sound_lines(octets, ber, der):
@@ -88,8 +118,10 @@ def sound_lines(octets, ber, der):
             f"By the rules of BER: findings: {ber}. By those of DER: findings: {der}."]
 
 
-def reasons(stand):
-    """Returns the lines about the fault, and about octets that remain."""
+def reasons(stand, is_mended):
+    """Returns the lines about the fault, and about octets that remain. Lengths in front are left out if a change is
+    known that would mend the input.
+    """
     rest, top = stand.octets[stand.top :], stand.top
     whole = f"Whole encodings end at offset {top}. "
     try_line = f"Try: head -c {top} FILE, for the whole encodings."
@@ -97,7 +129,11 @@ def reasons(stand):
         return [f"{whole}The octets after them are line ends or spaces: {len(rest)}.", try_line]
     if top and len(rest) > 1 and rest[0] and rest == rest[:1] * len(rest):
         return [f"{whole}The octets after them are {rest[:1].hex()} alone, as filler is: {len(rest)}.", try_line]
+    if top and len(rest) >= LEAST_TEXT and not rest.strip(PRINTABLE):
+        return [f"{whole}The octets after them are printable text: {len(rest)}.", try_line]
     lines = why_lines.of_fault(stand)
+    if is_mended:
+        lines = [line for line in lines if not line.startswith(why_lines.SUSPECT)]
     says_rest = stand.fault.code == "F01" or stand.fault.code == "F03" and not stand.open
     if not top or says_rest:
         return lines

@@ -1,5 +1,6 @@
 """Returns the lines about a fault: "Words" and "The fault" in docs/WHY.md."""
 from second_opinion import values
+from second_opinion.why_search import end_of, so_many
 
 MOST_PAIRS = 16
 ANEW = "Try: fetch the input anew, in binary; or go on at the next record, with tail -c +M FILE, where M is its offset and 1."
@@ -10,17 +11,13 @@ PADDING = "Try: --padding, which allows octets 00 between the encodings."
 OTHER_FILE = "No encoding begins so. Try: file FILE, which knows files of other kinds."
 DEEPER = "Try: tail -c +M FILE, where M is 1 and the offset of an element some levels deep."
 WRONG = "One of the two lengths is wrong, or octets between them are missing or were put in."
+SUSPECT = "Or a length in front is wrong: "
 HEADERS = {
     "F06": "has more than nine octets of tag number",
     "F07": "has the first length octet ff, which X.690 reserves",
     "F08": "is that of a primitive, which cannot have the indefinite length",
     "F09": "announces a length of 2^40 or more",
 }
-
-
-def so_many(count):
-    """Returns a number of octets, with the word."""
-    return f"{count} octet" if count == 1 else f"{count} octets"
 
 
 def pairs(octets):
@@ -40,11 +37,6 @@ def says(stand, element):
     return f"The header at offset {element.offset}, {header}, says that its contents are {size}."
 
 
-def end_of(element):
-    """Returns the end of the contents according to a definite length."""
-    return element.start + element.length
-
-
 def of_fault(stand):
     """Returns the lines about the fault."""
     code = stand.fault.code
@@ -60,7 +52,7 @@ def suspect(stand, element):
     """Returns the line about an element in front, if there is one and its length is definite."""
     if element is None or element.length is None:
         return []
-    return [f"Or a length in front is wrong: that of the {named(element)}. {says(stand, element)}"]
+    return [f"{SUSPECT}that of the {named(element)}. {says(stand, element)}"]
 
 
 def of_nothing(stand):

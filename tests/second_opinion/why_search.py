@@ -1,7 +1,18 @@
 """Looks for changes that would make an input parse: docs/WHY.md from "Another length" on."""
-from second_opinion.reading import Element, Reading
+import itertools
 
-MOST_SEARCHED, MOST_OFF, LAST_START, MOST_TRIED, MOST_READ = 1 << 20, 5, 64, 1024, 16
+from second_opinion.reading import Element, Reading
+from second_opinion.tries import Walk
+
+MOST_SEARCHED, MOST_OFF, LAST_START, MOST_TRIED = 1 << 20, 5, 64, 1024
+# The most octets of an input in which all lengths are tried, and up to so many headers named. In a longer one it is one.
+MOST_WIDE, MOST_NAMED = 1 << 16, 3
+# The most octets after the first of length octets that are tried in reverse order.
+MOST_REVERSED = 5
+# The octets that the tries for the next record may read in a run.
+MOST_READ = 1 << 24
+# The most octets of a header: 1 and 9 of the tag, and 1 and 126 of the length.
+LONGEST_HEADER = 137
 UTF_16 = "It begins as text in UTF-16 does. Try: iconv -f UTF-16 -t UTF-8 FILE | tlvdump-show"
 CAPTURE = "It begins as a capture of packets (pcap) does: export the octets of a packet first."
 MORE = "If one octet more stood after the header at offset {}, all would parse: an octet of its contents may be missing."
@@ -30,24 +41,91 @@ START = ("From offset {} on it parses: what stands in front may be a header of t
 RECORD = "From offset {} on it parses: the next record may begin there. Try: tail -c +{} FILE | tlvdump-show"
 
 
-def remedies(octets, padding, candidates, top):
-    """Returns the lines about changes that would make an input parse.
-    The candidates are elements whose length may be wrong. `top` is the top end.
-    """
-    changed = other_length(octets, padding, candidates) if sizes_agree(octets, padding, top) else []
-    changed = changed or other_count(octets, padding, candidates)
-    start = other_start(octets, padding) or next_record(octets, padding, top, changed)
-    return [*changed, *text_change(octets, padding), *start]
+def so_many(count):
+    """Returns a number of octets, with the word."""
+    return f"{count} octet" if count == 1 else f"{count} octets"
 
 
-def parses(octets, padding, inside=()):
-    """Returns whether these octets parse. The strings at the offsets `inside` are wrappers."""
-    return Reading(octets, inside, padding).fault is None
+def end_of(element):
+    """Returns the end of the contents by a definite length, or None."""
+    return None if element.length is None else element.start + element.length
+
+
+class Search:
+    """The search for a change that would make an input parse."""
+
+    def __init__(self, octets, padding, inside=()):
+        """Keeps the input. The strings at the offsets `inside` are wrappers."""
+        self.octets, self.padding, self.inside = octets, padding, inside
+        self.is_short, self.is_wide = len(octets) <= MOST_SEARCHED, len(octets) <= MOST_WIDE
+
+    def would_parse(self, element, ends, place, new, lost):
+        """Returns whether the input would parse with other octets at a place: `new`, and not the first `lost` ones
+        that stand there. Only octets from the header of this element on are read; `ends` has the ends of the elements
+        around it.
+        """
+        changed = self.octets[:place] + new + self.octets[place + lost :]
+        return Walk(changed, self.padding, self.inside, element.offset, ends).fault is None
+
+    def other_lengths(self, candidates, open_ones):
+        """Returns the first elements with which the input would parse if their length were another, with that length.
+        """
+        named, most = [], MOST_NAMED if self.is_wide else 1
+        for it, ends in candidates if self.is_short else ():
+            for length in self.lengths(it, open_ones) if len(named) < most else ():
+                said = spelled(it.length_octets, length)
+                if self.would_parse(it, ends, it.start - len(said), said, len(said)):
+                    named.append((it, length))
+                    break
+        return named
+
+    def lengths(self, it, open_ones):
+        """Returns the lengths that are tried for an element, in their order. They fit its length octets."""
+        if it.length is None:
+            return []
+        count = len(it.length_octets) - 1
+        lengths = [it.length + sign * off for off in range(1, MOST_OFF + 1) for sign in (1, -1)]
+        if self.is_wide:
+            lengths += [it.length ^ 1 << bit for bit in range(8 * count if count else 7)]
+            lengths += [int.from_bytes(it.length_octets[:0:-1], "big")] if 1 < count <= MOST_REVERSED else []
+            lengths += [it.length + 256, it.length - 256]
+            lengths += [self.end_around(it, open_ones) - it.start] if it.constructed else []
+        return [length for length in lengths if 0 <= length < (1 << 8 * count if count else 128)]
+
+    def end_around(self, it, open_ones):
+        """Returns the end of the innermost open element of definite length in front of this one, or else of the input.
+        """
+        around = [end_of(holder) for holder in open_ones if holder.offset < it.offset and holder.length is not None]
+        return min([*around[-1:], len(self.octets)])
+
+    def other_count(self, candidates):
+        """Returns the line about the first candidate after whose header one octet more, or one octet fewer, would make
+        everything parse. There is none if the last octet alone is left over.
+        """
+        if not self.is_short or parses(self.octets[:-1], self.padding):
+            return []
+        for it, ends in candidates:
+            if it.length and self.would_parse(it, ends, it.start, b"\0", 0):
+                return [MORE.format(it.offset)]
+            if self.would_parse(it, ends, it.start, b"", 1):
+                return [FEWER.format(it.offset)]
+        return []
+
+
+def line_of_lengths(named):
+    """Returns the line about these elements, each with another length."""
+    places = [f"at offset {it.offset} said {so_many(length)} and not {it.length}" for it, length in named]
+    return [f"If the header {', or that '.join(places)}, all would parse."] if places else []
+
+
+def parses(octets, padding):
+    """Returns whether these octets parse."""
+    return Walk(octets, padding).fault is None
 
 
 def header_at(octets, offset):
     """Returns the element whose whole header begins at an offset, with its offsets in the input, or None."""
-    items = Reading(octets[offset:]).items
+    items = Reading(octets[offset : offset + LONGEST_HEADER]).items
     if not items or not isinstance(items[0], Element):
         return None
     element = items[0]
@@ -70,59 +148,15 @@ def sizes_agree(octets, padding, offset):
     return offset == len(octets)
 
 
-def other_length(octets, padding, candidates, inside=()):
-    """Returns the line about the first candidate whose length can be
-    changed so that everything parses, with these strings as wrappers.
-    """
-    if len(octets) > MOST_SEARCHED:
-        return []
-    for it in candidates:
-        first = it.offset + len(it.identifier)
-        for length in lengths_near(it.length):
-            said = spelled(it.length_octets, length)
-            if said and parses(octets[:first] + said + octets[it.start :], padding, inside):
-                word = "octet" if length == 1 else "octets"
-                said = f"said {length} {word} and not {it.length}"
-                return [f"If the header at offset {it.offset} {said}, all would parse."]
-    return []
-
-
-def other_count(octets, padding, candidates):
-    """Returns the line about the first candidate after whose header one
-    octet more, or one octet fewer, would make everything parse. There is
-    none if the last octet alone is left over.
-    """
-    if len(octets) > MOST_SEARCHED or parses(octets[:-1], padding):
-        return []
-    for it in candidates:
-        front, rest = octets[: it.start], octets[it.start :]
-        if it.length and parses(front + b"\0" + rest, padding):
-            return [MORE.format(it.offset)]
-        if parses(front + rest[1:], padding):
-            return [FEWER.format(it.offset)]
-    return []
-
-
-def lengths_near(length):
-    """Yields the lengths that differ by 1 to 5, in the order in which they are tried. The indefinite form has none."""
-    if length is not None:
-        for off in range(1, MOST_OFF + 1):
-            yield length + off
-            if length >= off:
-                yield length - off
-
-
 def spelled(length_octets, length):
-    """Returns the length octets for another length, in the same form and number, or None if they have no room for it.
-    """
-    if length_octets[0] < 0x80:
-        return bytes([length]) if length < 0x80 else None
+    """Returns the length octets for another length, in the same form and number."""
     count = len(length_octets) - 1
-    return length_octets[:1] + length.to_bytes(count, "big") if length < 1 << 8 * count else None
+    return length_octets[:1] + length.to_bytes(count, "big") if count else bytes([length])
 
 
-def text_change(octets, padding):
-    """Returns the line about a change that was made to the input as if it were text."""
+def undone_change(octets, padding):
+    """Returns the line about a change that was made to the input as if it were text, and without which it would parse.
+    """
     try:
         characters = octets.decode("utf-8").encode("latin-1")
     except UnicodeError:
@@ -131,6 +165,11 @@ def text_change(octets, padding):
         return [LATIN_1]
     if b"\r\n" in octets and parses(octets.replace(b"\r\n", b"\n"), padding):
         return [LINE_ENDS]
+    return []
+
+
+def replaced(octets):
+    """Returns the line about octets that stand in place of others."""
     return [REPLACED] if b"\xef\xbf\xbd" in octets else []
 
 
@@ -150,29 +189,26 @@ def other_start(octets, padding):
     return []
 
 
-def next_record(octets, padding, top, changed):
+def next_record(octets, padding, top, count):
     """Returns the line about the first offset after the top end that is like it, and from which on the input parses.
-    `changed` has the line about another length or about one octet, if there is one.
+    `count` is the number of blocks of the run.
     """
-    if not top or len(octets) > MOST_SEARCHED or any(f" header at offset {top} said " in line for line in changed):
-        return []
-    alike = [it for it in range(top + 1, len(octets)) if octets[it] in (octets[top], octets[0])]
-    tried = alike[:MOST_TRIED]
     damaged = header_at(octets, top)
-    if damaged and damaged.length is not None:
-        end = damaged.start + damaged.length
-        if abs(end - len(octets)) < 2:
-            return []
-        if end < len(octets):
-            tried = [it for it in (end, end - 1, end + 1) if it in alike] + tried
-    left = MOST_READ * len(octets)
+    end = end_of(damaged) if damaged else None
+    if not top or len(octets) > MOST_SEARCHED or end is not None and abs(end - len(octets)) < 2:
+        return []
+    alike = (it for it in range(top + 1, len(octets)) if octets[it] in (octets[top], octets[0]))
+    tried = list(itertools.islice(alike, MOST_TRIED))
+    if end is not None and end < len(octets):
+        tried = [it for it in (end, end - 1, end + 1) if top < it and octets[it] in (octets[top], octets[0])] + tried
+    left = MOST_READ // count
     for offset in tried:
         element = header_at(octets, offset)
         if left > 0 and element and element.constructed:
-            fault = Reading(octets[offset:], (), padding).fault
+            fault = Walk(octets[offset:], padding).fault
             if fault is None:
                 return [RECORD.format(offset, offset + 1)]
-            left -= fault.offset
+            left -= fault[0]
     return []
 
 

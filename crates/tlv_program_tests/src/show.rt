@@ -330,25 +330,25 @@ const BROKEN_TEXT: &[u8] = b"It parses: 12 octets, which are whole encodings.\n\
     By the rules of BER: findings: 0. By those of DER: findings: 0.\n\
     The string at 7 is the value of an extension and breaks at 10: \
     F11 element runs past the enclosing length.\n\
+    If the header at offset 9 said 1 octet and not 2, all would parse.\n\
     The octet at offset 10 completes the header of the BIT STRING at offset 9. \
     The header at offset 9, 03 02, says that its contents are 2 octets.\n\
     It would end at offset 13, but the OCTET STRING at offset 7 ends at offset 12. Missing there: 1 octet. \
     The header at offset 7, 04 03, says that its contents are 3 octets.\n\
     One of the two lengths is wrong, or octets between them are missing or were put in.\n\
     Try: fetch the input anew, in binary; or go on at the next record, with tail -c +M FILE, \
-    where M is its offset and 1.\n\
-    If the header at offset 9 said 1 octet and not 2, all would parse.\n";
+    where M is its offset and 1.\n";
 
 /// The messages about the file `damaged`.
 const DAMAGED_LINES: &[u8] = b"damaged: fault at 3: F11 element runs past the enclosing length\n\
+    If the header at offset 2 said 1 octet and not 2, all would parse.\n\
     The octet at offset 3 completes the header of the INTEGER at offset 2. \
     The header at offset 2, 02 02, says that its contents are 2 octets.\n\
     It would end at offset 6, but the SEQUENCE at offset 0 ends at offset 5. Missing there: 1 octet. \
     The header at offset 0, 30 03, says that its contents are 3 octets.\n\
     One of the two lengths is wrong, or octets between them are missing or were put in.\n\
     Try: fetch the input anew, in binary; or go on at the next record, with tail -c +M FILE, \
-    where M is its offset and 1.\n\
-    If the header at offset 2 said 1 octet and not 2, all would parse.\n";
+    where M is its offset and 1.\n";
 
 /// A text that is refused is reported, and the octets decoded before the refusal are shown. The reasons of a broken
 /// string are part of the output with `--why`, and those of a fault follow its message.

@@ -1,0 +1,258 @@
+"""Damages sound encodings at random, and tests how often tlvdump-show --why says what was done.
+
+Each kind of damage has the share of inputs that is answered right, and the least share that is allowed. Inputs that
+still parse do not count. Of all damages that change no length, few may have a line about another length. By itself
+this file asks the second opinion: python3 tests/parts/why_damages.py [SEED].
+"""
+import functools
+import os
+import random
+import re
+import sys
+
+if __name__ == "__main__":
+    sys.dont_write_bytecode = True
+    sys.path.insert(0, os.path.dirname(os.path.dirname(os.path.realpath(__file__))))
+
+from parts import real_encodings
+from parts.show_made import crl
+from second_opinion.reading import Reading
+from second_opinion.tries import Walk
+
+SEED, STEP, COUNT = 1, 6, 300
+LENGTH = re.compile(r" at offset (\d+) said (\d+) octets? and not \d+")
+
+
+class Damage:
+    """Damaged octets. For a wrong length: the offset of its header, and the right length."""
+
+    def __init__(self, octets, offset=None, length=None):
+        self.octets, self.offset, self.length = octets, offset, length
+
+
+@functools.cache
+def headers(octets):
+    """Returns the elements of definite length, without the outermost ones, whose lengths have lines of their own."""
+    return [it for it in Reading(octets).elements() if it.length is not None and it.end != len(octets)]
+
+
+def with_length(octets, it, length):
+    """Returns the damage of a length that is another, or None if the length octets cannot say it."""
+    count = len(it.length_octets) - 1
+    if not 0 <= length < (1 << 8 * count if count else 128):
+        return None
+    said = it.length_octets[:1] + length.to_bytes(count, "big") if count else bytes([length])
+    return Damage(octets[: it.start - len(said)] + said + octets[it.start :], it.offset, it.length)
+
+
+def by_few(rng, octets):
+    """A length is wrong by 1 to 5."""
+    it = rng.choice(headers(octets))
+    return with_length(octets, it, it.length + rng.choice((-1, 1)) * rng.randrange(1, 6))
+
+
+def by_bit(rng, octets):
+    """A bit of a length is wrong, and the length by more than 5."""
+    it = rng.choice(headers(octets))
+    return with_length(octets, it, it.length ^ 1 << rng.randrange(3, 8 * (len(it.length_octets) - 1) or 7))
+
+
+def by_swap(rng, octets):
+    """The octets of a length stand in reverse order."""
+    long = [it for it in headers(octets) if len(it.length_octets) > 2]
+    it = rng.choice(long) if long else None
+    return with_length(octets, it, int.from_bytes(it.length_octets[:0:-1], "big")) if it else None
+
+
+def by_256(rng, octets):
+    """A length is wrong by 256."""
+    long = [it for it in headers(octets) if len(it.length_octets) > 2]
+    it = rng.choice(long) if long else None
+    return with_length(octets, it, it.length + rng.choice((-256, 256))) if it else None
+
+
+def by_any(rng, octets):
+    """A length is wrong by 6 to 200."""
+    it = rng.choice(headers(octets))
+    return with_length(octets, it, it.length + rng.choice((-1, 1)) * rng.randrange(6, 201))
+
+
+def block(rng, octets):
+    """Returns the offset of a random block, and the number of its octets."""
+    count = min(rng.choice((2, 3, 4, 8, 16, 23)), len(octets))
+    return rng.randrange(len(octets) - count + 1), count
+
+
+def lost(rng, octets):
+    """One octet or several are lost."""
+    place, count = (rng.randrange(len(octets)), 1) if rng.random() < 0.5 else block(rng, octets)
+    return Damage(octets[:place] + octets[place + count :])
+
+
+def put_in(rng, octets):
+    """One octet or several are put in."""
+    place, count = rng.randrange(len(octets)), rng.choice((1, 1, 1, 2, 4, 10))
+    return Damage(octets[:place] + rng.randbytes(count) + octets[place:])
+
+
+def doubled(rng, octets):
+    """An octet or a block stands twice."""
+    place, count = (rng.randrange(len(octets)), 1) if rng.random() < 0.5 else block(rng, octets)
+    return Damage(octets[: place + count] + octets[place:])
+
+
+def edited(rng, octets):
+    """A value has another size, which its own length says, and the lengths around it are left."""
+    primitives = [it for it in headers(octets) if not it.constructed and it.length < 100]
+    if not primitives:
+        return None
+    it, size = rng.choice(primitives), rng.randrange(1, 100)
+    head = octets[it.offset : it.offset + len(it.identifier)]
+    return Damage(octets[: it.offset] + head + bytes([size]) + rng.randbytes(size) + octets[it.end :])
+
+
+def cut(rng, octets):
+    """The end is lost."""
+    return Damage(octets[: rng.randrange(1, len(octets))])
+
+
+def over(rng, octets):
+    """Other octets stand in place of some: equal ones, or any."""
+    place, count = block(rng, octets)
+    new = rng.choice((b"\0", b"\xff")) * count if rng.random() < 0.6 else rng.randbytes(count)
+    return Damage(octets[:place] + new + octets[place + count :])
+
+
+def of_tag(rng, octets):
+    """The first octet of a header is another."""
+    it = rng.choice(headers(octets))
+    return Damage(octets[: it.offset] + rng.randbytes(1) + octets[it.offset + 1 :])
+
+
+def as_text(rng, octets):
+    """The octets were copied as a text, in one of several ways."""
+    way = rng.randrange(5)
+    if way == 0:
+        return Damage(octets.decode("latin-1").encode())
+    if way == 1:
+        return Damage(octets.decode("utf-8", "replace").encode())
+    if way == 2:
+        return Damage(octets.replace(b"\n", b"\r\n"))
+    return Damage(bytes(it & 0x7F if way == 3 else min(it, 0x80) and (it if it < 0x80 else 0x3F) for it in octets))
+
+
+# Damages of a length: the least share of 100 with the header among those that are named, and with its right length.
+# Those by more than 5 have to reach theirs together. No share is asked of a length that is wrong by any number.
+FEW, MORE, ANY = ((by_few,), 95, 75), ((by_bit, by_swap, by_256), 95, 80), ((by_any,), 0, 0)
+# Other damages. Of those of the second row, which change octets in place, many look like a wrong length.
+OTHERS = (lost, put_in, doubled, edited, cut, as_text)
+IN_PLACE = (over, of_tag)
+MOST_FALSE = 3
+
+
+class Shares:
+    """Asks why damaged octets do not parse, and counts the answers. `explain` returns the lines about octets."""
+
+    def __init__(self, encodings, explain, seed):
+        self.encodings, self.explain, self.seed = encodings, explain, seed
+
+    def damages(self, kind, count):
+        """Yields so many damages of a kind that do not parse."""
+        rng, found = random.Random(f"{kind.__name__} {self.seed}"), 0
+        for _ in range(100 * count):
+            damage = kind(rng, rng.choice(self.encodings))
+            if found < count and damage and Walk(damage.octets).fault:
+                found += 1
+                yield damage
+
+    def of_lengths(self, kind, count):
+        """Returns the shares of damages of a length in which the header is named, and in which its right length is
+        said.
+        """
+        named = right = found = 0
+        for damage in self.damages(kind, count):
+            said = LENGTH.findall("\n".join(self.explain(damage.octets)))
+            place, found = str(damage.offset), found + 1
+            named += place in (offset for offset, _ in said)
+            right += (place, str(damage.length)) in said
+        return 100 * named / found, 100 * right / found
+
+    def of_others(self, kind, count):
+        """Returns the share of other damages with a line about another length."""
+        said = [bool(LENGTH.search("\n".join(self.explain(it.octets)))) for it in self.damages(kind, count)]
+        return 100 * sum(said) / len(said)
+
+
+def what_of(kind):
+    """Returns what a kind of damage is."""
+    return kind.__doc__.rstrip(".")
+
+
+def measure(shares, tell, expect):
+    """Measures all kinds. `tell` writes a line, and `expect` counts a test."""
+    for kinds, least_named, least_right in (FEW, MORE, ANY):
+        found = [shares.of_lengths(kind, COUNT) for kind in kinds]
+        for kind, (named, right) in zip(kinds, found):
+            tell(f"{what_of(kind)}: the header is named in {named:.0f} of 100, its right length is said in {right:.0f}")
+        named, right = (sum(it) / len(kinds) for it in zip(*found))
+        what = f"lengths: {what_of(kinds[0])}"
+        expect(what, named >= least_named and right >= least_right, f"{named:.1f} named, {right:.1f} right")
+    others = [shares.of_others(kind, COUNT) for kind in OTHERS]
+    for kind, share in zip(OTHERS, others):
+        tell(f"{what_of(kind)}: another length is said in {share:.1f} of 100")
+    share = sum(others) / len(others)
+    expect("damages that change no length", share <= MOST_FALSE, f"another length is said in {share:.1f} of 100")
+    for kind in IN_PLACE:
+        tell(f"{what_of(kind)}: another length is said in {shares.of_others(kind, COUNT):.1f} of 100")
+    for octets in shares.encodings:
+        lines = shares.explain(octets)
+        fine = lines[0].startswith("It parses: ") and not LENGTH.search("\n".join(lines))
+        expect(f"sound octets, {octets[:20].hex()}", fine, *lines)
+
+
+def inputs(part):
+    """Returns the encodings that are damaged: real ones, and a list of revoked certificates."""
+    found = [octets for _, octets in real_encodings.encodings(part, STEP)] + [crl(20)]
+    return [octets for octets in found if not Walk(octets).fault and headers(octets) and len(octets) < 4000]
+
+
+def test(part):
+    from parts.show_why import Why
+    if part.has("openssl"):
+        why = Why(part)
+        shares = Shares(inputs(part), lambda octets: why.said(octets)[1], SEED)
+        measure(shares, part.note, part.expect)
+
+
+class Alone:
+    """Stands for a part, without a program."""
+
+    def __init__(self, folder):
+        self.folder, self.root = folder, os.path.dirname(os.path.dirname(os.path.dirname(os.path.realpath(__file__))))
+
+    def path(self, name):
+        return os.path.join(self.folder, name)
+
+    def write(self, name, octets):
+        with open(self.path(name), "wb") as file:
+            file.write(octets)
+
+    def expect(self, what, fine, *lines):
+        if not fine:
+            print("FAILED", what, *lines, sep="\n    ")
+
+
+def alone(seed):
+    """Measures what the second opinion says."""
+    import tempfile
+
+    from second_opinion.showing import File, Show, run
+    with tempfile.TemporaryDirectory() as folder:
+        part = Alone(folder)
+        show_of = lambda octets: Show("why", as_form="octets", files=[File("-", octets, True)])
+        explain = lambda octets: run(show_of(octets), dict).out.decode().splitlines()
+        measure(Shares(inputs(part), explain, seed), print, part.expect)
+
+
+if __name__ == "__main__":
+    alone(sys.argv[1] if len(sys.argv) > 1 else SEED)
