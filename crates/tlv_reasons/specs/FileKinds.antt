@@ -28,4 +28,7 @@ file_kind octets =
     else (if begins_utf16 octets then Some kind.Utf16
     else (if begins_capture octets then Some kind.Capture
     else (if starts_with nat_eq octets (0xfe ∷ 0xed ∷ 0xfe ∷ 0xed ∷ []) then Some kind.KeyStore
-    else None))))))))
+    else (if starts_with nat_eq octets (codes "HTTP/") then Some kind.Http
+    -- Unicode 16.0, section 23.8: in UTF-8
+    else (if starts_with nat_eq octets (0xef ∷ 0xbb ∷ 0xbf ∷ []) then Some kind.ByteOrderMark
+    else None))))))))))

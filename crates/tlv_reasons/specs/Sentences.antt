@@ -1,18 +1,23 @@
 -- The words of the sentences. Each ends with a line feed.
-use Rattle.std.specs.Prelude.{ℕ, ◌-◌, eqb, if◌then◌else◌, List, [], ◌∷◌, ◌++◌, codes, flat_map}
+use Rattle.std.specs.Prelude.{ℕ, ◌-◌, Bool, true, false, eqb, if◌then◌else◌, List, [], ◌∷◌, ◌++◌, codes, flat_map}
 use Rattle.tlv_head.specs.declared.fault.FaultCode.{FaultCode}
 use Rattle.tlv_head.specs.declared.fault.FaultCode.TheVariants.{IndefinitePrimitive, LengthTooLarge, ReservedLength}
 use Rattle.tlv_head.specs.declared.fault.FaultCode.TheVariants.{TagTooLong}
+use Rattle.tlv_reasons.specs.declared.chains.Chain.{Chain}
 use Rattle.tlv_reasons.specs.declared.kinds.FileKind.{FileKind}
 use Rattle.tlv_reasons.specs.declared.kinds.FileKind.TheVariants as kind
+use Rattle.tlv_reasons.specs.declared.moves.Move.{Move}
+use Rattle.tlv_reasons.specs.declared.moves.Move.TheVariants as move
 use Rattle.tlv_reasons.specs.declared.octet_changes.OctetChange.TheVariants.{Missing, PutIn}
 use Rattle.tlv_reasons.specs.declared.sentence.Sentence.{Sentence}
 use Rattle.tlv_reasons.specs.declared.sentence.Sentence.TheVariants as say
 use Rattle.tlv_reasons.specs.declared.text_changes.TextChange.{TextChange}
 use Rattle.tlv_reasons.specs.declared.text_changes.TextChange.TheVariants.{LineEnds, Replaced, Utf8}
+use Rattle.tlv_reasons.specs.declared.traces.Trace.{Trace}
+use Rattle.tlv_reasons.specs.declared.traces.Trace.TheVariants as trace
 use Rattle.tlv_reasons.specs.declared.value.Value.{Value}
 use Rattle.tlv_reasons.specs.declared.value.Value.TheVariants.{Broken, Code, Header, LackingZeros, Message, Name, Number}
-use Rattle.tlv_reasons.specs.declared.value.Value.TheVariants.{Octets, Pairs}
+use Rattle.tlv_reasons.specs.declared.value.Value.TheVariants.{Octets, Offsets, Pairs}
 use Rattle.tlv_reasons.specs.Elements.{offset_sum}
 use Rattle.tlv_reasons.specs.OpenHolders.{element_end}
 use Rattle.tlv_reasons.specs.Values.{value_text}
@@ -38,6 +43,63 @@ text_change_words Replaced =
     codes "It has the octets ef bf bd, with which programs replace what is no UTF-8: it was copied as a text. "
     ++ codes "Try: fetch it anew, in binary.\n"
 
+-- the words about other lengths of elements inside one another: whether they would be greater, and whether it is one
+abbrev pub chain_words_by : Bool → Bool → List ℕ
+chain_words_by true true =
+    codes "If the length at % were % more, all would parse: % may have been put in there, and it was not raised.\n"
+chain_words_by true false =
+    codes "If each of the lengths at % were % more, all would parse: % may have been put in there, "
+    ++ codes "and they were not raised.\n"
+chain_words_by false true =
+    codes "If the length at % were % less, all would parse: % may have been lost there, and it was not lowered.\n"
+chain_words_by false false =
+    codes "If each of the lengths at % were % less, all would parse: % may have been lost there, "
+    ++ codes "and they were not lowered.\n"
+
+abbrev pub chain_words : Chain → List ℕ
+chain_words c = chain_words_by c.is_greater (eqb c.count 1)
+
+-- the words about what shows that an input was taken for a text, and the values in them
+abbrev pub trace_words : Trace → List ℕ × List Value
+trace_words (trace.AsUtf8 count) = (
+  codes "It is UTF-8 throughout, with characters beyond ASCII: %. It was taken for a text. "
+      ++ codes "Try: fetch it anew, in binary.\n",
+  Number count ∷ [],
+)
+trace_words (trace.LineEnds count) = (
+  codes "Each of its octets 0a stands behind 0d: %. It was taken for a text. Try: fetch it anew, in binary.\n",
+  Number count ∷ [],
+)
+trace_words (trace.SevenBits count) = (
+  codes "None of its octets is above 7f: %. It was taken for a text, or the highest bits were cleared. "
+      ++ codes "Try: fetch it anew, in binary.\n",
+  Number count ∷ [],
+)
+trace_words (trace.QuestionMarks count) = (
+  codes "None of its octets is above 7f, and many are the character ?: %. It was taken for a text. "
+      ++ codes "Try: fetch it anew, in binary.\n",
+  Number count ∷ [],
+)
+trace_words trace.HalfZeros = (
+  codes "Nearly every second of its octets is 00. It was taken for a text and written in UTF-16. "
+      ++ codes "Try: fetch it anew, in binary.\n",
+  [],
+)
+
+-- the words about what was done to all octets of an input
+abbrev pub move_words : Move → List ℕ
+move_words move.Pairs =
+    codes "Its octets stand in reverse order in pairs: if each pair were turned round, all would parse. "
+    ++ codes "Try: dd conv=swab status=none <FILE | tlvdump-show\n"
+move_words move.Fours =
+    codes "Its octets stand in reverse order in fours: if each four were turned round, all would parse. "
+    ++ codes "Try: fetch it anew, in binary.\n"
+move_words move.Reversed =
+    codes "Its octets stand in reverse order: read from the last to the first, all would parse. "
+    ++ codes "Try: fetch it anew, in binary.\n"
+move_words move.Inverted =
+    codes "Its bits are inverted: if each were turned round, all would parse. Try: fetch it anew, in binary.\n"
+
 -- the words about another kind of file
 abbrev pub file_kind_words : FileKind → List ℕ
 file_kind_words kind.Zip = codes "It begins as a ZIP file does: unpack it first.\n"
@@ -52,6 +114,10 @@ file_kind_words kind.Capture =
     codes "It begins as a capture of packets (pcap) does: export the octets of a packet first.\n"
 file_kind_words kind.KeyStore =
     codes "It begins as a key store of Java (JKS) does: export what you need first.\n"
+file_kind_words kind.Http =
+    codes "It begins with the header of an answer of HTTP. Try: sed '1,/^.$/d' FILE | tlvdump-show\n"
+file_kind_words kind.ByteOrderMark =
+    codes "It begins with the byte order mark of a text in UTF-8. Try: tail -c +4 FILE | tlvdump-show\n"
 
 -- the words of a sentence, with % for each value, and the values
 abbrev pub words_of : Sentence → List ℕ × List Value
@@ -207,7 +273,24 @@ words_of (say.SomePutIn e end) = (
   codes "By its length the % ends at offset %, the input at offset %. Too many: %.\n",
   Name e ∷ Number (element_end e) ∷ Number end ∷ Octets (end - element_end e) ∷ [],
 )
+words_of (say.OtherChain c) = (chain_words c, Offsets c ∷ Number c.by ∷ Octets c.by ∷ [])
+words_of (say.StandsTwice block) = (
+  codes "The % from offset % on stand twice. If they stood once, all would parse.\n",
+  Octets block.size ∷ Number block.offset ∷ [],
+)
+words_of (say.Overwritten run) = (
+  codes "The octets from offset % on are% alone: %. They may stand in place of others.\n",
+  Number run.start ∷ Pairs run.start (offset_sum run.start 1) ∷ Number (run.end - run.start) ∷ [],
+)
+words_of (say.Spaced s) = (
+  codes "There are encodings from offset % on: %. Between each two of them other octets stand: %, "
+      ++ codes "first% at offset %. Try: tail -c +% FILE | head -c % | tlvdump-show, for the first.\n",
+  Number s.first ∷ Number s.count ∷ Octets s.gap ∷ Pairs s.end (offset_sum s.end s.gap) ∷ Number s.end
+      ∷ Number (offset_sum s.first 1) ∷ Number (s.end - s.first) ∷ [],
+)
 words_of (say.TextChanged change) = (text_change_words change, [])
+words_of (say.Traced trace) = trace_words trace
+words_of (say.OctetsMoved change) = (move_words change, [])
 words_of (say.OtherKind kind) = (file_kind_words kind, [])
 -- other offsets: `tail` counts octets from 1
 words_of (say.ParsesFrom offset) = (

@@ -1,5 +1,5 @@
 -- The texts of the values in sentences: numbers, octets, elements.
-use Rattle.std.specs.Prelude.{ℕ, ◌-◌, Bool, eqb, nat_lt, if◌then◌else◌, List, [], ◌++◌, codes, decimal, drop}
+use Rattle.std.specs.Prelude.{ℕ, ◌-◌, Bool, eqb, nat_lt, if◌then◌else◌, List, [], ◌∷◌, ◌++◌, codes, decimal, drop}
 use Rattle.std.specs.Prelude.{length, take}
 use Rattle.tlv_head.specs.declared.header.Size.{Size}
 use Rattle.tlv_head.specs.declared.header.Size.TheVariants.{Definite, Indefinite}
@@ -7,6 +7,7 @@ use Rattle.tlv_head.specs.Fault.{fault_code, fault_text}
 use Rattle.tlv_head.specs.Tag.{tag_text}
 use Rattle.tlv_io.specs.LineTexts.{spaced_pairs}
 use Rattle.tlv_open.specs.BrokenLine.{broken_line}
+use Rattle.tlv_reasons.specs.declared.chains.Chain.{Chain}
 use Rattle.tlv_reasons.specs.declared.element.Element.{Element}
 use Rattle.tlv_reasons.specs.declared.facts.Unfinished.{Unfinished}
 use Rattle.tlv_reasons.specs.declared.facts.Unfinished.TheVariants.{EndOctets}
@@ -59,6 +60,21 @@ abbrev pub lacking_zeros : Unfinished → List ℕ
 lacking_zeros EndOctets = codes "1 octet, 00"
 lacking_zeros u = codes "2 octets, 00 00"
 
+-- what stands between an offset and these others
+abbrev pub mark_before : List ℕ → List ℕ
+mark_before [] = []
+mark_before (offset ∷ []) = codes " and "
+mark_before offsets = codes ", "
+
+-- offsets, one after another, with "and" before the last
+abbrev pub offsets_in_words : List ℕ → List ℕ
+offsets_in_words [] = []
+offsets_in_words (offset ∷ more) = (decimal offset ++ mark_before more) ++ offsets_in_words more
+
+-- the offsets of the headers of a chain
+abbrev pub chain_offsets : Chain → List ℕ
+chain_offsets c = take c.count c.offsets
+
 -- the text of a value in a sentence about these octets
 abbrev pub value_text : List ℕ → Value → List ℕ
 value_text octets (value.Number n) = decimal n
@@ -70,3 +86,4 @@ value_text octets (value.LackingZeros unfinished) = lacking_zeros unfinished
 value_text octets (value.Code fault) = fault_code fault.code
 value_text octets (value.Message fault) = fault_text fault.code
 value_text octets (value.Broken x) = broken_line x
+value_text octets (value.Offsets c) = offsets_in_words (chain_offsets c)

@@ -23,6 +23,10 @@ pub enum FileKind {
     Capture,
     /// A key store of Java.
     KeyStore,
+    /// The header of an answer of HTTP, and what follows it.
+    Http,
+    /// A text with the byte order mark of UTF-8.
+    ByteOrderMark,
 }
 
 /// The other kind of file that begins as these octets do, if there is one.
@@ -47,6 +51,10 @@ pub fn file_kind(octets: &[u8]) -> Option<FileKind>
         Some(FileKind::Capture)
     } else if octets.starts_with(b"\xfe\xed\xfe\xed") {
         Some(FileKind::KeyStore)
+    } else if octets.starts_with(b"HTTP/") {
+        Some(FileKind::Http)
+    } else if octets.starts_with(b"\xef\xbb\xbf") {
+        Some(FileKind::ByteOrderMark)
     } else {
         None
     }

@@ -3,6 +3,8 @@
 //! which offset on it is sound.
 #![tactic(auto)]
 
+mod chains;
+mod doubled;
 mod element;
 mod facts;
 mod facts_call;
@@ -14,17 +16,21 @@ mod leftovers;
 mod length_octets;
 mod lengths;
 mod mend;
+mod moves;
 mod octet_changes;
 mod outermost;
+mod overwritten;
 mod records;
 mod sentence;
 mod silence;
 mod sizes;
 mod sound;
+mod spacing;
 mod start;
 mod suspects;
 mod text_changes;
 mod text_copies;
+mod traces;
 mod tracker;
 mod tried_lengths;
 mod value;
@@ -32,6 +38,8 @@ mod why;
 mod words;
 mod write;
 
+pub use chains::Chain;
+pub use doubled::Doubled;
 pub use element::Element;
 pub use facts::{Facts, Unfinished};
 pub use facts_call::facts_of;
@@ -39,11 +47,15 @@ pub use fault_reasons::Reasons;
 pub use kinds::{FileKind, file_kind};
 pub use lengths::{SEARCH_LIMIT, WrongLength, WrongLengths, wrong_lengths};
 pub use mend::{all_reasons, string_reasons};
+pub use moves::Move;
 pub use octet_changes::{OctetChange, octet_change};
+pub use overwritten::Run;
 pub use records::next_record;
 pub use sentence::Sentence;
+pub use spacing::Spacing;
 pub use start::next_start;
 pub use text_changes::{TextChange, text_change};
 pub use text_copies::{latin1_of_utf8, undone_line_ends, undone_utf8};
+pub use traces::Trace;
 pub use why::{first_sentence, reasons_of};
 pub use write::write_sentences;

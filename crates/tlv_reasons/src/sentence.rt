@@ -1,6 +1,9 @@
 //! The sentences that say why an input does not parse, and what to try.
 
-use crate::{Element, FileKind, OctetChange, TextChange, Unfinished, WrongLength};
+use crate::{
+    Chain, Doubled, Element, FileKind, Move, OctetChange, Run, Spacing, TextChange, Trace, Unfinished,
+    WrongLength,
+};
 use tlv_head::{Fault, FaultCode};
 use tlv_open::BrokenString;
 
@@ -158,8 +161,20 @@ pub enum Sentence {
         element: Element,
         end: u64,
     },
+    /// With other lengths of several elements inside one another all would parse.
+    OtherChain(Chain),
+    /// Without a block that stands twice all would parse.
+    StandsTwice(Doubled),
+    /// Equal octets in a row, which may stand in place of others.
+    Overwritten(Run),
+    /// Encodings, between each two of which other octets stand.
+    Spaced(Spacing),
     /// What was done to it as if it were a text.
     TextChanged(TextChange),
+    /// What shows that it was taken for a text.
+    Traced(Trace),
+    /// What was done to all of its octets.
+    OctetsMoved(Move),
     /// It is a file of another kind.
     OtherKind(FileKind),
     /// From this offset on it parses: what stands in front is no part of it.

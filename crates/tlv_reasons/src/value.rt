@@ -2,11 +2,11 @@
 ghost use Rattle.std.specs.Prelude.{◌≡◌, ◌≤◌, decimal, length, nat_lt, take};
 ghost use Rattle.tlv_io.specs.LineTexts.{spaced_pairs};
 ghost use Rattle.tlv_io.specs.Out.{Puts};
-ghost use Rattle.tlv_reasons.specs.Values.{dots_if, first_pairs, header_closing, header_octets, header_opening};
+ghost use Rattle.tlv_reasons.specs.Values.{chain_offsets, dots_if, first_pairs, header_closing, header_octets, header_opening};
 ghost use Rattle.tlv_reasons.specs.Values.{header_sentence, lacking_zeros, named_element, octets_between};
-ghost use Rattle.tlv_reasons.specs.Values.{octets_in_words, size_in_words, value_text};
+ghost use Rattle.tlv_reasons.specs.Values.{mark_before, octets_in_words, offsets_in_words, size_in_words, value_text};
 
-use crate::{Element, Unfinished};
+use crate::{Chain, Element, Unfinished};
 use arrayvec::ArrayVec;
 use itoa::Buffer;
 use tlv_head::{Fault, Size, tag_text};
@@ -34,6 +34,8 @@ pub(crate) enum Value {
     Message(Fault),
     /// Where a string begins, and how it breaks.
     Broken(BrokenString),
+    /// The offsets of headers, one after another, with `and` before the last.
+    Offsets(Chain),
 }
 
 /// Only for filling arrays.
@@ -61,6 +63,7 @@ pub(crate) fn put_value<D: Drain>(
         Value::Code(fault) => out.put(fault.code.code()),
         Value::Message(fault) => out.put(fault.text()),
         Value::Broken(string) => out.put(broken_line(string).as_slice()),
+        Value::Offsets(chain) => put_offsets(chain_offsets(chain), out),
     }
 }
 
@@ -87,6 +90,37 @@ fn put_octet_count<D: Drain>(count: u64, out: &mut Out<'_, D>) -> Result<(), Wri
     ensures { Puts D.state out.old out.new (octets_in_words count) result }
 {
     out.put(octets_in_words(count).as_slice())
+}
+
+/// The offsets of the headers of a chain.
+fn chain_offsets(chain: &Chain) -> &[u64]
+    ensures { result.now ≡ chain_offsets chain.now }
+{
+    &chain.offsets[..chain.count.min(chain.offsets.len())]
+}
+
+/// Puts offsets, one after another, with `and` before the last.
+fn put_offsets<D: Drain>(offsets: &[u64], out: &mut Out<'_, D>) -> Result<(), WriteFault>
+    ensures { Puts D.state out.old out.new (offsets_in_words offsets.now) result }
+{
+    let mut left = offsets;
+    while let [offset, more @ ..] = left {
+        put_number(*offset, out)?;
+        out.put(mark_before(more))?;
+        left = more;
+    }
+    Ok(())
+}
+
+/// What stands between an offset and these others.
+fn mark_before(offsets: &[u64]) -> &'static [u8]
+    ensures { result.now ≡ mark_before offsets.now }
+{
+    match offsets {
+        [] => b"",
+        [_] => b" and ",
+        _ => b", ",
+    }
 }
 
 /// Puts octets in hexadecimal, each after a space: at most 16, and then dots if there are more.

@@ -1,10 +1,11 @@
 //! The words of the sentences.
 ghost use Rattle.std.specs.Prelude.{◌≡◌, ◌≤◌, length};
-ghost use Rattle.tlv_reasons.specs.Sentences.{file_kind_words, refused_header_words, text_change_words, words_of};
+ghost use Rattle.tlv_reasons.specs.Sentences.{chain_words, file_kind_words, move_words, refused_header_words};
+ghost use Rattle.tlv_reasons.specs.Sentences.{text_change_words, trace_words, words_of};
 
 use crate::holders::element_end;
 use crate::value::Value;
-use crate::{FileKind, OctetChange, Sentence, TextChange};
+use crate::{Chain, FileKind, Move, OctetChange, Sentence, TextChange, Trace};
 use arrayvec::ArrayVec;
 use tlv_head::FaultCode;
 
@@ -318,7 +319,42 @@ pub(crate) fn words_of(sentence: &Sentence) -> Words
                 Value::Octets(end.saturating_sub(element_end(&element))),
             ],
         ),
+        Sentence::OtherChain(chain) => say(
+            chain_words(&chain),
+            &[
+                Value::Offsets(chain),
+                Value::Number(chain.by),
+                Value::Octets(chain.by),
+            ],
+        ),
+        Sentence::StandsTwice(block) => say(
+            b"The % from offset % on stand twice. If they stood once, all would parse.\n",
+            &[Value::Octets(block.size), Value::Number(block.offset)],
+        ),
+        Sentence::Overwritten(run) => say(
+            b"The octets from offset % on are% alone: %. They may stand in place of others.\n",
+            &[
+                Value::Number(run.start),
+                Value::Pairs(run.start, run.start.saturating_add(1)),
+                Value::Number(run.end.saturating_sub(run.start)),
+            ],
+        ),
+        Sentence::Spaced(spacing) => say(
+            b"There are encodings from offset % on: %. Between each two of them other octets stand: %, \
+              first% at offset %. Try: tail -c +% FILE | head -c % | tlvdump-show, for the first.\n",
+            &[
+                Value::Number(spacing.first),
+                Value::Number(spacing.count),
+                Value::Octets(spacing.gap),
+                Value::Pairs(spacing.end, spacing.end.saturating_add(spacing.gap)),
+                Value::Number(spacing.end),
+                Value::Number(spacing.first.saturating_add(1)),
+                Value::Number(spacing.end.saturating_sub(spacing.first)),
+            ],
+        ),
         Sentence::TextChanged(change) => say(text_change_words(change), &[]),
+        Sentence::Traced(trace) => trace_words(trace),
+        Sentence::OctetsMoved(change) => say(move_words(change), &[]),
         Sentence::OtherKind(kind) => say(file_kind_words(kind), &[]),
         Sentence::ParsesFrom(offset) => say(
             b"From offset % on it parses: what stands in front may be a header of the file or of the record, or damaged. \
@@ -376,6 +412,84 @@ fn text_change_words(change: TextChange) -> &'static [u8]
     }
 }
 
+/// The words about other lengths of elements inside one another.
+fn chain_words(chain: &Chain) -> &'static [u8]
+    ensures { result.now ≡ chain_words chain.now }
+{
+    match (chain.is_greater, chain.count == 1) {
+        (true, true) => {
+            b"If the length at % were % more, all would parse: % may have been put in there, and it was not raised.\n"
+        }
+        (true, false) => {
+            b"If each of the lengths at % were % more, all would parse: % may have been put in there, \
+              and they were not raised.\n"
+        }
+        (false, true) => {
+            b"If the length at % were % less, all would parse: % may have been lost there, and it was not lowered.\n"
+        }
+        (false, false) => {
+            b"If each of the lengths at % were % less, all would parse: % may have been lost there, \
+              and they were not lowered.\n"
+        }
+    }
+}
+
+/// The words about what shows that an input was taken for a text.
+fn trace_words(trace: Trace) -> Words
+    ensures text { result.text.now ≡ (trace_words trace).0 }
+    ensures values { result.values.items ≡ (trace_words trace).1 }
+{
+    match trace {
+        Trace::AsUtf8(count) => say(
+            b"It is UTF-8 throughout, with characters beyond ASCII: %. It was taken for a text. \
+              Try: fetch it anew, in binary.\n",
+            &[Value::Number(count)],
+        ),
+        Trace::LineEnds(count) => say(
+            b"Each of its octets 0a stands behind 0d: %. It was taken for a text. Try: fetch it anew, in binary.\n",
+            &[Value::Number(count)],
+        ),
+        Trace::SevenBits(count) => say(
+            b"None of its octets is above 7f: %. It was taken for a text, or the highest bits were cleared. \
+              Try: fetch it anew, in binary.\n",
+            &[Value::Number(count)],
+        ),
+        Trace::QuestionMarks(count) => say(
+            b"None of its octets is above 7f, and many are the character ?: %. It was taken for a text. \
+              Try: fetch it anew, in binary.\n",
+            &[Value::Number(count)],
+        ),
+        Trace::HalfZeros => say(
+            b"Nearly every second of its octets is 00. It was taken for a text and written in UTF-16. \
+              Try: fetch it anew, in binary.\n",
+            &[],
+        ),
+    }
+}
+
+/// The words about what was done to all octets of an input.
+fn move_words(change: Move) -> &'static [u8]
+    ensures { result.now ≡ move_words change }
+{
+    match change {
+        Move::Pairs => {
+            b"Its octets stand in reverse order in pairs: if each pair were turned round, all would parse. \
+              Try: dd conv=swab status=none <FILE | tlvdump-show\n"
+        }
+        Move::Fours => {
+            b"Its octets stand in reverse order in fours: if each four were turned round, all would parse. \
+              Try: fetch it anew, in binary.\n"
+        }
+        Move::Reversed => {
+            b"Its octets stand in reverse order: read from the last to the first, all would parse. \
+              Try: fetch it anew, in binary.\n"
+        }
+        Move::Inverted => {
+            b"Its bits are inverted: if each were turned round, all would parse. Try: fetch it anew, in binary.\n"
+        }
+    }
+}
+
 /// The words about another kind of file.
 fn file_kind_words(kind: FileKind) -> &'static [u8]
     ensures { result.now ≡ file_kind_words kind }
@@ -394,5 +508,11 @@ fn file_kind_words(kind: FileKind) -> &'static [u8]
             b"It begins as a capture of packets (pcap) does: export the octets of a packet first.\n",
         FileKind::KeyStore =>
             b"It begins as a key store of Java (JKS) does: export what you need first.\n",
+        FileKind::Http => {
+            b"It begins with the header of an answer of HTTP. Try: sed '1,/^.$/d' FILE | tlvdump-show\n"
+        }
+        FileKind::ByteOrderMark => {
+            b"It begins with the byte order mark of a text in UTF-8. Try: tail -c +4 FILE | tlvdump-show\n"
+        }
     }
 }

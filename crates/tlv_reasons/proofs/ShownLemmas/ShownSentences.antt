@@ -10,17 +10,22 @@ use Rattle.tlv_reasons.specs.declared.facts.Unfinished.{Unfinished}
 use Rattle.tlv_reasons.specs.declared.facts.Unfinished.TheVariants as at
 use Rattle.tlv_reasons.specs.declared.kinds.FileKind.{FileKind}
 use Rattle.tlv_reasons.specs.declared.kinds.FileKind.TheVariants as kind
+use Rattle.tlv_reasons.specs.declared.moves.Move.{Move}
+use Rattle.tlv_reasons.specs.declared.moves.Move.TheVariants as move
 use Rattle.tlv_reasons.specs.declared.octet_changes.OctetChange.TheVariants.{Missing, PutIn}
 use Rattle.tlv_reasons.specs.declared.sentence.Sentence.{Sentence}
 use Rattle.tlv_reasons.specs.declared.sentence.Sentence.TheVariants as say
 use Rattle.tlv_reasons.specs.declared.text_changes.TextChange.{TextChange}
 use Rattle.tlv_reasons.specs.declared.text_changes.TextChange.TheVariants.{LineEnds, Replaced, Utf8}
+use Rattle.tlv_reasons.specs.declared.traces.Trace.{Trace}
+use Rattle.tlv_reasons.specs.declared.traces.Trace.TheVariants as trace
 use Rattle.tlv_reasons.specs.declared.value.Value.{Value}
 use Rattle.tlv_reasons.specs.declared.value.Value.TheVariants as value
 use Rattle.tlv_reasons.specs.Laws.{AreShown, SentencesAreShown, is_shown_octet}
-use Rattle.tlv_reasons.specs.Sentences.{file_kind_words, filled, octet_or_value, refused_header_words, sentence_text}
-use Rattle.tlv_reasons.specs.Sentences.{text_change_words, sentences_text, values_after, words_of}
-use Rattle.tlv_reasons.specs.Values.{lacking_zeros, value_text}
+use Rattle.tlv_reasons.specs.Sentences.{chain_words_by, file_kind_words, filled, move_words, octet_or_value}
+use Rattle.tlv_reasons.specs.Sentences.{refused_header_words, sentence_text, text_change_words, sentences_text}
+use Rattle.tlv_reasons.specs.Sentences.{trace_words, values_after, words_of}
+use Rattle.tlv_reasons.specs.Values.{chain_offsets, lacking_zeros, mark_before, offsets_in_words, value_text}
 use Rattle.tlv_reasons.proofs.ShownLemmas.ShownValues.{broken_line-shown, code-shown, decimal-shown, first_pairs-shown, header_sentence-shown}
 use Rattle.tlv_reasons.proofs.ShownLemmas.ShownValues.{named_element-shown, octets_in_words-shown}
 
@@ -32,6 +37,19 @@ zeros-shown at.Nothing = refl
 zeros-shown (at.Primitive e) = refl
 zeros-shown at.Header = refl
 
+mark-shown : (offsets : List ℕ) → AreShown (mark_before offsets)
+mark-shown [] = refl
+mark-shown (x ∷ []) = refl
+mark-shown (x ∷ y ∷ offsets) = refl
+
+offsets-shown : (offsets : List ℕ) → AreShown (offsets_in_words offsets)
+offsets-shown [] = refl
+offsets-shown (x ∷ offsets) =
+    let here : AreShown (decimal x) = decimal-shown x in
+    let mark : AreShown (mark_before offsets) = mark-shown offsets in
+    let more : AreShown (offsets_in_words offsets) = offsets-shown offsets in
+    simp (list_all-append, here, mark, more)
+
 pub value-shown : (octets : List ℕ) (v : Value) → AreOctets octets → AreShown (value_text octets v)
 value-shown octets (value.Number n) o = decimal-shown n
 value-shown octets (value.Octets n) o = octets_in_words-shown n
@@ -42,6 +60,7 @@ value-shown octets (value.LackingZeros u) o = zeros-shown u
 value-shown octets (value.Code f) o = (code-shown f.code).0
 value-shown octets (value.Message f) o = (code-shown f.code).1
 value-shown octets (value.Broken x) o = broken_line-shown x
+value-shown octets (value.Offsets c) o = offsets-shown (chain_offsets c)
 
 -- ---- words
 
@@ -74,6 +93,27 @@ kind-shown kind.OpenSsh = refl
 kind-shown kind.Utf16 = refl
 kind-shown kind.Capture = refl
 kind-shown kind.KeyStore = refl
+kind-shown kind.Http = refl
+kind-shown kind.ByteOrderMark = refl
+
+chain-shown : (is_greater is_one : Bool) → AreShown (chain_words_by is_greater is_one)
+chain-shown true true = refl
+chain-shown true false = refl
+chain-shown false true = refl
+chain-shown false false = refl
+
+trace-shown : (t : Trace) → AreShown (trace_words t).0
+trace-shown (trace.AsUtf8 n) = refl
+trace-shown (trace.LineEnds n) = refl
+trace-shown (trace.SevenBits n) = refl
+trace-shown (trace.QuestionMarks n) = refl
+trace-shown trace.HalfZeros = refl
+
+move-shown : (m : Move) → AreShown (move_words m)
+move-shown move.Pairs = refl
+move-shown move.Fours = refl
+move-shown move.Reversed = refl
+move-shown move.Inverted = refl
 
 words-shown : (s : Sentence) → AreShown (words_of s).0
 words-shown (say.Parses a) = refl
@@ -125,7 +165,13 @@ words-shown (say.OneOctet (PutIn a)) = refl
 words-shown (say.NoneLost a) = refl
 words-shown (say.SomeLost a b) = refl
 words-shown (say.SomePutIn a b) = refl
+words-shown (say.OtherChain a) = chain-shown a.is_greater (eqb a.count 1)
+words-shown (say.StandsTwice a) = refl
+words-shown (say.Overwritten a) = refl
+words-shown (say.Spaced a) = refl
 words-shown (say.TextChanged a) = change-shown a
+words-shown (say.Traced a) = trace-shown a
+words-shown (say.OctetsMoved a) = move-shown a
 words-shown (say.OtherKind a) = kind-shown a
 words-shown (say.ParsesFrom a) = refl
 words-shown (say.NextRecord a) = refl
