@@ -1,6 +1,6 @@
 -- What the length of the outermost element says about octets that are missing or too many: X.690 8.1.3.
 use Rattle.std.specs.Prelude.{ℕ, Bool, true, false, eqb, nat_lt, if◌then◌else◌, List, length, Option, Some, None, slice_get}
-use Rattle.std.specs.Prelude.{slice_index}
+use Rattle.std.specs.Prelude.{◌-◌, ◌+◌, ◌||◌, nat_le, slice_index}
 use Rattle.tlv_head.specs.declared.fault.Fault.{Fault}
 use Rattle.tlv_head.specs.declared.fault.FaultCode.{FaultCode}
 use Rattle.tlv_head.specs.declared.fault.FaultCode.TheVariants.{Short}
@@ -8,6 +8,7 @@ use Rattle.tlv_reasons.specs.declared.element.Element.{Element}
 use Rattle.tlv_reasons.specs.declared.facts.Facts.{Facts}
 use Rattle.tlv_reasons.specs.declared.sentence.Sentence.{Sentence}
 use Rattle.tlv_reasons.specs.declared.sentence.Sentence.TheVariants as say
+use Rattle.tlv_reasons.specs.declared.sizes.Difference.{Difference}
 
 -- the sentence about an element of definite length, which ends at this offset. If an octet with which it begins stands
 -- there, another record may follow, and nothing is said
@@ -42,3 +43,31 @@ says_sizes (Some fault) = is_short fault.code
 abbrev pub size_sentence : List ℕ → Facts → Option Sentence
 size_sentence octets facts =
     if says_sizes facts.fault then None else size_sentence_in octets (slice_get facts.holders.items 0)
+
+-- ---- by how much sizes differ
+
+-- the number by which two numbers differ
+abbrev pub distance : ℕ → ℕ → ℕ
+distance a b = (a - b) + (b - a)
+
+-- sizes that differ more are not compared: a limit of our own
+abbrev pub most_different : ℕ
+most_different = 4096
+
+-- by how many octets an input of this size is longer or shorter than one that ends at the offset `end`
+abbrev pub difference_of : ℕ → ℕ → Option Difference
+difference_of size end =
+    if eqb (distance size end) 0 || nat_lt most_different (distance size end) then None
+    else Some (record { by = distance size end; is_longer = nat_lt end size })
+
+abbrev pub difference_by : ℕ → Option ℕ → Option Difference
+difference_by size None = None
+difference_by size (Some end) = difference_of size end
+
+abbrev pub difference_in : ℕ → Option Element → Option Difference
+difference_in size None = None
+difference_in size (Some e) = difference_by size e.end
+
+-- 8.1.3.3: by how many octets the input is longer or shorter than its outermost open element says
+abbrev pub size_difference : List ℕ → Facts → Option Difference
+size_difference octets facts = difference_in (length octets) (slice_get facts.holders.items 0)

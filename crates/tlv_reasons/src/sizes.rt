@@ -1,6 +1,6 @@
 //! What the length of the outermost element says about octets that are missing or too many.
-ghost use Rattle.std.specs.Prelude.{◌≡◌};
-ghost use Rattle.tlv_reasons.specs.Sizes.{says_sizes, size_sentence, size_sentence_of};
+ghost use Rattle.std.specs.Prelude.{◌≡◌, ◌<◌, ◌≤◌, IfSome};
+ghost use Rattle.tlv_reasons.specs.Sizes.{difference_of, says_sizes, size_difference, size_sentence, size_sentence_of};
 
 use crate::facts_call::octet_at;
 use crate::{Element, Facts, Sentence};
@@ -17,6 +17,44 @@ pub(crate) fn size_sentence(octets: &[u8], facts: &Facts) -> Option<Sentence>
     let element = facts.holders.as_slice().first().copied()?;
     let end = element.end?;
     size_sentence_of(octets, element, end)
+}
+
+/// By how many octets an input is longer or shorter than its outermost open element says.
+#[derive(Clone, Copy)]
+pub(crate) struct Difference {
+    /// How many.
+    pub(crate) by: u64,
+    /// Whether the input is longer.
+    pub(crate) is_longer: bool,
+}
+
+/// The most octets by which they may differ.
+const MOST_DIFFERENT: u64 = 4096;
+
+/// By how many octets the input is longer or shorter than its outermost open element says, if that has a definite length
+/// and ends at most 4096 octets behind or in front of the end of the input, but not with it.
+pub(crate) fn size_difference(octets: &[u8], facts: &Facts) -> Option<Difference>
+    ensures difference { result ≡ size_difference octets.now facts.now }
+    ensures near { IfSome result (λ d. (0 < d.by) × (d.by ≤ 4096)) }
+{
+    let element = facts.holders.as_slice().first().copied()?;
+    let end = element.end?;
+    difference_of(octets.len() as u64, end)
+}
+
+/// By how many octets an input of this size is longer or shorter than one that ends at this offset.
+fn difference_of(size: u64, end: u64) -> Option<Difference>
+    ensures difference { result ≡ difference_of size end }
+    ensures near { IfSome result (λ d. (0 < d.by) × (d.by ≤ 4096)) }
+{
+    let by = size.abs_diff(end);
+    if by == 0 || by > MOST_DIFFERENT {
+        return None;
+    }
+    Some(Difference {
+        by,
+        is_longer: end < size,
+    })
 }
 
 /// Whether the sentences about this fault say where the outermost element ends.
