@@ -131,14 +131,95 @@ def of_tag(rng, octets):
 
 def as_text(rng, octets):
     """The octets were copied as a text, in one of several ways."""
-    way = rng.randrange(5)
+    return rng.choice(AS_TEXT)(rng, octets)
+
+
+def in_utf_8(rng, octets):
+    """The octets were taken for Windows-1252 and written in UTF-8."""
+    return Damage(b"".join(bytes([it]).decode("cp1252", "ignore").encode() or bytes([it]) .decode("latin-1").encode()
+                           for it in octets))
+
+
+def in_utf_8_cut(rng, octets):
+    """The octets were taken for Latin-1 and written in UTF-8, and the end was lost."""
+    whole = octets.decode("latin-1").encode()
+    return Damage(whole[: rng.randrange(len(whole) // 2, len(whole))])
+
+
+def in_utf_16(rng, octets):
+    """The octets were taken for Latin-1 and written in UTF-16."""
+    return Damage(octets.decode("latin-1").encode(rng.choice(("utf-16-le", "utf-16-be"))))
+
+
+def with_replacements(rng, octets):
+    """The octets were taken for UTF-8, and others were replaced."""
+    return Damage(octets.decode("utf-8", "replace").encode())
+
+
+def with_returns(rng, octets):
+    """Octets 0d were put in front of 0a."""
+    return Damage(octets.replace(b"\n", b"\r\n"))
+
+
+def with_returns_cut(rng, octets):
+    """Octets 0d were put in front of 0a, and the end was lost."""
+    whole = octets.replace(b"\n", b"\r\n")
+    return Damage(whole[: rng.randrange(len(whole) // 2, len(whole))]) if octets.count(b"\n") > 6 else None
+
+
+def of_seven_bits(rng, octets):
+    """The highest bit of each octet was cleared."""
+    return Damage(bytes(it & 0x7F for it in octets)) if len(octets) >= 128 else None
+
+
+def with_marks(rng, octets):
+    """Octets above 7f were replaced by the character ?."""
+    return Damage(bytes(it if it < 0x80 else 0x3F for it in octets)) if len(octets) >= 128 else None
+
+
+AS_TEXT = in_utf_8, in_utf_8_cut, in_utf_16, with_replacements, with_returns, with_returns_cut, of_seven_bits, with_marks
+
+
+def turned(rng, octets):
+    """The octets stand in reverse order, in pairs, in fours or all of them, or their bits are inverted."""
+    if len(octets) < 256:
+        return None
+    way, size = rng.randrange(4), len(octets)
+    if way == 3:
+        return Damage(bytes(it ^ 0xFF for it in octets))
+    count = (2, 4, size)[way]
+    whole = size - size % count
+    return Damage(b"".join(octets[at : at + count][::-1] for at in range(0, whole, count)) + octets[whole:])
+
+
+def overwritten(rng, octets):
+    """A block is octets 00 or ff."""
+    count = rng.randrange(32, 65)
+    if len(octets) < 4 * count:
+        return None
+    place = rng.randrange(len(octets) - count)
+    return Damage(octets[:place] + rng.choice((b"\0", b"\xff")) * count + octets[place + count :])
+
+
+def doubled_block(rng, octets):
+    """A block of 4 to 200 octets stands twice."""
+    count = rng.randrange(4, min(201, len(octets) // 2))
+    place = rng.randrange(len(octets) - count + 1)
+    return Damage(octets[: place + count] + octets[place:])
+
+
+def apart(rng, octets):
+    """Other octets stand between records: a line feed, filler, or a length in front of each."""
+    way, records = rng.randrange(3), [octets] * rng.randrange(2, 5)
+    if octets[:1] != b"\x30" or headers(octets) == []:
+        return None
     if way == 0:
-        return Damage(octets.decode("latin-1").encode())
+        return Damage(b"\n".join(records) + rng.choice((b"", b"\n")))
     if way == 1:
-        return Damage(octets.decode("utf-8", "replace").encode())
-    if way == 2:
-        return Damage(octets.replace(b"\n", b"\r\n"))
-    return Damage(bytes(it & 0x7F if way == 3 else min(it, 0x80) and (it if it < 0x80 else 0x3F) for it in octets))
+        gap = b"\xff" * rng.randrange(1, 5)
+        return Damage(gap.join(records))
+    size = rng.choice((2, 4))
+    return Damage(b"".join(len(it).to_bytes(size, rng.choice(("big", "little"))) + it for it in records))
 
 
 # Damages of a length: the least share of 100 with the header among those that are named, and with its right length.

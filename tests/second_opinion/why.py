@@ -1,7 +1,7 @@
 """Explains why octets, or a string in them, do not parse: docs/WHY.md up to "The fault"."""
 import functools
 
-from second_opinion import why_lines, why_search
+from second_opinion import why_chains, why_lines, why_search, why_whole
 from second_opinion.commands import fault_text
 from second_opinion.reading import Element, Reading
 
@@ -43,16 +43,26 @@ class Stand:
         """Returns the open elements of definite length."""
         return [it for it in self.open if it.length is not None]
 
-    def candidates(self):
-        """Returns the elements whose length may be wrong, in the order in which they are tried. With each come the
-        ends of the elements around it, outermost first, None for one of indefinite length.
+    def with_around(self):
+        """Returns the elements whose length may be wrong, in the order in which they are tried. With each comes the list
+        of the elements around it that have a definite length, outermost first.
         """
-        read = [it for it in with_ends(self.reading.items, ()) if it[0] is not self.primitive]
+        return [(it, [holder for holder in around if holder.length is not None]) for it, around in self.suspects()]
+
+    def candidates(self):
+        """Returns the same elements. With each come the ends of the elements around it, outermost first, None for one of
+        indefinite length.
+        """
+        return [(it, tuple(map(why_search.end_of, around))) for it, around in self.suspects()]
+
+    def suspects(self):
+        """Returns the same elements. With each come the elements around it, outermost first."""
+        read = [it for it in with_holders(self.reading.items, ()) if it[0] is not self.primitive]
         recent = read[: -MOST_BEFORE - 1 : -1]
-        first = [(self.there, tuple(map(why_search.end_of, self.open)))] if self.there else []
+        first = [(self.there, tuple(self.open))] if self.there else []
         places = {it.offset for it in self.open[:MOST_OPEN]}
         outer = [it for it in read if it[0].offset in places]
-        return list({it.offset: (it, ends) for it, ends in (*first, *recent, *outer)}.values())
+        return list({it.offset: (it, around) for it, around in (*first, *recent, *outer)}.values())
 
 
 def elements_of(items):
@@ -60,13 +70,11 @@ def elements_of(items):
     return [it for it in items if isinstance(it, Element)]
 
 
-def with_ends(items, ends):
-    """Yields these elements and those in them, each before the elements in it, with the ends of the elements around
-    it.
-    """
+def with_holders(items, around):
+    """Yields these elements and those in them, each before the elements in it, with the elements around it."""
     for it in elements_of(items):
-        yield it, ends
-        yield from with_ends(it.children, (*ends, why_search.end_of(it)))
+        yield it, around
+        yield from with_holders(it.children, (*around, it))
 
 
 def last_whole(elements):
@@ -87,17 +95,26 @@ def lines_of(octets, padding, count=1):
     kind = why_search.other_kind(octets)
     if kind:
         return (first, *kind)
-    undone = why_search.undone_change(octets, padding)
-    if undone:
-        return (first, *undone, why_lines.of_fault(stand)[0])
+    whole = why_whole.line(octets, padding)
+    replaced = why_whole.replaced(octets)
+    if whole:
+        return (first, *(replaced if why_whole.is_trace(whole[0]) else []), *whole, *why_lines.of_fault(stand)[:1])
     search = why_search.Search(octets, padding)
-    agrees = why_search.sizes_agree(octets, padding, stand.top)
-    named = search.other_lengths(stand.candidates(), stand.open) if agrees else []
-    changed = why_search.line_of_lengths(named) or search.other_count(stand.candidates())
-    start = why_search.other_start(octets, padding)
-    if not start and stand.top not in [it.offset for it, _ in named]:
-        start = why_search.next_record(octets, padding, stand.top, count)
-    return (first, *why_search.replaced(octets), *changed, *reasons(stand, bool(changed)), *start)
+    start = why_search.other_start(octets, padding, stand.fault.offset)
+    named = [] if start else named_lengths(search, stand)
+    mending = (start or why_search.overwritten(octets, stand.fault.offset) or why_search.line_of_lengths(named)
+               or why_chains.doubled(search, stand) or search.other_count(stand.candidates())
+               or why_chains.chain(search, stand))
+    sizes = [] if mending else why_lines.of_sizes(stand)
+    is_named = mending == why_search.line_of_lengths(named) and stand.top in [it.offset for it, _ in named]
+    record = [] if start or is_named else why_search.next_record(octets, padding, stand.top, count)
+    return (first, *replaced, *mending, *sizes, *reasons(stand, bool(mending)), *record)
+
+
+def named_lengths(search, stand):
+    """Returns the elements of which another length is named, each with that length."""
+    agrees = why_search.sizes_agree(search.octets, search.padding, stand.top)
+    return search.other_lengths(stand.candidates(), stand.open) if agrees else []
 
 
 @functools.lru_cache(maxsize=16)

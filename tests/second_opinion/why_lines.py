@@ -55,6 +55,20 @@ def suspect(stand, element):
     return [f"{SUSPECT}that of the {named(element)}. {says(stand, element)}"]
 
 
+def of_sizes(stand):
+    """Returns the line about the end of the outermost open element and the end of the input."""
+    if stand.fault.code == "F02" or not stand.open or stand.open[0].length is None:
+        return []
+    outer, size = stand.open[0], len(stand.octets)
+    end, line = end_of(outer), f"By its length the {named(outer)} ends "
+    if end == size:
+        return [f"{line}with the input, at offset {end}: no octet was lost or put in."]
+    line += f"at offset {end}, the input at offset {size}. "
+    if size < end:
+        return [f"{line}Missing: {so_many(end - size)}."]
+    return [] if stand.octets[end] == stand.octets[outer.offset] else [f"{line}Too many: {so_many(size - end)}."]
+
+
 def of_nothing(stand):
     """F01."""
     count = len(stand.octets)

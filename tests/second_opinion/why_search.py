@@ -4,9 +4,14 @@ import itertools
 from second_opinion.reading import Element, Reading
 from second_opinion.tries import Walk
 
-MOST_SEARCHED, MOST_OFF, LAST_START, MOST_TRIED = 1 << 20, 5, 64, 1024
+MOST_SEARCHED, MOST_OFF, MOST_TRIED = 1 << 20, 5, 1024
+# The last offset of another start, and the fewest octets from there on.
+LAST_START, LEAST_FROM_START = 256, 10
+SPACE = 0x20
+# The fewest octets that stand in place of others.
+LEAST_RUN = 24
 # The most octets of an input in which all lengths are tried, and up to so many headers named. In a longer one it is one.
-MOST_WIDE, MOST_NAMED = 1 << 16, 3
+MOST_WIDE, MOST_NAMED = 1 << 18, 3
 # The most octets after the first of length octets that are tried in reverse order.
 MOST_REVERSED = 5
 # The octets that the tries for the next record may read in a run.
@@ -30,12 +35,9 @@ KINDS = (
     (b"\x4d\x3c\xb2\xa1", CAPTURE),
     (b"\x0a\x0d\x0d\x0a", CAPTURE),
     (b"\xfe\xed\xfe\xed", "It begins as a key store of Java (JKS) does: export what you need first."),
+    (b"HTTP/", "It begins with the header of an answer of HTTP. Try: sed '1,/^.$/d' FILE | tlvdump-show"),
+    (b"\xef\xbb\xbf", "It begins with the byte order mark of a text in UTF-8. Try: tail -c +4 FILE | tlvdump-show"),
 )
-LATIN_1 = ("It was taken for a text in Latin-1 and written in UTF-8. "
-           "Try: fetch it anew, in binary, or: iconv -f UTF-8 -t ISO-8859-1 FILE | tlvdump-show")
-LINE_ENDS = "It was taken for a text: octets 0d were put in front of 0a. Try: fetch it anew, in binary."
-REPLACED = ("It has the octets ef bf bd, with which programs replace what is no UTF-8: it was copied as a text. "
-            "Try: fetch it anew, in binary.")
 START = ("From offset {} on it parses: what stands in front may be a header of the file or of the record, or damaged. "
          "Try: tail -c +{} FILE | tlvdump-show")
 RECORD = "From offset {} on it parses: the next record may begin there. Try: tail -c +{} FILE | tlvdump-show"
@@ -154,39 +156,45 @@ def spelled(length_octets, length):
     return length_octets[:1] + length.to_bytes(count, "big") if count else bytes([length])
 
 
-def undone_change(octets, padding):
-    """Returns the line about a change that was made to the input as if it were text, and without which it would parse.
-    """
-    try:
-        characters = octets.decode("utf-8").encode("latin-1")
-    except UnicodeError:
-        characters = octets
-    if characters != octets and parses(characters, padding):
-        return [LATIN_1]
-    if b"\r\n" in octets and parses(octets.replace(b"\r\n", b"\n"), padding):
-        return [LINE_ENDS]
-    return []
-
-
-def replaced(octets):
-    """Returns the line about octets that stand in place of others."""
-    return [REPLACED] if b"\xef\xbf\xbd" in octets else []
-
-
 def other_kind(octets):
     """Returns the line about another kind of file."""
     return [line for front, line in KINDS if octets.startswith(front)][:1]
 
 
-def other_start(octets, padding):
-    """Returns the line about the first later offset from which on the input parses."""
-    if seems_right(octets):
+def other_start(octets, padding, fault):
+    """Returns the line about the first other offset from which on the input parses. `fault` is the offset of the fault."""
+    first = header_at(octets, 0)
+    if first and ends_near(octets, first):
         return []
-    for offset in range(1, min(LAST_START + 1, len(octets))):
+    start = fault + 1 if first and seems_right(octets, first) else 1
+    for offset in range(start, min(LAST_START + 1, len(octets) - LEAST_FROM_START + 1)):
         element = header_at(octets, offset)
-        if element and element.constructed and parses(octets[offset:], padding):
+        if octets[offset] != SPACE and element and element.constructed and parses(octets[offset:], padding):
             return [START.format(offset, offset + 1)]
     return []
+
+
+def ends_near(octets, first):
+    """Returns whether the first element ends with the input, or, if it is constructed, at a distance from the end of the
+    input of at most a quarter of its octets.
+    """
+    if first.length is None:
+        return False
+    distance = abs(end_of(first) - len(octets))
+    return distance == 0 or first.constructed and 4 * distance <= len(octets)
+
+
+def overwritten(octets, fault):
+    """Returns the line about octets 00 or ff in a row around the fault."""
+    if fault >= len(octets) or octets[fault] not in (0, 0xFF):
+        return []
+    octet = octets[fault : fault + 1]
+    front, behind = octets[:fault], octets[fault:]
+    start = len(front.rstrip(octet))
+    end = len(octets) - len(behind.lstrip(octet))
+    if end - start < LEAST_RUN:
+        return []
+    return [f"The octets from offset {start} on are {octet.hex()} alone: {end - start}. They may stand in place of others."]
 
 
 def next_record(octets, padding, top, count):
@@ -212,15 +220,9 @@ def next_record(octets, padding, top, count):
     return []
 
 
-def seems_right(octets):
-    """Returns whether the first element ends with the input, or is constructed and begins with whole elements."""
-    first = header_at(octets, 0)
-    if first is None:
-        return False
-    end = None if first.length is None else first.start + first.length
-    if end == len(octets):
-        return True
-    return first.constructed and begins_with_elements(octets[first.start : end])
+def seems_right(octets, first):
+    """Returns whether the first element is constructed and begins with whole elements."""
+    return first.constructed and begins_with_elements(octets[first.start : end_of(first)])
 
 
 def begins_with_elements(octets):

@@ -1,12 +1,14 @@
 -- Where else encodings begin in an input: X.690 8.1.1.
-use Rattle.std.specs.Prelude.{◌≡◌, ◌⊎◌, ℕ, Bool, false, true, List, ◌++◌, length, take, drop, min, Option, Some, eqb}
-use Rattle.std.specs.Prelude.{◌≤◌, slice_index}
+use Rattle.std.specs.Prelude.{◌≡◌, ◌≤◌, ◌+◌, ◌*◌, ◌&&◌, ◌||◌, ℕ, Bool, false, true, List, ◌++◌, length, take, drop, min, Option}
+use Rattle.std.specs.Prelude.{None, Some, eqb, nat_le, slice_index}
 use Rattle.std.specs.Option.{option_map_or}
 use Rattle.std.specs.Str.TwoWay.{IsFirst}
 use Rattle.tlv_head.specs.Header.{HeaderValue, definite_length}
 use Rattle.tlv_head.specs.Refusal.{BeginsWith}
 use Rattle.tlv_open.specs.Opens.{closed_framing}
 use Rattle.tlv_reasons.specs.Elements.{offset_sum}
+use Rattle.tlv_reasons.specs.Sizes.{distance}
+use Rattle.tlv_reasons.specs.WrongLength.{contents_start}
 use Rattle.tlv_walk.specs.Reading.{IsSoundList}
 
 -- the octets begin with one or more whole encodings
@@ -16,21 +18,31 @@ pub record BeginsWithEncodings (octets : List ℕ) : Type 0 where
   pub octets_are : front ++ rest ≡ octets
   pub sound : IsSoundList (closed_framing false) front
 
--- 8.1.3.3: the element with this header, after which these octets come, ends with them
-abbrev pub EndsWithInput : HeaderValue → List ℕ → Type 0
-EndsWithInput h after = definite_length h.size ≡ Some (length after)
+-- 8.1.3.3: where the element with this header ends is so many octets in front of the end of an input of `size` octets, or
+-- behind it: a distance of none, or, if the element is constructed, of a quarter of the input at most
+abbrev pub is_near_end : Bool → ℕ → ℕ → Bool
+is_near_end constructed size by = eqb by 0 || (constructed && nat_le (4 * by) size)
+
+abbrev pub EndsNearInput : HeaderValue → ℕ → Type 0
+EndsNearInput h size = (n : ℕ) × (definite_length h.size ≡ Some n)
+    × (is_near_end h.constructed size (distance (contents_start h + n) size) ≡ true)
+
+-- the first element of the input ends with it, or near its end
+pub record BeginsAndEnds (octets : List ℕ) : Type 0 where
+  pub header : HeaderValue
+  pub begins : BeginsWith octets 0 false header
+  pub near : EndsNearInput header (length octets)
 
 -- 8.1.4: the octets after this header that are contents of its element
 abbrev pub contents_among : HeaderValue → List ℕ → List ℕ
 contents_among h after = option_map_or (λ n. take n after) (definite_length h.size) after
 
--- the first element of the input seems right: it ends with the input, or it is constructed and its contents begin with
--- whole encodings
+-- the first element of the input seems right: it is constructed, and its contents begin with whole encodings
 pub record SeemsRight (octets : List ℕ) : Type 0 where
   pub header : HeaderValue
   pub begins : BeginsWith octets 0 false header
-  pub fits : EndsWithInput header begins.rest
-      ⊎ ((header.constructed ≡ true) × BeginsWithEncodings (contents_among header begins.rest))
+  pub constructed : header.constructed ≡ true
+  pub inside : BeginsWithEncodings (contents_among header begins.rest)
 
 -- the input is sound from this offset on, and a constructed element begins there
 pub record IsStart (padding : Bool) (octets : List ℕ) (offset : ℕ) : Type 0 where
@@ -51,7 +63,10 @@ IsFirstStart padding octets first found =
     IsFirst (IsOtherStart padding octets) first (min 257 (length octets)) found
 
 -- the offset from which an input with a fault at this offset is sound: the first from 1 on, or, if the first element of
--- the input seems right, behind the fault
-pub record IsNextStart (padding : Bool) (octets : List ℕ) (fault : ℕ) (found : Option ℕ) : Type 0 where
-  pub otherwise : (SeemsRight octets → ⊥) → IsFirstStart padding octets 1 found
-  pub right : SeemsRight octets → IsFirstStart padding octets (offset_sum fault 1) found
+-- the input seems right, behind the fault; none if that element ends near the end of the input
+pub data IsNextStart (padding : Bool) (octets : List ℕ) (fault : ℕ) : Option ℕ → Type 0 where
+  of_one_record : BeginsAndEnds octets → IsNextStart padding octets fault None
+  of_records : {found : Option ℕ} → (BeginsAndEnds octets → ⊥) → SeemsRight octets
+      → IsFirstStart padding octets (offset_sum fault 1) found → IsNextStart padding octets fault found
+  otherwise : {found : Option ℕ} → (BeginsAndEnds octets → ⊥) → (SeemsRight octets → ⊥)
+      → IsFirstStart padding octets 1 found → IsNextStart padding octets fault found

@@ -12,15 +12,22 @@ use Rattle.tlv_reasons.specs.declared.sentence.Sentence.{Sentence}
 use Rattle.tlv_reasons.specs.declared.sentence.Sentence.TheVariants as say
 use Rattle.tlv_reasons.specs.declared.text_changes.TextChange.{TextChange}
 use Rattle.tlv_reasons.specs.declared.text_changes.TextChange.TheVariants.{LineEnds, Replaced, Utf8}
+use Rattle.tlv_reasons.specs.Chains.{IsChain}
+use Rattle.tlv_reasons.specs.Doubled.{IsDoubled}
 use Rattle.tlv_reasons.specs.FaultReasons.{said}
 use Rattle.tlv_reasons.specs.FileKinds.{file_kind}
+use Rattle.tlv_reasons.specs.FirstOf.{IsElse, IsNothing}
+use Rattle.tlv_reasons.specs.Moves.{IsMove}
 use Rattle.tlv_reasons.specs.NextRecord.{IsNextRecord}
 use Rattle.tlv_reasons.specs.NextStart.{IsNextStart}
 use Rattle.tlv_reasons.specs.OneOctet.{IsOctetChange}
 use Rattle.tlv_reasons.specs.OutermostSizes.{SizesAgree}
+use Rattle.tlv_reasons.specs.Overwritten.{run_around}
 use Rattle.tlv_reasons.specs.Sizes.{size_sentence}
+use Rattle.tlv_reasons.specs.Spacing.{IsSpacing}
 use Rattle.tlv_reasons.specs.Suspects.{suspect_offsets}
 use Rattle.tlv_reasons.specs.TextCopies.{IsSoundWithLfAlone, IsSoundWithoutUtf8, has_replacement}
+use Rattle.tlv_reasons.specs.Traces.{trace_of}
 use Rattle.tlv_reasons.specs.Why.{fault_sentences, reasons_of}
 use Rattle.tlv_reasons.specs.WrongLength.{NamesLengths}
 
@@ -60,6 +67,34 @@ is_undone None = false
 is_undone (Some Replaced) = false
 is_undone (Some change) = true
 
+-- what was done to the input as if it were a text, if that can be undone
+pub data IsUndone (padding : Bool) (octets : List ℕ) : Option TextChange → Type 0 where
+  undone : {change : TextChange} → IsTextChange padding octets (Some change) → is_undone (Some change) ≡ true
+      → IsUndone padding octets (Some change)
+  not_undone : {change : Option TextChange} → IsTextChange padding octets change → is_undone change ≡ false
+      → IsUndone padding octets None
+
+-- the sentence about what was done to the input as a whole, if there is one: as to a text; to all octets; what shows
+-- that it was a text; other octets between its encodings
+abbrev pub IsTraceOrElse : Bool → List ℕ → Option Sentence → Type 0
+IsTraceOrElse padding octets =
+    IsElse (λ t. t ≡ trace_of octets) say.Traced (IsElse (IsSpacing padding octets) say.Spaced IsNothing)
+
+abbrev pub IsMoveOrElse : Bool → List ℕ → Option Sentence → Type 0
+IsMoveOrElse padding octets = IsElse (IsMove padding octets) say.OctetsMoved (IsTraceOrElse padding octets)
+
+abbrev pub IsWhole : Bool → List ℕ → Option Sentence → Type 0
+IsWhole padding octets = IsElse (IsUndone padding octets) say.TextChanged (IsMoveOrElse padding octets)
+
+-- the sentence about octets ef bf bd, if there are any
+abbrev pub replaced_sentence : List ℕ → Option Sentence
+replaced_sentence octets = if has_replacement octets then Some (say.TextChanged Replaced) else None
+
+-- the same, if it comes in front of that sentence: it shows how the input was taken for a text
+abbrev pub replaced_before : Sentence → List ℕ → Option Sentence
+replaced_before (say.Traced t) octets = replaced_sentence octets
+replaced_before s octets = None
+
 -- a sentence about a length in front
 abbrev pub is_suspicion : Sentence → Bool
 is_suspicion (say.LengthInFront e) = true
@@ -79,52 +114,71 @@ reasons_if false octets facts = said (size_sentence octets facts ∷ []) ++ reas
 abbrev pub fault_offset : Facts → ℕ
 fault_offset facts = option_map_or (λ fault. fault.offset) facts.fault 0
 
--- the other lengths that are named, and the octet that is missing or was put in, if no other start was found
-pub data IsMended (padding : Bool) (octets : List ℕ) (facts : Facts)
-    : Option ℕ → List WrongLength → Option OctetChange → Type 0 where
-  elsewhere : (start : ℕ) → IsMended padding octets facts (Some start) [] None
-  here : {wrong : List WrongLength} {octet : Option OctetChange} → AreNamedLengths padding octets facts wrong
-      → IsOctetChange (closed_framing padding) octets (suspect_offsets facts) (slice_get wrong 0) octet
-      → IsMended padding octets facts None wrong octet
+-- the sentence about the lengths that are named
+pub data IsLengthSentence (padding : Bool) (octets : List ℕ) (facts : Facts) : Option Sentence → Type 0 where
+  about : {found : List WrongLength} → AreNamedLengths padding octets facts found
+      → IsLengthSentence padding octets facts (length_sentence found)
 
--- the sentences about what would mend the input: where else it is sound, or what would make all of it sound
-abbrev pub mending_sentences : Option TextChange → Option ℕ → List WrongLength → Option OctetChange → List Sentence
-mending_sentences change start wrong octet =
-    said (option_map (λ c. say.TextChanged c) change ∷ option_map (λ n. say.ParsesFrom n) start
-    ∷ length_sentence wrong ∷ option_map (λ c. say.OneOctet c) octet ∷ [])
+-- the sentence about what would mend the input, the first that is found: where else it is sound; octets that stand in
+-- place of others; other lengths; a block that stands twice; an octet that is missing or was put in; other lengths of
+-- several elements inside one another
+abbrev pub IsChainOrElse : Bool → List ℕ → Facts → Option Sentence → Type 0
+IsChainOrElse padding octets facts = IsElse (IsChain padding octets facts (suspect_offsets facts)) say.OtherChain IsNothing
 
--- something is known that would mend the input
-abbrev pub is_mended : Option ℕ → List WrongLength → Option OctetChange → Bool
-is_mended start wrong octet = is_some start || is_some (slice_get wrong 0) || is_some octet
+abbrev pub IsOctetOrElse : Bool → List ℕ → Facts → Option Sentence → Type 0
+IsOctetOrElse padding octets facts =
+    IsElse (IsOctetChange (closed_framing padding) octets (suspect_offsets facts) None) say.OneOctet
+    (IsChainOrElse padding octets facts)
 
--- the reasons of an input with these facts to which this was done as if it were a text: what would mend it, the
--- sentences about the fault, and the next record
-pub record AreRemedies (reads : ℕ) (padding : Bool) (octets : List ℕ) (facts : Facts) (change : Option TextChange)
-    (sentences : List Sentence) : Type 0 where
-  pub start : Option ℕ
-  pub is_start : IsNextStart padding octets (fault_offset facts) start
-  pub wrong : List WrongLength
-  pub octet : Option OctetChange
-  pub are_mended : IsMended padding octets facts start wrong octet
-  pub next : Option ℕ
-  pub is_next : IsNextRecord reads padding octets facts.top (named_at facts.top wrong) start next
+abbrev pub IsBlockOrElse : Bool → List ℕ → Facts → Option Sentence → Type 0
+IsBlockOrElse padding octets facts =
+    IsElse (IsDoubled padding octets facts) say.StandsTwice (IsOctetOrElse padding octets facts)
+
+abbrev pub IsLengthOrElse : Bool → List ℕ → Facts → Option Sentence → Type 0
+IsLengthOrElse padding octets facts =
+    IsElse (IsLengthSentence padding octets facts) (λ s. s) (IsBlockOrElse padding octets facts)
+
+abbrev pub IsRemedy : Bool → List ℕ → Facts → Option Sentence → Type 0
+IsRemedy padding octets facts =
+    IsElse (IsNextStart padding octets (fault_offset facts)) say.ParsesFrom
+    (IsElse (λ run. run ≡ run_around octets (fault_offset facts)) say.Overwritten (IsLengthOrElse padding octets facts))
+
+-- the lengths that such a sentence names
+abbrev pub lengths_in : Option Sentence → List WrongLength
+lengths_in (Some (say.OtherLength v)) = v ∷ []
+lengths_in (Some (say.TwoLengths v w)) = v ∷ w ∷ []
+lengths_in (Some (say.ThreeLengths v w x)) = v ∷ w ∷ x ∷ []
+lengths_in s = []
+
+-- the other start that such a sentence names
+abbrev pub start_in : Option Sentence → Option ℕ
+start_in (Some (say.ParsesFrom n)) = Some n
+start_in s = None
+
+-- the reasons of an input with these facts to which nothing was done as a whole: octets ef bf bd, what would mend it,
+-- the sentences about the fault, and the next record
+pub record AreRemedies (reads : ℕ) (padding : Bool) (octets : List ℕ) (facts : Facts) (sentences : List Sentence)
+    : Type 0 where
+  pub remedy : Option Sentence
+  pub is_remedy : IsRemedy padding octets facts remedy
+  pub record_after : Option ℕ
+  pub is_record : IsNextRecord reads padding octets facts.top (named_at facts.top (lengths_in remedy)) (start_in remedy)
+      record_after
   pub sentences_are : sentences
-      ≡ mending_sentences change start wrong octet
-      ++ (reasons_if (is_mended start wrong octet) octets facts
-      ++ said (option_map (λ n. say.NextRecord n) next ∷ []))
+      ≡ said (replaced_sentence octets ∷ remedy ∷ [])
+      ++ (reasons_if (is_some remedy) octets facts ++ said (option_map (λ n. say.NextRecord n) record_after ∷ []))
 
 -- all reasons why an input with these facts does not parse: that it is another kind of file, and nothing else; what was
--- done to it as if it were a text, if that can be undone, and the first sentence about the fault; or all others. So many
--- octets may be read for the next record
+-- done to it as a whole, and the first sentence about the fault; or all others. So many octets may be read for the next
+-- record
 pub data AreReasons (reads : ℕ) (padding : Bool) (octets : List ℕ) (facts : Facts) : List Sentence → Type 0 where
   another_kind : (kind : FileKind) → file_kind octets ≡ Some kind
       → AreReasons reads padding octets facts (say.OtherKind kind ∷ [])
-  undone : (change : Option TextChange) → file_kind octets ≡ None → IsTextChange padding octets change
-      → is_undone change ≡ true
-      → AreReasons reads padding octets facts (mending_sentences change None [] None ++ take 1 (fault_sentences octets facts))
-  others : (change : Option TextChange) (sentences : List Sentence) → file_kind octets ≡ None
-      → IsTextChange padding octets change → is_undone change ≡ false
-      → AreRemedies reads padding octets facts change sentences → AreReasons reads padding octets facts sentences
+  changed : (whole : Sentence) → file_kind octets ≡ None → IsWhole padding octets (Some whole)
+      → AreReasons reads padding octets facts
+      (said (replaced_before whole octets ∷ Some whole ∷ []) ++ take 1 (fault_sentences octets facts))
+  others : (sentences : List Sentence) → file_kind octets ≡ None → IsWhole padding octets None
+      → AreRemedies reads padding octets facts sentences → AreReasons reads padding octets facts sentences
 
 -- all reasons why a string breaks, in a reading with these facts: the lengths that would mend it, and the fault
 pub record AreStringReasons (framing : Framing) (octets candidates : List ℕ) (facts : Facts) (sentences : List Sentence)
@@ -132,4 +186,4 @@ pub record AreStringReasons (framing : Framing) (octets candidates : List ℕ) (
   pub wrong : List WrongLength
   pub are_wrong : NamesLengths framing octets facts.holders.items candidates wrong
   pub sentences_are : sentences
-      ≡ mending_sentences None None wrong None ++ unless_mended (is_some (slice_get wrong 0)) (reasons_of octets facts)
+      ≡ said (length_sentence wrong ∷ []) ++ unless_mended (is_some (slice_get wrong 0)) (reasons_of octets facts)

@@ -1,42 +1,41 @@
 //! All reasons why an input does not parse, and what may be done.
 ghost use Rattle.std.specs.List.{filter};
-ghost use Rattle.std.specs.Prelude.{◌≡◌, ◌≤◌, ◌++◌, IfOk, [], None, OnErr, length, not, take};
+ghost use Rattle.std.specs.Prelude.{◌≡◌, ◌≤◌, ◌++◌, ◌∷◌, IfOk, [], None, OnErr, Some, length, not, take};
 ghost use Rattle.tlv_head.specs.Limits.{input_limit};
-ghost use Rattle.tlv_open.specs.Opens.{closed_framing};
+ghost use Rattle.tlv_reasons.specs.FaultReasons.{said};
 ghost use Rattle.tlv_reasons.specs.FileKinds.{file_kind};
-ghost use Rattle.tlv_reasons.specs.NextRecord.{IsNextRecord};
-ghost use Rattle.tlv_reasons.specs.NextStart.{IsNextStart};
-ghost use Rattle.tlv_reasons.specs.OneOctet.{IsOctetChange};
-ghost use Rattle.tlv_reasons.specs.Remedies.{AreNamedLengths, AreReasons, AreRemedies, AreStringReasons, IsMended, IsTextChange};
-ghost use Rattle.tlv_reasons.specs.Remedies.{is_suspicion, is_undone, fault_offset, is_mended, length_sentence, mending_sentences, named_at, reasons_if, unless_mended};
+ghost use Rattle.tlv_reasons.specs.Remedies.{AreNamedLengths, AreReasons, AreRemedies, AreStringReasons, fault_offset};
+ghost use Rattle.tlv_reasons.specs.Remedies.{is_suspicion, length_sentence, named_at, reasons_if, replaced_before};
+ghost use Rattle.tlv_reasons.specs.Remedies.{replaced_sentence, unless_mended};
 ghost use Rattle.tlv_reasons.specs.Suspects.{suspects_from};
 ghost use Rattle.tlv_reasons.specs.Why.{fault_sentences};
 
 use crate::fault_reasons::{Reasons, joined, said};
 use crate::kinds::file_kind;
 use crate::lengths::{WrongLength, WrongLengths, wrong_lengths};
-use crate::octet_changes::{OctetChange, octet_change};
-use crate::outermost::sizes_agree;
 use crate::records::next_record;
+use crate::remedy::{lengths_in, remedy, start_in};
 use crate::sizes::size_sentence;
-use crate::sound::closed_framing;
-use crate::start::next_start;
-use crate::suspects::{suspect_offsets, suspects_from};
-use crate::text_changes::{TextChange, text_change};
+use crate::suspects::suspects_from;
+use crate::text_changes::TextChange;
+use crate::text_copies::has_replacement;
+use crate::whole::whole_change;
 use crate::why::{fault_sentences, reasons_of};
 use crate::{Facts, Sentence};
 use std::alloc::{AllocError, Global};
 use tlv_walk::Framing;
 
 /// All reasons why an input with these facts ([`facts_of`](crate::facts_of)) does not parse. If it is a file of another
-/// kind: that it is, and nothing else. If undoing what was done to it as if it were a text makes it sound: what was done,
-/// and the first sentence about the fault. Otherwise these come, one after another:
+/// kind: that it is, and nothing else. If it is known what was done to it as a whole: that, and the first sentence about
+/// the fault. Otherwise these come, one after another:
 ///
-/// - from which offset near its start it is sound; or else which single length would make all of it sound; or else after
-///   which header one octet is missing or was put in;
+/// - that it has octets `ef bf bd`, with which programs replace what is no UTF-8;
+/// - what would mend it, the first that is found: where near its start it is sound from; octets that stand in place of
+///   others; other lengths; a block that stands twice; an octet that is missing or was put in; lengths of elements inside
+///   one another;
 /// - if nothing of this was found, what the length of the outermost element says about lost octets;
 /// - the sentences about the fault ([`reasons_of`](crate::reasons_of)), without those about lengths in front if something
-///   of this was found;
+///   was found that would mend it;
 /// - where the next record begins. The tries for it may read `reads` octets in vain.
 ///
 /// With `padding`, octets `00` are allowed at the top level.
@@ -59,95 +58,70 @@ pub fn all_reasons(
     if let Some(kind) = file_kind(octets) {
         return Ok(said(&[Some(Sentence::OtherKind(kind))]));
     }
-    let change = text_change(alloc, octets, padding)?;
-    if is_undone(change) {
-        return Ok(undone_reasons(change, octets, facts));
+    match whole_change(alloc, octets, padding)? {
+        Some(whole) => Ok(whole_reasons(whole, octets, facts)),
+        None => other_reasons(alloc, octets, padding, facts, reads),
     }
-    other_reasons(alloc, octets, padding, facts, change, reads)
 }
 
-/// The reasons of an input to which this was done as if it were a text.
-fn undone_reasons(change: Option<TextChange>, octets: &[u8], facts: &Facts) -> Reasons
-    ensures reasons { result.items ≡ mending_sentences change None [] None
+/// The reasons of an input to which this was done as a whole.
+fn whole_reasons(whole: Sentence, octets: &[u8], facts: &Facts) -> Reasons
+    ensures reasons { result.items ≡ said (replaced_before whole octets.now ∷ Some whole ∷ [])
         ++ take 1 (fault_sentences octets.now facts.now) }
-    ensures few { length result.items ≤ 5 }
+    ensures few { length result.items ≤ 3 }
 {
     let mut first = fault_sentences(octets, facts);
     first.truncate(1);
-    joined(
-        mending_sentences(change, None, &[], None).as_slice(),
-        first.as_slice(),
-    )
+    let front = said(&[replaced_before(&whole, octets), Some(whole)]);
+    joined(front.as_slice(), first.as_slice())
 }
 
-/// The reasons of an input that is no other kind of file, and to which nothing was done as to a text that can be undone.
+/// The sentence about octets `ef bf bd`, if there are any and it comes in front of this one.
+fn replaced_before(whole: &Sentence, octets: &[u8]) -> Option<Sentence>
+    ensures { result ≡ replaced_before whole.now octets.now }
+{
+    match whole {
+        Sentence::Traced(_) => replaced_sentence(octets),
+        _ => None,
+    }
+}
+
+/// The sentence about octets `ef bf bd`, if there are any.
+fn replaced_sentence(octets: &[u8]) -> Option<Sentence>
+    ensures { result ≡ replaced_sentence octets.now }
+{
+    if has_replacement(octets) {
+        Some(Sentence::TextChanged(TextChange::Replaced))
+    } else {
+        None
+    }
+}
+
+/// The reasons of an input that is no other kind of file, and to which nothing was done as a whole.
 fn other_reasons(
     alloc: Global,
     octets: &[u8],
     padding: bool,
     facts: &Facts,
-    change: Option<TextChange>,
     reads: u64,
 ) -> Result<Reasons, AllocError>
     requires { length octets.now ≤ input_limit }
-    ensures reasons { IfOk result (λ r. AreRemedies reads padding octets.now facts.now change r.items) }
+    ensures reasons { IfOk result (λ r. AreRemedies reads padding octets.now facts.now r.items) }
     ensures few { IfOk result (λ r. length r.items ≤ 14) }
 {
     let top = facts.top as usize;
-    let start = next_start(octets, padding, fault_offset(facts));
-    let mended = mended(alloc, octets, padding, facts, start)?;
-    let wrong = mended.wrong.as_slice();
-    let next = next_record(octets, padding, top, named_at(top, wrong), start, reads);
-    let mending = mending_sentences(change, start, wrong, mended.octet);
-    let reasons = reasons_if(is_mended(start, wrong, mended.octet), octets, facts);
+    let remedy = remedy(alloc, octets, padding, facts)?;
+    let wrong = named_at(top, lengths_in(remedy).as_slice());
+    let next = next_record(octets, padding, top, wrong, start_in(remedy), reads);
+    let front = said(&[replaced_sentence(octets), remedy]);
+    let reasons = reasons_if(remedy.is_some(), octets, facts);
     let record = said(&[next.map(|offset| Sentence::NextRecord(offset as u64))]);
     let others = joined(reasons.as_slice(), record.as_slice());
-    Ok(joined(mending.as_slice(), others.as_slice()))
-}
-
-/// What would make all of an input sound.
-#[derive(Drop)]
-struct Mending {
-    /// The headers whose length may be wrong.
-    wrong: WrongLengths,
-    /// The octet that is missing or was put in.
-    octet: Option<OctetChange>,
-}
-
-/// What would make all of an input sound; nothing if another start was found.
-fn mended(
-    alloc: Global,
-    octets: &[u8],
-    padding: bool,
-    facts: &Facts,
-    start: Option<usize>,
-) -> Result<Mending, AllocError>
-    requires { length octets.now ≤ input_limit }
-    ensures { IfOk result (λ m. IsMended padding octets.now facts.now start m.wrong.items m.octet) }
-{
-    if start.is_some() {
-        return Ok(Mending {
-            wrong: WrongLengths::new(),
-            octet: None,
-        });
-    }
-    let framing = closed_framing(padding);
-    let candidates = suspect_offsets(facts);
-    let wrong = named_lengths(alloc, octets, padding, facts)?;
-    let first = wrong.as_slice().first().copied();
-    let octet = octet_change(alloc, octets, &framing, candidates.as_slice(), first)?;
-    Ok(Mending { wrong, octet })
-}
-
-/// Whether something is known that would mend the input.
-fn is_mended(start: Option<usize>, wrong: &[WrongLength], octet: Option<OctetChange>) -> bool
-    ensures { result ≡ is_mended start wrong.now octet }
-{
-    start.is_some() || wrong.first().is_some() || octet.is_some()
+    Ok(joined(front.as_slice(), others.as_slice()))
 }
 
 /// Where the fault is; 0 if the octets parse.
-fn fault_offset(facts: &Facts) -> usize
+pub(crate) fn fault_offset(facts: &Facts) -> usize
     ensures { result ≡ fault_offset facts.now }
 {
     match facts.fault {
@@ -156,8 +130,8 @@ fn fault_offset(facts: &Facts) -> usize
     }
 }
 
-/// All reasons why the string at this offset breaks, in a reading of the input with these facts: the single length that
-/// would make the input sound, if there is one, and the sentences about the fault. Headers in front of the string are not
+/// All reasons why the string at this offset breaks, in a reading of the input with these facts: the lengths that would
+/// make the input sound, if there are any, and the sentences about the fault. Headers in front of the string are not
 /// tried. `framing` says how the input is read: which strings hold encodings, and whether octets `00` are allowed at the
 /// top level.
 ///
@@ -180,8 +154,8 @@ pub fn string_reasons(
     let wrong = wrong_lengths(alloc, octets, framing, holders, candidates.as_slice())?;
     let is_mended = wrong.as_slice().first().is_some();
     let reasons = unless_mended(is_mended, reasons_of(octets, facts).as_slice());
-    let mending = mending_sentences(None, None, wrong.as_slice(), None);
-    Ok(joined(mending.as_slice(), reasons.as_slice()))
+    let front = said(&[length_sentence(wrong.as_slice())]);
+    Ok(joined(front.as_slice(), reasons.as_slice()))
 }
 
 /// The reasons of an input: what sizes say, and the sentences about the fault; or the latter alone, without those about
@@ -196,16 +170,6 @@ fn reasons_if(is_mended: bool, octets: &[u8], facts: &Facts) -> Reasons
     }
     let sizes = said(&[size_sentence(octets, facts)]);
     joined(sizes.as_slice(), reasons.as_slice())
-}
-
-/// Whether what was done to an input as if it were a text is known, and can be undone.
-fn is_undone(change: Option<TextChange>) -> bool
-    ensures { result ≡ is_undone change }
-{
-    match change {
-        Some(TextChange::Utf8 | TextChange::LineEnds) => true,
-        Some(TextChange::Replaced) | None => false,
-    }
 }
 
 /// These sentences, without those about lengths in front if something is known that would mend the input.
@@ -242,26 +206,8 @@ fn is_suspicion(sentence: &Sentence) -> bool
     matches!(sentence, Sentence::LengthInFront(_))
 }
 
-/// The sentences about what would mend the input.
-fn mending_sentences(
-    change: Option<TextChange>,
-    start: Option<usize>,
-    wrong: &[WrongLength],
-    octet: Option<OctetChange>,
-) -> Reasons
-    ensures sentences { result.items ≡ mending_sentences change start wrong.now octet }
-    ensures few { length result.items ≤ 4 }
-{
-    said(&[
-        change.map(Sentence::TextChanged),
-        start.map(|offset| Sentence::ParsesFrom(offset as u64)),
-        length_sentence(wrong),
-        octet.map(Sentence::OneOctet),
-    ])
-}
-
 /// The sentence about the lengths that are named: three at most.
-fn length_sentence(wrong: &[WrongLength]) -> Option<Sentence>
+pub(crate) fn length_sentence(wrong: &[WrongLength]) -> Option<Sentence>
     ensures { result ≡ length_sentence wrong.now }
 {
     match wrong {
@@ -282,29 +228,4 @@ fn named_at(offset: usize, wrong: &[WrongLength]) -> Option<WrongLength>
         }
     }
     None
-}
-
-/// The headers whose length may be wrong; none if the sizes of the outermost elements do not agree with that of the
-/// input, since octets are then missing or left over.
-fn named_lengths(
-    alloc: Global,
-    octets: &[u8],
-    padding: bool,
-    facts: &Facts,
-) -> Result<WrongLengths, AllocError>
-    requires { length octets.now ≤ input_limit }
-    ensures { IfOk result (λ found. AreNamedLengths padding octets.now facts.now found.items) }
-{
-    if !sizes_agree(octets, padding, facts.top as usize) {
-        return Ok(WrongLengths::new());
-    }
-    let candidates = suspect_offsets(facts);
-    let holders = facts.holders.as_slice();
-    wrong_lengths(
-        alloc,
-        octets,
-        &closed_framing(padding),
-        holders,
-        candidates.as_slice(),
-    )
 }

@@ -20,15 +20,48 @@ const START_LIMIT: usize = 256;
 
 /// The offset from which an input with a fault at the offset `fault` is sound, in octets from its start: the first from 1
 /// to 256 at which a constructed element begins whose first octet is no space (`20`), with at least 10 octets from there
-/// on. If the first element of the input seems right, the offset lies behind the fault: that element ends with the input,
-/// or it is constructed and its contents begin with whole encodings. With `padding`, octets `00` are allowed between
+/// on. If the first element of the input seems right, that is, it is constructed and its contents begin with whole
+/// encodings, the offset lies behind the fault. `None` also if the first element ends with the input, or is constructed
+/// and ends near its end: the distance is at most a quarter of the input. With `padding`, octets `00` are allowed between
 /// encodings and after them.
 pub fn next_start(octets: &[u8], padding: bool, fault: usize) -> Option<usize>
     requires { length octets.now ≤ input_limit }
     ensures { IsNextStart padding octets.now fault result }
 {
-    let first = if seems_right(octets) { fault.saturating_add(1) } else { 1 };
-    first_start(octets, padding, first)
+    if begins_and_ends(octets) {
+        return None;
+    }
+    if seems_right(octets) {
+        return first_start(octets, padding, fault.saturating_add(1));
+    }
+    first_start(octets, padding, 1)
+}
+
+/// Whether the first element of the input ends with it, or near its end.
+fn begins_and_ends(octets: &[u8]) -> bool
+    requires { length octets.now ≤ input_limit }
+    ensures { IsTrue result ↔ BeginsAndEnds octets.now }
+{
+    match read_header(0, false, octets) {
+        Some((fields, count)) => ends_near(&fields, count, octets.len()),
+        None => false,
+    }
+}
+
+/// Whether an element with a header of `count` octets, at the start of an input of `size` octets, ends with the input, or,
+/// if it is constructed, near its end.
+fn ends_near(fields: &HeaderFields, count: usize, size: usize) -> bool
+    requires count { count ≤ size }
+    requires size { size ≤ input_limit }
+    ensures { IsTrue result ↔ EndsNearWith fields.now count size }
+{
+    match fields.size {
+        Size::Definite(length) => {
+            let by = (count as u64 + length).abs_diff(size as u64);
+            by == 0 || fields.constructed && 4 * by <= size as u64
+        }
+        Size::Indefinite => false,
+    }
 }
 
 /// The first such offset, from this one on.
@@ -68,8 +101,7 @@ fn is_start(octets: &[u8], offset: usize, padding: bool) -> bool
     }
 }
 
-/// Whether the first element of the input ends with the input, or is constructed and its contents begin with whole
-/// encodings.
+/// Whether the first element of the input is constructed and its contents begin with whole encodings.
 fn seems_right(octets: &[u8]) -> bool
     requires { length octets.now ≤ input_limit }
     ensures { IsTrue result ↔ SeemsRight octets.now }
@@ -77,20 +109,9 @@ fn seems_right(octets: &[u8]) -> bool
     match read_header(0, false, octets) {
         Some((fields, count)) => {
             let after = &octets[count..];
-            ends_with(fields.size, after)
-                || fields.constructed && begins_with_encodings(contents_among(fields.size, after))
+            fields.constructed && begins_with_encodings(contents_among(fields.size, after))
         }
         None => false,
-    }
-}
-
-/// Whether contents of this length are exactly these octets.
-fn ends_with(size: Size, after: &[u8]) -> bool
-    ensures { IsTrue result ↔ (definite_length size ≡ Some (length after.now)) }
-{
-    match size {
-        Size::Definite(length) => length == after.len() as u64,
-        Size::Indefinite => false,
     }
 }
 

@@ -1,0 +1,173 @@
+//! What would mend an input.
+ghost use Rattle.std.specs.Prelude.{◌≡◌, ◌≤◌, IfOk, length};
+ghost use Rattle.tlv_head.specs.Limits.{input_limit};
+ghost use Rattle.tlv_reasons.specs.Remedies.{AreNamedLengths, IsLengthOrElse, IsBlockOrElse, IsOctetOrElse, IsChainOrElse};
+ghost use Rattle.tlv_reasons.specs.Remedies.{IsLengthSentence, IsRemedy, lengths_in, start_in};
+
+use crate::chains::length_chain;
+use crate::doubled::doubled_block;
+use crate::lengths::{WrongLengths, wrong_lengths};
+use crate::mend::{fault_offset, length_sentence};
+use crate::octet_changes::octet_change;
+use crate::outermost::sizes_agree;
+use crate::overwritten::run_around;
+use crate::sound::closed_framing;
+use crate::start::next_start;
+use crate::suspects::suspect_offsets;
+use crate::{Facts, Sentence};
+use std::alloc::{AllocError, Global};
+
+/// The sentence about what would mend the input, the first that is found.
+pub(crate) fn remedy(
+    alloc: Global,
+    octets: &[u8],
+    padding: bool,
+    facts: &Facts,
+) -> Result<Option<Sentence>, AllocError>
+    requires { length octets.now ≤ input_limit }
+    ensures { IfOk result (λ found. IsRemedy padding octets.now facts.now found) }
+{
+    let fault = fault_offset(facts);
+    if let Some(start) = next_start(octets, padding, fault) {
+        return Ok(Some(Sentence::ParsesFrom(start as u64)));
+    }
+    match run_around(octets, fault) {
+        Some(run) => Ok(Some(Sentence::Overwritten(run))),
+        None => length_or_else(alloc, octets, padding, facts),
+    }
+}
+
+/// [`remedy`] of an input that has no other start, and no equal octets in a row where the fault is.
+fn length_or_else(
+    alloc: Global,
+    octets: &[u8],
+    padding: bool,
+    facts: &Facts,
+) -> Result<Option<Sentence>, AllocError>
+    requires { length octets.now ≤ input_limit }
+    ensures { IfOk result (λ found. IsLengthOrElse padding octets.now facts.now found) }
+{
+    match other_length(alloc, octets, padding, facts)? {
+        Some(sentence) => Ok(Some(sentence)),
+        None => block_or_else(alloc, octets, padding, facts),
+    }
+}
+
+/// The sentence about the lengths that are named.
+fn other_length(
+    alloc: Global,
+    octets: &[u8],
+    padding: bool,
+    facts: &Facts,
+) -> Result<Option<Sentence>, AllocError>
+    requires { length octets.now ≤ input_limit }
+    ensures { IfOk result (λ found. IsLengthSentence padding octets.now facts.now found) }
+{
+    let wrong = named_lengths(alloc, octets, padding, facts)?;
+    Ok(length_sentence(wrong.as_slice()))
+}
+
+/// The headers whose length may be wrong; none if the sizes of the outermost elements do not agree with that of the
+/// input, since octets are then missing or left over.
+fn named_lengths(
+    alloc: Global,
+    octets: &[u8],
+    padding: bool,
+    facts: &Facts,
+) -> Result<WrongLengths, AllocError>
+    requires { length octets.now ≤ input_limit }
+    ensures { IfOk result (λ found. AreNamedLengths padding octets.now facts.now found.items) }
+{
+    if !sizes_agree(octets, padding, facts.top as usize) {
+        return Ok(WrongLengths::new());
+    }
+    let candidates = suspect_offsets(facts);
+    let holders = facts.holders.as_slice();
+    wrong_lengths(
+        alloc,
+        octets,
+        &closed_framing(padding),
+        holders,
+        candidates.as_slice(),
+    )
+}
+
+/// [`remedy`] of an input of which no other length is named either.
+fn block_or_else(
+    alloc: Global,
+    octets: &[u8],
+    padding: bool,
+    facts: &Facts,
+) -> Result<Option<Sentence>, AllocError>
+    requires { length octets.now ≤ input_limit }
+    ensures { IfOk result (λ found. IsBlockOrElse padding octets.now facts.now found) }
+{
+    match doubled_block(alloc, octets, padding, facts)? {
+        Some(block) => Ok(Some(Sentence::StandsTwice(block))),
+        None => octet_or_else(alloc, octets, padding, facts),
+    }
+}
+
+/// [`remedy`] of an input in which no block stands twice either.
+fn octet_or_else(
+    alloc: Global,
+    octets: &[u8],
+    padding: bool,
+    facts: &Facts,
+) -> Result<Option<Sentence>, AllocError>
+    requires { length octets.now ≤ input_limit }
+    ensures { IfOk result (λ found. IsOctetOrElse padding octets.now facts.now found) }
+{
+    let candidates = suspect_offsets(facts);
+    let framing = closed_framing(padding);
+    match octet_change(alloc, octets, &framing, candidates.as_slice(), None)? {
+        Some(change) => Ok(Some(Sentence::OneOctet(change))),
+        None => chain(alloc, octets, padding, facts),
+    }
+}
+
+/// [`remedy`] of an input of which no single octet is missing or was put in either.
+fn chain(
+    alloc: Global,
+    octets: &[u8],
+    padding: bool,
+    facts: &Facts,
+) -> Result<Option<Sentence>, AllocError>
+    requires { length octets.now ≤ input_limit }
+    ensures { IfOk result (λ found. IsChainOrElse padding octets.now facts.now found) }
+{
+    let candidates = suspect_offsets(facts);
+    let chain = length_chain(alloc, octets, padding, facts, candidates.as_slice())?;
+    Ok(chain.map(Sentence::OtherChain))
+}
+
+/// The lengths that such a sentence names.
+pub(crate) fn lengths_in(remedy: Option<Sentence>) -> WrongLengths
+    ensures { result.items ≡ lengths_in remedy }
+{
+    let mut lengths = WrongLengths::new();
+    match remedy {
+        Some(Sentence::OtherLength(first)) => lengths.push(first),
+        Some(Sentence::TwoLengths(first, second)) => {
+            lengths.push(first);
+            lengths.push(second);
+        }
+        Some(Sentence::ThreeLengths(first, second, third)) => {
+            lengths.push(first);
+            lengths.push(second);
+            lengths.push(third);
+        }
+        _ => {}
+    }
+    lengths
+}
+
+/// The other start that such a sentence names.
+pub(crate) fn start_in(remedy: Option<Sentence>) -> Option<usize>
+    ensures { result ≡ start_in remedy }
+{
+    match remedy {
+        Some(Sentence::ParsesFrom(offset)) => Some(offset as usize),
+        _ => None,
+    }
+}
