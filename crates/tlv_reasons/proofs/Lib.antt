@@ -11,4 +11,5 @@ pub mod MovedElements
 pub mod SoundLemmas
 pub mod StartLemmas
 pub mod TextLemmas
+pub mod MoveLemmas
 pub mod LawLemmas

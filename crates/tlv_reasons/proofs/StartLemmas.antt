@@ -2,7 +2,7 @@
 use Rattle.std.proofs.Common.{◌≡◌, ℕ, ◌+◌, ◌≤◌, false, true, List, [], ◌∷◌, ◌++◌, length, drop, take, ap, refl}
 use Rattle.std.proofs.Common.{◌∙◌, inl, inr, sym, subst, append_assoc, arith, length-append, take-append-drop, IfSome}
 use Rattle.std.specs.Option.{option_map_or}
-use Rattle.std.specs.Prelude.{Option, Some, None, ◌⊎◌}
+use Rattle.std.specs.Prelude.{Option, Some, None}
 use Rattle.std.proofs.lemmas.List.{append-nil, length-take-le}
 use Rattle.std.proofs.Math.Seq.{drop-append_seam, take-append_seam, take-append-add}
 use Rattle.tlv_head.specs.declared.fault.FaultCode.TheVariants.{StrayEnd}
@@ -15,7 +15,8 @@ use Rattle.tlv_head.specs.HeaderFields.{new_header}
 use Rattle.tlv_head.specs.ReadHeader.{BeginsWithFields}
 use Rattle.tlv_head.specs.Refusal.{BeginsWithNoHeader}
 use Rattle.tlv_reasons.proofs.LengthLemmas.{begun-one}
-use Rattle.tlv_reasons.specs.NextStart.{BeginsWithEncodings, SeemsRight}
+use Rattle.tlv_reasons.specs.NextStart.{BeginsAndEnds, BeginsWithEncodings, SeemsRight, ends_near_by}
+use Rattle.tlv_reasons.specs.WrongLength.{contents_start}
 use Rattle.tlv_open.proofs.ElementLemmas.FirstElement.{lead-none, unnamed-holds}
 use Rattle.tlv_open.specs.Opens.{closed_framing}
 use Rattle.tlv_walk.specs.Ending.{IsEnding, fault_ending}
@@ -199,12 +200,10 @@ pub none-found : (octets : List ℕ) (count : ℕ) (r : Option ℕ) → r ≡ No
     → (n : ℕ) × (r ≡ Some n) × IsSoundList (closed_framing false) (take (count + n) octets) → ⊥
 none-found octets count r e (n, f, s) = cc
 
--- the element at the start fits, by the fields of its header and what comes after that
-abbrev pub Fits-by : HeaderFields → List ℕ → Type 0
-Fits-by fields after =
-    (definite_length fields.size ≡ Some (length after))
-    ⊎ ((fields.constructed ≡ true)
-    × BeginsWithEncodings (option_map_or (λ n. take n after) (definite_length fields.size) after))
+-- the element at the start seems right, by the fields of its header and what comes after that
+abbrev pub Seems-by : HeaderFields → List ℕ → Type 0
+Seems-by fields after = (fields.constructed ≡ true)
+    × BeginsWithEncodings (option_map_or (λ n. take n after) (definite_length fields.size) after)
 
 after-is : (octets : List ℕ) (h : HeaderValue) (rest : List ℕ) (count : ℕ) → octets ≡ octets_of h ++ rest
     → length (octets_of h) ≡ count → rest ≡ drop count octets
@@ -214,18 +213,20 @@ after-is octets h rest count e n =
 
 pub seems-from : (octets after : List ℕ) (fields : HeaderFields) (count : ℕ)
     → BeginsWithFields octets 0 false fields count → after ≡ drop count octets
-    → Fits-by fields after → SeemsRight octets
-seems-from octets after fields count b same fits = record {
+    → Seems-by fields after → SeemsRight octets
+seems-from octets after fields count b same seems = record {
   header = new_header fields (take count octets);
   begins = b.begins;
-  fits = subst (λ (o : List ℕ). Fits-by fields o)
+  constructed = seems.0;
+  inside =
+      subst (λ (o : List ℕ). BeginsWithEncodings (option_map_or (λ n. take n o) (definite_length fields.size) o))
       (same ∙ sym (after-is octets (new_header fields (take count octets)) b.begins.rest count b.begins.octets_are
-      (count-is octets fields count b))) fits;
+      (count-is octets fields count b))) seems.1;
 }
 
 pub seems-by : (octets after : List ℕ) (fields : HeaderFields) (count : ℕ)
     → BeginsWithFields octets 0 false fields count → after ≡ drop count octets
-    → SeemsRight octets → Fits-by fields after
+    → SeemsRight octets → Seems-by fields after
 seems-by octets after fields count b same s =
     let g : HeaderValue = new_header fields (take count octets) in
     let one : s.header ≡ g = begun-one s.header g s.begins b.begins in
@@ -233,17 +234,37 @@ seems-by octets after fields count b same s =
     ap (λ (x : HeaderValue). length (octets_of x)) one ∙ count-is octets fields count b in
     let rest : s.begins.rest ≡ after =
     after-is octets s.header s.begins.rest count s.begins.octets_are size ∙ sym same in
-    let by : Fits-by (fields_of s.header) s.begins.rest = s.fits in
-    let next : Fits-by (fields_of s.header) after =
-    subst (λ (o : List ℕ). Fits-by (fields_of s.header) o) rest by in
-    elim next [
-      | inl e ↦ inl (ap (λ (x : HeaderValue). definite_length x.size) (sym one) ∙ e)
-      | inr (c, k) ↦ inr (
-        ap (λ (x : HeaderValue). x.constructed) (sym one) ∙ c,
-        subst (λ (x : Size). BeginsWithEncodings (option_map_or (λ n. take n after) (definite_length x) after))
-            (ap (λ (x : HeaderValue). x.size) one) k,
-      )
-    ]
+    let inside : BeginsWithEncodings (option_map_or (λ n. take n after) (definite_length s.header.size) after) =
+    subst (λ (o : List ℕ). BeginsWithEncodings (option_map_or (λ n. take n o) (definite_length s.header.size) o)) rest
+    s.inside in
+    (
+      ap (λ (x : HeaderValue). x.constructed) (sym one) ∙ s.constructed,
+      subst (λ (x : Size). BeginsWithEncodings (option_map_or (λ n. take n after) (definite_length x) after))
+          (ap (λ (x : HeaderValue). x.size) one) inside,
+    )
+
+-- the first element ends near the end of the input, by the fields of its header
+module _ (octets : List ℕ) (fields : HeaderFields) (count : ℕ) (b : BeginsWithFields octets 0 false fields count) where
+  start-is : contents_start (new_header fields (take count octets)) ≡ count
+  start-is = omega (arith, b.begins.offset, count-is octets fields count b)
+
+  pub ends-from : ends_near_by fields.constructed count (length octets) (definite_length fields.size) ≡ true
+      → BeginsAndEnds octets
+  ends-from near = record {
+    header = new_header fields (take count octets);
+    begins = b.begins;
+    near =
+        ap (λ (i : ℕ). ends_near_by fields.constructed i (length octets) (definite_length fields.size)) start-is ∙ near;
+  }
+
+  pub ends-by : BeginsAndEnds octets
+      → ends_near_by fields.constructed count (length octets) (definite_length fields.size) ≡ true
+  ends-by e =
+      let one : e.header ≡ new_header fields (take count octets) =
+      begun-one e.header (new_header fields (take count octets)) e.begins b.begins in
+      sym (ap (λ (i : ℕ). ends_near_by fields.constructed i (length octets) (definite_length fields.size)) start-is)
+      ∙ sym (ap (λ (x : HeaderValue). ends_near_by x.constructed (contents_start x) (length octets) (definite_length x.size))
+      one) ∙ e.near
 
 pub size-sound : (octets : List ℕ) (size : ℕ) (r : Option ℕ) → r ≡ Some size
     → (n : ℕ) × (r ≡ Some n) × IsSoundList (closed_framing false) (take n octets)

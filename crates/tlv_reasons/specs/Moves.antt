@@ -1,5 +1,5 @@
 -- What was done to the octets of an input as a whole, and how to undo it.
-use Rattle.std.specs.Prelude.{◌≡◌, ◌≤◌, ℕ, ◌-◌, List, [], ◌∷◌, length, map, Option, Some, None, reverse}
+use Rattle.std.specs.Prelude.{◌≡◌, ◌≤◌, ◌<◌, ℕ, ◌-◌, Bool, List, [], ◌∷◌, length, map, Option, Some, None, reverse}
 use Rattle.tlv_open.specs.Opens.{closed_framing}
 use Rattle.tlv_walk.specs.Reading.{IsSoundList}
 use Rattle.tlv_reasons.specs.declared.moves.Move.{Move}

@@ -23,15 +23,15 @@ pub record BeginsWithEncodings (octets : List ℕ) : Type 0 where
 abbrev pub is_near_end : Bool → ℕ → ℕ → Bool
 is_near_end constructed size by = eqb by 0 || (constructed && nat_le (4 * by) size)
 
-abbrev pub EndsNearInput : HeaderValue → ℕ → Type 0
-EndsNearInput h size = (n : ℕ) × (definite_length h.size ≡ Some n)
-    × (is_near_end h.constructed size (distance (contents_start h + n) size) ≡ true)
+abbrev pub ends_near_by : Bool → ℕ → ℕ → Option ℕ → Bool
+ends_near_by constructed start size None = false
+ends_near_by constructed start size (Some n) = is_near_end constructed size (distance (start + n) size)
 
 -- the first element of the input ends with it, or near its end
 pub record BeginsAndEnds (octets : List ℕ) : Type 0 where
   pub header : HeaderValue
   pub begins : BeginsWith octets 0 false header
-  pub near : EndsNearInput header (length octets)
+  pub near : ends_near_by header.constructed (contents_start header) (length octets) (definite_length header.size) ≡ true
 
 -- 8.1.4: the octets after this header that are contents of its element
 abbrev pub contents_among : HeaderValue → List ℕ → List ℕ

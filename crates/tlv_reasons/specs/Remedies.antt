@@ -4,6 +4,7 @@ use Rattle.std.specs.List.{filter, find}
 use Rattle.std.specs.Option.{is_some, option_map, option_map_or}
 use Rattle.tlv_open.specs.Opens.{closed_framing}
 use Rattle.tlv_walk.specs.declared.framing.Framing.{Framing}
+use Rattle.tlv_reasons.specs.declared.chains.Chain.{Chain}
 use Rattle.tlv_reasons.specs.declared.facts.Facts.{Facts}
 use Rattle.tlv_reasons.specs.declared.kinds.FileKind.{FileKind}
 use Rattle.tlv_reasons.specs.declared.lengths.WrongLength.{WrongLength}
@@ -23,7 +24,7 @@ use Rattle.tlv_reasons.specs.NextStart.{IsNextStart}
 use Rattle.tlv_reasons.specs.OneOctet.{IsOctetChange}
 use Rattle.tlv_reasons.specs.OutermostSizes.{SizesAgree}
 use Rattle.tlv_reasons.specs.Overwritten.{run_around}
-use Rattle.tlv_reasons.specs.Sizes.{size_sentence}
+use Rattle.tlv_reasons.specs.Sizes.{says_sizes, size_sentence}
 use Rattle.tlv_reasons.specs.Spacing.{IsSpacing}
 use Rattle.tlv_reasons.specs.Suspects.{suspect_offsets}
 use Rattle.tlv_reasons.specs.TextCopies.{IsSoundWithLfAlone, IsSoundWithoutUtf8, has_replacement}
@@ -61,18 +62,13 @@ length_sentence (v ∷ []) = Some (say.OtherLength v)
 length_sentence (v ∷ w ∷ []) = Some (say.TwoLengths v w)
 length_sentence (v ∷ w ∷ x ∷ more) = Some (say.ThreeLengths v w x)
 
--- what was done to the input as if it were a text is known, and can be undone
-abbrev pub is_undone : Option TextChange → Bool
-is_undone None = false
-is_undone (Some Replaced) = false
-is_undone (Some change) = true
-
 -- what was done to the input as if it were a text, if that can be undone
+abbrev pub undoable : Option TextChange → Option TextChange
+undoable (Some Replaced) = None
+undoable change = change
+
 pub data IsUndone (padding : Bool) (octets : List ℕ) : Option TextChange → Type 0 where
-  undone : {change : TextChange} → IsTextChange padding octets (Some change) → is_undone (Some change) ≡ true
-      → IsUndone padding octets (Some change)
-  not_undone : {change : Option TextChange} → IsTextChange padding octets change → is_undone change ≡ false
-      → IsUndone padding octets None
+  as_text : {change : Option TextChange} → IsTextChange padding octets change → IsUndone padding octets (undoable change)
 
 -- the sentence about what was done to the input as a whole, if there is one: as to a text; to all octets; what shows
 -- that it was a text; other octets between its encodings
@@ -119,11 +115,17 @@ pub data IsLengthSentence (padding : Bool) (octets : List ℕ) (facts : Facts) :
   about : {found : List WrongLength} → AreNamedLengths padding octets facts found
       → IsLengthSentence padding octets facts (length_sentence found)
 
+-- other lengths of several elements inside one another; none if the input ends inside an encoding, since it was mostly cut
+pub data IsOtherChain (padding : Bool) (octets : List ℕ) (facts : Facts) : Option Chain → Type 0 where
+  cut : says_sizes facts.fault ≡ true → IsOtherChain padding octets facts None
+  whole : {found : Option Chain} → says_sizes facts.fault ≡ false
+      → IsChain padding octets facts (suspect_offsets facts) found → IsOtherChain padding octets facts found
+
 -- the sentence about what would mend the input, the first that is found: where else it is sound; octets that stand in
 -- place of others; other lengths; a block that stands twice; an octet that is missing or was put in; other lengths of
 -- several elements inside one another
 abbrev pub IsChainOrElse : Bool → List ℕ → Facts → Option Sentence → Type 0
-IsChainOrElse padding octets facts = IsElse (IsChain padding octets facts (suspect_offsets facts)) say.OtherChain IsNothing
+IsChainOrElse padding octets facts = IsElse (IsOtherChain padding octets facts) say.OtherChain IsNothing
 
 abbrev pub IsOctetOrElse : Bool → List ℕ → Facts → Option Sentence → Type 0
 IsOctetOrElse padding octets facts =

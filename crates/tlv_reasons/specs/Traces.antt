@@ -1,14 +1,15 @@
 -- What all octets of an input show of a program that took them for a text.
-use Rattle.std.specs.Prelude.{◌≡◌, ℕ, ◌+◌, ◌*◌, Bool, true, false, ◌&&◌, ◌||◌, eqb, nat_le, nat_lt, if◌then◌else◌}
+use Rattle.std.specs.Prelude.{ℕ, ◌+◌, ◌*◌, ◌-◌, Bool, true, false, ◌&&◌, ◌||◌, not, eqb, nat_le, nat_lt, if◌then◌else◌}
 use Rattle.std.specs.Prelude.{List, [], ◌∷◌, length, count_by, Option, Some, None}
 use Rattle.std.specs.List.{list_all}
+use Rattle.std.specs.Option.{option_map_or}
 use Rattle.tlv_reasons.specs.declared.traces.Trace.{Trace}
 use Rattle.tlv_reasons.specs.declared.traces.Trace.TheVariants as trace
 
--- ---- UTF-8 (RFC 3629)
+-- ---- UTF-8
 
--- the number of octets that follow the first one of a character: a character beyond ASCII has one to three. None if no
--- such character begins with this octet
+-- RFC 3629, section 3: the number of octets that follow the first one of a character, which is this; none if no character
+-- begins with it
 abbrev pub following_count : ℕ → Option ℕ
 following_count x =
     if nat_lt x 0x80 then Some 0
@@ -21,29 +22,62 @@ following_count x =
 abbrev pub is_following : ℕ → Bool
 is_following x = nat_le 0x80 x && nat_le x 0xbf
 
--- the octets are characters of UTF-8 by the number of their octets, of which the last may be cut off. The first argument
--- is the number of octets that the character in front of them still wants
+-- the number of octets that a character wants after this one, in front of which it wanted so many; none if this octet
+-- cannot stand here
+abbrev pub wanted_after : ℕ → ℕ → Option ℕ
+wanted_after wanted x =
+    if eqb wanted 0 then following_count x else (if is_following x then Some (wanted - 1) else None)
+
+-- the octets are characters of UTF-8 by their numbers of octets; the last may be cut off. The character in front of them
+-- wants so many
 abbrev pub are_characters : ℕ → List ℕ → Bool
 are_characters wanted [] = true
-are_characters zero (x ∷ more) = are_characters_after (following_count x) more
-are_characters (suc wanted) (x ∷ more) = is_following x && are_characters wanted more
+are_characters wanted (x ∷ more) = option_map_or (λ next. are_characters next more) (wanted_after wanted x) false
 
 -- the number of characters beyond ASCII: each begins with an octet above bf
 abbrev pub beyond_ascii : List ℕ → ℕ
 beyond_ascii octets = count_by (λ x. nat_lt 0xbf x) octets
 
--- ---- line ends
+-- the bounds keep what is sound, or is damaged in another way, from having a trace: limits of our own
+abbrev pub utf8_trace : List ℕ → Option Trace
+utf8_trace octets =
+    if are_characters 0 octets && nat_le 8 (beyond_ascii octets) then Some (trace.AsUtf8 (beyond_ascii octets)) else None
 
--- the number of octets 0a
-abbrev pub line_feeds : List ℕ → ℕ
-line_feeds octets = count_by (λ x. eqb x 0x0a) octets
+-- ---- line ends
 
 -- each octet 0a stands behind 0d; the first argument is the octet in front
 abbrev pub are_ends_paired : ℕ → List ℕ → Bool
 are_ends_paired before [] = true
 are_ends_paired before (x ∷ more) = (eqb before 0x0d || not (eqb x 0x0a)) && are_ends_paired x more
 
--- ---- others
+abbrev pub line_feeds : List ℕ → ℕ
+line_feeds octets = count_by (λ x. eqb x 0x0a) octets
+
+abbrev pub line_end_trace : List ℕ → Option Trace
+line_end_trace octets =
+    if are_ends_paired 0 octets && nat_le 3 (line_feeds octets) then Some (trace.LineEnds (line_feeds octets)) else None
+
+-- ---- every second octet 00
+
+-- the number of octets 00 at every second place: at the first, third and so on, or at the others
+abbrev pub counted : Bool → ℕ → ℕ
+counted is_here x = if is_here && eqb x 0 then 1 else 0
+
+abbrev pub zeros_at : Bool → List ℕ → ℕ
+zeros_at is_here [] = 0
+zeros_at is_here (x ∷ more) = counted is_here x + zeros_at (not is_here) more
+
+-- so many are nine of twenty of all, or more
+abbrev pub are_nearly_half : ℕ → ℕ → Bool
+are_nearly_half size count = nat_le (9 * size) (20 * count)
+
+abbrev pub half_trace : List ℕ → Option Trace
+half_trace octets =
+    if nat_le 200 (length octets)
+    && (are_nearly_half (length octets) (zeros_at true octets) || are_nearly_half (length octets) (zeros_at false octets))
+    then Some trace.HalfZeros else None
+
+-- ---- seven bits
 
 abbrev pub are_seven_bits : List ℕ → Bool
 are_seven_bits octets = list_all (λ x. nat_lt x 0x80) octets
@@ -51,31 +85,24 @@ are_seven_bits octets = list_all (λ x. nat_lt x 0x80) octets
 abbrev pub question_marks : List ℕ → ℕ
 question_marks octets = count_by (λ x. eqb x 0x3f) octets
 
--- the number of octets 00 at every second place: from the first on, if `here` is true, else from the second on
-abbrev pub zeros_at : Bool → List ℕ → ℕ
-zeros_at here [] = 0
-zeros_at here (x ∷ more) = (if here && eqb x 0 then 1 else 0) + zeros_at (not here) more
+-- in so many octets of seven bits so many are question marks: a tenth of them, or fewer
+abbrev pub bits_trace : ℕ → ℕ → Trace
+bits_trace size marks = if nat_le size (10 * marks) then trace.QuestionMarks marks else trace.SevenBits size
 
--- ---- all of it. The bounds keep what is sound, or is damaged in another way, from having a trace: limits of our own
+abbrev pub seven_bit_trace : List ℕ → Option Trace
+seven_bit_trace octets =
+    if nat_le 128 (length octets) && are_seven_bits octets
+    then Some (bits_trace (length octets) (question_marks octets)) else None
 
-abbrev pub least_beyond : ℕ
-least_beyond = 8
+-- ---- all of them
 
-abbrev pub least_line_feeds : ℕ
-least_line_feeds = 3
-
-abbrev pub least_seven_bits : ℕ
-least_seven_bits = 128
-
-abbrev pub least_halves : ℕ
-least_halves = 200
+-- the first of two traces that is there
+abbrev pub first_trace : Option Trace → Option Trace → Option Trace
+first_trace None other = other
+first_trace (Some t) other = Some t
 
 -- what the octets show of a program that took them for a text, if they show anything: the first that holds
 abbrev pub trace_of : List ℕ → Option Trace
 trace_of octets =
-    if nat_le least_beyond (beyond_ascii octets) && are_characters 0 octets then Some (trace.AsUtf8 (beyond_ascii octets))
-    else (if nat_le least_line_feeds (line_feeds octets) && are_ends_paired 0 octets then Some (trace.LineEnds (line_feeds octets))
-    else (if nat_le least_halves (length octets) && (nat_le (9 * length octets) (20 * zeros_at true octets) || nat_le (9 * length octets) (20 * zeros_at false octets)) then Some trace.HalfZeros
-    else (if nat_le least_seven_bits (length octets) && are_seven_bits octets then
-        (if nat_le (length octets) (10 * question_marks octets) then Some (trace.QuestionMarks (question_marks octets)) else Some (trace.SevenBits (length octets)))
-    else None)))
+    first_trace (utf8_trace octets)
+    (first_trace (line_end_trace octets) (first_trace (half_trace octets) (seven_bit_trace octets)))

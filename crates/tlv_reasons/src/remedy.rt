@@ -1,16 +1,17 @@
 //! What would mend an input.
 ghost use Rattle.std.specs.Prelude.{◌≡◌, ◌≤◌, IfOk, length};
 ghost use Rattle.tlv_head.specs.Limits.{input_limit};
-ghost use Rattle.tlv_reasons.specs.Remedies.{AreNamedLengths, IsLengthOrElse, IsBlockOrElse, IsOctetOrElse, IsChainOrElse};
-ghost use Rattle.tlv_reasons.specs.Remedies.{IsLengthSentence, IsRemedy, lengths_in, start_in};
+ghost use Rattle.tlv_reasons.specs.Remedies.{AreNamedLengths, IsBlockOrElse, IsChainOrElse, IsLengthOrElse, IsLengthSentence};
+ghost use Rattle.tlv_reasons.specs.Remedies.{IsOctetOrElse, IsOtherChain, IsRemedy, lengths_in, start_in};
 
-use crate::chains::length_chain;
+use crate::chains::{Chain, length_chain};
 use crate::doubled::doubled_block;
 use crate::lengths::{WrongLengths, wrong_lengths};
 use crate::mend::{fault_offset, length_sentence};
 use crate::octet_changes::octet_change;
 use crate::outermost::sizes_agree;
 use crate::overwritten::run_around;
+use crate::sizes::says_sizes;
 use crate::sound::closed_framing;
 use crate::start::next_start;
 use crate::suspects::suspect_offsets;
@@ -122,12 +123,12 @@ fn octet_or_else(
     let framing = closed_framing(padding);
     match octet_change(alloc, octets, &framing, candidates.as_slice(), None)? {
         Some(change) => Ok(Some(Sentence::OneOctet(change))),
-        None => chain(alloc, octets, padding, facts),
+        None => chain_or_else(alloc, octets, padding, facts),
     }
 }
 
 /// [`remedy`] of an input of which no single octet is missing or was put in either.
-fn chain(
+fn chain_or_else(
     alloc: Global,
     octets: &[u8],
     padding: bool,
@@ -136,9 +137,27 @@ fn chain(
     requires { length octets.now ≤ input_limit }
     ensures { IfOk result (λ found. IsChainOrElse padding octets.now facts.now found) }
 {
+    match other_chain(alloc, octets, padding, facts)? {
+        Some(chain) => Ok(Some(Sentence::OtherChain(chain))),
+        None => Ok(None),
+    }
+}
+
+/// Other lengths of several elements inside one another; none if the input ends inside an encoding.
+fn other_chain(
+    alloc: Global,
+    octets: &[u8],
+    padding: bool,
+    facts: &Facts,
+) -> Result<Option<Chain>, AllocError>
+    requires { length octets.now ≤ input_limit }
+    ensures { IfOk result (λ found. IsOtherChain padding octets.now facts.now found) }
+{
+    if says_sizes(facts.fault) {
+        return Ok(None);
+    }
     let candidates = suspect_offsets(facts);
-    let chain = length_chain(alloc, octets, padding, facts, candidates.as_slice())?;
-    Ok(chain.map(Sentence::OtherChain))
+    length_chain(alloc, octets, padding, facts, candidates.as_slice())
 }
 
 /// The lengths that such a sentence names.

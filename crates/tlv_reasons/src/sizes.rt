@@ -58,7 +58,7 @@ fn difference_of(size: u64, end: u64) -> Option<Difference>
 }
 
 /// Whether the sentences about this fault say where the outermost element ends.
-fn says_sizes(fault: Option<Fault>) -> bool
+pub(crate) fn says_sizes(fault: Option<Fault>) -> bool
     ensures { result ≡ says_sizes fault }
 {
     match fault {

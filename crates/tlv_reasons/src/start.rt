@@ -1,17 +1,18 @@
 //! Where else encodings begin in an input.
 ghost use Rattle.std.specs.Option.{option_map_or};
-ghost use Rattle.std.specs.Prelude.{◌≡◌, ◌<◌, ◌≤◌, ◌+◌, ◌↔◌, IfSome, IsTrue, Some, false, length, take, ℕ};
+ghost use Rattle.std.specs.Prelude.{◌≡◌, ◌<◌, ◌≤◌, ◌+◌, ◌^◌, ◌↔◌, IfSome, IsTrue, Some, false, length, take, ℕ};
 ghost use Rattle.tlv_head.specs.declared.fault.FaultCode.TheVariants.{StrayEnd};
 ghost use Rattle.tlv_head.specs.declared.header.Size.TheVariants.{Definite, Indefinite};
 ghost use Rattle.tlv_head.specs.Header.{definite_length};
 ghost use Rattle.tlv_head.specs.Limits.{input_limit};
-ghost use Rattle.tlv_reasons.specs.NextStart.{BeginsWithEncodings, IsFirstStart, IsNextStart, IsOtherStart, IsStart, SeemsRight};
+ghost use Rattle.tlv_reasons.specs.NextStart.{BeginsAndEnds, BeginsWithEncodings, IsFirstStart, IsNextStart, IsOtherStart};
+ghost use Rattle.tlv_reasons.specs.NextStart.{IsStart, SeemsRight, ends_near_by};
 ghost use Rattle.tlv_open.specs.Opens.{closed_framing};
 ghost use Rattle.tlv_walk.specs.Ending.{IsEnding, fault_ending};
 ghost use Rattle.tlv_walk.specs.Reading.{IsSoundList};
 
 use crate::sound::is_sound;
-use tlv_head::{Size, read_header};
+use tlv_head::{HeaderFields, Size, read_header};
 use tlv_open::ending_of;
 use tlv_walk::Ending;
 
@@ -53,7 +54,8 @@ fn begins_and_ends(octets: &[u8]) -> bool
 fn ends_near(fields: &HeaderFields, count: usize, size: usize) -> bool
     requires count { count ≤ size }
     requires size { size ≤ input_limit }
-    ensures { IsTrue result ↔ EndsNearWith fields.now count size }
+    requires short { IfSome (definite_length fields.now.size) (λ n. n < 2 ^ 40) }
+    ensures { result ≡ ends_near_by fields.now.constructed count size (definite_length fields.now.size) }
 {
     match fields.size {
         Size::Definite(length) => {

@@ -1,11 +1,11 @@
 //! What was done to an input as a whole.
-ghost use Rattle.std.specs.Prelude.{◌≤◌, IfOk, length};
+ghost use Rattle.std.specs.Prelude.{◌≡◌, ◌≤◌, IfOk, length};
 ghost use Rattle.tlv_head.specs.Limits.{input_limit};
-ghost use Rattle.tlv_reasons.specs.Remedies.{IsMoveOrElse, IsTraceOrElse, IsUndone, IsWhole};
+ghost use Rattle.tlv_reasons.specs.Remedies.{IsMoveOrElse, IsTraceOrElse, IsUndone, IsWhole, undoable};
 
 use crate::Sentence;
 use crate::moves::octets_moved;
-use crate::spacing::spacing;
+use crate::spacing::spaced_encodings;
 use crate::text_changes::{TextChange, text_change};
 use crate::traces::trace_of;
 use std::alloc::{AllocError, Global};
@@ -40,10 +40,17 @@ fn undone_change(
     requires { length octets.now ≤ input_limit }
     ensures { IfOk result (λ found. IsUndone padding octets.now found) }
 {
-    match text_change(alloc, octets, padding)? {
-        Some(TextChange::Utf8) => Ok(Some(TextChange::Utf8)),
-        Some(TextChange::LineEnds) => Ok(Some(TextChange::LineEnds)),
-        Some(TextChange::Replaced) | None => Ok(None),
+    let change = text_change(alloc, octets, padding)?;
+    Ok(undoable(change))
+}
+
+/// This change, if it can be undone.
+fn undoable(change: Option<TextChange>) -> Option<TextChange>
+    ensures { result ≡ undoable change }
+{
+    match change {
+        Some(TextChange::Replaced) => None,
+        _ => change,
     }
 }
 
@@ -69,6 +76,9 @@ fn trace_or_spacing(octets: &[u8], padding: bool) -> Option<Sentence>
 {
     match trace_of(octets) {
         Some(trace) => Some(Sentence::Traced(trace)),
-        None => spacing(octets, padding).map(Sentence::Spaced),
+        None => match spaced_encodings(octets, padding) {
+            Some(spacing) => Some(Sentence::Spaced(spacing)),
+            None => None,
+        },
     }
 }

@@ -1,21 +1,32 @@
 -- What may be done of an input that does not parse.
 -- `tests/make-rows` writes this file from tests/rows_of_definitions/remedies.rows.
-use Rattle.std.proofs.Common.{◌≡◌, false, true, [], ◌∷◌, None, Some, codes, refl}
+use Rattle.std.proofs.Common.{◌≡◌, false, true, [], ◌∷◌, ◌++◌, None, Some, codes, refl}
+use Rattle.std.specs.Prelude.{replicate}
 use Rattle.std.specs.Fmt.{digits}
+use Rattle.hex.specs.Hex.{encode_with}
 use Rattle.tlv_head.specs.declared.header.Class.TheVariants.{Universal}
 use Rattle.tlv_head.specs.declared.header.Size.TheVariants.{Definite, Indefinite}
-use Rattle.tlv_rows.proofs.Words.Octets.{lines, octets}
+use Rattle.tlv_rows.proofs.Words.Octets.{octets}
 use Rattle.tlv_reasons.specs.declared.text_changes.TextChange.TheVariants.{LineEnds, Replaced, Utf8}
 use Rattle.tlv_reasons.specs.declared.octet_changes.OctetChange.TheVariants.{Missing, PutIn}
 use Rattle.tlv_reasons.specs.declared.kinds.FileKind.TheVariants as kind
-use Rattle.tlv_reasons.specs.declared.sentence.Sentence.TheVariants.{LengthInFront, NextRecord, OneOctet, OtherKind}
-use Rattle.tlv_reasons.specs.declared.sentence.Sentence.TheVariants.{OtherLength, ParsesFrom, TextChanged, TextFollows}
-use Rattle.tlv_reasons.specs.declared.sentence.Sentence.TheVariants.{ThreeLengths, TryAnew, TwoLengths}
+use Rattle.tlv_reasons.specs.declared.moves.Move.TheVariants as move
+use Rattle.tlv_reasons.specs.declared.traces.Trace.TheVariants as trace
+use Rattle.tlv_reasons.specs.declared.sentence.Sentence.TheVariants.{LengthInFront, NextRecord, NoneLost, OctetsMoved}
+use Rattle.tlv_reasons.specs.declared.sentence.Sentence.TheVariants.{OneOctet, OtherChain, OtherKind, OtherLength}
+use Rattle.tlv_reasons.specs.declared.sentence.Sentence.TheVariants.{Overwritten, ParsesFrom, SomeLost, SomePutIn, Spaced}
+use Rattle.tlv_reasons.specs.declared.sentence.Sentence.TheVariants.{StandsTwice, TextChanged, TextFollows, ThreeLengths}
+use Rattle.tlv_reasons.specs.declared.sentence.Sentence.TheVariants.{Traced, TryAnew, TwoLengths}
 use Rattle.tlv_reasons.specs.FileKinds.{file_kind}
-use Rattle.tlv_reasons.specs.Remedies.{mending_sentences, named_at, offset_sentences, unless_mended}
-use Rattle.tlv_reasons.specs.Sentences.{sentence_text, text_of}
+use Rattle.tlv_reasons.specs.Moves.{undone_move}
+use Rattle.tlv_reasons.specs.NextStart.{is_near_end}
+use Rattle.tlv_reasons.specs.Overwritten.{run_around}
+use Rattle.tlv_reasons.specs.Remedies.{lengths_in, named_at, replaced_before, start_in, undoable, unless_mended}
+use Rattle.tlv_reasons.specs.Sizes.{difference_of, size_sentence_of}
+use Rattle.tlv_reasons.specs.Sentences.{sentence_text}
 use Rattle.tlv_reasons.specs.Values.{octets_in_words}
 use Rattle.tlv_reasons.specs.TextCopies.{has_replacement, latin1_of_utf8, with_lf_alone}
+use Rattle.tlv_reasons.specs.Traces.{trace_of}
 use Rattle.tlv_reasons.specs.Suspects.{distinct}
 use Rattle.tlv_reasons.specs.WrongLength.{ending_lengths, flips, input_with_length, length_octets_saying, lengths_within}
 use Rattle.tlv_reasons.specs.WrongLength.{most_named, other_lengths, reach_in, reversed_lengths}
@@ -77,356 +88,647 @@ row-9 : sentence_text [] (TextChanged Replaced)
 unfolding digits octets_in_words sentence_text
 row-9 = refl
 
--- by the first octets
--- zip
-row-10 : file_kind (octets "50 4b 03 04 14") ≡ (Some kind.Zip)
+-- other lengths of elements inside one another: those of one header, of two and of four
+row-10 : sentence_text [] (OtherChain (record { offsets = (0 ∷ 4 ∷ 502 ∷ 598 ∷ 0 ∷ 0 ∷ 0 ∷ 0 ∷ []); count = 1; by = 1; is_greater = true }))
+    ≡ (codes "If the length at 0 were 1 more, all would parse: 1 octet may have been put in there, and it was not raised.\n")
 unfolding digits octets_in_words sentence_text
 row-10 = refl
 
--- gzip
-row-11 : file_kind (octets "1f 8b 08") ≡ (Some kind.Gzip)
+row-11 : sentence_text [] (OtherChain (record { offsets = (0 ∷ 4 ∷ 502 ∷ 598 ∷ 0 ∷ 0 ∷ 0 ∷ 0 ∷ []); count = 1; by = 2; is_greater = false }))
+    ≡ (codes "If the length at 0 were 2 less, all would parse: 2 octets may have been lost there, and it was not lowered.\n")
 unfolding digits octets_in_words sentence_text
 row-11 = refl
 
--- bzip2
-row-12 : file_kind (octets "42 5a 68 39") ≡ (Some kind.Bzip2)
+row-12 : sentence_text [] (OtherChain (record { offsets = (0 ∷ 4 ∷ 502 ∷ 598 ∷ 0 ∷ 0 ∷ 0 ∷ 0 ∷ []); count = 4; by = 1; is_greater = true }))
+    ≡ (codes "If each of the lengths at 0, 4, 502 and 598 were 1 more, all would parse: 1 octet may have been put in there, and they were not raised.\n")
 unfolding digits octets_in_words sentence_text
 row-12 = refl
 
--- pdf
-row-13 : file_kind (octets "25 50 44 46") ≡ (Some kind.Pdf)
+row-13 : sentence_text [] (OtherChain (record { offsets = (0 ∷ 4 ∷ 502 ∷ 598 ∷ 0 ∷ 0 ∷ 0 ∷ 0 ∷ []); count = 2; by = 2; is_greater = false }))
+    ≡ (codes "If each of the lengths at 0 and 4 were 2 less, all would parse: 2 octets may have been lost there, and they were not lowered.\n")
 unfolding digits octets_in_words sentence_text
 row-13 = refl
 
--- markup
-row-14 : file_kind (octets "3c 3f") ≡ (Some kind.Markup)
+-- a block
+row-14 : sentence_text [] (StandsTwice (record { offset = 40; size = 12 }))
+    ≡ (codes "The 12 octets from offset 40 on stand twice. If they stood once, all would parse.\n")
 unfolding digits octets_in_words sentence_text
 row-14 = refl
 
--- openssh
-row-15 : file_kind (octets "6f 70 65 6e 73 73 68 2d 6b 65 79 2d") ≡ (Some kind.OpenSsh)
-unfolding digits octets_in_words sentence_text
+row-15 : sentence_text (octets "30" ++ replicate 24 0xff ++ octets "05") (Overwritten (record { start = 1; end = 25 }))
+    ≡ (codes "The octets from offset 1 on are ff alone: 24. They may stand in place of others.\n")
+unfolding digits encode_with first_pairs octets_between octets_in_words sentence_text
 row-15 = refl
 
--- utf16
-row-16 : file_kind (octets "ff fe 41") ≡ (Some kind.Utf16)
-unfolding digits octets_in_words sentence_text
+row-16 : sentence_text (octets "30 00 0a 30 00") (Spaced (record { first = 0; end = 2; gap = 1; count = 2 }))
+    ≡ (codes "There are encodings from offset 0 on: 2. Between each two of them other octets stand: 1 octet, first 0a at offset 2. Try: tail -c +1 FILE | head -c 2 | tlvdump-show, for the first.\n")
+unfolding digits encode_with first_pairs octets_between octets_in_words sentence_text
 row-16 = refl
 
--- utf16 high first
-row-17 : file_kind (octets "fe ff") ≡ (Some kind.Utf16)
-unfolding digits octets_in_words sentence_text
+row-17 : sentence_text (octets "00 02 30 00 00 02 30 00") (Spaced (record { first = 2; end = 4; gap = 2; count = 2 }))
+    ≡ (codes "There are encodings from offset 2 on: 2. Between each two of them other octets stand: 2 octets, first 00 02 at offset 4. Try: tail -c +3 FILE | head -c 2 | tlvdump-show, for the first.\n")
+unfolding digits encode_with first_pairs octets_between octets_in_words sentence_text
 row-17 = refl
 
--- pcap
-row-18 : file_kind (octets "d4 c3 b2 a1 02") ≡ (Some kind.Capture)
-unfolding digits octets_in_words sentence_text
+row-18 : sentence_text [] (OctetsMoved move.Pairs)
+    ≡ (codes "Its octets stand in reverse order in pairs: if each pair were turned round, all would parse. Try: dd conv=swab status=none <FILE | tlvdump-show\n")
+unfolding digits encode_with first_pairs octets_between octets_in_words sentence_text
 row-18 = refl
 
--- pcap nanoseconds
-row-19 : file_kind (octets "4d 3c b2 a1") ≡ (Some kind.Capture)
-unfolding digits octets_in_words sentence_text
+row-19 : sentence_text [] (OctetsMoved move.Fours)
+    ≡ (codes "Its octets stand in reverse order in fours: if each four were turned round, all would parse. Try: fetch it anew, in binary.\n")
+unfolding digits encode_with first_pairs octets_between octets_in_words sentence_text
 row-19 = refl
 
--- pcapng
-row-20 : file_kind (octets "0a 0d 0d 0a 1c") ≡ (Some kind.Capture)
-unfolding digits octets_in_words sentence_text
+row-20 : sentence_text [] (OctetsMoved move.Reversed)
+    ≡ (codes "Its octets stand in reverse order: read from the last to the first, all would parse. Try: fetch it anew, in binary.\n")
+unfolding digits encode_with first_pairs octets_between octets_in_words sentence_text
 row-20 = refl
 
--- java
-row-21 : file_kind (octets "fe ed fe ed") ≡ (Some kind.KeyStore)
-unfolding digits octets_in_words sentence_text
+row-21 : sentence_text [] (OctetsMoved move.Inverted)
+    ≡ (codes "Its bits are inverted: if each were turned round, all would parse. Try: fetch it anew, in binary.\n")
+unfolding digits encode_with first_pairs octets_between octets_in_words sentence_text
 row-21 = refl
 
--- the octets have to be there whole
-row-22 : file_kind (octets "50 4b 03") ≡ None
-unfolding digits octets_in_words sentence_text
+row-22 : sentence_text [] (Traced (trace.AsUtf8 9))
+    ≡ (codes "It is UTF-8 throughout, with characters beyond ASCII: 9. It was taken for a text. Try: fetch it anew, in binary.\n")
+unfolding digits encode_with first_pairs octets_between octets_in_words sentence_text
 row-22 = refl
 
-row-23 : sentence_text [] (OtherKind kind.Zip) ≡ (codes "It begins as a ZIP file does: unpack it first.\n")
-unfolding digits octets_in_words sentence_text
+row-23 : sentence_text [] (Traced (trace.LineEnds 3))
+    ≡ (codes "Each of its octets 0a stands behind 0d: 3. It was taken for a text. Try: fetch it anew, in binary.\n")
+unfolding digits encode_with first_pairs octets_between octets_in_words sentence_text
 row-23 = refl
 
-row-24 : sentence_text [] (OtherKind kind.Gzip)
-    ≡ (codes "It begins as a file of gzip does. Try: gzip -dc FILE | tlvdump-show\n")
-unfolding digits octets_in_words sentence_text
+row-24 : sentence_text [] (Traced (trace.SevenBits 200))
+    ≡ (codes "None of its octets is above 7f: 200. It was taken for a text, or the highest bits were cleared. Try: fetch it anew, in binary.\n")
+unfolding digits encode_with first_pairs octets_between octets_in_words sentence_text
 row-24 = refl
 
-row-25 : sentence_text [] (OtherKind kind.Bzip2)
-    ≡ (codes "It begins as a file of bzip2 does. Try: bzip2 -dc FILE | tlvdump-show\n")
-unfolding digits octets_in_words sentence_text
+row-25 : sentence_text [] (Traced (trace.QuestionMarks 20))
+    ≡ (codes "None of its octets is above 7f, and many are the character ?: 20. It was taken for a text. Try: fetch it anew, in binary.\n")
+unfolding digits encode_with first_pairs octets_between octets_in_words sentence_text
 row-25 = refl
 
-row-26 : sentence_text [] (OtherKind kind.Pdf) ≡ (codes "It begins as a PDF file does.\n")
-unfolding digits octets_in_words sentence_text
+row-26 : sentence_text [] (Traced trace.HalfZeros)
+    ≡ (codes "Nearly every second of its octets is 00. It was taken for a text and written in UTF-16. Try: fetch it anew, in binary.\n")
+unfolding digits encode_with first_pairs octets_between octets_in_words sentence_text
 row-26 = refl
 
-row-27 : sentence_text [] (OtherKind kind.Markup) ≡ (codes "It begins with the character <, as XML and HTML do.\n")
-unfolding digits octets_in_words sentence_text
+-- by the first octets
+-- zip
+row-27 : file_kind (octets "50 4b 03 04 14") ≡ (Some kind.Zip)
+unfolding digits encode_with first_pairs octets_between octets_in_words sentence_text
 row-27 = refl
 
-row-28 : sentence_text [] (OtherKind kind.OpenSsh)
-    ≡ (codes "It is a key of OpenSSH, which is no encoding by X.690.\n")
-unfolding digits octets_in_words sentence_text
+-- gzip
+row-28 : file_kind (octets "1f 8b 08") ≡ (Some kind.Gzip)
+unfolding digits encode_with first_pairs octets_between octets_in_words sentence_text
 row-28 = refl
 
-row-29 : sentence_text [] (OtherKind kind.Utf16)
-    ≡ (codes "It begins as text in UTF-16 does. Try: iconv -f UTF-16 -t UTF-8 FILE | tlvdump-show\n")
-unfolding digits octets_in_words sentence_text
+-- bzip2
+row-29 : file_kind (octets "42 5a 68 39") ≡ (Some kind.Bzip2)
+unfolding digits encode_with first_pairs octets_between octets_in_words sentence_text
 row-29 = refl
 
-row-30 : sentence_text [] (OtherKind kind.Capture)
-    ≡ (codes "It begins as a capture of packets (pcap) does: export the octets of a packet first.\n")
-unfolding digits octets_in_words sentence_text
+-- pdf
+row-30 : file_kind (octets "25 50 44 46") ≡ (Some kind.Pdf)
+unfolding digits encode_with first_pairs octets_between octets_in_words sentence_text
 row-30 = refl
 
-row-31 : sentence_text [] (OtherKind kind.KeyStore)
-    ≡ (codes "It begins as a key store of Java (JKS) does: export what you need first.\n")
-unfolding digits octets_in_words sentence_text
+-- markup
+row-31 : file_kind (octets "3c 3f") ≡ (Some kind.Markup)
+unfolding digits encode_with first_pairs octets_between octets_in_words sentence_text
 row-31 = refl
 
--- start
-row-32 : sentence_text [] (ParsesFrom 9)
-    ≡ (codes "From offset 9 on it parses: what stands in front may be a header of the file or of the record, or damaged. Try: tail -c +10 FILE | tlvdump-show\n")
-unfolding digits octets_in_words sentence_text
+-- openssh
+row-32 : file_kind (octets "6f 70 65 6e 73 73 68 2d 6b 65 79 2d") ≡ (Some kind.OpenSsh)
+unfolding digits encode_with first_pairs octets_between octets_in_words sentence_text
 row-32 = refl
 
--- record
-row-33 : sentence_text [] (NextRecord 120)
-    ≡ (codes "From offset 120 on it parses: the next record may begin there. Try: tail -c +121 FILE | tlvdump-show\n")
-unfolding digits octets_in_words sentence_text
+-- utf16
+row-33 : file_kind (octets "ff fe 41") ≡ (Some kind.Utf16)
+unfolding digits encode_with first_pairs octets_between octets_in_words sentence_text
 row-33 = refl
 
--- text behind
-row-34 : sentence_text [] (TextFollows 6 8)
-    ≡ (codes "Whole encodings end at offset 6. The octets after them are printable text: 8.\n")
-unfolding digits octets_in_words sentence_text
+-- utf16 high first
+row-34 : file_kind (octets "fe ff") ≡ (Some kind.Utf16)
+unfolding digits encode_with first_pairs octets_between octets_in_words sentence_text
 row-34 = refl
 
--- What is said in front of the sentences about the fault, and behind them.
--- nothing
-row-35 : text_of [] (mending_sentences None [] None) ≡ (lines [])
-unfolding digits octets_in_words sentence_text
+-- pcap
+row-35 : file_kind (octets "d4 c3 b2 a1 02") ≡ (Some kind.Capture)
+unfolding digits encode_with first_pairs octets_between octets_in_words sentence_text
 row-35 = refl
 
--- a text, and a length
-row-36 : text_of [] (mending_sentences (Some Replaced) ((record { offset = 2; said = 2; would = 1 }) ∷ []) None)
-    ≡ (lines ("It has the octets ef bf bd, with which programs replace what is no UTF-8: it was copied as a text. Try: fetch it anew, in binary." ∷ "If the header at offset 2 said 1 octet and not 2, all would parse." ∷ []))
-unfolding digits octets_in_words sentence_text
+-- pcap nanoseconds
+row-36 : file_kind (octets "4d 3c b2 a1") ≡ (Some kind.Capture)
+unfolding digits encode_with first_pairs octets_between octets_in_words sentence_text
 row-36 = refl
 
--- two lengths
-row-37 : text_of [] (mending_sentences None ((record { offset = 2; said = 2; would = 1 }) ∷ (record { offset = 5; said = 8; would = 7 }) ∷ []) None)
-    ≡ (lines ("If the header at offset 2 said 1 octet and not 2, or that at offset 5 said 7 octets and not 8, all would parse." ∷ []))
-unfolding digits octets_in_words sentence_text
+-- pcapng
+row-37 : file_kind (octets "0a 0d 0d 0a 1c") ≡ (Some kind.Capture)
+unfolding digits encode_with first_pairs octets_between octets_in_words sentence_text
 row-37 = refl
 
--- an octet
-row-38 : text_of [] (mending_sentences None [] (Some (Missing 9)))
-    ≡ (lines ("If one octet more stood after the header at offset 9, all would parse: an octet of its contents may be missing." ∷ []))
-unfolding digits octets_in_words sentence_text
+-- java
+row-38 : file_kind (octets "fe ed fe ed") ≡ (Some kind.KeyStore)
+unfolding digits encode_with first_pairs octets_between octets_in_words sentence_text
 row-38 = refl
 
--- no offset
-row-39 : text_of [] (offset_sentences None None) ≡ (lines [])
-unfolding digits octets_in_words sentence_text
+-- an answer of HTTP
+row-39 : file_kind (octets "48 54 54 50 2f 31 2e 31 20 32 30 30") ≡ (Some kind.Http)
+unfolding digits encode_with first_pairs octets_between octets_in_words sentence_text
 row-39 = refl
 
--- another start
-row-40 : text_of [] (offset_sentences (Some 3) None)
-    ≡ (lines ("From offset 3 on it parses: what stands in front may be a header of the file or of the record, or damaged. Try: tail -c +4 FILE | tlvdump-show" ∷ []))
-unfolding digits octets_in_words sentence_text
+-- a mark of UTF-8
+row-40 : file_kind (octets "ef bb bf 30") ≡ (Some kind.ByteOrderMark)
+unfolding digits encode_with first_pairs octets_between octets_in_words sentence_text
 row-40 = refl
 
--- the next record
-row-41 : text_of [] (offset_sentences None (Some 9))
-    ≡ (lines ("From offset 9 on it parses: the next record may begin there. Try: tail -c +10 FILE | tlvdump-show" ∷ []))
-unfolding digits octets_in_words sentence_text
+-- the octets have to be there whole
+row-41 : file_kind (octets "50 4b 03") ≡ None
+unfolding digits encode_with first_pairs octets_between octets_in_words sentence_text
 row-41 = refl
+
+row-42 : sentence_text [] (OtherKind kind.Zip) ≡ (codes "It begins as a ZIP file does: unpack it first.\n")
+unfolding digits encode_with first_pairs octets_between octets_in_words sentence_text
+row-42 = refl
+
+row-43 : sentence_text [] (OtherKind kind.Gzip)
+    ≡ (codes "It begins as a file of gzip does. Try: gzip -dc FILE | tlvdump-show\n")
+unfolding digits encode_with first_pairs octets_between octets_in_words sentence_text
+row-43 = refl
+
+row-44 : sentence_text [] (OtherKind kind.Bzip2)
+    ≡ (codes "It begins as a file of bzip2 does. Try: bzip2 -dc FILE | tlvdump-show\n")
+unfolding digits encode_with first_pairs octets_between octets_in_words sentence_text
+row-44 = refl
+
+row-45 : sentence_text [] (OtherKind kind.Pdf) ≡ (codes "It begins as a PDF file does.\n")
+unfolding digits encode_with first_pairs octets_between octets_in_words sentence_text
+row-45 = refl
+
+row-46 : sentence_text [] (OtherKind kind.Markup) ≡ (codes "It begins with the character <, as XML and HTML do.\n")
+unfolding digits encode_with first_pairs octets_between octets_in_words sentence_text
+row-46 = refl
+
+row-47 : sentence_text [] (OtherKind kind.OpenSsh)
+    ≡ (codes "It is a key of OpenSSH, which is no encoding by X.690.\n")
+unfolding digits encode_with first_pairs octets_between octets_in_words sentence_text
+row-47 = refl
+
+row-48 : sentence_text [] (OtherKind kind.Utf16)
+    ≡ (codes "It begins as text in UTF-16 does. Try: iconv -f UTF-16 -t UTF-8 FILE | tlvdump-show\n")
+unfolding digits encode_with first_pairs octets_between octets_in_words sentence_text
+row-48 = refl
+
+row-49 : sentence_text [] (OtherKind kind.Capture)
+    ≡ (codes "It begins as a capture of packets (pcap) does: export the octets of a packet first.\n")
+unfolding digits encode_with first_pairs octets_between octets_in_words sentence_text
+row-49 = refl
+
+row-50 : sentence_text [] (OtherKind kind.KeyStore)
+    ≡ (codes "It begins as a key store of Java (JKS) does: export what you need first.\n")
+unfolding digits encode_with first_pairs octets_between octets_in_words sentence_text
+row-50 = refl
+
+row-51 : sentence_text [] (OtherKind kind.Http)
+    ≡ (codes "It begins with the header of an answer of HTTP. Try: sed '1,/^.$/d' FILE | tlvdump-show\n")
+unfolding digits encode_with first_pairs octets_between octets_in_words sentence_text
+row-51 = refl
+
+row-52 : sentence_text [] (OtherKind kind.ByteOrderMark)
+    ≡ (codes "It begins with the byte order mark of a text in UTF-8. Try: tail -c +4 FILE | tlvdump-show\n")
+unfolding digits encode_with first_pairs octets_between octets_in_words sentence_text
+row-52 = refl
+
+-- start
+row-53 : sentence_text [] (ParsesFrom 9)
+    ≡ (codes "From offset 9 on it parses: what stands in front may be a header of the file or of the record, or damaged. Try: tail -c +10 FILE | tlvdump-show\n")
+unfolding digits encode_with first_pairs octets_between octets_in_words sentence_text
+row-53 = refl
+
+-- record
+row-54 : sentence_text [] (NextRecord 120)
+    ≡ (codes "From offset 120 on it parses: the next record may begin there. Try: tail -c +121 FILE | tlvdump-show\n")
+unfolding digits encode_with first_pairs octets_between octets_in_words sentence_text
+row-54 = refl
+
+-- text behind
+row-55 : sentence_text [] (TextFollows 6 8)
+    ≡ (codes "Whole encodings end at offset 6. The octets after them are printable text: 8.\n")
+unfolding digits encode_with first_pairs octets_between octets_in_words sentence_text
+row-55 = refl
+
+-- What the length of the outermost element says: the octets, the element, its end, and the sentence.
+-- all there
+row-56 : size_sentence_of (octets "30 02 05 00") (element 0 16 (Definite 2) 2 (Some 4)) 4
+    ≡ (Some (NoneLost (element 0 16 (Definite 2) 2 (Some 4))))
+row-56 = refl
+
+-- one lost
+row-57 : size_sentence_of (octets "30 02 05") (element 0 16 (Definite 2) 2 (Some 4)) 4
+    ≡ (Some (SomeLost (element 0 16 (Definite 2) 2 (Some 4)) 3))
+row-57 = refl
+
+-- one too many
+row-58 : size_sentence_of (octets "30 02 05 00 05") (element 0 16 (Definite 2) 2 (Some 4)) 4
+    ≡ (Some (SomePutIn (element 0 16 (Definite 2) 2 (Some 4)) 5))
+row-58 = refl
+
+-- another record
+row-59 : size_sentence_of (octets "30 02 05 00 30") (element 0 16 (Definite 2) 2 (Some 4)) 4 ≡ None
+row-59 = refl
+
+-- by how many octets an input of so many is longer or shorter than one that ends at the offset
+-- as long
+row-60 : difference_of 9 9 ≡ None
+row-60 = refl
+
+-- longer
+row-61 : difference_of 10 9 ≡ (Some (record { by = 1; is_longer = true }))
+row-61 = refl
+
+-- shorter
+row-62 : difference_of 9 11 ≡ (Some (record { by = 2; is_longer = false }))
+row-62 = refl
+
+-- the most
+row-63 : difference_of 4097 1 ≡ (Some (record { by = 4096; is_longer = true }))
+row-63 = refl
+
+-- more
+row-64 : difference_of 4098 1 ≡ None
+row-64 = refl
+
+-- where the first element ends: whether it is constructed, the octets of the input, and the distance
+-- at the end
+row-65 : is_near_end false 40 0 ≡ true
+row-65 = refl
+
+-- a primitive
+row-66 : is_near_end false 40 1 ≡ false
+row-66 = refl
+
+-- a quarter
+row-67 : is_near_end true 40 10 ≡ true
+row-67 = refl
+
+-- more
+row-68 : is_near_end true 40 11 ≡ false
+row-68 = refl
+
+-- What was done to all octets, if it is undone.
+row-69 : undone_move move.Pairs (octets "01 02 03 04 05") ≡ (octets "02 01 04 03 05")
+row-69 = refl
+
+row-70 : undone_move move.Fours (octets "01 02 03 04 05 06 07") ≡ (octets "04 03 02 01 05 06 07")
+row-70 = refl
+
+row-71 : undone_move move.Reversed (octets "01 02 03") ≡ (octets "03 02 01")
+row-71 = refl
+
+row-72 : undone_move move.Inverted (octets "00 30 ff") ≡ (octets "ff cf 00")
+row-72 = refl
+
+-- Traces of a text: in an octet less there is none.
+-- characters
+row-73 : trace_of (octets "c3 bf c3 bf c3 bf c3 bf c3 bf c3 bf c3 bf c3 bf") ≡ (Some (trace.AsUtf8 8))
+row-73 = refl
+
+-- too few
+row-74 : trace_of (octets "c3 bf c3 bf c3 bf c3 bf c3 bf c3 bf c3 bf") ≡ None
+row-74 = refl
+
+-- the last is cut off
+row-75 : trace_of (octets "c3 bf c3 bf c3 bf c3 bf c3 bf c3 bf c3 bf c3 bf e2 82") ≡ (Some (trace.AsUtf8 9))
+row-75 = refl
+
+-- no character begins so
+row-76 : trace_of (octets "c3 bf c3 bf c3 bf c3 bf c3 bf c3 bf c3 bf c3 bf 82") ≡ None
+row-76 = refl
+
+-- line ends
+row-77 : trace_of (octets "0d 0a 0d 0a 0d 0a") ≡ (Some (trace.LineEnds 3))
+row-77 = refl
+
+-- too few
+row-78 : trace_of (octets "0d 0a 0d 0a") ≡ None
+row-78 = refl
+
+-- one alone
+row-79 : trace_of (octets "0d 0a 0d 0a 0d 0a 0a") ≡ None
+row-79 = refl
+
+-- UTF-16
+row-80 : trace_of (octets "80 00 80 00 80 00 80 00 80 00 80 00 80 00 80 00 80 00 80 00 80 00 80 00 80 00 80 00 80 00 80 00" ++
+    octets "80 00 80 00 80 00 80 00 80 00 80 00 80 00 80 00 80 00 80 00 80 00 80 00 80 00 80 00 80 00 80 00" ++
+    octets "80 00 80 00 80 00 80 00 80 00 80 00 80 00 80 00 80 00 80 00 80 00 80 00 80 00 80 00 80 00 80 00" ++
+    octets "80 00 80 00 80 00 80 00 80 00 80 00 80 00 80 00 80 00 80 00 80 00 80 00 80 00 80 00 80 00 80 00" ++
+    octets "80 00 80 00 80 00 80 00 80 00 80 00 80 00 80 00 80 00 80 00 80 00 80 00 80 00 80 00 80 00 80 00" ++
+    octets "80 00 80 00 80 00 80 00 80 00 80 00 80 00 80 00 80 00 80 00 80 00 80 00 80 00 80 00 80 00 80 00" ++
+    octets "80 00 80 00 80 00 80 00")
+    ≡ (Some trace.HalfZeros)
+row-80 = refl
+
+-- nearly
+row-81 : trace_of (octets "00 80 00 80 00 80 00 80 00 80 00 80 00 80 00 80 00 80 00 80 00 80 00 80 00 80 00 80 00 80 00 80" ++
+    octets "00 80 00 80 00 80 00 80 00 80 00 80 00 80 00 80 00 80 00 80 00 80 00 80 00 80 00 80 00 80 00 80" ++
+    octets "00 80 00 80 00 80 00 80 00 80 00 80 00 80 00 80 00 80 00 80 00 80 00 80 00 80 00 80 00 80 00 80" ++
+    octets "00 80 00 80 00 80 00 80 00 80 00 80 00 80 00 80 00 80 00 80 00 80 00 80 00 80 00 80 00 80 00 80" ++
+    octets "00 80 00 80 00 80 00 80 00 80 00 80 00 80 00 80 00 80 00 80 00 80 00 80 00 80 00 80 00 80 00 80" ++
+    octets "00 80 00 80 00 80 00 80 00 80 00 80 00 80 00 80 00 80 00 80 01 80 01 80 01 80 01 80 01 80 01 80" ++
+    octets "01 80 01 80 01 80 01 80")
+    ≡ (Some trace.HalfZeros)
+row-81 = refl
+
+-- too few
+row-82 : trace_of (octets "00 80 00 80 00 80 00 80 00 80 00 80 00 80 00 80 00 80 00 80 00 80 00 80 00 80 00 80 00 80 00 80" ++
+    octets "00 80 00 80 00 80 00 80 00 80 00 80 00 80 00 80 00 80 00 80 00 80 00 80 00 80 00 80 00 80 00 80" ++
+    octets "00 80 00 80 00 80 00 80 00 80 00 80 00 80 00 80 00 80 00 80 00 80 00 80 00 80 00 80 00 80 00 80" ++
+    octets "00 80 00 80 00 80 00 80 00 80 00 80 00 80 00 80 00 80 00 80 00 80 00 80 00 80 00 80 00 80 00 80" ++
+    octets "00 80 00 80 00 80 00 80 00 80 00 80 00 80 00 80 00 80 00 80 00 80 00 80 00 80 00 80 00 80 00 80" ++
+    octets "00 80 00 80 00 80 00 80 00 80 00 80 00 80 00 80 00 80 01 80 01 80 01 80 01 80 01 80 01 80 01 80" ++
+    octets "01 80 01 80 01 80 01 80")
+    ≡ None
+row-82 = refl
+
+-- seven bits
+row-83 : trace_of (replicate 128 0x05) ≡ (Some (trace.SevenBits 128))
+row-83 = refl
+
+-- too few
+row-84 : trace_of (replicate 127 0x05) ≡ None
+row-84 = refl
+
+-- a tenth
+row-85 : trace_of (replicate 115 0x05 ++ octets "3f 3f 3f 3f 3f 3f 3f 3f 3f 3f 3f 3f 3f")
+    ≡ (Some (trace.QuestionMarks 13))
+row-85 = refl
+
+-- fewer
+row-86 : trace_of (replicate 116 0x05 ++ octets "3f 3f 3f 3f 3f 3f 3f 3f 3f 3f 3f 3f") ≡ (Some (trace.SevenBits 128))
+row-86 = refl
+
+-- Equal octets in a row around an offset.
+-- from the first
+row-87 : run_around (octets "01" ++ replicate 24 0x00 ++ octets "05") 1 ≡ (Some (record { start = 1; end = 25 }))
+row-87 = refl
+
+-- from the last
+row-88 : run_around (octets "01" ++ replicate 24 0x00 ++ octets "05") 24 ≡ (Some (record { start = 1; end = 25 }))
+row-88 = refl
+
+-- up to the end
+row-89 : run_around (octets "01" ++ replicate 24 0xff) 9 ≡ (Some (record { start = 1; end = 25 }))
+row-89 = refl
+
+-- too few
+row-90 : run_around (octets "01" ++ replicate 23 0x00 ++ octets "05") 1 ≡ None
+row-90 = refl
+
+-- spaces
+row-91 : run_around (replicate 30 0x20) 9 ≡ None
+row-91 = refl
+
+-- in front
+row-92 : run_around (octets "01" ++ replicate 24 0x00 ++ octets "05") 0 ≡ None
+row-92 = refl
+
+-- at the end
+row-93 : run_around (replicate 24 0x00) 24 ≡ None
+row-93 = refl
+
+-- What is said in front of the sentences about the fault.
+-- utf8
+row-94 : undoable (Some Utf8) ≡ (Some Utf8)
+row-94 = refl
+
+-- line ends
+row-95 : undoable (Some LineEnds) ≡ (Some LineEnds)
+row-95 = refl
+
+-- replaced
+row-96 : undoable (Some Replaced) ≡ None
+row-96 = refl
+
+-- nothing
+row-97 : undoable None ≡ None
+row-97 = refl
+
+-- a trace
+row-98 : replaced_before (Traced trace.HalfZeros) (octets "ef bf bd") ≡ (Some (TextChanged Replaced))
+row-98 = refl
+
+-- no such octets
+row-99 : replaced_before (Traced trace.HalfZeros) (octets "ef bf") ≡ None
+row-99 = refl
+
+-- no trace
+row-100 : replaced_before (OctetsMoved move.Pairs) (octets "ef bf bd") ≡ None
+row-100 = refl
+
+-- one
+row-101 : lengths_in (Some (OtherLength (record { offset = 2; said = 2; would = 1 })))
+    ≡ ((record { offset = 2; said = 2; would = 1 }) ∷ [])
+row-101 = refl
+
+-- none
+row-102 : lengths_in (Some (ParsesFrom 3)) ≡ []
+row-102 = refl
+
+-- another start
+row-103 : start_in (Some (ParsesFrom 3)) ≡ (Some 3)
+row-103 = refl
+
+-- none
+row-104 : start_in (Some (NextRecord 3)) ≡ None
+row-104 = refl
 
 -- a length in front is not said to be wrong if something is known that would mend the input
 -- mended
-row-42 : unless_mended true (LengthInFront (element 2 2 (Definite 1) 4 (Some 5)) ∷ TryAnew ∷ []) ≡ (TryAnew ∷ [])
-row-42 = refl
+row-105 : unless_mended true (LengthInFront (element 2 2 (Definite 1) 4 (Some 5)) ∷ TryAnew ∷ []) ≡ (TryAnew ∷ [])
+row-105 = refl
 
 -- not mended
-row-43 : unless_mended false (LengthInFront (element 2 2 (Definite 1) 4 (Some 5)) ∷ TryAnew ∷ [])
+row-106 : unless_mended false (LengthInFront (element 2 2 (Definite 1) 4 (Some 5)) ∷ TryAnew ∷ [])
     ≡ (LengthInFront (element 2 2 (Definite 1) 4 (Some 5)) ∷ TryAnew ∷ [])
-row-43 = refl
+row-106 = refl
 
 -- the second
-row-44 : named_at 5 ((record { offset = 2; said = 2; would = 1 }) ∷ (record { offset = 5; said = 8; would = 7 }) ∷ [])
+row-107 : named_at 5 ((record { offset = 2; said = 2; would = 1 }) ∷ (record { offset = 5; said = 8; would = 7 }) ∷ [])
     ≡ (Some (record { offset = 5; said = 8; would = 7 }))
-row-44 = refl
+row-107 = refl
 
 -- none
-row-45 : named_at 0 ((record { offset = 2; said = 2; would = 1 }) ∷ (record { offset = 5; said = 8; would = 7 }) ∷ [])
+row-108 : named_at 0 ((record { offset = 2; said = 2; would = 1 }) ∷ (record { offset = 5; said = 8; would = 7 }) ∷ [])
     ≡ None
-row-45 = refl
+row-108 = refl
 
 -- Octets that were taken for a text, and what they were.
 -- line end
-row-46 : with_lf_alone (octets "30 0d 0a 05") ≡ (octets "30 0a 05")
-row-46 = refl
+row-109 : with_lf_alone (octets "30 0d 0a 05") ≡ (octets "30 0a 05")
+row-109 = refl
 
 -- two returns
-row-47 : with_lf_alone (octets "0d 0d 0a") ≡ (octets "0d 0a")
-row-47 = refl
+row-110 : with_lf_alone (octets "0d 0d 0a") ≡ (octets "0d 0a")
+row-110 = refl
 
 -- others
-row-48 : with_lf_alone (octets "0a 0d 05 0d") ≡ (octets "0a 0d 05 0d")
-row-48 = refl
+row-111 : with_lf_alone (octets "0a 0d 05 0d") ≡ (octets "0a 0d 05 0d")
+row-111 = refl
 
 -- characters
-row-49 : latin1_of_utf8 (octets "30 c2 80 c3 bf") ≡ Some (octets "30 80 ff")
-row-49 = refl
+row-112 : latin1_of_utf8 (octets "30 c2 80 c3 bf") ≡ Some (octets "30 80 ff")
+row-112 = refl
 
 -- last
-row-50 : latin1_of_utf8 (octets "c2 bf 7f") ≡ Some (octets "bf 7f")
-row-50 = refl
+row-113 : latin1_of_utf8 (octets "c2 bf 7f") ≡ Some (octets "bf 7f")
+row-113 = refl
 
 -- a character above 255, overlong octets, an octet that is lacking, and one that no character begins with
-row-51 : latin1_of_utf8 (octets "c4 80") ≡ None
-row-51 = refl
+row-114 : latin1_of_utf8 (octets "c4 80") ≡ None
+row-114 = refl
 
 -- overlong
-row-52 : latin1_of_utf8 (octets "c1 bf") ≡ None
-row-52 = refl
+row-115 : latin1_of_utf8 (octets "c1 bf") ≡ None
+row-115 = refl
 
 -- lacking
-row-53 : latin1_of_utf8 (octets "30 c3") ≡ None
-row-53 = refl
+row-116 : latin1_of_utf8 (octets "30 c3") ≡ None
+row-116 = refl
 
 -- stray
-row-54 : latin1_of_utf8 (octets "80") ≡ None
-row-54 = refl
+row-117 : latin1_of_utf8 (octets "80") ≡ None
+row-117 = refl
 
 -- replacement
-row-55 : has_replacement (octets "30 ef ef bf bd") ≡ true
-row-55 = refl
+row-118 : has_replacement (octets "30 ef ef bf bd") ≡ true
+row-118 = refl
 
 -- part
-row-56 : has_replacement (octets "ef bf be ef bf") ≡ false
-row-56 = refl
+row-119 : has_replacement (octets "ef bf be ef bf") ≡ false
+row-119 = refl
 
 -- Headers that are tried, each only once, and how many are named.
 -- once
-row-57 : distinct (9 ∷ 5 ∷ 9 ∷ 2 ∷ 5 ∷ 0 ∷ []) ≡ (9 ∷ 5 ∷ 2 ∷ 0 ∷ [])
-row-57 = refl
+row-120 : distinct (9 ∷ 5 ∷ 9 ∷ 2 ∷ 5 ∷ 0 ∷ []) ≡ (9 ∷ 5 ∷ 2 ∷ 0 ∷ [])
+row-120 = refl
 
-row-58 : most_named 65536 ≡ 3
-row-58 = refl
+row-121 : most_named 262144 ≡ 3
+row-121 = refl
 
-row-59 : most_named 65537 ≡ 1
-row-59 = refl
+row-122 : most_named 262145 ≡ 1
+row-122 = refl
 
 -- Lengths that are tried, and octets that say them.
 -- near
-row-60 : lengths_within 3 5 ≡ (4 ∷ 2 ∷ 5 ∷ 1 ∷ 6 ∷ 0 ∷ 7 ∷ 8 ∷ [])
-row-60 = refl
+row-123 : lengths_within 3 5 ≡ (4 ∷ 2 ∷ 5 ∷ 1 ∷ 6 ∷ 0 ∷ 7 ∷ 8 ∷ [])
+row-123 = refl
 
 -- one bit
-row-61 : flips 5 4 ≡ (4 ∷ 7 ∷ 1 ∷ 13 ∷ [])
-row-61 = refl
+row-124 : flips 5 4 ≡ (4 ∷ 7 ∷ 1 ∷ 13 ∷ [])
+row-124 = refl
 
 -- 01 02 and 02 01
 -- reverse
-row-62 : reversed_lengths 3 258 ≡ (513 ∷ [])
-row-62 = refl
+row-125 : reversed_lengths 3 258 ≡ (513 ∷ [])
+row-125 = refl
 
 -- five octets after the first
-row-63 : reversed_lengths 6 1 ≡ (4294967296 ∷ [])
-row-63 = refl
+row-126 : reversed_lengths 6 1 ≡ (4294967296 ∷ [])
+row-126 = refl
 
 -- one octet after the first, and six
-row-64 : reversed_lengths 2 5 ≡ []
-row-64 = refl
+row-127 : reversed_lengths 2 5 ≡ []
+row-127 = refl
 
-row-65 : reversed_lengths 7 1 ≡ []
-row-65 = refl
+row-128 : reversed_lengths 7 1 ≡ []
+row-128 = refl
 
 -- contents from the offset 5 on
 -- up to the end
-row-66 : ending_lengths true 5 12 ≡ (7 ∷ [])
-row-66 = refl
+row-129 : ending_lengths true 5 12 ≡ (7 ∷ [])
+row-129 = refl
 
 -- no contents
-row-67 : ending_lengths true 5 5 ≡ (0 ∷ [])
-row-67 = refl
+row-130 : ending_lengths true 5 5 ≡ (0 ∷ [])
+row-130 = refl
 
 -- too near
-row-68 : ending_lengths true 5 4 ≡ []
-row-68 = refl
+row-131 : ending_lengths true 5 4 ≡ []
+row-131 = refl
 
 -- primitive
-row-69 : ending_lengths false 5 12 ≡ []
-row-69 = refl
+row-132 : ending_lengths false 5 12 ≡ []
+row-132 = refl
 
 -- where it should end: three open elements, one of indefinite length
 -- the innermost
-row-70 : reach_in (element 0 16 (Definite 98) 2 (Some 100) ∷ element 10 16 Indefinite 12 None ∷ element 20 16 (Definite 38) 22 (Some 60) ∷ []) 30 200
+row-133 : reach_in (element 0 16 (Definite 98) 2 (Some 100) ∷ element 10 16 Indefinite 12 None ∷ element 20 16 (Definite 38) 22 (Some 60) ∷ []) 30 200
     ≡ 60
-row-70 = refl
+row-133 = refl
 
 -- not itself
-row-71 : reach_in (element 0 16 (Definite 98) 2 (Some 100) ∷ element 10 16 Indefinite 12 None ∷ element 20 16 (Definite 38) 22 (Some 60) ∷ []) 20 200
+row-134 : reach_in (element 0 16 (Definite 98) 2 (Some 100) ∷ element 10 16 Indefinite 12 None ∷ element 20 16 (Definite 38) 22 (Some 60) ∷ []) 20 200
     ≡ 100
-row-71 = refl
+row-134 = refl
 
 -- the input
-row-72 : reach_in (element 0 16 (Definite 98) 2 (Some 100) ∷ element 10 16 Indefinite 12 None ∷ element 20 16 (Definite 38) 22 (Some 60) ∷ []) 0 200
+row-135 : reach_in (element 0 16 (Definite 98) 2 (Some 100) ∷ element 10 16 Indefinite 12 None ∷ element 20 16 (Definite 38) 22 (Some 60) ∷ []) 0 200
     ≡ 200
-row-72 = refl
+row-135 = refl
 
 -- not behind the input
-row-73 : reach_in (element 0 16 (Definite 98) 2 (Some 100) ∷ element 10 16 Indefinite 12 None ∷ element 20 16 (Definite 38) 22 (Some 60) ∷ []) 30 50
+row-136 : reach_in (element 0 16 (Definite 98) 2 (Some 100) ∷ element 10 16 Indefinite 12 None ∷ element 20 16 (Definite 38) 22 (Some 60) ∷ []) 30 50
     ≡ 50
-row-73 = refl
+row-136 = refl
 
 -- of a SEQUENCE at the offset 1, in an input of so many octets, in which it should end at an offset
 -- the short form says no length above 127
-row-74 : other_lengths (header 1 Universal true 16 (Definite 126) "30" "7e") 200 100
+row-137 : other_lengths (header 1 Universal true 16 (Definite 126) "30" "7e") 200 100
     ≡ (127 ∷ 125 ∷ 124 ∷ 123 ∷ 122 ∷ 121 ∷ 127 ∷ 124 ∷ 122 ∷ 118 ∷ 110 ∷ 94 ∷ 62 ∷ 97 ∷ [])
-row-74 = refl
+row-137 = refl
 
 -- no end of a primitive
-row-75 : other_lengths (header 1 Universal false 16 (Definite 126) "30" "7e") 200 100
+row-138 : other_lengths (header 1 Universal false 16 (Definite 126) "30" "7e") 200 100
     ≡ (127 ∷ 125 ∷ 124 ∷ 123 ∷ 122 ∷ 121 ∷ 127 ∷ 124 ∷ 122 ∷ 118 ∷ 110 ∷ 94 ∷ 62 ∷ [])
-row-75 = refl
+row-138 = refl
 
 -- the most octets in which all are tried, and one more
-row-76 : other_lengths (header 1 Universal true 16 (Definite 126) "30" "7e") 65536 100
+row-139 : other_lengths (header 1 Universal true 16 (Definite 126) "30" "7e") 262144 100
     ≡ (127 ∷ 125 ∷ 124 ∷ 123 ∷ 122 ∷ 121 ∷ 127 ∷ 124 ∷ 122 ∷ 118 ∷ 110 ∷ 94 ∷ 62 ∷ 97 ∷ [])
-row-76 = refl
+row-139 = refl
 
-row-77 : other_lengths (header 1 Universal true 16 (Definite 126) "30" "7e") 65537 100
+row-140 : other_lengths (header 1 Universal true 16 (Definite 126) "30" "7e") 262145 100
     ≡ (127 ∷ 125 ∷ 124 ∷ 123 ∷ 122 ∷ 121 ∷ [])
-row-77 = refl
+row-140 = refl
 
 -- two octets say no length above 255, and may say one below 128
-row-78 : other_lengths (header 1 Universal true 16 (Definite 255) "30" ("81 ff")) 300 250
+row-141 : other_lengths (header 1 Universal true 16 (Definite 255) "30" ("81 ff")) 300 250
     ≡ (254 ∷ 253 ∷ 252 ∷ 251 ∷ 250 ∷ 254 ∷ 253 ∷ 251 ∷ 247 ∷ 239 ∷ 223 ∷ 191 ∷ 127 ∷ 246 ∷ [])
-row-78 = refl
+row-141 = refl
 
 -- three octets, in reverse order too, and 256 more and less
-row-79 : other_lengths (header 1 Universal true 16 (Definite 258) "30" ("82 01 02")) 1000 4
+row-142 : other_lengths (header 1 Universal true 16 (Definite 258) "30" ("82 01 02")) 1000 4
     ≡ (259 ∷ 257 ∷ 260 ∷ 256 ∷ 261 ∷ 255 ∷ 262 ∷ 254 ∷ 263 ∷ 253 ∷ 259 ∷ 256 ∷ 262 ∷ 266 ∷ 274 ∷ 290 ∷ 322 ∷ 386 ∷ 2 ∷ 770 ∷ 1282 ∷ 2306 ∷ 4354 ∷ 8450 ∷ 16642 ∷ 33026 ∷ 513 ∷ 514 ∷ 2 ∷ [])
-row-79 = refl
+row-142 = refl
 
 -- padded
-row-80 : other_lengths (header 1 Universal true 16 (Definite 0) "30" ("82 00 00")) 100 50
+row-143 : other_lengths (header 1 Universal true 16 (Definite 0) "30" ("82 00 00")) 100 50
     ≡ (1 ∷ 2 ∷ 3 ∷ 4 ∷ 5 ∷ 1 ∷ 2 ∷ 4 ∷ 8 ∷ 16 ∷ 32 ∷ 64 ∷ 128 ∷ 256 ∷ 512 ∷ 1024 ∷ 2048 ∷ 4096 ∷ 8192 ∷ 16384 ∷ 32768 ∷ 0 ∷ 256 ∷ 45 ∷ [])
-row-80 = refl
+row-143 = refl
 
 -- indefinite
-row-81 : other_lengths (header 1 Universal true 16 Indefinite "30" "80") 100 50 ≡ []
-row-81 = refl
+row-144 : other_lengths (header 1 Universal true 16 Indefinite "30" "80") 100 50 ≡ []
+row-144 = refl
 
 -- octets
-row-82 : length_octets_saying 258 (octets "83 00 00 09") ≡ (octets "83 00 01 02")
-row-82 = refl
+row-145 : length_octets_saying 258 (octets "83 00 00 09") ≡ (octets "83 00 01 02")
+row-145 = refl
 
 -- input
-row-83 : input_with_length (octets "00 30 81 03 05 00") (header 1 Universal true 16 (Definite 3) "30" ("81 03")) 2
+row-146 : input_with_length (octets "00 30 81 03 05 00") (header 1 Universal true 16 (Definite 3) "30" ("81 03")) 2
     ≡ (octets "00 30 81 02 05 00")
-row-83 = refl
+row-146 = refl

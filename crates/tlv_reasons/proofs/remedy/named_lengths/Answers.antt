@@ -1,7 +1,7 @@
 use Rattle.std.proofs.Common.{rules}
 use Rattle.std.proofs.lemmas.Result.{IfOk-weaker}
 use Rattle.tlv_reasons.specs.Remedies.{in_agreement, in_disagreement}
-use Rattle.tlv_reasons.proofs.mend.named_lengths.Goals as goal
+use Rattle.tlv_reasons.proofs.remedy.named_lengths.Goals as goal
 
 pub returns-then-not-sizes_agree : goal.returns-then-not-sizes_agree
 returns-then-not-sizes_agree c =

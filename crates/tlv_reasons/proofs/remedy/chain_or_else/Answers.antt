@@ -1,0 +1,9 @@
+use Rattle.std.proofs.Common.{refl}
+use Rattle.tlv_reasons.specs.FirstOf.{first, next}
+use Rattle.tlv_reasons.proofs.remedy.chain_or_else.Goals as goal
+
+pub returns-in-Some : goal.returns-in-Some
+returns-in-Some c = first (rw c.in-Some.is at c.in_ok-chain.ensures)
+
+pub returns-in-None : goal.returns-in-None
+returns-in-None c = next (rw c.in-None.is at c.in_ok-chain.ensures) refl

@@ -1,0 +1,11 @@
+use Rattle.std.proofs.lemmas.Result.{IfOk-weaker}
+use Rattle.tlv_reasons.specs.FirstOf.{first, next}
+use Rattle.tlv_reasons.proofs.whole.whole_change.Goals as goal
+
+pub returns-in-Some : goal.returns-in-Some
+returns-in-Some c = first (rw c.in-Some.is at c.in_ok-change.ensures)
+
+pub returns-in-None : goal.returns-in-None
+returns-in-None c =
+    IfOk-weaker c.whole_move.result _ _ (λ found is. next (rw c.in-None.is at c.in_ok-change.ensures) is)
+    c.whole_move.ensures
