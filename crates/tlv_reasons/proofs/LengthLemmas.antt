@@ -70,7 +70,7 @@ changed-octets n xs rest h o =
     rw (front, lengths-between xs id ls rest, back, o, back, take-append_seam xs ((id ++ ls) ++ rest))
     (append_assoc xs id (said ++ rest) ∙ ap (λ ys. xs ++ ys) (sym (append_assoc id said rest)))
 
-changed-with : (n : ℕ) (octets rest : List ℕ) (h : HeaderValue) (offset id count : ℕ) → offset ≤ length octets
+pub changed-with : (n : ℕ) (octets rest : List ℕ) (h : HeaderValue) (offset id count : ℕ) → offset ≤ length octets
     → h.offset ≡ offset → length h.identifier_octets ≡ id → length (octets_of h) ≡ count
     → drop offset octets ≡ octets_of h ++ rest
     → with_octets_saying (offset + id) (offset + count) n octets ≡ input_with_length octets h n

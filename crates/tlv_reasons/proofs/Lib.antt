@@ -4,6 +4,7 @@ pub mod ShownLemmas
 pub mod TrackLemmas
 pub mod FirstLemmas
 pub mod LengthLemmas
+pub mod ChainLemmas
 pub mod OctetLemmas
 pub mod OutermostLemmas
 pub mod RecordLemmas
@@ -12,4 +13,5 @@ pub mod SoundLemmas
 pub mod StartLemmas
 pub mod TextLemmas
 pub mod MoveLemmas
+pub mod SpacingLemmas
 pub mod LawLemmas

@@ -5,7 +5,10 @@ use Rattle.tlv_head.specs.declared.header.Size.TheVariants.{Definite}
 use Rattle.tlv_head.specs.Header.{HeaderValue, IsHeader, octets_of}
 use Rattle.tlv_walk.specs.declared.framing.Framing.{Framing}
 use Rattle.tlv_walk.specs.Reading.{AreOctets}
+use Rattle.tlv_reasons.specs.Chains.{IsChain}
+use Rattle.tlv_reasons.specs.declared.chains.Chain.{Chain}
 use Rattle.tlv_reasons.specs.declared.element.Element.{Element}
+use Rattle.tlv_reasons.specs.declared.facts.Facts.{Facts}
 use Rattle.tlv_reasons.specs.declared.lengths.WrongLength.{WrongLength}
 use Rattle.tlv_reasons.specs.declared.octet_changes.OctetChange.{OctetChange}
 use Rattle.tlv_reasons.specs.NextRecord.{IsNextRecord}
@@ -25,6 +28,11 @@ abbrev pub InputsHaveOneOctetChange : Type 0
 InputsHaveOneOctetChange = (framing : Framing) (octets candidates : List ℕ) (wrong : Option WrongLength)
     (a b : Option OctetChange) → IsOctetChange framing octets candidates wrong a
     → IsOctetChange framing octets candidates wrong b → a ≡ b
+
+-- an input with these facts, and offsets, determine the chain of lengths, or that there is none
+abbrev pub InputsHaveOneChain : Type 0
+InputsHaveOneChain = (padding : Bool) (octets : List ℕ) (facts : Facts) (candidates : List ℕ) (a b : Option Chain)
+    → IsChain padding octets facts candidates a → IsChain padding octets facts candidates b → a ≡ b
 
 -- an input, with what was found before, determines the next record, or that there is none
 abbrev pub InputsHaveOneNextRecord : Type 0

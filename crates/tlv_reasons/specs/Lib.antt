@@ -9,8 +9,14 @@ pub mod Why
 pub mod FileKinds
 pub mod Suspects
 pub mod Sizes
+pub mod Moves
+pub mod Traces
+pub mod Spacing
+pub mod Overwritten
+pub mod Doubled
 pub mod FirstOf
 pub mod WrongLength
+pub mod Chains
 pub mod OneOctet
 pub mod NextStart
 pub mod NextRecord

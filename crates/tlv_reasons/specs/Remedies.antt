@@ -74,7 +74,7 @@ pub data IsUndone (padding : Bool) (octets : List ℕ) : Option TextChange → T
 -- that it was a text; other octets between its encodings
 abbrev pub IsTraceOrElse : Bool → List ℕ → Option Sentence → Type 0
 IsTraceOrElse padding octets =
-    IsElse (λ t. t ≡ trace_of octets) say.Traced (IsElse (IsSpacing padding octets) say.Spaced IsNothing)
+    IsElse (λ t. t ≡ trace_of octets) say.Traced (IsElse (IsSpacing octets) say.Spaced IsNothing)
 
 abbrev pub IsMoveOrElse : Bool → List ℕ → Option Sentence → Type 0
 IsMoveOrElse padding octets = IsElse (IsMove padding octets) say.OctetsMoved (IsTraceOrElse padding octets)

@@ -1,6 +1,6 @@
 -- What the length of the outermost element says about octets that are missing or too many: X.690 8.1.3.
 use Rattle.std.specs.Prelude.{ℕ, Bool, true, false, eqb, nat_lt, if◌then◌else◌, List, length, Option, Some, None, slice_get}
-use Rattle.std.specs.Prelude.{◌-◌, ◌+◌, ◌||◌, nat_le, slice_index}
+use Rattle.std.specs.Prelude.{◌-◌, ◌+◌, ◌||◌, slice_index}
 use Rattle.tlv_head.specs.declared.fault.Fault.{Fault}
 use Rattle.tlv_head.specs.declared.fault.FaultCode.{FaultCode}
 use Rattle.tlv_head.specs.declared.fault.FaultCode.TheVariants.{Short}

@@ -1,5 +1,6 @@
 //! Laws of the definitions: each is the contract of a function that does nothing.
-ghost use Rattle.tlv_reasons.specs.Laws.{InputsHaveOneNextRecord, InputsHaveOneOctetChange, InputsHaveOneWrongLength};
+ghost use Rattle.tlv_reasons.specs.Laws.{InputsHaveOneChain, InputsHaveOneNextRecord};
+ghost use Rattle.tlv_reasons.specs.Laws.{InputsHaveOneOctetChange, InputsHaveOneWrongLength};
 ghost use Rattle.tlv_reasons.specs.Laws.{OtherLengthsMakeHeaders, SentencesAreShown};
 
 /// An input, its open elements and candidates determine the other lengths that are named.
@@ -10,6 +11,11 @@ pub fn inputs_have_one_wrong_length()
 /// With the first of these they also determine the octet that is missing or was put in, or that there is none.
 pub fn inputs_have_one_octet_change()
     ensures { InputsHaveOneOctetChange }
+{}
+
+/// An input with its facts, and candidates, determine the chain of lengths, or that there is none.
+pub fn inputs_have_one_chain()
+    ensures { InputsHaveOneChain }
 {}
 
 /// An input, with what was found before, determines the next record, or that there is none.

@@ -51,7 +51,7 @@ pub(crate) fn is_sound_with(
 }
 
 /// Makes length octets state another length, in the same form.
-fn set_length(octets: &mut [u8], would: u64)
+pub(crate) fn set_length(octets: &mut [u8], would: u64)
     requires some { 0 < length octets.old }
     requires short { length octets.old ≡ 1 → would < 128 }
     ensures { octets.new ≡ length_octets_saying would octets.old }

@@ -76,7 +76,7 @@ fn trace_or_spacing(octets: &[u8], padding: bool) -> Option<Sentence>
 {
     match trace_of(octets) {
         Some(trace) => Some(Sentence::Traced(trace)),
-        None => match spaced_encodings(octets, padding) {
+        None => match spaced_encodings(octets) {
             Some(spacing) => Some(Sentence::Spaced(spacing)),
             None => None,
         },
