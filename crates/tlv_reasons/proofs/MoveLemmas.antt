@@ -3,7 +3,7 @@ use Rattle.std.proofs.Common.{◌≡◌, ◌-◌, ◌∙◌, ℕ, Bool, false, t
 use Rattle.std.proofs.lemmas.List.{length-map, length-reverse}
 use Rattle.tlv_reasons.specs.declared.moves.Move.{Move}
 use Rattle.tlv_reasons.specs.declared.moves.Move.TheVariants as move
-use Rattle.tlv_reasons.specs.Moves.{inverted, turned_fours, turned_pairs, undone_move}
+use Rattle.tlv_reasons.specs.Moves.{turned_fours, turned_pairs, undone_move}
 
 pairs-size : (octets : List ℕ) → length (turned_pairs octets) ≡ length octets
 pairs-size [] = refl

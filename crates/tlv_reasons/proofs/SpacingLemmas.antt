@@ -1,10 +1,10 @@
 -- Elements that stand apart from each other.
-use Rattle.std.proofs.Common.{◌≡◌, ℕ, ◌+◌, ◌-◌, ◌<◌, ◌≤◌, false, true, List, ap, arith, drop, length, refl, sym, take, ◌∙◌}
+use Rattle.std.proofs.Common.{◌≡◌, ℕ, ◌+◌, ◌<◌, false, true, List, ap, arith, drop, length, refl, sym, take, ◌∙◌}
 use Rattle.std.specs.Prelude.{Some}
 use Rattle.tlv_head.specs.declared.header.HeaderFields.{HeaderFields}
 use Rattle.tlv_head.specs.declared.header.Size.{Size}
 use Rattle.tlv_head.specs.declared.header.Size.TheVariants.{Definite, Indefinite}
-use Rattle.tlv_head.specs.Header.{HeaderValue, definite_length, octets_of}
+use Rattle.tlv_head.specs.Header.{HeaderValue, definite_length}
 use Rattle.tlv_head.specs.HeaderFields.{new_header}
 use Rattle.tlv_head.specs.ReadHeader.{BeginsWithFields}
 use Rattle.tlv_reasons.proofs.LengthLemmas.{begun-one}
@@ -25,8 +25,7 @@ whole-by octets offset end count fields b w =
     let g : HeaderValue = new_header fields (take count (drop offset octets)) in
     let one : w.header ≡ g = begun-one w.header g w.begins b.begins in
     let start : contents_start w.header ≡ offset + count =
-    ap contents_start one ∙ starts-at octets offset count fields b in
-    (
+    ap contents_start one ∙ starts-at octets offset count fields b in (
       w.contents,
       definite-is fields.size w.contents (sym (ap (λ (x : HeaderValue). definite_length x.size) one) ∙ w.contents_are),
       sym (ap (λ (x : HeaderValue). x.constructed) one) ∙ w.constructed,

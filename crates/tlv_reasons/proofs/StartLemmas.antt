@@ -1,6 +1,6 @@
 -- The first of sound elements with which octets begin.
 use Rattle.std.proofs.Common.{◌≡◌, ℕ, ◌+◌, ◌≤◌, false, true, List, [], ◌∷◌, ◌++◌, length, drop, take, ap, refl}
-use Rattle.std.proofs.Common.{◌∙◌, inl, inr, sym, subst, append_assoc, arith, length-append, take-append-drop, IfSome}
+use Rattle.std.proofs.Common.{◌∙◌, sym, subst, append_assoc, arith, length-append, take-append-drop, IfSome}
 use Rattle.std.specs.Option.{option_map_or}
 use Rattle.std.specs.Prelude.{Option, Some, None}
 use Rattle.std.proofs.lemmas.List.{append-nil, length-take-le}
@@ -10,7 +10,6 @@ use Rattle.tlv_head.specs.declared.header.HeaderFields.{HeaderFields}
 use Rattle.tlv_head.specs.declared.header.Size.{Size}
 use Rattle.tlv_head.specs.declared.header.Size.TheVariants.{Definite, Indefinite}
 use Rattle.tlv_head.specs.Header.{HeaderValue, definite_length, octets_of}
-use Rattle.tlv_head.specs.HeaderFields.{fields_of}
 use Rattle.tlv_head.specs.HeaderFields.{new_header}
 use Rattle.tlv_head.specs.ReadHeader.{BeginsWithFields}
 use Rattle.tlv_head.specs.Refusal.{BeginsWithNoHeader}
@@ -236,8 +235,7 @@ seems-by octets after fields count b same s =
     after-is octets s.header s.begins.rest count s.begins.octets_are size ∙ sym same in
     let inside : BeginsWithEncodings (option_map_or (λ n. take n after) (definite_length s.header.size) after) =
     subst (λ (o : List ℕ). BeginsWithEncodings (option_map_or (λ n. take n o) (definite_length s.header.size) o)) rest
-    s.inside in
-    (
+    s.inside in (
       ap (λ (x : HeaderValue). x.constructed) (sym one) ∙ s.constructed,
       subst (λ (x : Size). BeginsWithEncodings (option_map_or (λ n. take n after) (definite_length x) after))
           (ap (λ (x : HeaderValue). x.size) one) inside,

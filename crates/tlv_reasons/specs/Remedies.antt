@@ -1,5 +1,5 @@
 -- What may be done with an input that does not parse: which change would make it sound, and where else it is sound.
-use Rattle.std.specs.Prelude.{◌≡◌, ℕ, Bool, false, true, ◌||◌, eqb, not, if◌then◌else◌, slice_get, take, List, [], ◌∷◌, ◌++◌, Option, None, Some}
+use Rattle.std.specs.Prelude.{◌≡◌, ℕ, Bool, false, true, eqb, not, if◌then◌else◌, slice_get, take, List, [], ◌∷◌, ◌++◌, Option, None, Some}
 use Rattle.std.specs.List.{filter, find}
 use Rattle.std.specs.Option.{is_some, option_map, option_map_or}
 use Rattle.tlv_open.specs.Opens.{closed_framing}
@@ -8,7 +8,6 @@ use Rattle.tlv_reasons.specs.declared.chains.Chain.{Chain}
 use Rattle.tlv_reasons.specs.declared.facts.Facts.{Facts}
 use Rattle.tlv_reasons.specs.declared.kinds.FileKind.{FileKind}
 use Rattle.tlv_reasons.specs.declared.lengths.WrongLength.{WrongLength}
-use Rattle.tlv_reasons.specs.declared.octet_changes.OctetChange.{OctetChange}
 use Rattle.tlv_reasons.specs.declared.sentence.Sentence.{Sentence}
 use Rattle.tlv_reasons.specs.declared.sentence.Sentence.TheVariants as say
 use Rattle.tlv_reasons.specs.declared.text_changes.TextChange.{TextChange}

@@ -30,11 +30,7 @@ pub enum Move {
 /// # Errors
 ///
 /// `AllocError` if memory for a copy of the input is refused.
-pub fn octets_moved(
-    alloc: Global,
-    octets: &[u8],
-    padding: bool,
-) -> Result<Option<Move>, AllocError>
+pub fn octets_moved(alloc: Global, octets: &[u8], padding: bool) -> Result<Option<Move>, AllocError>
     requires { length octets.now ≤ input_limit }
     ensures { IfOk result (λ found. IsMove padding octets.now found) }
 {
@@ -65,12 +61,7 @@ fn first_move(alloc: Global, octets: &[u8], padding: bool) -> Result<Option<Move
 }
 
 /// Whether the input would be sound if this were undone.
-fn is_undone(
-    alloc: Global,
-    octets: &[u8],
-    padding: bool,
-    change: Move,
-) -> Result<bool, AllocError>
+fn is_undone(alloc: Global, octets: &[u8], padding: bool, change: Move) -> Result<bool, AllocError>
     requires { length octets.now ≤ input_limit }
     ensures { IfOk result (λ undone. IsTrue undone ↔ IsUndoneMove padding octets.now change) }
 {

@@ -53,7 +53,11 @@ fn long_run(run: Run) -> Option<Run>
     requires { run.start < 2 ^ 63 }
     ensures { result ≡ long_run run }
 {
-    if run.start + LEAST_RUN <= run.end { Some(run) } else { None }
+    if run.start + LEAST_RUN <= run.end {
+        Some(run)
+    } else {
+        None
+    }
 }
 
 /// The number of octets with which these begin that are this one.

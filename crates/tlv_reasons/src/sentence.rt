@@ -1,8 +1,8 @@
 //! The sentences that say why an input does not parse, and what to try.
 
 use crate::{
-    Chain, Doubled, Element, FileKind, Move, OctetChange, Run, Spacing, TextChange, Trace, Unfinished,
-    WrongLength,
+    Chain, Doubled, Element, FileKind, Move, OctetChange, Run, Spacing, TextChange, Trace,
+    Unfinished, WrongLength,
 };
 use tlv_head::{Fault, FaultCode};
 use tlv_open::BrokenString;

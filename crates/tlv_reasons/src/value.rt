@@ -1,5 +1,5 @@
 //! The values in sentences: numbers, octets, elements.
-ghost use Rattle.std.specs.Prelude.{◌≡◌, ◌≤◌, decimal, length, nat_lt, take};
+ghost use Rattle.std.specs.Prelude.{◌≡◌, ◌≤◌, ◌+◌, ◌++◌, decimal, length, nat_lt, take};
 ghost use Rattle.tlv_io.specs.LineTexts.{spaced_pairs};
 ghost use Rattle.tlv_io.specs.Out.{Puts};
 ghost use Rattle.tlv_reasons.specs.Values.{chain_offsets, dots_if, first_pairs, header_closing, header_octets, header_opening};
@@ -63,7 +63,7 @@ pub(crate) fn put_value<D: Drain>(
         Value::Code(fault) => out.put(fault.code.code()),
         Value::Message(fault) => out.put(fault.text()),
         Value::Broken(string) => out.put(broken_line(string).as_slice()),
-        Value::Offsets(chain) => put_offsets(chain_offsets(chain), out),
+        Value::Offsets(chain) => out.put(offsets_in_words(chain_offsets(chain)).as_slice()),
     }
 }
 
@@ -94,27 +94,41 @@ fn put_octet_count<D: Drain>(count: u64, out: &mut Out<'_, D>) -> Result<(), Wri
 
 /// The offsets of the headers of a chain.
 fn chain_offsets(chain: &Chain) -> &[u64]
-    ensures { result.now ≡ chain_offsets chain.now }
+    ensures offsets { result.now ≡ chain_offsets chain.now }
+    ensures few { length result.now ≤ 8 }
 {
     &chain.offsets[..chain.count.min(chain.offsets.len())]
 }
 
-/// Puts offsets, one after another, with `and` before the last.
-fn put_offsets<D: Drain>(offsets: &[u64], out: &mut Out<'_, D>) -> Result<(), WriteFault>
-    ensures { Puts D.state out.old out.new (offsets_in_words offsets.now) result }
+/// Offsets, one after another, with `and` before the last.
+fn offsets_in_words(offsets: &[u64]) -> ArrayVec<u8, 256>
+    requires { length offsets.now ≤ 8 }
+    ensures { result.items ≡ offsets_in_words offsets.now }
 {
+    let mut text = ArrayVec::new();
     let mut left = offsets;
     while let [offset, more @ ..] = left {
-        put_number(*offset, out)?;
-        out.put(mark_before(more))?;
+        add_offset(*offset, more, &mut text);
         left = more;
     }
-    Ok(())
+    text
+}
+
+/// Adds an offset, and what stands between it and these others, to a text that has room for them.
+fn add_offset(offset: u64, others: &[u64], text: &mut ArrayVec<u8, 256>)
+    requires { length text.old.items ≤ 228 }
+    ensures added { text.new.items ≡ text.old.items ++ (decimal offset ++ mark_before others.now) }
+    ensures few { length text.new.items ≤ length text.old.items + 28 }
+{
+    let mut digits = Buffer::new();
+    let _ = text.try_extend_from_slice(digits.format(offset).as_bytes());
+    let _ = text.try_extend_from_slice(mark_before(others));
 }
 
 /// What stands between an offset and these others.
 fn mark_before(offsets: &[u64]) -> &'static [u8]
-    ensures { result.now ≡ mark_before offsets.now }
+    ensures mark { result.now ≡ mark_before offsets.now }
+    ensures few { length result.now ≤ 5 }
 {
     match offsets {
         [] => b"",

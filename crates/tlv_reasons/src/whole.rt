@@ -55,11 +55,7 @@ fn undoable(change: Option<TextChange>) -> Option<TextChange>
 }
 
 /// [`whole_change`] of an input to which nothing was done as to a text that can be undone.
-fn whole_move(
-    alloc: Global,
-    octets: &[u8],
-    padding: bool,
-) -> Result<Option<Sentence>, AllocError>
+fn whole_move(alloc: Global, octets: &[u8], padding: bool) -> Result<Option<Sentence>, AllocError>
     requires { length octets.now ≤ input_limit }
     ensures { IfOk result (λ found. IsMoveOrElse padding octets.now found) }
 {

@@ -1,4 +1,3 @@
-use Rattle.std.proofs.Common.{◌≡◌, ◌∙◌, sym}
 use Rattle.std.proofs.lemmas.Result.{IfOk-weaker}
 use Rattle.tlv_reasons.specs.FirstOf.{first, next}
 use Rattle.tlv_reasons.proofs.remedy.remedy.Goals as goal

@@ -1,5 +1,5 @@
 use Rattle.std.proofs.Common.{arith}
-use Rattle.std.specs.Prelude.{None, Some}
+use Rattle.std.specs.Prelude.{None}
 use Rattle.tlv_reasons.specs.Spacing.{no_more, wider}
 use Rattle.tlv_reasons.proofs.spacing.first_spacing.Goals as goal
 

@@ -1,4 +1,4 @@
-use Rattle.std.proofs.Common.{◌≡◌, ◌+◌, arith}
+use Rattle.std.proofs.Common.{arith}
 use Rattle.tlv_reasons.specs.Spacing.{last, last_with_gap}
 use Rattle.tlv_reasons.proofs.SpacingLemmas.{counted-more, counted-on, none-spaced, spaced-on}
 use Rattle.tlv_reasons.proofs.spacing.spaced_count.Goals as goal

@@ -1,6 +1,4 @@
-use Rattle.std.proofs.Common.{◌≡◌, ◌∙◌, ◌+◌, ℕ, List, arith, drop, false, length, length-drop, sym, true}
-use Rattle.tlv_head.specs.declared.header.HeaderFields.{HeaderFields}
-use Rattle.tlv_reasons.specs.Spacing.{IsWholeFrom}
+use Rattle.std.proofs.Common.{◌≡◌, ◌∙◌, ◌+◌, arith, false, sym, true}
 use Rattle.tlv_reasons.proofs.LengthLemmas.{begins-there}
 use Rattle.tlv_reasons.proofs.SpacingLemmas.{whole-by}
 use Rattle.tlv_reasons.proofs.spacing.whole_end.Goals as goal

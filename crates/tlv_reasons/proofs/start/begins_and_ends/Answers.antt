@@ -1,4 +1,4 @@
-use Rattle.std.proofs.Common.{◌≡◌, ◌∙◌, sym}
+use Rattle.std.proofs.Common.{◌∙◌, sym}
 use Rattle.tlv_reasons.proofs.StartLemmas.{ends-by, ends-from}
 use Rattle.tlv_reasons.proofs.start.begins_and_ends.Goals as goal
 
