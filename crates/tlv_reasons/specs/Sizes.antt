@@ -1,6 +1,6 @@
 -- What the length of the outermost element says about octets that are missing or too many: X.690 8.1.3.
 use Rattle.std.specs.Prelude.{ℕ, Bool, true, false, eqb, nat_lt, if◌then◌else◌, List, length, Option, Some, None, slice_get}
-use Rattle.std.specs.Prelude.{◌-◌, ◌+◌, ◌||◌, slice_index}
+use Rattle.std.specs.Prelude.{◌-◌, ◌+◌, ◌&&◌, ◌||◌, slice_index}
 use Rattle.tlv_head.specs.declared.fault.Fault.{Fault}
 use Rattle.tlv_head.specs.declared.fault.FaultCode.{FaultCode}
 use Rattle.tlv_head.specs.declared.fault.FaultCode.TheVariants.{Short}
@@ -9,15 +9,18 @@ use Rattle.tlv_reasons.specs.declared.facts.Facts.{Facts}
 use Rattle.tlv_reasons.specs.declared.sentence.Sentence.{Sentence}
 use Rattle.tlv_reasons.specs.declared.sentence.Sentence.TheVariants as say
 use Rattle.tlv_reasons.specs.declared.sizes.Difference.{Difference}
+use Rattle.tlv_reasons.specs.Leftovers.{is_followed_by_other}
 
--- the sentence about an element of definite length, which ends at this offset. If an octet with which it begins stands
--- there, another record may follow, and nothing is said
+-- an octet with which the element begins stands at its end: another record may follow
+abbrev pub is_followed_alike : List ℕ → Element → ℕ → Bool
+is_followed_alike octets e end = nat_lt end (length octets) && eqb (slice_index octets end) (slice_index octets e.offset)
+
+-- the sentence about an element of definite length, which ends at this offset
 abbrev pub size_sentence_of : List ℕ → Element → ℕ → Option Sentence
 size_sentence_of octets e end =
     if eqb end (length octets) then Some (say.NoneLost e)
     else (if nat_lt (length octets) end then Some (say.SomeLost e (length octets))
-    else (if eqb (slice_index octets end) (slice_index octets e.offset) then None
-    else Some (say.SomePutIn e (length octets))))
+    else (if is_followed_alike octets e end then None else Some (say.SomePutIn e (length octets))))
 
 -- the same, if its length is definite
 abbrev pub size_sentence_by : List ℕ → Element → Option ℕ → Option Sentence
@@ -39,10 +42,11 @@ abbrev pub says_sizes : Option Fault → Bool
 says_sizes None = false
 says_sizes (Some fault) = is_short fault.code
 
--- the sentence about sizes, if there is one
+-- the sentence about sizes, if there is one; none if no element is left over
 abbrev pub size_sentence : List ℕ → Facts → Option Sentence
 size_sentence octets facts =
-    if says_sizes facts.fault then None else size_sentence_in octets (slice_get facts.holders.items 0)
+    if says_sizes facts.fault || is_followed_by_other octets facts.top then None
+    else size_sentence_in octets (slice_get facts.holders.items 0)
 
 -- ---- by how much sizes differ
 
@@ -60,14 +64,19 @@ difference_of size end =
     if eqb (distance size end) 0 || nat_lt most_different (distance size end) then None
     else Some (record { by = distance size end; is_longer = nat_lt end size })
 
-abbrev pub difference_by : ℕ → Option ℕ → Option Difference
-difference_by size None = None
-difference_by size (Some end) = difference_of size end
+-- the same of the end of an element. There is none where another record may follow
+abbrev pub difference_at : List ℕ → Element → ℕ → Option Difference
+difference_at octets e end =
+    if is_followed_alike octets e end then None else difference_of (length octets) end
 
-abbrev pub difference_in : ℕ → Option Element → Option Difference
-difference_in size None = None
-difference_in size (Some e) = difference_by size e.end
+abbrev pub difference_by : List ℕ → Element → Option ℕ → Option Difference
+difference_by octets e None = None
+difference_by octets e (Some end) = difference_at octets e end
+
+abbrev pub difference_in : List ℕ → Option Element → Option Difference
+difference_in octets None = None
+difference_in octets (Some e) = difference_by octets e e.end
 
 -- 8.1.3.3: by how many octets the input is longer or shorter than its outermost open element says
 abbrev pub size_difference : List ℕ → Facts → Option Difference
-size_difference octets facts = difference_in (length octets) (slice_get facts.holders.items 0)
+size_difference octets facts = difference_in octets (slice_get facts.holders.items 0)

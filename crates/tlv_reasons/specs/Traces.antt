@@ -71,9 +71,13 @@ zeros_at is_here (x ∷ more) = counted is_here x + zeros_at (not is_here) more
 abbrev pub are_nearly_half : ℕ → ℕ → Bool
 are_nearly_half size count = nat_le (9 * size) (20 * count)
 
+-- one octet of sixteen, or more, is above 7f: elements without contents, as NULL is, have no such octets
+abbrev pub are_some_high : List ℕ → Bool
+are_some_high octets = nat_le (length octets) (16 * count_by (λ x. nat_le 0x80 x) octets)
+
 abbrev pub half_trace : List ℕ → Option Trace
 half_trace octets =
-    if nat_le 200 (length octets)
+    if nat_le 200 (length octets) && are_some_high octets
     && (are_nearly_half (length octets) (zeros_at true octets) || are_nearly_half (length octets) (zeros_at false octets))
     then Some trace.HalfZeros else None
 

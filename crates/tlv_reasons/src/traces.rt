@@ -1,9 +1,9 @@
 //! What all octets of an input show of a program that took them for a text, though it cannot be undone.
 ghost use Rattle.std.specs.List.{list_all};
-ghost use Rattle.std.specs.Prelude.{◌≡◌, ◌≤◌, IfSome, count_by, eqb, length, nat_lt};
+ghost use Rattle.std.specs.Prelude.{◌≡◌, ◌≤◌, IfSome, count_by, eqb, length, nat_le};
 ghost use Rattle.tlv_head.specs.Limits.{input_limit};
-ghost use Rattle.tlv_reasons.specs.Traces.{are_characters, are_ends_paired, are_nearly_half, are_seven_bits, beyond_ascii};
-ghost use Rattle.tlv_reasons.specs.Traces.{bits_trace, counted, following_count, half_trace, line_end_trace, line_feeds};
+ghost use Rattle.tlv_reasons.specs.Traces.{are_characters, are_ends_paired, are_nearly_half, are_seven_bits, are_some_high};
+ghost use Rattle.tlv_reasons.specs.Traces.{beyond_ascii, bits_trace, counted, following_count, half_trace, line_end_trace, line_feeds};
 ghost use Rattle.tlv_reasons.specs.Traces.{question_marks, seven_bit_trace, trace_of, utf8_trace, wanted_after, zeros_at};
 
 /// What shows that an input was taken for a text.
@@ -24,7 +24,7 @@ pub enum Trace {
 /// What the octets show of a program that took them for a text, if they show anything: the first of these that holds.
 /// They are UTF-8 (RFC 3629) by the numbers of octets of the characters, the last of which may be cut off, with 8 or more
 /// characters beyond ASCII; they have 3 or more octets `0a`, each behind `0d`; of 200 octets or more, 9 of 20 or more are
-/// `00` at every second place; of 128 octets or more, none is above `7f`.
+/// `00` at every second place, and one of sixteen is above `7f`; of 128 octets or more, none is above `7f`.
 pub fn trace_of(octets: &[u8]) -> Option<Trace>
     requires { length octets.now ≤ input_limit }
     ensures { result ≡ trace_of octets.now }
@@ -156,11 +156,36 @@ fn half_trace(octets: &[u8]) -> Option<Trace>
     requires { length octets.now ≤ input_limit }
     ensures { result ≡ half_trace octets.now }
 {
-    if octets.len() >= 200 && (has_nearly_half(octets, true) || has_nearly_half(octets, false)) {
+    if octets.len() >= 200
+        && are_some_high(octets)
+        && (has_nearly_half(octets, true) || has_nearly_half(octets, false))
+    {
         Some(Trace::HalfZeros)
     } else {
         None
     }
+}
+
+/// Whether one octet of sixteen, or more, is above `7f`.
+fn are_some_high(octets: &[u8]) -> bool
+    requires { length octets.now ≤ input_limit }
+    ensures { result ≡ are_some_high octets.now }
+{
+    octets.len() as u64 <= 16 * high_count(octets)
+}
+
+/// The number of octets above `7f`.
+fn high_count(octets: &[u8]) -> u64
+    ensures count { result ≡ count_by (λ x. nat_le 0x80 x) octets.now }
+    ensures within { result ≤ length octets.now }
+{
+    let mut count = 0;
+    for octet in octets {
+        if *octet >= 0x80 {
+            count += 1;
+        }
+    }
+    count
 }
 
 /// Whether nine of twenty octets or more are `00` at the first, third, and so on, or at the others.
