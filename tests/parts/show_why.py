@@ -31,6 +31,15 @@ def in_front(name, offset, octets, contents):
     return f"Or a length in front is wrong: that of the {name} at offset {offset}. {header(offset, octets, contents)}"
 
 
+def sizes(name, end, size):
+    """Returns the line about an element that ends at an offset, in an input of so many octets."""
+    line = f"By its length the {name} ends "
+    if end == size:
+        return f"{line}with the input, at offset {end}: no octet was lost or put in."
+    count, what = abs(end - size), "Missing" if size < end else "Too many"
+    return f"{line}at offset {end}, the input at offset {size}. {what}: {count} octet{'s' * (count > 1)}."
+
+
 CUT = "Try: fetch the input anew, since the copy was cut; or, where it is whole, look for a length that is too great."
 WRONG = "One of the two lengths is wrong, or octets between them are missing or were put in."
 INDEFINITE = "an indefinite number of octets"
@@ -96,14 +105,14 @@ FAULTS = [
      ["At offset 4 the octets 00 00 should end the SEQUENCE at offset 0, but the second is 05. "
       + header(0, "30 80", INDEFINITE), ANEW, in_front("NULL", 2, "05 00", "0 octets")]),
     ("F05", "30 05 a1 80 02 01 05 00", [],
-     ["The [1] at offset 2 is not ended where the SEQUENCE at offset 0 ends, at offset 7. Missing there: 2 octets, 00 00. "
+     [sizes("SEQUENCE at offset 0", 7, 8), "The [1] at offset 2 is not ended where the SEQUENCE at offset 0 ends, at offset 7. Missing there: 2 octets, 00 00. "
       + header(2, "a1 80", INDEFINITE) + " " + header(0, "30 05", "5 octets"), ANEW,
       in_front("INTEGER", 4, "02 01", "1 octet")]),
     ("F06", "3f" + " ff" * 9 + " 01", [],
      ["The header at offset 0 has more than nine octets of tag number: 3f" + " ff" * 9 + ".", START]),
     ("F07", "04 ff", [], ["The header at offset 0 has the first length octet ff, which X.690 reserves: 04 ff.", START]),
     ("F08", "30 02 04 80", [],
-     ["The header at offset 2 is that of a primitive, which cannot have the indefinite length: 04 80.",
+     [sizes("SEQUENCE at offset 0", 4, 4), "The header at offset 2 is that of a primitive, which cannot have the indefinite length: 04 80.",
       "Try: look at the element that ends at offset 2, or begins there: its length may be wrong; or fetch the input anew, in binary.",
       in_front("SEQUENCE", 0, "30 02", "2 octets")]),
     ("F08", "30 04 05 00 04 80", [],
@@ -112,7 +121,7 @@ FAULTS = [
       "Try: look at the element that ends at offset 4, or begins there: its length may be wrong; or fetch the input anew, in binary."]),
     # Nothing that is tried mends it, so two lengths in front are named.
     ("F08", "30 10 05 00 04 80 04 80 04 80 04 80 04 80 04 80 04 80", [],
-     ["The header at offset 4 is that of a primitive, which cannot have the indefinite length: 04 80.",
+     [sizes("SEQUENCE at offset 0", 18, 18), "The header at offset 4 is that of a primitive, which cannot have the indefinite length: 04 80.",
       "Try: look at the element that ends at offset 4, or begins there: its length may be wrong; or fetch the input anew, in binary.",
       in_front("SEQUENCE", 0, "30 10", "16 octets"), in_front("NULL", 2, "05 00", "0 octets")]),
     ("F09", "04 86 01", [], ["The header at offset 0 announces a length of 2^40 or more: 04 86 01.", START]),
@@ -142,11 +151,11 @@ FAULTS = [
     ("F11", "05 00 67 61 72 62 61 67 65 0a", [],
      ["Whole encodings end at offset 2. The octets after them are printable text: 8.", WHOLE.format(2)]),
     ("F11", "05 00 67 61 72 62 61 67 65", [],
-     ["The octet at offset 5 completes the header of the [APPLICATION 18] at offset 4. " + header(4, "72 62", "98 octets"),
+     [sizes("[APPLICATION 7] at offset 2", 101, 9), "The octet at offset 5 completes the header of the [APPLICATION 18] at offset 4. " + header(4, "72 62", "98 octets"),
       "It would end at offset 104, but the [APPLICATION 7] at offset 2 ends at offset 101. Missing there: 3 octets. "
       + header(2, "67 61", "97 octets"), WRONG, ANEW, "Whole encodings end at offset 2. Left over: 7 octets.", WHOLE.format(2)]),
     ("F11", "30 02 30 82 01 01", [],
-     ["The header at offset 2 runs past the end of the SEQUENCE at offset 0, which ends at offset 4. "
+     [sizes("SEQUENCE at offset 0", 4, 6), "The header at offset 2 runs past the end of the SEQUENCE at offset 0, which ends at offset 4. "
       + header(0, "30 02", "2 octets"),
       "Left over: 2 octets, 30 82.", WRONG, ANEW]),
 ]
@@ -205,6 +214,8 @@ KINDS = [
     (b"\x4d\x3c\xb2\xa1\x02\x00\x04\x00", PCAP),
     (b"\x0a\x0d\x0d\x0a\x1c\x00\x00\x00", PCAP),
     (b"\xfe\xed\xfe\xed\x00\x00\x00\x02", "It begins as a key store of Java (JKS) does: export what you need first."),
+    (b"HTTP/1.1 200 OK\r\n\r\n" + BODY, "It begins with the header of an answer of HTTP. Try: sed '1,/^.$/d' FILE | tlvdump-show"),
+    (b"\xef\xbb\xbf" + BODY, "It begins with the byte order mark of a text in UTF-8. Try: tail -c +4 FILE | tlvdump-show"),
 ]
 # Octets for which no other start may be suggested: those after whole encodings, and the last record.
 NO_START = [BODY + b"garbage\n", BODY + b"\x41\x82\x13\x04\x30", BODY + DAMAGED]
@@ -239,13 +250,13 @@ LENGTHS = [
 # The size of a long input, what ends it, and the line about lengths. In the first case the OCTET STRING in front could have one
 # octet more, since 03 02 02 01 is a BIT STRING.
 ONE, BIT = bytes.fromhex("3003020201"), b"\x30\x0b\x04\x19" + b"a" * 9
-WIDE, SEARCHED = 1 << 16, 1 << 20
+WIDE, SEARCHED = 1 << 18, 1 << 20
 LONG_LENGTHS = [
-    (WIDE, ONE, "If the header at offset 65533 said 1 octet and not 2, or that at offset 0 said 65528 octets and not 65527, all would parse."),
-    (WIDE + 1, ONE, "If the header at offset 65534 said 1 octet and not 2, all would parse."),
+    (WIDE, ONE, "If the header at offset 262141 said 1 octet and not 2, or that at offset 0 said 262135 octets and not 262134, all would parse."),
+    (WIDE + 1, ONE, "If the header at offset 262142 said 1 octet and not 2, all would parse."),
     (SEARCHED, ONE, "If the header at offset 1048573 said 1 octet and not 2, all would parse."),
     (SEARCHED + 1, ONE, None),
-    (WIDE, BIT, "If the header at offset 65525 said 9 octets and not 25, all would parse."),
+    (WIDE, BIT, "If the header at offset 262133 said 9 octets and not 25, all would parse."),
     (WIDE + 1, BIT, None),
 ]
 # A header that is named: "the header at offset 2", "that at offset 2", "the INTEGER at offset 2", "the [1] at offset 2".

@@ -14,7 +14,7 @@ if __name__ == "__main__":
     sys.dont_write_bytecode = True
     sys.path.insert(0, os.path.dirname(os.path.dirname(os.path.realpath(__file__))))
 
-from parts import real_encodings
+from parts import packets, real_encodings
 from parts.show_made import crl
 from second_opinion.reading import Reading
 from second_opinion.tries import Walk
@@ -24,10 +24,12 @@ LENGTH = re.compile(r" at offset (\d+) said (\d+) octets? and not \d+")
 
 
 class Damage:
-    """Damaged octets. For a wrong length: the offset of its header, and the right length."""
+    """Damaged octets. For a wrong length: the offset of its header, and the right length. For octets that were lost or
+    put in: their number.
+    """
 
-    def __init__(self, octets, offset=None, length=None):
-        self.octets, self.offset, self.length = octets, offset, length
+    def __init__(self, octets, offset=None, length=None, by=None):
+        self.octets, self.offset, self.length, self.by = octets, offset, length, by
 
 
 @functools.cache
@@ -86,29 +88,33 @@ def block(rng, octets):
 def lost(rng, octets):
     """One octet or several are lost."""
     place, count = (rng.randrange(len(octets)), 1) if rng.random() < 0.5 else block(rng, octets)
-    return Damage(octets[:place] + octets[place + count :])
+    return Damage(octets[:place] + octets[place + count :], by=count)
 
 
 def put_in(rng, octets):
     """One octet or several are put in."""
     place, count = rng.randrange(len(octets)), rng.choice((1, 1, 1, 2, 4, 10))
-    return Damage(octets[:place] + rng.randbytes(count) + octets[place:])
+    return Damage(octets[:place] + rng.randbytes(count) + octets[place:], by=count)
 
 
 def doubled(rng, octets):
     """An octet or a block stands twice."""
     place, count = (rng.randrange(len(octets)), 1) if rng.random() < 0.5 else block(rng, octets)
-    return Damage(octets[: place + count] + octets[place:])
+    return Damage(octets[: place + count] + octets[place:], by=count)
 
 
 def edited(rng, octets):
-    """A value has another size, which its own length says, and the lengths around it are left."""
-    primitives = [it for it in headers(octets) if not it.constructed and it.length < 100]
-    if not primitives:
+    """A value is longer or shorter by up to 10, which its own length says, and the lengths around it are left."""
+    inner = [it for it in headers(octets) if not it.constructed and 0 < it.length < 100]
+    if not inner:
         return None
-    it, size = rng.choice(primitives), rng.randrange(1, 100)
+    it, by = rng.choice(inner), rng.choice((-1, 1)) * rng.randrange(1, 11)
+    size = it.length + by
+    if size < 0:
+        return None
     head = octets[it.offset : it.offset + len(it.identifier)]
-    return Damage(octets[: it.offset] + head + bytes([size]) + rng.randbytes(size) + octets[it.end :])
+    contents = (octets[it.start : it.end] + rng.randbytes(10))[:size]
+    return Damage(octets[: it.offset] + head + bytes([size]) + contents + octets[it.end :], by=abs(by))
 
 
 def cut(rng, octets):
@@ -136,8 +142,8 @@ def as_text(rng, octets):
 
 def in_utf_8(rng, octets):
     """The octets were taken for Windows-1252 and written in UTF-8."""
-    return Damage(b"".join(bytes([it]).decode("cp1252", "ignore").encode() or bytes([it]) .decode("latin-1").encode()
-                           for it in octets))
+    as_text = lambda it: it.decode("cp1252", "ignore") or it.decode("latin-1")
+    return Damage("".join(as_text(bytes([it])) for it in octets).encode())
 
 
 def in_utf_8_cut(rng, octets):
@@ -228,7 +234,20 @@ FEW, MORE, ANY = ((by_few,), 95, 75), ((by_bit, by_swap, by_256), 95, 80), ((by_
 # Other damages. Of those of the second row, which change octets in place, many look like a wrong length.
 OTHERS = (lost, put_in, doubled, edited, cut, as_text)
 IN_PLACE = (over, of_tag)
-MOST_FALSE = 3
+MOST_FALSE = 2
+LEAST_SIZES, LEAST_PACKETS = 85, 95
+# What a line has to say of a damage, by its number of octets. For each: the damages, and the least share of 100.
+NUMBER = (r"Too many: {0} octets?\.|Missing: {0} octets?\.|Missing (up to )?there: {0} octets?\.|Left over: {0} octets?\.|"
+          r"were {0} (more|less)|The {0} octets from offset|{1}")
+TOGETHER = r"^If (the length|each of the lengths) at .* were {0} (more|less), all would parse|{1}"
+SINGLE = "one octet (more|fewer) stood"
+WHOLE = {
+    in_utf_8: "It is UTF-8 throughout|written in UTF-8", in_utf_8_cut: "It is UTF-8 throughout|written in UTF-8",
+    in_utf_16: "written in UTF-16", with_replacements: "It has the octets ef bf bd", with_returns: "0d were put in front of 0a",
+    with_returns_cut: "0a stands behind 0d", of_seven_bits: "is above 7f", with_marks: "the character [?]",
+    turned: "stand in reverse order|bits are inverted", overwritten: "may stand in place of others",
+    doubled_block: "stand twice|Left over", apart: "other octets stand", **packets.KINDS,
+}
 
 
 class Shares:
@@ -258,6 +277,21 @@ class Shares:
             right += (place, str(damage.length)) in said
         return 100 * named / found, 100 * right / found
 
+    def of_numbers(self, kind, count, pattern):
+        """Returns the share of damages of which a line says by how many octets the size is wrong."""
+        right = found = 0
+        for damage in self.damages(kind, count):
+            wanted = pattern.format(damage.by, SINGLE if damage.by == 1 else "(?!)")
+            right += any(re.search(wanted, line) for line in self.explain(damage.octets))
+            found += 1
+        return 100 * right / found
+
+    def of_whole(self, kind, count, pattern):
+        """Returns the share of damages of which a line fits the pattern."""
+        right = [any(re.search(pattern.format(it.offset), line) for line in self.explain(it.octets))
+                 for it in self.damages(kind, count)]
+        return 100 * sum(right) / len(right)
+
     def of_others(self, kind, count):
         """Returns the share of other damages with a line about another length."""
         said = [bool(LENGTH.search("\n".join(self.explain(it.octets)))) for it in self.damages(kind, count)]
@@ -285,10 +319,34 @@ def measure(shares, tell, expect):
     expect("damages that change no length", share <= MOST_FALSE, f"another length is said in {share:.1f} of 100")
     for kind in IN_PLACE:
         tell(f"{what_of(kind)}: another length is said in {shares.of_others(kind, COUNT):.1f} of 100")
+    measure_sizes(shares, tell, expect)
+    measure_whole(shares, tell, expect)
     for octets in shares.encodings:
         lines = shares.explain(octets)
         fine = lines[0].startswith("It parses: ") and not LENGTH.search("\n".join(lines))
         expect(f"sound octets, {octets[:20].hex()}", fine, *lines)
+
+
+def measure_sizes(shares, tell, expect):
+    """Measures how often the number of octets that are lost or too many is said, and the lengths that are wrong with it."""
+    found = [shares.of_numbers(kind, COUNT, NUMBER) for kind in (lost, put_in, doubled)]
+    for kind, share in zip((lost, put_in, doubled), found):
+        tell(f"{what_of(kind)}: the number of octets is said in {share:.0f} of 100")
+    share = sum(found) / len(found)
+    expect("numbers of octets that are lost or too many", share >= LEAST_SIZES, f"{share:.1f} right")
+    share = shares.of_numbers(edited, COUNT, TOGETHER)
+    tell(f"{what_of(edited)}: these lengths are said in {share:.0f} of 100")
+    expect("lengths that are wrong together", share >= LEAST_SIZES, f"{share:.1f} right")
+
+
+def measure_whole(shares, tell, expect):
+    """Measures how often what was done to an input as a whole is said, and where a packet holds an encoding."""
+    found = {kind: shares.of_whole(kind, COUNT // 3, pattern) for kind, pattern in WHOLE.items()}
+    for kind, share in found.items():
+        tell(f"{what_of(kind)}: it is said in {share:.0f} of 100")
+    for what, kinds, least in (("packets", packets.KINDS, LEAST_PACKETS), ("inputs as a whole", WHOLE, LEAST_SIZES)):
+        share = sum(found[kind] for kind in kinds) / len(kinds)
+        expect(what, share >= least, f"{share:.1f} right")
 
 
 def inputs(part):

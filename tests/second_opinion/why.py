@@ -105,7 +105,7 @@ def lines_of(octets, padding, count=1):
     mending = (start or why_search.overwritten(octets, stand.fault.offset) or why_search.line_of_lengths(named)
                or why_chains.doubled(search, stand) or search.other_count(stand.candidates())
                or why_chains.chain(search, stand))
-    sizes = [] if mending else why_lines.of_sizes(stand)
+    sizes = [] if mending or is_followed_by_other(stand) else why_lines.of_sizes(stand)
     is_named = mending == why_search.line_of_lengths(named) and stand.top in [it.offset for it, _ in named]
     record = [] if start or is_named else why_search.next_record(octets, padding, stand.top, count)
     return (first, *replaced, *mending, *sizes, *reasons(stand, bool(mending)), *record)
@@ -135,24 +135,38 @@ def sound_lines(octets, ber, der):
             f"By the rules of BER: findings: {ber}. By those of DER: findings: {der}."]
 
 
+def is_followed_by_other(stand):
+    """Returns whether blanks, filler or text alone follow whole encodings."""
+    return len(reasons_of_rest(stand)) > 0
+
+
+def reasons_of_rest(stand):
+    """Returns the lines about blanks, filler or text that follow whole encodings, if nothing else does."""
+    rest, top = stand.octets[stand.top :], stand.top
+    whole = f"Whole encodings end at offset {top}. The octets after them are"
+    try_line = f"Try: head -c {top} FILE, for the whole encodings."
+    if top and rest and not rest.strip(BLANK):
+        return [f"{whole} line ends or spaces: {len(rest)}.", try_line]
+    if top and len(rest) > 1 and rest[0] and rest == rest[:1] * len(rest):
+        return [f"{whole} {rest[:1].hex()} alone, as filler is: {len(rest)}.", try_line]
+    if top and len(rest) >= LEAST_TEXT and not rest.strip(PRINTABLE):
+        return [f"{whole} printable text: {len(rest)}.", try_line]
+    return []
+
+
 def reasons(stand, is_mended):
     """Returns the lines about the fault, and about octets that remain. Lengths in front are left out if a change is
     known that would mend the input.
     """
+    if is_followed_by_other(stand):
+        return reasons_of_rest(stand)
     rest, top = stand.octets[stand.top :], stand.top
-    whole = f"Whole encodings end at offset {top}. "
-    try_line = f"Try: head -c {top} FILE, for the whole encodings."
-    if top and rest and not rest.strip(BLANK):
-        return [f"{whole}The octets after them are line ends or spaces: {len(rest)}.", try_line]
-    if top and len(rest) > 1 and rest[0] and rest == rest[:1] * len(rest):
-        return [f"{whole}The octets after them are {rest[:1].hex()} alone, as filler is: {len(rest)}.", try_line]
-    if top and len(rest) >= LEAST_TEXT and not rest.strip(PRINTABLE):
-        return [f"{whole}The octets after them are printable text: {len(rest)}.", try_line]
     lines = why_lines.of_fault(stand)
     if is_mended:
         lines = [line for line in lines if not line.startswith(why_lines.SUSPECT)]
     says_rest = stand.fault.code == "F01" or stand.fault.code == "F03" and not stand.open
     if not top or says_rest:
         return lines
-    left = [f"{whole}Left over: {why_lines.so_many(len(rest))}.", try_line]
+    left = [f"Whole encodings end at offset {top}. Left over: {why_lines.so_many(len(rest))}.",
+            f"Try: head -c {top} FILE, for the whole encodings."]
     return left + lines if len(rest) <= top else lines + left

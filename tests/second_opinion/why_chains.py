@@ -12,8 +12,10 @@ def difference(search, stand):
     """
     if not stand.open or stand.open[0].length is None or len(search.octets) > MOST_WIDE:
         return 0
-    by = len(search.octets) - end_of(stand.open[0])
-    return by if abs(by) <= MOST_DIFFERENT else 0
+    outer, octets = stand.open[0], search.octets
+    by = len(octets) - end_of(outer)
+    is_alike = by > 0 and octets[end_of(outer)] == octets[outer.offset]
+    return by if abs(by) <= MOST_DIFFERENT and not is_alike else 0
 
 
 def doubled(search, stand):

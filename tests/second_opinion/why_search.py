@@ -166,12 +166,16 @@ def other_start(octets, padding, fault):
     first = header_at(octets, 0)
     if first and ends_near(octets, first):
         return []
-    start = fault + 1 if first and seems_right(octets, first) else 1
-    for offset in range(start, min(LAST_START + 1, len(octets) - LEAST_FROM_START + 1)):
-        element = header_at(octets, offset)
-        if octets[offset] != SPACE and element and element.constructed and parses(octets[offset:], padding):
-            return [START.format(offset, offset + 1)]
-    return []
+    first = fault + 1 if first and seems_right(octets, first) else 1
+    starts = [it for it in range(first, min(LAST_START + 1, len(octets) - LEAST_FROM_START + 1)) if is_start(octets, it, padding)]
+    alone = [it for it in starts if end_of(header_at(octets, it)) == len(octets)]
+    return [START.format(offset, offset + 1) for offset in alone + starts][:1]
+
+
+def is_start(octets, offset, padding):
+    """Returns whether a constructed element begins at an offset, not with a space, from which on the input parses."""
+    element = header_at(octets, offset)
+    return octets[offset] != SPACE and element and element.constructed and parses(octets[offset:], padding)
 
 
 def ends_near(octets, first):

@@ -84,7 +84,8 @@ def trace(octets):
     feeds = octets.count(b"\n")
     if feeds >= 3 and octets.count(b"\r\n") == feeds:
         return [f"Each of its octets 0a stands behind 0d: {feeds}. {TEXT}"]
-    if size >= 200 and any(20 * octets[at::2].count(0) >= 9 * size for at in (0, 1)):
+    is_high = 16 * sum(it > 0x7F for it in octets) >= size
+    if size >= 200 and is_high and any(20 * octets[at::2].count(0) >= 9 * size for at in (0, 1)):
         return [f"Nearly every second of its octets is 00. It was taken for a text and written in UTF-16. {ANEW}"]
     marks = octets.count(b"?")
     if size < 128 or max(octets) > 0x7F:
@@ -125,7 +126,7 @@ def spaced(octets):
     for gap in range(1, MOST_BETWEEN + 1):
         for first in (0, gap):
             ends = ends_of(octets, first, gap)
-            if len(ends) > 1:
+            if len(ends) > 1 and octets[ends[0]] != octets[first]:
                 between = octets[ends[0] : ends[0] + gap].hex(" ")
                 return [f"There are encodings from offset {first} on: {len(ends)}. Between each two of them other octets "
                         f"stand: {so_many(gap)}, first {between} at offset {ends[0]}. Try: tail -c +{first + 1} FILE | "

@@ -2,7 +2,7 @@
 use Rattle.std.proofs.Common.{◌≡◌, ℕ, ◌+◌, ◌≤◌, false, true, List, [], ◌∷◌, ◌++◌, length, drop, take, ap, refl}
 use Rattle.std.proofs.Common.{◌∙◌, sym, subst, append_assoc, arith, length-append, take-append-drop, IfSome}
 use Rattle.std.specs.Option.{option_map_or}
-use Rattle.std.specs.Prelude.{Option, Some, None}
+use Rattle.std.specs.Prelude.{◌↔◌, Bool, IsTrue, Option, Some, None}
 use Rattle.std.proofs.lemmas.List.{append-nil, length-take-le}
 use Rattle.std.proofs.Math.Seq.{drop-append_seam, take-append_seam, take-append-add}
 use Rattle.tlv_head.specs.declared.fault.FaultCode.TheVariants.{StrayEnd}
@@ -14,7 +14,7 @@ use Rattle.tlv_head.specs.HeaderFields.{new_header}
 use Rattle.tlv_head.specs.ReadHeader.{BeginsWithFields}
 use Rattle.tlv_head.specs.Refusal.{BeginsWithNoHeader}
 use Rattle.tlv_reasons.proofs.LengthLemmas.{begun-one}
-use Rattle.tlv_reasons.specs.NextStart.{BeginsAndEnds, BeginsWithEncodings, SeemsRight, ends_near_by}
+use Rattle.tlv_reasons.specs.NextStart.{BeginsAndEnds, BeginsWithEncodings, EndsWithInput, SeemsRight, ends_near_by}
 use Rattle.tlv_reasons.specs.WrongLength.{contents_start}
 use Rattle.tlv_open.proofs.ElementLemmas.FirstElement.{lead-none, unnamed-holds}
 use Rattle.tlv_open.specs.Opens.{closed_framing}
@@ -269,3 +269,37 @@ pub size-sound : (octets : List ℕ) (size : ℕ) (r : Option ℕ) → r ≡ Som
     → IsSoundList (closed_framing false) (take size octets)
 size-sound octets size r e (n, f, s) =
     let same : n ≡ size = cc in subst (λ (i : ℕ). IsSoundList (closed_framing false) (take i octets)) same s
+
+-- an element at an offset ends with the input, by the fields of its header
+module _ (octets : List ℕ) (offset count : ℕ) (fields : HeaderFields)
+    (b : BeginsWithFields (drop offset octets) offset false fields count) where
+  alone-from : definite_length fields.size ≡ Some (length (drop count (drop offset octets))) → EndsWithInput octets offset
+  alone-from e =
+      let raw : List ℕ = take count (drop offset octets) in
+      let size : length (octets_of (new_header fields raw)) ≡ count =
+      ap length (take-append-drop fields.id_len raw) ∙ length-take-le count (drop offset octets) b.within in
+      record {
+        header = new_header fields raw;
+        begins = b.begins;
+        ends =
+            e ∙ ap (λ (o : List ℕ). Some (length o))
+            (sym (after-is (drop offset octets) (new_header fields raw) b.begins.rest count b.begins.octets_are size));
+      }
+
+  alone-by : EndsWithInput octets offset → definite_length fields.size ≡ Some (length (drop count (drop offset octets)))
+  alone-by w =
+      let raw : List ℕ = take count (drop offset octets) in
+      let size : length (octets_of (new_header fields raw)) ≡ count =
+      ap length (take-append-drop fields.id_len raw) ∙ length-take-le count (drop offset octets) b.within in
+      let one : w.header ≡ new_header fields raw = begun-one w.header (new_header fields raw) w.begins b.begins in
+      let wide : length (octets_of w.header) ≡ count = ap (λ (x : HeaderValue). length (octets_of x)) one ∙ size in
+      sym (ap (λ (x : HeaderValue). definite_length x.size) one) ∙ w.ends
+      ∙ ap (λ (o : List ℕ). Some (length o))
+      (after-is (drop offset octets) w.header w.begins.rest count w.begins.octets_are wide)
+
+  pub alone-same : (r : Bool) (after : List ℕ) → after ≡ drop count (drop offset octets)
+      → IsTrue r ↔ (definite_length fields.size ≡ Some (length after)) → IsTrue r ↔ EndsWithInput octets offset
+  alone-same r after same told = (
+    (λ t. alone-from (told.0 t ∙ ap (λ (o : List ℕ). Some (length o)) same)),
+    (λ w. told.1 (alone-by w ∙ ap (λ (o : List ℕ). Some (length o)) (sym same))),
+  )

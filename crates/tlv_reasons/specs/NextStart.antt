@@ -7,6 +7,7 @@ use Rattle.tlv_head.specs.Header.{HeaderValue, definite_length}
 use Rattle.tlv_head.specs.Refusal.{BeginsWith}
 use Rattle.tlv_open.specs.Opens.{closed_framing}
 use Rattle.tlv_reasons.specs.Elements.{offset_sum}
+use Rattle.tlv_reasons.specs.FirstOf.{IsElse}
 use Rattle.tlv_reasons.specs.Sizes.{distance}
 use Rattle.tlv_reasons.specs.WrongLength.{contents_start}
 use Rattle.tlv_walk.specs.Reading.{IsSoundList}
@@ -57,10 +58,27 @@ pub record IsOtherStart (padding : Bool) (octets : List ℕ) (offset : ℕ) : Ty
   pub long : 10 ≤ length (drop offset octets)
   pub no_space : eqb (slice_index octets offset) 0x20 ≡ false
 
+-- 8.1.3.3: the element there ends with the input
+pub record EndsWithInput (octets : List ℕ) (offset : ℕ) : Type 0 where
+  pub header : HeaderValue
+  pub begins : BeginsWith (drop offset octets) offset false header
+  pub ends : definite_length header.size ≡ Some (length begins.rest)
+
+-- a single element is there
+pub record IsOneStart (padding : Bool) (octets : List ℕ) (offset : ℕ) : Type 0 where
+  pub ends : EndsWithInput octets offset
+  pub start : IsOtherStart padding octets offset
+
 -- the first offset from `first` to 256 from which the input is so
+abbrev pub IsFirstOther : Bool → List ℕ → ℕ → Option ℕ → Type 0
+IsFirstOther padding octets first found =
+    IsFirst (IsOtherStart padding octets) first (min 257 (length octets)) found
+
+-- the first of these from which it is a single element; or, if there is none, the first of them
 abbrev pub IsFirstStart : Bool → List ℕ → ℕ → Option ℕ → Type 0
 IsFirstStart padding octets first found =
-    IsFirst (IsOtherStart padding octets) first (min 257 (length octets)) found
+    IsElse (IsFirst (IsOneStart padding octets) first (min 257 (length octets))) (λ offset. offset)
+    (IsFirstOther padding octets first) found
 
 -- the offset from which an input with a fault at this offset is sound: the first from 1 on, or, if the first element of
 -- the input seems right, behind the fault; none if that element ends near the end of the input

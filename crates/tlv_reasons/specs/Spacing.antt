@@ -1,5 +1,6 @@
 -- Encodings, between each two of which other octets stand: X.690 8.1.1.
-use Rattle.std.specs.Prelude.{◌≡◌, ℕ, ◌+◌, ◌-◌, ◌≤◌, ◌<◌, false, true, List, length, take, drop, Option, Some, None}
+use Rattle.std.specs.Prelude.{◌≡◌, ℕ, ◌+◌, ◌-◌, ◌≤◌, ◌<◌, Bool, false, true, eqb, List, length, take, drop, Option}
+use Rattle.std.specs.Prelude.{Some, None, slice_index}
 use Rattle.tlv_head.specs.Header.{HeaderValue, definite_length}
 use Rattle.tlv_head.specs.Refusal.{BeginsWith}
 use Rattle.tlv_open.specs.Opens.{closed_framing}
@@ -27,11 +28,17 @@ pub data AreSpaced (gap : ℕ) (octets : List ℕ) : ℕ → ℕ → Type 0 wher
   next : {offset end count : ℕ} → IsWholeFrom octets offset end → end + gap < length octets
       → AreSpaced gap octets (end + gap) count → AreSpaced gap octets offset (count + 1)
 
--- two such elements or more, from this offset on
+-- the octets at these two offsets are equal
+abbrev pub are_alike : List ℕ → ℕ → ℕ → Bool
+are_alike octets a b = eqb (slice_index octets a) (slice_index octets b)
+
+-- two such elements or more, from this offset on. What stands behind the first does not begin as it does: that may be a
+-- damaged record
 pub record IsSpacedFrom (octets : List ℕ) (gap first : ℕ) (s : Spacing) : Type 0 where
   pub first_is : s.first ≡ first
   pub gap_is : s.gap ≡ gap
   pub end_is : IsWholeFrom octets first s.end
+  pub apart : are_alike octets first s.end ≡ false
   pub are_spaced : AreSpaced gap octets first s.count
   pub many : 2 ≤ s.count
 

@@ -1,8 +1,10 @@
 //! Encodings, between each two of which other octets stand.
-ghost use Rattle.std.specs.Prelude.{◌<◌, ◌≤◌, IfSome, MatchOption, Some, length, ℕ};
+ghost use Rattle.std.specs.Prelude.{◌≡◌, ◌<◌, ◌≤◌, IfSome, MatchOption, Some, length, ℕ};
 ghost use Rattle.tlv_head.specs.Limits.{input_limit};
 ghost use Rattle.tlv_reasons.specs.Spacing.{AreSpaced, IsNotSpacedFrom, IsSpacedFrom, IsSpacing, IsSpacingFrom, IsWholeFrom};
+ghost use Rattle.tlv_reasons.specs.Spacing.{are_alike};
 
+use crate::facts_call::octet_at;
 use crate::sound::is_sound;
 use tlv_head::{Size, read_header};
 
@@ -24,7 +26,7 @@ pub struct Spacing {
 
 /// How the encodings of the input are spaced: two or more constructed elements of definite length, each of which parses
 /// by itself, with 1 to 8 other octets between each two, the fewest that do. As many stand in front of the first, or none,
-/// and as many behind the last, or none. `None` if the input is not so, or if it is sound with octets `00` allowed at the
+/// and as many behind the last, or none. What stands behind the first does not begin as it does. `None` if the input is not so, or if it is sound with octets `00` allowed at the
 /// top level.
 pub fn spaced_encodings(octets: &[u8]) -> Option<Spacing>
     requires { length octets.now ≤ input_limit }
@@ -74,6 +76,9 @@ fn spaced_from(octets: &[u8], gap: usize, first: usize) -> Option<Spacing>
     let Some(end) = whole_end(octets, first) else {
         return None;
     };
+    if are_alike(octets, first, end) {
+        return None;
+    }
     let Some(count) = spaced_count(octets, gap, first) else {
         return None;
     };
@@ -86,6 +91,13 @@ fn spaced_from(octets: &[u8], gap: usize, first: usize) -> Option<Spacing>
         gap: gap as u64,
         count,
     })
+}
+
+/// Whether the octets at these two offsets are equal.
+fn are_alike(octets: &[u8], first: usize, second: usize) -> bool
+    ensures { result ≡ are_alike octets.now first second }
+{
+    octet_at(octets, first as u64) == octet_at(octets, second as u64)
 }
 
 /// The number of encodings from this offset on.

@@ -1,12 +1,13 @@
 //! Where else encodings begin in an input.
 ghost use Rattle.std.specs.Option.{option_map_or};
-ghost use Rattle.std.specs.Prelude.{◌≡◌, ◌<◌, ◌≤◌, ◌+◌, ◌^◌, ◌↔◌, IfSome, IsTrue, Some, false, length, take, ℕ};
+ghost use Rattle.std.specs.Prelude.{◌≡◌, ◌<◌, ◌≤◌, ◌+◌, ◌^◌, ◌↔◌, IfSome, IsTrue, Some, false, length, min, take, ℕ};
 ghost use Rattle.tlv_head.specs.declared.fault.FaultCode.TheVariants.{StrayEnd};
 ghost use Rattle.tlv_head.specs.declared.header.Size.TheVariants.{Definite, Indefinite};
 ghost use Rattle.tlv_head.specs.Header.{definite_length};
 ghost use Rattle.tlv_head.specs.Limits.{input_limit};
-ghost use Rattle.tlv_reasons.specs.NextStart.{BeginsAndEnds, BeginsWithEncodings, IsFirstStart, IsNextStart, IsOtherStart};
-ghost use Rattle.tlv_reasons.specs.NextStart.{IsStart, SeemsRight, ends_near_by};
+ghost use Rattle.std.specs.Str.TwoWay.{IsFirst};
+ghost use Rattle.tlv_reasons.specs.NextStart.{BeginsAndEnds, BeginsWithEncodings, EndsWithInput, IsFirstOther, IsFirstStart};
+ghost use Rattle.tlv_reasons.specs.NextStart.{IsNextStart, IsOneStart, IsOtherStart, IsStart, SeemsRight, ends_near_by};
 ghost use Rattle.tlv_open.specs.Opens.{closed_framing};
 ghost use Rattle.tlv_walk.specs.Ending.{IsEnding, fault_ending};
 ghost use Rattle.tlv_walk.specs.Reading.{IsSoundList};
@@ -20,7 +21,7 @@ use tlv_walk::Ending;
 const START_LIMIT: usize = 256;
 
 /// The offset from which an input with a fault at the offset `fault` is sound, in octets from its start: the first from 1
-/// to 256 at which a constructed element begins whose first octet is no space (`20`), with at least 10 octets from there
+/// to 256 from which it is a single element, or, if there is none, the first at which a constructed element begins whose first octet is no space (`20`), with at least 10 octets from there
 /// on. If the first element of the input seems right, that is, it is constructed and its contents begin with whole
 /// encodings, the offset lies behind the fault. `None` also if the first element ends with the input, or is constructed
 /// and ends near its end: the distance is at most a quarter of the input. With `padding`, octets `00` are allowed between
@@ -66,10 +67,35 @@ fn ends_near(fields: &HeaderFields, count: usize, size: usize) -> bool
     }
 }
 
-/// The first such offset, from this one on.
+/// The first such offset, from this one on, from which the input is a single element; or, if there is none, the first.
 fn first_start(octets: &[u8], padding: bool, first: usize) -> Option<usize>
     requires { length octets.now ≤ input_limit }
     ensures { IsFirstStart padding octets.now first result }
+{
+    match first_alone(octets, padding, first) {
+        Some(offset) => Some(offset),
+        None => first_other(octets, padding, first),
+    }
+}
+
+/// The first such offset, from this one on, from which the input is a single element.
+fn first_alone(octets: &[u8], padding: bool, first: usize) -> Option<usize>
+    requires { length octets.now ≤ input_limit }
+    ensures { IsFirst (IsOneStart padding octets.now) first (min 257 (length octets.now)) result }
+{
+    let end = octets.len().min(START_LIMIT + 1);
+    for offset in first..end {
+        if ends_with_input(octets, offset) && is_other_start(octets, offset, padding) {
+            return Some(offset);
+        }
+    }
+    None
+}
+
+/// The first such offset, from this one on.
+fn first_other(octets: &[u8], padding: bool, first: usize) -> Option<usize>
+    requires { length octets.now ≤ input_limit }
+    ensures { IsFirstOther padding octets.now first result }
 {
     let end = octets.len().min(START_LIMIT + 1);
     for offset in first..end {
@@ -78,6 +104,28 @@ fn first_start(octets: &[u8], padding: bool, first: usize) -> Option<usize>
         }
     }
     None
+}
+
+/// Whether an element begins at this offset that ends with the input.
+fn ends_with_input(octets: &[u8], offset: usize) -> bool
+    requires { offset ≤ length octets.now }
+    ensures { IsTrue result ↔ EndsWithInput octets.now offset }
+{
+    let rest = &octets[offset..];
+    match read_header(offset as u64, false, rest) {
+        Some((fields, count)) => ends_with(fields.size, &rest[count..]),
+        None => false,
+    }
+}
+
+/// Whether contents of this length are exactly these octets.
+fn ends_with(size: Size, after: &[u8]) -> bool
+    ensures { IsTrue result ↔ (definite_length size ≡ Some (length after.now)) }
+{
+    match size {
+        Size::Definite(length) => length == after.len() as u64,
+        Size::Indefinite => false,
+    }
 }
 
 /// Whether the input is sound from this offset on, a constructed element begins there, its first octet is no space, and

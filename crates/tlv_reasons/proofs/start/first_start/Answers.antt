@@ -1,11 +1,8 @@
-use Rattle.std.proofs.Common.{arith}
+use Rattle.tlv_reasons.specs.FirstOf.{first, next}
 use Rattle.tlv_reasons.proofs.start.first_start.Goals as goal
 
-pub returns-then-is_other_start : goal.returns-then-is_other_start
-returns-then-is_other_start c = (
-  record { low = omega arith; high = omega arith; before = c.loop-offset.invariant },
-  c.is_other_start.ensures.0 c.if-is_other_start.true,
-)
+pub returns-in-Some : goal.returns-in-Some
+returns-in-Some c = first (rw c.in-Some.is at c.first_alone.ensures)
 
-pub returns : goal.returns
-returns c = λ k low high. c.loop-offset.invariant k low (omega arith)
+pub returns-in-None : goal.returns-in-None
+returns-in-None c = next (rw c.in-None.is at c.first_alone.ensures) c.first_other.ensures

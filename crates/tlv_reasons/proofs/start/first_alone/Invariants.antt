@@ -1,0 +1,6 @@
+use Rattle.std.proofs.Common.{ℕ, ◌≤◌, ◌<◌}
+use Rattle.tlv_reasons.specs.NextStart.{IsOneStart}
+use Rattle.tlv_reasons.proofs.start.first_alone.Given as goal
+
+abbrev pub invariant-loop-offset : goal.invariant-loop-offset
+invariant-loop-offset l = (k : ℕ) → l.first ≤ k → k < l.offset → IsOneStart l.padding l.octets k → ⊥
