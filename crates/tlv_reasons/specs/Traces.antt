@@ -1,6 +1,6 @@
 -- What all octets of an input show of a program that took them for a text.
-use Rattle.std.specs.Prelude.{ℕ, ◌+◌, ◌*◌, ◌-◌, Bool, true, false, ◌&&◌, ◌||◌, not, eqb, nat_le, nat_lt, if◌then◌else◌}
-use Rattle.std.specs.Prelude.{List, [], ◌∷◌, length, count_by, Option, Some, None}
+use Rattle.std.specs.Prelude.{ℕ, ◌+◌, ◌*◌, ◌-◌, ◌/◌, ◌%◌, Bool, true, false, ◌&&◌, ◌||◌, not, eqb, nat_le, nat_lt, if◌then◌else◌}
+use Rattle.std.specs.Prelude.{List, [], ◌∷◌, length, count_by, Option, Some, None, slice_index}
 use Rattle.std.specs.List.{list_all}
 use Rattle.std.specs.Option.{option_map_or}
 use Rattle.tlv_reasons.specs.declared.traces.Trace.{Trace}
@@ -38,10 +38,15 @@ are_characters wanted (x ∷ more) = option_map_or (λ next. are_characters next
 abbrev pub beyond_ascii : List ℕ → ℕ
 beyond_ascii octets = count_by (λ x. nat_lt 0xbf x) octets
 
+-- a character beyond ASCII is the second one: a length of 128 or more octets becomes that, and a shorter one does not
+abbrev pub is_second_beyond : List ℕ → Bool
+is_second_beyond octets = nat_lt 0xbf (slice_index octets 1)
+
 -- the bounds keep what is sound, or is damaged in another way, from having a trace: limits of our own
 abbrev pub utf8_trace : List ℕ → Option Trace
 utf8_trace octets =
-    if are_characters 0 octets && nat_le 8 (beyond_ascii octets) then Some (trace.AsUtf8 (beyond_ascii octets)) else None
+    if is_second_beyond octets && are_characters 0 octets && nat_le 8 (beyond_ascii octets)
+    then Some (trace.AsUtf8 (beyond_ascii octets)) else None
 
 -- ---- line ends
 
@@ -53,9 +58,14 @@ are_ends_paired before (x ∷ more) = (eqb before 0x0d || not (eqb x 0x0a)) && a
 abbrev pub line_feeds : List ℕ → ℕ
 line_feeds octets = count_by (λ x. eqb x 0x0a) octets
 
+-- three or more of so many octets, but not more than one in a hundred, as a text in lines has
+abbrev pub are_few_lines : ℕ → ℕ → Bool
+are_few_lines size count = nat_le 3 count && nat_le (100 * count) size
+
 abbrev pub line_end_trace : List ℕ → Option Trace
 line_end_trace octets =
-    if are_ends_paired 0 octets && nat_le 3 (line_feeds octets) then Some (trace.LineEnds (line_feeds octets)) else None
+    if are_ends_paired 0 octets && are_few_lines (length octets) (line_feeds octets)
+    then Some (trace.LineEnds (line_feeds octets)) else None
 
 -- ---- every second octet 00
 
@@ -89,14 +99,22 @@ are_seven_bits octets = list_all (λ x. nat_lt x 0x80) octets
 abbrev pub question_marks : List ℕ → ℕ
 question_marks octets = count_by (λ x. eqb x 0x3f) octets
 
--- in so many octets of seven bits so many are question marks: a tenth of them, or fewer
-abbrev pub bits_trace : ℕ → ℕ → Trace
-bits_trace size marks = if nat_le size (10 * marks) then trace.QuestionMarks marks else trace.SevenBits size
+-- the first element is constructed and says 1 or 2, as a length that began with 81 or 82 does
+abbrev pub begins_cleared : List ℕ → Bool
+begins_cleared octets =
+    eqb (slice_index octets 0 / 32 % 2) 1 && (eqb (slice_index octets 1) 1 || eqb (slice_index octets 1) 2)
+
+-- in so many octets of seven bits so many are question marks: a tenth of them or more. Else the highest bits are cleared,
+-- if the first header looks so
+abbrev pub bits_trace : ℕ → ℕ → Bool → Option Trace
+bits_trace size marks is_cleared =
+    if nat_le size (10 * marks) then Some (trace.QuestionMarks marks)
+    else (if is_cleared then Some (trace.SevenBits size) else None)
 
 abbrev pub seven_bit_trace : List ℕ → Option Trace
 seven_bit_trace octets =
     if nat_le 128 (length octets) && are_seven_bits octets
-    then Some (bits_trace (length octets) (question_marks octets)) else None
+    then bits_trace (length octets) (question_marks octets) (begins_cleared octets) else None
 
 -- ---- all of them
 

@@ -2,9 +2,12 @@
 ghost use Rattle.std.specs.List.{list_all};
 ghost use Rattle.std.specs.Prelude.{◌≡◌, ◌≤◌, IfSome, count_by, eqb, length, nat_le};
 ghost use Rattle.tlv_head.specs.Limits.{input_limit};
-ghost use Rattle.tlv_reasons.specs.Traces.{are_characters, are_ends_paired, are_nearly_half, are_seven_bits, are_some_high};
+ghost use Rattle.tlv_reasons.specs.Traces.{are_characters, are_ends_paired, are_few_lines, are_nearly_half, are_seven_bits};
+ghost use Rattle.tlv_reasons.specs.Traces.{are_some_high, begins_cleared, is_second_beyond};
 ghost use Rattle.tlv_reasons.specs.Traces.{beyond_ascii, bits_trace, counted, following_count, half_trace, line_end_trace, line_feeds};
 ghost use Rattle.tlv_reasons.specs.Traces.{question_marks, seven_bit_trace, trace_of, utf8_trace, wanted_after, zeros_at};
+
+use crate::facts_call::octet_at;
 
 /// What shows that an input was taken for a text.
 #[derive(Clone, Copy, PartialEq, Eq, Debug)]
@@ -23,8 +26,10 @@ pub enum Trace {
 
 /// What the octets show of a program that took them for a text, if they show anything: the first of these that holds.
 /// They are UTF-8 (RFC 3629) by the numbers of octets of the characters, the last of which may be cut off, with 8 or more
-/// characters beyond ASCII; they have 3 or more octets `0a`, each behind `0d`; of 200 octets or more, 9 of 20 or more are
-/// `00` at every second place, and one of sixteen is above `7f`; of 128 octets or more, none is above `7f`.
+/// characters beyond ASCII, one of them the second; they have 3 or more octets `0a`, each behind `0d`, and at most one in
+/// a hundred; of 200 octets or more, 9 of 20 or more are
+/// `00` at every second place, and one of sixteen is above `7f`; of 128 octets or more, none is above `7f`, and a tenth
+/// are `?` or the first header looks as if the highest bits were cleared.
 pub fn trace_of(octets: &[u8]) -> Option<Trace>
     requires { length octets.now ≤ input_limit }
     ensures { result ≡ trace_of octets.now }
@@ -45,11 +50,18 @@ pub fn trace_of(octets: &[u8]) -> Option<Trace>
 fn utf8_trace(octets: &[u8]) -> Option<Trace>
     ensures { result ≡ utf8_trace octets.now }
 {
-    if are_characters(octets) && beyond_ascii(octets) >= 8 {
+    if is_second_beyond(octets) && are_characters(octets) && beyond_ascii(octets) >= 8 {
         Some(Trace::AsUtf8(beyond_ascii(octets)))
     } else {
         None
     }
+}
+
+/// Whether the second octet begins a character beyond ASCII.
+fn is_second_beyond(octets: &[u8]) -> bool
+    ensures { result ≡ is_second_beyond octets.now }
+{
+    octet_at(octets, 1) > 0xbf
 }
 
 /// Whether the octets are characters of UTF-8 by their numbers of octets. The last may be cut off.
@@ -114,13 +126,22 @@ fn beyond_ascii(octets: &[u8]) -> u64
 
 /// That each of enough octets `0a` stands behind `0d`.
 fn line_end_trace(octets: &[u8]) -> Option<Trace>
+    requires { length octets.now ≤ input_limit }
     ensures { result ≡ line_end_trace octets.now }
 {
-    if are_ends_paired(octets) && count_of(b'\n', octets) >= 3 {
+    if are_ends_paired(octets) && are_few_lines(octets.len() as u64, count_of(b'\n', octets)) {
         Some(Trace::LineEnds(count_of(b'\n', octets)))
     } else {
         None
     }
+}
+
+/// Whether so many octets `0a` in so many octets are three or more, but not more than one in a hundred.
+fn are_few_lines(size: u64, count: u64) -> bool
+    requires { count ≤ input_limit }
+    ensures { result ≡ are_few_lines size count }
+{
+    count >= 3 && 100 * count <= size
 }
 
 /// Whether each octet `0a` stands behind `0d`.
@@ -224,7 +245,11 @@ fn seven_bit_trace(octets: &[u8]) -> Option<Trace>
     ensures { result ≡ seven_bit_trace octets.now }
 {
     if octets.len() >= 128 && are_seven_bits(octets) {
-        Some(bits_trace(octets.len() as u64, count_of(b'?', octets)))
+        bits_trace(
+            octets.len() as u64,
+            count_of(b'?', octets),
+            begins_cleared(octets),
+        )
     } else {
         None
     }
@@ -242,14 +267,25 @@ fn are_seven_bits(octets: &[u8]) -> bool
     true
 }
 
-/// The trace of so many octets of seven bits, of which so many are question marks.
-fn bits_trace(size: u64, marks: u64) -> Trace
+/// Whether the first element is constructed and says 1 or 2, as a length that began with `81` or `82` does if the highest
+/// bit is cleared.
+fn begins_cleared(octets: &[u8]) -> bool
+    ensures { result ≡ begins_cleared octets.now }
+{
+    octet_at(octets, 0) / 32 % 2 == 1 && (octet_at(octets, 1) == 1 || octet_at(octets, 1) == 2)
+}
+
+/// The trace of so many octets of seven bits, of which so many are question marks, if a tenth of them are, or the first
+/// header looks as if the highest bits were cleared.
+fn bits_trace(size: u64, marks: u64, is_cleared: bool) -> Option<Trace>
     requires { marks ≤ input_limit }
-    ensures { result ≡ bits_trace size marks }
+    ensures { result ≡ bits_trace size marks is_cleared }
 {
     if size <= 10 * marks {
-        Trace::QuestionMarks(marks)
+        Some(Trace::QuestionMarks(marks))
+    } else if is_cleared {
+        Some(Trace::SevenBits(size))
     } else {
-        Trace::SevenBits(size)
+        None
     }
 }

@@ -3,15 +3,10 @@ use crate::expect::expect_eq;
 use std::process::Abort;
 use std::test::Fail;
 use tlv_reasons::{
-<<<<<<< HEAD
-    FileKind, OctetChange, Reasons, TextChange, WrongLength, all_reasons, facts_of, file_kind,
-    latin1_of_utf8, laws, next_record, next_start, octet_change, string_reasons, text_change,
-    undone_line_ends, undone_utf8, write_sentences, wrong_lengths,
-=======
-    FileKind, OctetChange, Reasons, TextChange, WrongLength, all_reasons, facts_of, file_kind, latin1_of_utf8,
-    laws, next_record, next_start, octet_change, string_reasons, text_change, undone_line_ends,
-    undone_utf8, write_sentences, wrong_lengths,
->>>>>>> 2316d5a54ffa30c70d83f645d874d7fddbe6a216
+    Chain, Doubled, FileKind, Move, OctetChange, Reasons, Spacing, TextChange, Trace, WrongLength,
+    all_reasons, doubled_block, facts_of, file_kind, latin1_of_utf8, laws, length_chain,
+    next_record, next_start, octet_change, octets_moved, spaced_encodings, string_reasons,
+    text_change, trace_of, undone_line_ends, undone_utf8, write_sentences, wrong_lengths,
 };
 use tlv_walk::{Framing, MemDrain};
 
@@ -45,6 +40,62 @@ fn a_missing_octet_is_found(rt: HostRuntime) -> Result<(), Fail> {
     let missing = octet_change(rt.alloc(), ONE_MISSING, &plain, &[2, 0], None)?;
     expect_eq(&rt, missing, Some(OctetChange::Missing(2)));
     Ok(())
+}
+
+/// A SEQUENCE in a SEQUENCE, with an OCTET STRING that has an octet more than both say.
+const ONE_MORE: &[u8] = b"\x30\x06\x30\x04\x04\x03abc";
+
+#[test]
+fn lengths_that_are_wrong_together_are_found(rt: HostRuntime) -> Result<(), Fail> {
+    let facts = facts_of(ONE_MORE, &Framing::plain());
+    let found = length_chain(rt.alloc(), ONE_MORE, false, &facts, &[4])?;
+    let wanted = Chain {
+        offsets: [0, 2, 0, 0, 0, 0, 0, 0],
+        count: 2,
+        by: 1,
+        is_greater: true,
+    };
+    expect_eq(&rt, found, Some(wanted));
+    Ok(())
+}
+
+/// A SEQUENCE that holds a SEQUENCE, with an OCTET STRING, and a NULL. The octets `ab` of the string stand twice.
+const TWICE: &[u8] = b"\x30\x09\x30\x05\x04\x03ababc\x05\x00";
+
+#[test]
+fn a_block_that_stands_twice_is_found(rt: HostRuntime) -> Result<(), Fail> {
+    let facts = facts_of(TWICE, &Framing::plain());
+    let found = doubled_block(rt.alloc(), TWICE, false, &facts)?;
+    expect_eq(&rt, found, Some(Doubled { offset: 6, size: 2 }));
+    Ok(())
+}
+
+/// An OCTET STRING of 253 octets `00`, with each bit inverted.
+#[test]
+fn inverted_bits_are_found(rt: HostRuntime) -> Result<(), Fail> {
+    let mut octets = [0xff; 256];
+    octets[0] = 0xfb;
+    octets[1] = 0x7e;
+    octets[2] = 0x02;
+    expect_eq(
+        &rt,
+        octets_moved(rt.alloc(), &octets, false)?,
+        Some(Move::Inverted),
+    );
+    Ok(())
+}
+
+#[test]
+fn what_shows_a_text_is_found(rt: HostRuntime) {
+    let octets = b"\xc3\xbf\xc3\xbf\xc3\xbf\xc3\xbf\xc3\xbf\xc3\xbf\xc3\xbf\xc3\xbf";
+    expect_eq(&rt, trace_of(octets), Some(Trace::AsUtf8(8)));
+    let wanted = Spacing {
+        first: 0,
+        end: 2,
+        gap: 1,
+        count: 2,
+    };
+    expect_eq(&rt, spaced_encodings(b"\x30\x00\x0a\x30\x00"), Some(wanted));
 }
 
 #[test]
@@ -89,23 +140,8 @@ fn expect_first(rt: &impl Abort, reasons: &Reasons, line: &[u8]) {
 #[test]
 fn all_reasons_are_found(rt: HostRuntime) -> Result<(), Fail> {
     let facts = facts_of(TOO_LONG, &Framing::plain());
-<<<<<<< HEAD
     let reasons = all_reasons(rt.alloc(), TOO_LONG, false, &facts, 1 << 24)?;
     expect_first(&rt, &reasons, LENGTH);
-=======
-    let reasons = all_reasons(rt.alloc(), TOO_LONG, false, &facts)?;
-    expect_first(&rt, &reasons, LENGTH);
-    Ok(())
-}
-
-/// A text that was written in UTF-8: what was done, and the first line of the fault.
-#[test]
-fn a_change_that_is_undone_is_nearly_all(rt: HostRuntime) -> Result<(), Fail> {
-    let utf8 = b"\x04\x01\xc3\xa9";
-    let facts = facts_of(utf8, &Framing::plain());
-    let reasons = all_reasons(rt.alloc(), utf8, false, &facts)?;
-    expect_eq(&rt, reasons.len(), 2);
->>>>>>> 2316d5a54ffa30c70d83f645d874d7fddbe6a216
     Ok(())
 }
 
@@ -125,7 +161,6 @@ fn the_length_that_mends_a_string_is_found(rt: HostRuntime) -> Result<(), Fail> 
     let facts = facts_of(TOO_LONG, &plain);
     let reasons = string_reasons(rt.alloc(), TOO_LONG, &plain, 0, &facts)?;
     expect_first(&rt, &reasons, LENGTH);
-<<<<<<< HEAD
     Ok(())
 }
 
@@ -142,8 +177,6 @@ fn a_length_with_a_wrong_bit_is_found(rt: HostRuntime) -> Result<(), Fail> {
         would: 1,
     };
     expect_eq(&rt, found.as_slice(), &[wanted]);
-=======
->>>>>>> 2316d5a54ffa30c70d83f645d874d7fddbe6a216
     Ok(())
 }
 
@@ -151,6 +184,7 @@ fn a_length_with_a_wrong_bit_is_found(rt: HostRuntime) -> Result<(), Fail> {
 fn the_laws_may_be_called(_rt: HostRuntime) {
     laws::inputs_have_one_wrong_length();
     laws::inputs_have_one_octet_change();
+    laws::inputs_have_one_chain();
     laws::inputs_have_one_next_record();
     laws::other_lengths_make_headers();
     laws::sentences_are_shown();
