@@ -38,11 +38,17 @@ def headers(octets):
     return [it for it in Reading(octets).elements() if it.length is not None and it.end != len(octets)]
 
 
+def can_say(it, length):
+    """Returns whether the length octets of an element can say a length."""
+    count = len(it.length_octets) - 1
+    return 0 <= length < (1 << 8 * count if count else 128)
+
+
 def with_length(octets, it, length):
     """Returns the damage of a length that is another, or None if the length octets cannot say it."""
-    count = len(it.length_octets) - 1
-    if not 0 <= length < (1 << 8 * count if count else 128):
+    if not can_say(it, length):
         return None
+    count = len(it.length_octets) - 1
     said = it.length_octets[:1] + length.to_bytes(count, "big") if count else bytes([length])
     return Damage(octets[: it.start - len(said)] + said + octets[it.start :], it.offset, it.length)
 
@@ -104,13 +110,16 @@ def doubled(rng, octets):
 
 
 def edited(rng, octets):
-    """A value is longer or shorter by up to 10, which its own length says, and the lengths around it are left."""
+    """A value is longer or shorter by up to 10, which its own length says, and the lengths around it are left, though
+    they could say it.
+    """
     inner = [it for it in headers(octets) if not it.constructed and 0 < it.length < 100]
     if not inner:
         return None
     it, by = rng.choice(inner), rng.choice((-1, 1)) * rng.randrange(1, 11)
     size = it.length + by
-    if size < 0:
+    around = [each for each in Reading(octets).elements() if each.offset < it.offset and it.end <= each.end]
+    if size < 0 or not all(each.length is None or can_say(each, each.length + by) for each in around):
         return None
     head = octets[it.offset : it.offset + len(it.identifier)]
     contents = (octets[it.start : it.end] + rng.randbytes(10))[:size]
@@ -300,7 +309,7 @@ class Shares:
 
 def what_of(kind):
     """Returns what a kind of damage is."""
-    return kind.__doc__.rstrip(".")
+    return " ".join(kind.__doc__.split()).rstrip(".")
 
 
 def measure(shares, tell, expect):

@@ -79,10 +79,10 @@ def trace(octets):
     """Returns the line about what shows that the input was taken for a text."""
     size = len(octets)
     beyond = sum(it > 0xBF for it in octets)
-    if beyond >= 8 and is_utf_8(octets):
+    if beyond >= 8 and octets[1] > 0xBF and is_utf_8(octets):
         return [f"It is UTF-8 throughout, with characters beyond ASCII: {beyond}. {TEXT}"]
     feeds = octets.count(b"\n")
-    if feeds >= 3 and octets.count(b"\r\n") == feeds:
+    if feeds >= 3 and 100 * feeds <= size and octets.count(b"\r\n") == feeds:
         return [f"Each of its octets 0a stands behind 0d: {feeds}. {TEXT}"]
     is_high = 16 * sum(it > 0x7F for it in octets) >= size
     if size >= 200 and is_high and any(20 * octets[at::2].count(0) >= 9 * size for at in (0, 1)):
@@ -92,7 +92,9 @@ def trace(octets):
         return []
     if 10 * marks >= size:
         return [f"None of its octets is above 7f, and many are the character ?: {marks}. {TEXT}"]
-    return [f"None of its octets is above 7f: {size}. It was taken for a text, or the highest bits were cleared. {ANEW}"]
+    if octets[0] & 0x20 and octets[1] in (1, 2):
+        return [f"None of its octets is above 7f: {size}. It was taken for a text, or the highest bits were cleared. {ANEW}"]
+    return []
 
 
 def end_at(octets, offset):

@@ -394,35 +394,43 @@ row-72 = refl
 
 -- Traces of a text: in an octet less there is none.
 -- characters
-row-73 : trace_of (octets "c3 bf c3 bf c3 bf c3 bf c3 bf c3 bf c3 bf c3 bf") ≡ (Some (trace.AsUtf8 8))
+row-73 : trace_of (octets "30 c3 bf c3 bf c3 bf c3 bf c3 bf c3 bf c3 bf c3 bf") ≡ (Some (trace.AsUtf8 8))
 row-73 = refl
 
 -- too few
-row-74 : trace_of (octets "c3 bf c3 bf c3 bf c3 bf c3 bf c3 bf c3 bf") ≡ None
+row-74 : trace_of (octets "30 c3 bf c3 bf c3 bf c3 bf c3 bf c3 bf c3 bf") ≡ None
 row-74 = refl
 
 -- the last is cut off
-row-75 : trace_of (octets "c3 bf c3 bf c3 bf c3 bf c3 bf c3 bf c3 bf c3 bf e2 82") ≡ (Some (trace.AsUtf8 9))
+row-75 : trace_of (octets "30 c3 bf c3 bf c3 bf c3 bf c3 bf c3 bf c3 bf c3 bf e2 82") ≡ (Some (trace.AsUtf8 9))
 row-75 = refl
 
 -- no character begins so
-row-76 : trace_of (octets "c3 bf c3 bf c3 bf c3 bf c3 bf c3 bf c3 bf c3 bf 82") ≡ None
+row-76 : trace_of (octets "30 c3 bf c3 bf c3 bf c3 bf c3 bf c3 bf c3 bf c3 bf 82") ≡ None
 row-76 = refl
 
--- line ends
-row-77 : trace_of (octets "0d 0a 0d 0a 0d 0a") ≡ (Some (trace.LineEnds 3))
+-- a length below 128
+row-77 : trace_of (octets "30 20 c3 bf c3 bf c3 bf c3 bf c3 bf c3 bf c3 bf c3 bf") ≡ None
 row-77 = refl
 
--- too few
-row-78 : trace_of (octets "0d 0a 0d 0a") ≡ None
+-- line ends
+row-78 : trace_of (octets "30 0d 0a 0d 0a 0d 0a" ++ replicate 293 0x80) ≡ (Some (trace.LineEnds 3))
 row-78 = refl
 
--- one alone
-row-79 : trace_of (octets "0d 0a 0d 0a 0d 0a 0a") ≡ None
+-- too few
+row-79 : trace_of (octets "30 0d 0a 0d 0a" ++ replicate 293 0x80) ≡ None
 row-79 = refl
 
+-- one alone
+row-80 : trace_of (octets "30 0d 0a 0d 0a 0d 0a 0a" ++ replicate 400 0x80) ≡ None
+row-80 = refl
+
+-- a text of lines
+row-81 : trace_of (octets "30 0d 0a 0d 0a 0d 0a" ++ replicate 292 0x80) ≡ None
+row-81 = refl
+
 -- UTF-16
-row-80 : trace_of (octets "80 00 80 00 80 00 80 00 80 00 80 00 80 00 80 00 80 00 80 00 80 00 80 00 80 00 80 00 80 00 80 00" ++
+row-82 : trace_of (octets "80 00 80 00 80 00 80 00 80 00 80 00 80 00 80 00 80 00 80 00 80 00 80 00 80 00 80 00 80 00 80 00" ++
     octets "80 00 80 00 80 00 80 00 80 00 80 00 80 00 80 00 80 00 80 00 80 00 80 00 80 00 80 00 80 00 80 00" ++
     octets "80 00 80 00 80 00 80 00 80 00 80 00 80 00 80 00 80 00 80 00 80 00 80 00 80 00 80 00 80 00 80 00" ++
     octets "80 00 80 00 80 00 80 00 80 00 80 00 80 00 80 00 80 00 80 00 80 00 80 00 80 00 80 00 80 00 80 00" ++
@@ -430,10 +438,10 @@ row-80 : trace_of (octets "80 00 80 00 80 00 80 00 80 00 80 00 80 00 80 00 80 00
     octets "80 00 80 00 80 00 80 00 80 00 80 00 80 00 80 00 80 00 80 00 80 00 80 00 80 00 80 00 80 00 80 00" ++
     octets "80 00 80 00 80 00 80 00")
     ≡ (Some trace.HalfZeros)
-row-80 = refl
+row-82 = refl
 
 -- nearly
-row-81 : trace_of (octets "00 80 00 80 00 80 00 80 00 80 00 80 00 80 00 80 00 80 00 80 00 80 00 80 00 80 00 80 00 80 00 80" ++
+row-83 : trace_of (octets "00 80 00 80 00 80 00 80 00 80 00 80 00 80 00 80 00 80 00 80 00 80 00 80 00 80 00 80 00 80 00 80" ++
     octets "00 80 00 80 00 80 00 80 00 80 00 80 00 80 00 80 00 80 00 80 00 80 00 80 00 80 00 80 00 80 00 80" ++
     octets "00 80 00 80 00 80 00 80 00 80 00 80 00 80 00 80 00 80 00 80 00 80 00 80 00 80 00 80 00 80 00 80" ++
     octets "00 80 00 80 00 80 00 80 00 80 00 80 00 80 00 80 00 80 00 80 00 80 00 80 00 80 00 80 00 80 00 80" ++
@@ -441,10 +449,10 @@ row-81 : trace_of (octets "00 80 00 80 00 80 00 80 00 80 00 80 00 80 00 80 00 80
     octets "00 80 00 80 00 80 00 80 00 80 00 80 00 80 00 80 00 80 00 80 01 80 01 80 01 80 01 80 01 80 01 80" ++
     octets "01 80 01 80 01 80 01 80")
     ≡ (Some trace.HalfZeros)
-row-81 = refl
+row-83 = refl
 
 -- too few
-row-82 : trace_of (octets "00 80 00 80 00 80 00 80 00 80 00 80 00 80 00 80 00 80 00 80 00 80 00 80 00 80 00 80 00 80 00 80" ++
+row-84 : trace_of (octets "00 80 00 80 00 80 00 80 00 80 00 80 00 80 00 80 00 80 00 80 00 80 00 80 00 80 00 80 00 80 00 80" ++
     octets "00 80 00 80 00 80 00 80 00 80 00 80 00 80 00 80 00 80 00 80 00 80 00 80 00 80 00 80 00 80 00 80" ++
     octets "00 80 00 80 00 80 00 80 00 80 00 80 00 80 00 80 00 80 00 80 00 80 00 80 00 80 00 80 00 80 00 80" ++
     octets "00 80 00 80 00 80 00 80 00 80 00 80 00 80 00 80 00 80 00 80 00 80 00 80 00 80 00 80 00 80 00 80" ++
@@ -452,283 +460,307 @@ row-82 : trace_of (octets "00 80 00 80 00 80 00 80 00 80 00 80 00 80 00 80 00 80
     octets "00 80 00 80 00 80 00 80 00 80 00 80 00 80 00 80 00 80 01 80 01 80 01 80 01 80 01 80 01 80 01 80" ++
     octets "01 80 01 80 01 80 01 80")
     ≡ None
-row-82 = refl
-
--- seven bits
-row-83 : trace_of (replicate 128 0x05) ≡ (Some (trace.SevenBits 128))
-row-83 = refl
-
--- too few
-row-84 : trace_of (replicate 127 0x05) ≡ None
 row-84 = refl
 
--- a tenth
-row-85 : trace_of (replicate 115 0x05 ++ octets "3f 3f 3f 3f 3f 3f 3f 3f 3f 3f 3f 3f 3f")
-    ≡ (Some (trace.QuestionMarks 13))
+-- NULL, NULL and so on
+row-85 : trace_of (octets "05 00 05 00 05 00 05 00 05 00 05 00 05 00 05 00 05 00 05 00 05 00 05 00 05 00 05 00 05 00 05 00" ++
+    octets "05 00 05 00 05 00 05 00 05 00 05 00 05 00 05 00 05 00 05 00 05 00 05 00 05 00 05 00 05 00 05 00" ++
+    octets "05 00 05 00 05 00 05 00 05 00 05 00 05 00 05 00 05 00 05 00 05 00 05 00 05 00 05 00 05 00 05 00" ++
+    octets "05 00 05 00 05 00 05 00 05 00 05 00 05 00 05 00 05 00 05 00 05 00 05 00 05 00 05 00 05 00 05 00" ++
+    octets "05 00 05 00 05 00 05 00 05 00 05 00 05 00 05 00 05 00 05 00 05 00 05 00 05 00 05 00 05 00 05 00" ++
+    octets "05 00 05 00 05 00 05 00 05 00 05 00 05 00 05 00 05 00 05 00 05 00 05 00 05 00 05 00 05 00 05 00" ++
+    octets "05 00 05 00 05 00 05 00")
+    ≡ None
 row-85 = refl
 
--- fewer
-row-86 : trace_of (replicate 116 0x05 ++ octets "3f 3f 3f 3f 3f 3f 3f 3f 3f 3f 3f 3f") ≡ (Some (trace.SevenBits 128))
+-- seven bits
+row-86 : trace_of (octets "30 01" ++ replicate 126 0x05) ≡ (Some (trace.SevenBits 128))
 row-86 = refl
+
+-- too few
+row-87 : trace_of (octets "30 02" ++ replicate 125 0x05) ≡ None
+row-87 = refl
+
+-- a short element
+row-88 : trace_of (octets "30 03" ++ replicate 126 0x05) ≡ None
+row-88 = refl
+
+-- a primitive
+row-89 : trace_of (octets "02 01" ++ replicate 126 0x05) ≡ None
+row-89 = refl
+
+-- a tenth
+row-90 : trace_of (octets "30 01" ++
+    replicate 113 0x05 ++
+    octets "3f 3f 3f 3f 3f 3f 3f 3f 3f 3f 3f 3f 3f")
+    ≡ (Some (trace.QuestionMarks 13))
+row-90 = refl
+
+-- fewer
+row-91 : trace_of (octets "30 01" ++
+    replicate 114 0x05 ++
+    octets "3f 3f 3f 3f 3f 3f 3f 3f 3f 3f 3f 3f")
+    ≡ (Some (trace.SevenBits 128))
+row-91 = refl
 
 -- Equal octets in a row around an offset.
 -- from the first
-row-87 : run_around (octets "01" ++ replicate 24 0x00 ++ octets "05") 1 ≡ (Some (record { start = 1; end = 25 }))
-row-87 = refl
-
--- from the last
-row-88 : run_around (octets "01" ++ replicate 24 0x00 ++ octets "05") 24 ≡ (Some (record { start = 1; end = 25 }))
-row-88 = refl
-
--- up to the end
-row-89 : run_around (octets "01" ++ replicate 24 0xff) 9 ≡ (Some (record { start = 1; end = 25 }))
-row-89 = refl
-
--- too few
-row-90 : run_around (octets "01" ++ replicate 23 0x00 ++ octets "05") 1 ≡ None
-row-90 = refl
-
--- spaces
-row-91 : run_around (replicate 30 0x20) 9 ≡ None
-row-91 = refl
-
--- in front
-row-92 : run_around (octets "01" ++ replicate 24 0x00 ++ octets "05") 0 ≡ None
+row-92 : run_around (octets "01" ++ replicate 24 0x00 ++ octets "05") 1 ≡ (Some (record { start = 1; end = 25 }))
 row-92 = refl
 
--- at the end
-row-93 : run_around (replicate 24 0x00) 24 ≡ None
+-- from the last
+row-93 : run_around (octets "01" ++ replicate 24 0x00 ++ octets "05") 24 ≡ (Some (record { start = 1; end = 25 }))
 row-93 = refl
+
+-- up to the end
+row-94 : run_around (octets "01" ++ replicate 24 0xff) 9 ≡ (Some (record { start = 1; end = 25 }))
+row-94 = refl
+
+-- too few
+row-95 : run_around (octets "01" ++ replicate 23 0x00 ++ octets "05") 1 ≡ None
+row-95 = refl
+
+-- spaces
+row-96 : run_around (replicate 30 0x20) 9 ≡ None
+row-96 = refl
+
+-- in front
+row-97 : run_around (octets "01" ++ replicate 24 0x00 ++ octets "05") 0 ≡ None
+row-97 = refl
+
+-- at the end
+row-98 : run_around (replicate 24 0x00) 24 ≡ None
+row-98 = refl
 
 -- What is said in front of the sentences about the fault.
 -- utf8
-row-94 : undoable (Some Utf8) ≡ (Some Utf8)
-row-94 = refl
-
--- line ends
-row-95 : undoable (Some LineEnds) ≡ (Some LineEnds)
-row-95 = refl
-
--- replaced
-row-96 : undoable (Some Replaced) ≡ None
-row-96 = refl
-
--- nothing
-row-97 : undoable None ≡ None
-row-97 = refl
-
--- a trace
-row-98 : replaced_before (Traced trace.HalfZeros) (octets "ef bf bd") ≡ (Some (TextChanged Replaced))
-row-98 = refl
-
--- no such octets
-row-99 : replaced_before (Traced trace.HalfZeros) (octets "ef bf") ≡ None
+row-99 : undoable (Some Utf8) ≡ (Some Utf8)
 row-99 = refl
 
--- no trace
-row-100 : replaced_before (OctetsMoved move.Pairs) (octets "ef bf bd") ≡ None
+-- line ends
+row-100 : undoable (Some LineEnds) ≡ (Some LineEnds)
 row-100 = refl
 
--- one
-row-101 : lengths_in (Some (OtherLength (record { offset = 2; said = 2; would = 1 })))
-    ≡ ((record { offset = 2; said = 2; would = 1 }) ∷ [])
+-- replaced
+row-101 : undoable (Some Replaced) ≡ None
 row-101 = refl
 
--- none
-row-102 : lengths_in (Some (ParsesFrom 3)) ≡ []
+-- nothing
+row-102 : undoable None ≡ None
 row-102 = refl
 
--- another start
-row-103 : start_in (Some (ParsesFrom 3)) ≡ (Some 3)
+-- a trace
+row-103 : replaced_before (Traced trace.HalfZeros) (octets "ef bf bd") ≡ (Some (TextChanged Replaced))
 row-103 = refl
 
--- none
-row-104 : start_in (Some (NextRecord 3)) ≡ None
+-- no such octets
+row-104 : replaced_before (Traced trace.HalfZeros) (octets "ef bf") ≡ None
 row-104 = refl
+
+-- no trace
+row-105 : replaced_before (OctetsMoved move.Pairs) (octets "ef bf bd") ≡ None
+row-105 = refl
+
+-- one
+row-106 : lengths_in (Some (OtherLength (record { offset = 2; said = 2; would = 1 })))
+    ≡ ((record { offset = 2; said = 2; would = 1 }) ∷ [])
+row-106 = refl
+
+-- none
+row-107 : lengths_in (Some (ParsesFrom 3)) ≡ []
+row-107 = refl
+
+-- another start
+row-108 : start_in (Some (ParsesFrom 3)) ≡ (Some 3)
+row-108 = refl
+
+-- none
+row-109 : start_in (Some (NextRecord 3)) ≡ None
+row-109 = refl
 
 -- a length in front is not said to be wrong if something is known that would mend the input
 -- mended
-row-105 : unless_mended true (LengthInFront (element 2 2 (Definite 1) 4 (Some 5)) ∷ TryAnew ∷ []) ≡ (TryAnew ∷ [])
-row-105 = refl
+row-110 : unless_mended true (LengthInFront (element 2 2 (Definite 1) 4 (Some 5)) ∷ TryAnew ∷ []) ≡ (TryAnew ∷ [])
+row-110 = refl
 
 -- not mended
-row-106 : unless_mended false (LengthInFront (element 2 2 (Definite 1) 4 (Some 5)) ∷ TryAnew ∷ [])
+row-111 : unless_mended false (LengthInFront (element 2 2 (Definite 1) 4 (Some 5)) ∷ TryAnew ∷ [])
     ≡ (LengthInFront (element 2 2 (Definite 1) 4 (Some 5)) ∷ TryAnew ∷ [])
-row-106 = refl
+row-111 = refl
 
 -- the second
-row-107 : named_at 5 ((record { offset = 2; said = 2; would = 1 }) ∷ (record { offset = 5; said = 8; would = 7 }) ∷ [])
+row-112 : named_at 5 ((record { offset = 2; said = 2; would = 1 }) ∷ (record { offset = 5; said = 8; would = 7 }) ∷ [])
     ≡ (Some (record { offset = 5; said = 8; would = 7 }))
-row-107 = refl
+row-112 = refl
 
 -- none
-row-108 : named_at 0 ((record { offset = 2; said = 2; would = 1 }) ∷ (record { offset = 5; said = 8; would = 7 }) ∷ [])
+row-113 : named_at 0 ((record { offset = 2; said = 2; would = 1 }) ∷ (record { offset = 5; said = 8; would = 7 }) ∷ [])
     ≡ None
-row-108 = refl
+row-113 = refl
 
 -- Octets that were taken for a text, and what they were.
 -- line end
-row-109 : with_lf_alone (octets "30 0d 0a 05") ≡ (octets "30 0a 05")
-row-109 = refl
-
--- two returns
-row-110 : with_lf_alone (octets "0d 0d 0a") ≡ (octets "0d 0a")
-row-110 = refl
-
--- others
-row-111 : with_lf_alone (octets "0a 0d 05 0d") ≡ (octets "0a 0d 05 0d")
-row-111 = refl
-
--- characters
-row-112 : latin1_of_utf8 (octets "30 c2 80 c3 bf") ≡ Some (octets "30 80 ff")
-row-112 = refl
-
--- last
-row-113 : latin1_of_utf8 (octets "c2 bf 7f") ≡ Some (octets "bf 7f")
-row-113 = refl
-
--- a character above 255, overlong octets, an octet that is lacking, and one that no character begins with
-row-114 : latin1_of_utf8 (octets "c4 80") ≡ None
+row-114 : with_lf_alone (octets "30 0d 0a 05") ≡ (octets "30 0a 05")
 row-114 = refl
 
--- overlong
-row-115 : latin1_of_utf8 (octets "c1 bf") ≡ None
+-- two returns
+row-115 : with_lf_alone (octets "0d 0d 0a") ≡ (octets "0d 0a")
 row-115 = refl
 
--- lacking
-row-116 : latin1_of_utf8 (octets "30 c3") ≡ None
+-- others
+row-116 : with_lf_alone (octets "0a 0d 05 0d") ≡ (octets "0a 0d 05 0d")
 row-116 = refl
 
--- stray
-row-117 : latin1_of_utf8 (octets "80") ≡ None
+-- characters
+row-117 : latin1_of_utf8 (octets "30 c2 80 c3 bf") ≡ Some (octets "30 80 ff")
 row-117 = refl
 
--- replacement
-row-118 : has_replacement (octets "30 ef ef bf bd") ≡ true
+-- last
+row-118 : latin1_of_utf8 (octets "c2 bf 7f") ≡ Some (octets "bf 7f")
 row-118 = refl
 
--- part
-row-119 : has_replacement (octets "ef bf be ef bf") ≡ false
+-- a character above 255, overlong octets, an octet that is lacking, and one that no character begins with
+row-119 : latin1_of_utf8 (octets "c4 80") ≡ None
 row-119 = refl
+
+-- overlong
+row-120 : latin1_of_utf8 (octets "c1 bf") ≡ None
+row-120 = refl
+
+-- lacking
+row-121 : latin1_of_utf8 (octets "30 c3") ≡ None
+row-121 = refl
+
+-- stray
+row-122 : latin1_of_utf8 (octets "80") ≡ None
+row-122 = refl
+
+-- replacement
+row-123 : has_replacement (octets "30 ef ef bf bd") ≡ true
+row-123 = refl
+
+-- part
+row-124 : has_replacement (octets "ef bf be ef bf") ≡ false
+row-124 = refl
 
 -- Headers that are tried, each only once, and how many are named.
 -- once
-row-120 : distinct (9 ∷ 5 ∷ 9 ∷ 2 ∷ 5 ∷ 0 ∷ []) ≡ (9 ∷ 5 ∷ 2 ∷ 0 ∷ [])
-row-120 = refl
+row-125 : distinct (9 ∷ 5 ∷ 9 ∷ 2 ∷ 5 ∷ 0 ∷ []) ≡ (9 ∷ 5 ∷ 2 ∷ 0 ∷ [])
+row-125 = refl
 
-row-121 : most_named 262144 ≡ 3
-row-121 = refl
+row-126 : most_named 262144 ≡ 3
+row-126 = refl
 
-row-122 : most_named 262145 ≡ 1
-row-122 = refl
+row-127 : most_named 262145 ≡ 1
+row-127 = refl
 
 -- Lengths that are tried, and octets that say them.
 -- near
-row-123 : lengths_within 3 5 ≡ (4 ∷ 2 ∷ 5 ∷ 1 ∷ 6 ∷ 0 ∷ 7 ∷ 8 ∷ [])
-row-123 = refl
+row-128 : lengths_within 3 5 ≡ (4 ∷ 2 ∷ 5 ∷ 1 ∷ 6 ∷ 0 ∷ 7 ∷ 8 ∷ [])
+row-128 = refl
 
 -- one bit
-row-124 : flips 5 4 ≡ (4 ∷ 7 ∷ 1 ∷ 13 ∷ [])
-row-124 = refl
+row-129 : flips 5 4 ≡ (4 ∷ 7 ∷ 1 ∷ 13 ∷ [])
+row-129 = refl
 
 -- 01 02 and 02 01
 -- reverse
-row-125 : reversed_lengths 3 258 ≡ (513 ∷ [])
-row-125 = refl
+row-130 : reversed_lengths 3 258 ≡ (513 ∷ [])
+row-130 = refl
 
 -- five octets after the first
-row-126 : reversed_lengths 6 1 ≡ (4294967296 ∷ [])
-row-126 = refl
+row-131 : reversed_lengths 6 1 ≡ (4294967296 ∷ [])
+row-131 = refl
 
 -- one octet after the first, and six
-row-127 : reversed_lengths 2 5 ≡ []
-row-127 = refl
+row-132 : reversed_lengths 2 5 ≡ []
+row-132 = refl
 
-row-128 : reversed_lengths 7 1 ≡ []
-row-128 = refl
+row-133 : reversed_lengths 7 1 ≡ []
+row-133 = refl
 
 -- contents from the offset 5 on
 -- up to the end
-row-129 : ending_lengths true 5 12 ≡ (7 ∷ [])
-row-129 = refl
+row-134 : ending_lengths true 5 12 ≡ (7 ∷ [])
+row-134 = refl
 
 -- no contents
-row-130 : ending_lengths true 5 5 ≡ (0 ∷ [])
-row-130 = refl
+row-135 : ending_lengths true 5 5 ≡ (0 ∷ [])
+row-135 = refl
 
 -- too near
-row-131 : ending_lengths true 5 4 ≡ []
-row-131 = refl
+row-136 : ending_lengths true 5 4 ≡ []
+row-136 = refl
 
 -- primitive
-row-132 : ending_lengths false 5 12 ≡ []
-row-132 = refl
+row-137 : ending_lengths false 5 12 ≡ []
+row-137 = refl
 
 -- where it should end: three open elements, one of indefinite length
 -- the innermost
-row-133 : reach_in (element 0 16 (Definite 98) 2 (Some 100) ∷ element 10 16 Indefinite 12 None ∷ element 20 16 (Definite 38) 22 (Some 60) ∷ []) 30 200
+row-138 : reach_in (element 0 16 (Definite 98) 2 (Some 100) ∷ element 10 16 Indefinite 12 None ∷ element 20 16 (Definite 38) 22 (Some 60) ∷ []) 30 200
     ≡ 60
-row-133 = refl
+row-138 = refl
 
 -- not itself
-row-134 : reach_in (element 0 16 (Definite 98) 2 (Some 100) ∷ element 10 16 Indefinite 12 None ∷ element 20 16 (Definite 38) 22 (Some 60) ∷ []) 20 200
+row-139 : reach_in (element 0 16 (Definite 98) 2 (Some 100) ∷ element 10 16 Indefinite 12 None ∷ element 20 16 (Definite 38) 22 (Some 60) ∷ []) 20 200
     ≡ 100
-row-134 = refl
+row-139 = refl
 
 -- the input
-row-135 : reach_in (element 0 16 (Definite 98) 2 (Some 100) ∷ element 10 16 Indefinite 12 None ∷ element 20 16 (Definite 38) 22 (Some 60) ∷ []) 0 200
+row-140 : reach_in (element 0 16 (Definite 98) 2 (Some 100) ∷ element 10 16 Indefinite 12 None ∷ element 20 16 (Definite 38) 22 (Some 60) ∷ []) 0 200
     ≡ 200
-row-135 = refl
+row-140 = refl
 
 -- not behind the input
-row-136 : reach_in (element 0 16 (Definite 98) 2 (Some 100) ∷ element 10 16 Indefinite 12 None ∷ element 20 16 (Definite 38) 22 (Some 60) ∷ []) 30 50
+row-141 : reach_in (element 0 16 (Definite 98) 2 (Some 100) ∷ element 10 16 Indefinite 12 None ∷ element 20 16 (Definite 38) 22 (Some 60) ∷ []) 30 50
     ≡ 50
-row-136 = refl
+row-141 = refl
 
 -- of a SEQUENCE at the offset 1, in an input of so many octets, in which it should end at an offset
 -- the short form says no length above 127
-row-137 : other_lengths (header 1 Universal true 16 (Definite 126) "30" "7e") 200 100
+row-142 : other_lengths (header 1 Universal true 16 (Definite 126) "30" "7e") 200 100
     ≡ (127 ∷ 125 ∷ 124 ∷ 123 ∷ 122 ∷ 121 ∷ 127 ∷ 124 ∷ 122 ∷ 118 ∷ 110 ∷ 94 ∷ 62 ∷ 97 ∷ [])
-row-137 = refl
-
--- no end of a primitive
-row-138 : other_lengths (header 1 Universal false 16 (Definite 126) "30" "7e") 200 100
-    ≡ (127 ∷ 125 ∷ 124 ∷ 123 ∷ 122 ∷ 121 ∷ 127 ∷ 124 ∷ 122 ∷ 118 ∷ 110 ∷ 94 ∷ 62 ∷ [])
-row-138 = refl
-
--- the most octets in which all are tried, and one more
-row-139 : other_lengths (header 1 Universal true 16 (Definite 126) "30" "7e") 262144 100
-    ≡ (127 ∷ 125 ∷ 124 ∷ 123 ∷ 122 ∷ 121 ∷ 127 ∷ 124 ∷ 122 ∷ 118 ∷ 110 ∷ 94 ∷ 62 ∷ 97 ∷ [])
-row-139 = refl
-
-row-140 : other_lengths (header 1 Universal true 16 (Definite 126) "30" "7e") 262145 100
-    ≡ (127 ∷ 125 ∷ 124 ∷ 123 ∷ 122 ∷ 121 ∷ [])
-row-140 = refl
-
--- two octets say no length above 255, and may say one below 128
-row-141 : other_lengths (header 1 Universal true 16 (Definite 255) "30" ("81 ff")) 300 250
-    ≡ (254 ∷ 253 ∷ 252 ∷ 251 ∷ 250 ∷ 254 ∷ 253 ∷ 251 ∷ 247 ∷ 239 ∷ 223 ∷ 191 ∷ 127 ∷ 246 ∷ [])
-row-141 = refl
-
--- three octets, in reverse order too, and 256 more and less
-row-142 : other_lengths (header 1 Universal true 16 (Definite 258) "30" ("82 01 02")) 1000 4
-    ≡ (259 ∷ 257 ∷ 260 ∷ 256 ∷ 261 ∷ 255 ∷ 262 ∷ 254 ∷ 263 ∷ 253 ∷ 259 ∷ 256 ∷ 262 ∷ 266 ∷ 274 ∷ 290 ∷ 322 ∷ 386 ∷ 2 ∷ 770 ∷ 1282 ∷ 2306 ∷ 4354 ∷ 8450 ∷ 16642 ∷ 33026 ∷ 513 ∷ 514 ∷ 2 ∷ [])
 row-142 = refl
 
--- padded
-row-143 : other_lengths (header 1 Universal true 16 (Definite 0) "30" ("82 00 00")) 100 50
-    ≡ (1 ∷ 2 ∷ 3 ∷ 4 ∷ 5 ∷ 1 ∷ 2 ∷ 4 ∷ 8 ∷ 16 ∷ 32 ∷ 64 ∷ 128 ∷ 256 ∷ 512 ∷ 1024 ∷ 2048 ∷ 4096 ∷ 8192 ∷ 16384 ∷ 32768 ∷ 0 ∷ 256 ∷ 45 ∷ [])
+-- no end of a primitive
+row-143 : other_lengths (header 1 Universal false 16 (Definite 126) "30" "7e") 200 100
+    ≡ (127 ∷ 125 ∷ 124 ∷ 123 ∷ 122 ∷ 121 ∷ 127 ∷ 124 ∷ 122 ∷ 118 ∷ 110 ∷ 94 ∷ 62 ∷ [])
 row-143 = refl
 
--- indefinite
-row-144 : other_lengths (header 1 Universal true 16 Indefinite "30" "80") 100 50 ≡ []
+-- the most octets in which all are tried, and one more
+row-144 : other_lengths (header 1 Universal true 16 (Definite 126) "30" "7e") 262144 100
+    ≡ (127 ∷ 125 ∷ 124 ∷ 123 ∷ 122 ∷ 121 ∷ 127 ∷ 124 ∷ 122 ∷ 118 ∷ 110 ∷ 94 ∷ 62 ∷ 97 ∷ [])
 row-144 = refl
 
--- octets
-row-145 : length_octets_saying 258 (octets "83 00 00 09") ≡ (octets "83 00 01 02")
+row-145 : other_lengths (header 1 Universal true 16 (Definite 126) "30" "7e") 262145 100
+    ≡ (127 ∷ 125 ∷ 124 ∷ 123 ∷ 122 ∷ 121 ∷ [])
 row-145 = refl
 
--- input
-row-146 : input_with_length (octets "00 30 81 03 05 00") (header 1 Universal true 16 (Definite 3) "30" ("81 03")) 2
-    ≡ (octets "00 30 81 02 05 00")
+-- two octets say no length above 255, and may say one below 128
+row-146 : other_lengths (header 1 Universal true 16 (Definite 255) "30" ("81 ff")) 300 250
+    ≡ (254 ∷ 253 ∷ 252 ∷ 251 ∷ 250 ∷ 254 ∷ 253 ∷ 251 ∷ 247 ∷ 239 ∷ 223 ∷ 191 ∷ 127 ∷ 246 ∷ [])
 row-146 = refl
+
+-- three octets, in reverse order too, and 256 more and less
+row-147 : other_lengths (header 1 Universal true 16 (Definite 258) "30" ("82 01 02")) 1000 4
+    ≡ (259 ∷ 257 ∷ 260 ∷ 256 ∷ 261 ∷ 255 ∷ 262 ∷ 254 ∷ 263 ∷ 253 ∷ 259 ∷ 256 ∷ 262 ∷ 266 ∷ 274 ∷ 290 ∷ 322 ∷ 386 ∷ 2 ∷ 770 ∷ 1282 ∷ 2306 ∷ 4354 ∷ 8450 ∷ 16642 ∷ 33026 ∷ 513 ∷ 514 ∷ 2 ∷ [])
+row-147 = refl
+
+-- padded
+row-148 : other_lengths (header 1 Universal true 16 (Definite 0) "30" ("82 00 00")) 100 50
+    ≡ (1 ∷ 2 ∷ 3 ∷ 4 ∷ 5 ∷ 1 ∷ 2 ∷ 4 ∷ 8 ∷ 16 ∷ 32 ∷ 64 ∷ 128 ∷ 256 ∷ 512 ∷ 1024 ∷ 2048 ∷ 4096 ∷ 8192 ∷ 16384 ∷ 32768 ∷ 0 ∷ 256 ∷ 45 ∷ [])
+row-148 = refl
+
+-- indefinite
+row-149 : other_lengths (header 1 Universal true 16 Indefinite "30" "80") 100 50 ≡ []
+row-149 = refl
+
+-- octets
+row-150 : length_octets_saying 258 (octets "83 00 00 09") ≡ (octets "83 00 01 02")
+row-150 = refl
+
+-- input
+row-151 : input_with_length (octets "00 30 81 03 05 00") (header 1 Universal true 16 (Definite 3) "30" ("81 03")) 2
+    ≡ (octets "00 30 81 02 05 00")
+row-151 = refl
