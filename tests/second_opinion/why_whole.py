@@ -14,7 +14,7 @@ TEXT = f"It was taken for a text. {ANEW}"
 
 def line(octets, padding):
     """Returns the line about what was done to the input as a whole."""
-    return undone_change(octets, padding) or moved(octets, padding) or trace(octets) or spaced(octets)
+    return undone_change(octets, padding) or moved(octets, padding) or spaced(octets) or trace(octets)
 
 
 def is_trace(text):

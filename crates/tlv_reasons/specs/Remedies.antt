@@ -69,14 +69,14 @@ undoable change = change
 pub data IsUndone (padding : Bool) (octets : List ℕ) : Option TextChange → Type 0 where
   as_text : {change : Option TextChange} → IsTextChange padding octets change → IsUndone padding octets (undoable change)
 
--- the sentence about what was done to the input as a whole, if there is one: as to a text; to all octets; what shows
--- that it was a text; other octets between its encodings
-abbrev pub IsTraceOrElse : Bool → List ℕ → Option Sentence → Type 0
-IsTraceOrElse padding octets =
-    IsElse (λ t. t ≡ trace_of octets) say.Traced (IsElse (IsSpacing octets) say.Spaced IsNothing)
+-- the sentence about what was done to the input as a whole, if there is one: as to a text; to all octets; other octets
+-- between its encodings; what shows that it was a text
+abbrev pub IsSpacingOrElse : List ℕ → Option Sentence → Type 0
+IsSpacingOrElse octets =
+    IsElse (IsSpacing octets) say.Spaced (IsElse (λ t. t ≡ trace_of octets) say.Traced IsNothing)
 
 abbrev pub IsMoveOrElse : Bool → List ℕ → Option Sentence → Type 0
-IsMoveOrElse padding octets = IsElse (IsMove padding octets) say.OctetsMoved (IsTraceOrElse padding octets)
+IsMoveOrElse padding octets = IsElse (IsMove padding octets) say.OctetsMoved (IsSpacingOrElse octets)
 
 abbrev pub IsWhole : Bool → List ℕ → Option Sentence → Type 0
 IsWhole padding octets = IsElse (IsUndone padding octets) say.TextChanged (IsMoveOrElse padding octets)

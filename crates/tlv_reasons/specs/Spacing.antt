@@ -8,8 +8,8 @@ use Rattle.tlv_walk.specs.Reading.{IsSoundList}
 use Rattle.tlv_reasons.specs.WrongLength.{contents_start}
 use Rattle.tlv_reasons.specs.declared.spacing.Spacing.{Spacing}
 
--- a constructed element of definite length stands from this offset up to that one, in the input, and parses by itself
-pub record IsWholeFrom (octets : List ℕ) (offset end : ℕ) : Type 0 where
+-- by the header of a constructed element of definite length at this offset, the element ends at that one, in the input
+pub record EndsAsStated (octets : List ℕ) (offset end : ℕ) : Type 0 where
   pub header : HeaderValue
   pub begins : BeginsWith (drop offset octets) offset false header
   pub constructed : header.constructed ≡ true
@@ -17,6 +17,10 @@ pub record IsWholeFrom (octets : List ℕ) (offset end : ℕ) : Type 0 where
   pub contents_are : definite_length header.size ≡ Some contents
   pub end_is : end ≡ contents_start header + contents
   pub within : end ≤ length octets
+
+-- such an element stands from this offset up to that one, and parses by itself
+pub record IsWholeFrom (octets : List ℕ) (offset end : ℕ) : Type 0 where
+  pub stated : EndsAsStated octets offset end
   pub sound : IsSoundList (closed_framing false) (take (end - offset) (drop offset octets))
 
 -- from this offset on so many such elements stand, with `gap` other octets between each two of them, and these, or
@@ -60,8 +64,8 @@ pub data IsSpacingFrom (octets : List ℕ) : ℕ → Option Spacing → Type 0 w
   wider : {gap : ℕ} {found : Option Spacing} → gap ≤ most_between → IsNotSpacedFrom octets gap 0
       → IsNotSpacedFrom octets gap gap → IsSpacingFrom octets (gap + 1) found → IsSpacingFrom octets gap found
 
--- how the encodings of the input are spaced. None if it is sound with octets 00 allowed at the top level: then these stand
--- between them
+-- how the encodings of the input are spaced. None if it is sound with octets 00 allowed at the top level: then these
+-- stand between them
 pub data IsSpacing (octets : List ℕ) : Option Spacing → Type 0 where
   padded : IsSoundList (closed_framing true) octets → IsSpacing octets None
   spaced : {found : Option Spacing} → (IsSoundList (closed_framing true) octets → ⊥) → IsSpacingFrom octets 1 found

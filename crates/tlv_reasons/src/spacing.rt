@@ -1,8 +1,8 @@
 //! Encodings, between each two of which other octets stand.
 ghost use Rattle.std.specs.Prelude.{◌≡◌, ◌<◌, ◌≤◌, IfSome, MatchOption, Some, length, ℕ};
 ghost use Rattle.tlv_head.specs.Limits.{input_limit};
-ghost use Rattle.tlv_reasons.specs.Spacing.{AreSpaced, IsNotSpacedFrom, IsSpacedFrom, IsSpacing, IsSpacingFrom, IsWholeFrom};
-ghost use Rattle.tlv_reasons.specs.Spacing.{are_alike};
+ghost use Rattle.tlv_reasons.specs.Spacing.{AreSpaced, EndsAsStated, IsNotSpacedFrom, IsSpacedFrom, IsSpacing};
+ghost use Rattle.tlv_reasons.specs.Spacing.{IsSpacingFrom, IsWholeFrom, are_alike};
 
 use crate::facts_call::octet_at;
 use crate::sound::is_sound;
@@ -25,9 +25,9 @@ pub struct Spacing {
 }
 
 /// How the encodings of the input are spaced: two or more constructed elements of definite length, each of which parses
-/// by itself, with 1 to 8 other octets between each two, the fewest that do. As many stand in front of the first, or none,
-/// and as many behind the last, or none. What stands behind the first does not begin as it does. `None` if the input is not so, or if it is sound with octets `00` allowed at the
-/// top level.
+/// by itself, with 1 to 8 other octets between each two, the fewest that do. As many stand in front of the first, or
+/// none, and as many behind the last, or none. What stands behind the first does not begin as it does. `None` if the
+/// input is not so, or if it is sound with octets `00` allowed at the top level.
 pub fn spaced_encodings(octets: &[u8]) -> Option<Spacing>
     requires { length octets.now ≤ input_limit }
     ensures { IsSpacing octets.now result }
@@ -67,13 +67,16 @@ fn spacing_of(octets: &[u8], gap: usize) -> Option<Spacing>
     }
 }
 
-/// The same, from this offset on.
+/// The same, from this offset on. Only headers are read, unless a second element follows by them.
 fn spaced_from(octets: &[u8], gap: usize, first: usize) -> Option<Spacing>
     requires limit { length octets.now ≤ input_limit }
     requires gap { gap ≤ 8 }
     ensures { MatchOption result (IsNotSpacedFrom octets.now gap first) (λ s. IsSpacedFrom octets.now gap first s) }
 {
-    let Some(end) = whole_end(octets, first) else {
+    let Some(end) = stated_end(octets, first) else {
+        return None;
+    };
+    let Some(_) = stated_end(octets, end + gap) else {
         return None;
     };
     if are_alike(octets, first, end) {
@@ -82,9 +85,6 @@ fn spaced_from(octets: &[u8], gap: usize, first: usize) -> Option<Spacing>
     let Some(count) = spaced_count(octets, gap, first) else {
         return None;
     };
-    if count < 2 {
-        return None;
-    }
     Some(Spacing {
         first: first as u64,
         end: end as u64,
@@ -104,7 +104,8 @@ fn are_alike(octets: &[u8], first: usize, second: usize) -> bool
 fn spaced_count(octets: &[u8], gap: usize, first: usize) -> Option<u64>
     requires limit { length octets.now ≤ input_limit }
     requires gap { gap ≤ 8 }
-    ensures { MatchOption result ((n : ℕ) → AreSpaced gap octets.now first n → ⊥) (λ n. AreSpaced gap octets.now first n) }
+    ensures { MatchOption result ((n : ℕ) → AreSpaced gap octets.now first n → ⊥)
+        (λ n. AreSpaced gap octets.now first n) }
 {
     let mut at = first;
     let mut count = 0;
@@ -133,6 +134,23 @@ fn whole_end(octets: &[u8], offset: usize) -> Option<usize>
         (λ end. IsWholeFrom octets.now offset end) }
     ensures within { IfSome result (λ end. (offset < end) × (end ≤ length octets.now)) }
 {
+    let Some(end) = stated_end(octets, offset) else {
+        return None;
+    };
+    if is_sound(&octets[offset..end], false) {
+        Some(end)
+    } else {
+        None
+    }
+}
+
+/// Where the constructed element of definite length that begins at this offset ends, in the input, by its header.
+fn stated_end(octets: &[u8], offset: usize) -> Option<usize>
+    requires { length octets.now ≤ input_limit }
+    ensures end { MatchOption result ((end : ℕ) → EndsAsStated octets.now offset end → ⊥)
+        (λ end. EndsAsStated octets.now offset end) }
+    ensures within { IfSome result (λ end. (offset < end) × (end ≤ length octets.now)) }
+{
     if offset > octets.len() {
         return None;
     }
@@ -146,10 +164,5 @@ fn whole_end(octets: &[u8], offset: usize) -> Option<usize>
     if size > (octets.len() - offset - count) as u64 {
         return None;
     }
-    let end = offset + count + size as usize;
-    if is_sound(&octets[offset..end], false) {
-        Some(end)
-    } else {
-        None
-    }
+    Some(offset + count + size as usize)
 }

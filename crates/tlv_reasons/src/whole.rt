@@ -1,7 +1,7 @@
 //! What was done to an input as a whole.
 ghost use Rattle.std.specs.Prelude.{◌≡◌, ◌≤◌, IfOk, length};
 ghost use Rattle.tlv_head.specs.Limits.{input_limit};
-ghost use Rattle.tlv_reasons.specs.Remedies.{IsMoveOrElse, IsTraceOrElse, IsUndone, IsWhole, undoable};
+ghost use Rattle.tlv_reasons.specs.Remedies.{IsMoveOrElse, IsSpacingOrElse, IsUndone, IsWhole, undoable};
 
 use crate::Sentence;
 use crate::moves::octets_moved;
@@ -11,8 +11,8 @@ use crate::traces::trace_of;
 use std::alloc::{AllocError, Global};
 
 /// The sentence about what was done to the input as a whole, if there is one: what was done to it as to a text, if that
-/// can be undone; else to all of its octets; else what shows that it was taken for a text; else that other octets stand
-/// between its encodings. With `padding`, octets `00` are allowed at the top level.
+/// can be undone; else to all of its octets; else that other octets stand between its encodings; else what shows that it
+/// was taken for a text. With `padding`, octets `00` are allowed at the top level.
 ///
 /// # Errors
 ///
@@ -61,19 +61,19 @@ fn whole_move(alloc: Global, octets: &[u8], padding: bool) -> Result<Option<Sent
 {
     match octets_moved(alloc, octets, padding)? {
         Some(change) => Ok(Some(Sentence::OctetsMoved(change))),
-        None => Ok(trace_or_spacing(octets, padding)),
+        None => Ok(spacing_or_trace(octets)),
     }
 }
 
 /// [`whole_change`] of an input whose octets were not moved either.
-fn trace_or_spacing(octets: &[u8], padding: bool) -> Option<Sentence>
+fn spacing_or_trace(octets: &[u8]) -> Option<Sentence>
     requires { length octets.now ≤ input_limit }
-    ensures { IsTraceOrElse padding octets.now result }
+    ensures { IsSpacingOrElse octets.now result }
 {
-    match trace_of(octets) {
-        Some(trace) => Some(Sentence::Traced(trace)),
-        None => match spaced_encodings(octets) {
-            Some(spacing) => Some(Sentence::Spaced(spacing)),
+    match spaced_encodings(octets) {
+        Some(spacing) => Some(Sentence::Spaced(spacing)),
+        None => match trace_of(octets) {
+            Some(trace) => Some(Sentence::Traced(trace)),
             None => None,
         },
     }

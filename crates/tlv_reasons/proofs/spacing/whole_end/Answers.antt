@@ -1,32 +1,13 @@
-use Rattle.std.proofs.Common.{◌≡◌, ◌∙◌, ◌+◌, arith, false, sym, true}
-use Rattle.tlv_reasons.proofs.LengthLemmas.{begins-there}
-use Rattle.tlv_reasons.proofs.SpacingLemmas.{whole-by}
+use Rattle.std.proofs.Common.{◌≡◌, ◌∙◌, false, sym, true}
+use Rattle.tlv_reasons.proofs.SpacingLemmas.{stated-one}
 use Rattle.tlv_reasons.proofs.spacing.whole_end.Goals as goal
 
 pub returns-in_default-clause-end : goal.returns-in_default-clause-end
-returns-in_default-clause-end c = λ e w.
-    let b = begins-there c.args.octets.now c.args.offset c.in_ok-fields.count c.in_ok-fields.fields c.in_ok-fields.ensures in
-    let by = whole-by c.args.octets.now c.args.offset e c.in_ok-fields.count c.in_ok-fields.fields b w in
-    cc (c.in_default.is, by.1)
-
-pub returns-then-not-fields-clause-end : goal.returns-then-not-fields-clause-end
-returns-then-not-fields-clause-end c = λ e w.
-    let b = begins-there c.args.octets.now c.args.offset c.in_ok-fields.count c.in_ok-fields.fields c.in_ok-fields.ensures in
-    let by = whole-by c.args.octets.now c.args.offset e c.in_ok-fields.count c.in_ok-fields.fields b w in
-    let t : false ≡ true = rw by.2 at c.if-not-fields.true in cc
-
-pub returns-then-size-octets-clause-end : goal.returns-then-size-octets-clause-end
-returns-then-size-octets-clause-end c = λ e w.
-    let b = begins-there c.args.octets.now c.args.offset c.in_ok-fields.count c.in_ok-fields.fields c.in_ok-fields.ensures in
-    let by = whole-by c.args.octets.now c.args.offset e c.in_ok-fields.count c.in_ok-fields.fields b w in
-    let same : by.0 ≡ c.in-Definite.size = cc (c.in-Definite.is, by.1) in
-    omega (arith, w.within, by.3, same, c.if-size-octets.true)
+returns-in_default-clause-end c = λ e w. c.in_default.ensures.end e w.stated
 
 pub returns-else-is_sound-clause-end : goal.returns-else-is_sound-clause-end
 returns-else-is_sound-clause-end c = λ e w.
-    let b = begins-there c.args.octets.now c.args.offset c.in_ok-fields.count c.in_ok-fields.fields c.in_ok-fields.ensures in
-    let by = whole-by c.args.octets.now c.args.offset e c.in_ok-fields.count c.in_ok-fields.fields b w in
-    let same : by.0 ≡ c.in-Definite.size = cc (c.in-Definite.is, by.1) in
-    let end : e ≡ c.args.offset + c.in_ok-fields.count + c.in-Definite.size = omega (arith, by.3, same) in
-    let t : true ≡ false = sym (c.is_sound.ensures.1 (rw end at w.sound)) ∙ c.if-is_sound.false in
+    let same : e ≡ c.in-Some.end =
+    stated-one c.args.octets.now c.args.offset e c.in-Some.end w.stated c.in-Some.ensures.end in
+    let t : true ≡ false = sym (c.is_sound.ensures.1 (rw same at w.sound)) ∙ c.if-is_sound.false in
     cc
