@@ -247,6 +247,44 @@ LENGTHS = [
     ("the end of an open element", b"\x30\x1d\x02\x01\x05\x30\x07" + element(4, b"a" * 12) + element(4, b"b" * 8),
      "If the header at offset 5 said 24 octets and not 7, or that at offset 2 said 3 octets and not 1, all would parse."),
 ]
+# An encoding of 264 octets.
+LARGE = element(0x30, element(4, b"a" * 256))
+
+
+def turned(octets, count):
+    """Returns octets with each group of so many in reverse order."""
+    return b"".join(octets[at : at + count][::-1] for at in range(0, len(octets), count))
+
+
+def moved(how, what):
+    """Returns the line about octets that were all moved."""
+    return f"Its octets stand in reverse order{how}: {what}, all would parse. "
+
+
+FETCH = "Try: fetch it anew, in binary."
+# What else would mend an input, or was done to it as a whole: the first line about it.
+OTHERS = [
+    ("lengths that are wrong together", b"\x30\x06\x30\x04\x04\x05abcde",
+     "If each of the lengths at 0 and 2 were 3 more, all would parse: 3 octets may have been put in there, and they were not raised."),
+    ("a block that stands twice", b"\x30\x09\x30\x05\x04\x03ababc\x05\x00",
+     "The 2 octets from offset 6 on stand twice. If they stood once, all would parse."),
+    ("octets in place of others", b"\x30\x1b\x02\x01\x05" + bytes(24),
+     "The octets from offset 5 on are 00 alone: 24. They may stand in place of others."),
+    ("line feeds between records", RECORD + b"\n" + RECORD + b"\n",
+     "There are encodings from offset 0 on: 2. Between each two of them other octets stand: 1 octet, first 0a at offset 5."
+     " Try: tail -c +1 FILE | head -c 5 | tlvdump-show, for the first."),
+    ("a length in front of each record", (b"\0\5" + RECORD) * 2,
+     "There are encodings from offset 2 on: 2. Between each two of them other octets stand: 2 octets, first 00 05 at offset 7."
+     " Try: tail -c +3 FILE | head -c 5 | tlvdump-show, for the first."),
+    ("pairs turned round", turned(LARGE, 2),
+     moved(" in pairs", "if each pair were turned round") + "Try: dd conv=swab status=none <FILE | tlvdump-show"),
+    ("fours turned round", turned(LARGE, 4), moved(" in fours", "if each four were turned round") + FETCH),
+    ("all octets turned round", LARGE[::-1], moved("", "read from the last to the first") + FETCH),
+    ("inverted bits", bytes(it ^ 0xFF for it in LARGE),
+     f"Its bits are inverted: if each were turned round, all would parse. {FETCH}"),
+    ("every second octet 00", element(4, bytes(range(128, 256))).decode("latin-1").encode("utf-16-le"),
+     f"Nearly every second of its octets is 00. It was taken for a text and written in UTF-16. {FETCH}"),
+]
 # The size of a long input, what ends it, and the line about lengths. In the first case the OCTET STRING in front could have one
 # octet more, since 03 02 02 01 is a BIT STRING.
 ONE, BIT = bytes.fromhex("3003020201"), b"\x30\x0b\x04\x19" + b"a" * 9
@@ -320,6 +358,13 @@ def open_elements(number):
     return octets, 2 * (number - 1)
 
 
+def others(why):
+    """What else would mend an input, or was done to it as a whole, is said first."""
+    for what, octets, wanted in OTHERS:
+        status, lines = why.said(octets)
+        why.part.expect(what, status == 2 and lines[1] == wanted, *lines)
+
+
 def outermost(why):
     """Of the open elements 16 are tried, from the outermost one on."""
     for number, is_named in ((2, True), (16, True), (17, False), (18, False)):
@@ -389,7 +434,7 @@ def of_size(size, octets):
 
 
 def long_input(why):
-    """In more than 2^16 octets only lengths nearby are tried, and one header is named. In more than 2^20 none is, and no
+    """In more than 2^18 octets only lengths nearby are tried, and one header is named. In more than 2^20 none is, and no
     next record.
     """
     for size, octets, wanted in LONG_LENGTHS:
@@ -536,6 +581,7 @@ def test(part):
     why = Why(part)
     faults(why)
     undone(why)
+    others(why)
     outermost(why)
     no_length(why)
     other_lengths(why)

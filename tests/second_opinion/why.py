@@ -100,7 +100,7 @@ def lines_of(octets, padding, count=1):
     if whole:
         return (first, *(replaced if why_whole.is_trace(whole[0]) else []), *whole, *why_lines.of_fault(stand)[:1])
     search = why_search.Search(octets, padding)
-    start = why_search.other_start(octets, padding, stand.fault.offset)
+    start = why_search.other_start(octets, padding, stand.top, stand.fault.offset)
     named = [] if start else named_lengths(search, stand)
     mending = (start or why_search.overwritten(octets, stand.fault.offset) or why_search.line_of_lengths(named)
                or why_chains.doubled(search, stand) or search.other_count(stand.candidates())

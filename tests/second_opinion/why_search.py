@@ -161,12 +161,15 @@ def other_kind(octets):
     return [line for front, line in KINDS if octets.startswith(front)][:1]
 
 
-def other_start(octets, padding, fault):
-    """Returns the line about the first other offset from which on the input parses. `fault` is the offset of the fault."""
+def other_start(octets, padding, top, fault):
+    """Returns the line about the first other offset from which on the input parses. `top` is the top end, and `fault` the
+    offset of the fault.
+    """
     first = header_at(octets, 0)
-    if first and ends_near(octets, first):
+    is_right = first is not None and seems_right(octets, first)
+    if first and ends_near(octets, first) or is_right and top:
         return []
-    first = fault + 1 if first and seems_right(octets, first) else 1
+    first = fault + 1 if is_right else 1
     starts = [it for it in range(first, min(LAST_START + 1, len(octets) - LEAST_FROM_START + 1)) if is_start(octets, it, padding)]
     alone = [it for it in starts if end_of(header_at(octets, it)) == len(octets)]
     return [START.format(offset, offset + 1) for offset in alone + starts][:1]

@@ -1,5 +1,5 @@
 -- Where else encodings begin in an input: X.690 8.1.1.
-use Rattle.std.specs.Prelude.{◌≡◌, ◌≤◌, ◌+◌, ◌*◌, ◌&&◌, ◌||◌, ℕ, Bool, false, true, List, ◌++◌, length, take, drop, min, Option}
+use Rattle.std.specs.Prelude.{◌≡◌, ◌<◌, ◌≤◌, ◌+◌, ◌*◌, ◌&&◌, ◌||◌, ℕ, Bool, false, true, List, ◌++◌, length, take, drop, min, Option}
 use Rattle.std.specs.Prelude.{None, Some, eqb, nat_le, slice_index}
 use Rattle.std.specs.Option.{option_map_or}
 use Rattle.std.specs.Str.TwoWay.{IsFirst}
@@ -80,11 +80,13 @@ IsFirstStart padding octets first found =
     IsElse (IsFirst (IsOneStart padding octets) first (min 257 (length octets))) (λ offset. offset)
     (IsFirstOther padding octets first) found
 
--- the offset from which an input with a fault at this offset is sound: the first from 1 on, or, if the first element of
--- the input seems right, behind the fault; none if that element ends near the end of the input
-pub data IsNextStart (padding : Bool) (octets : List ℕ) (fault : ℕ) : Option ℕ → Type 0 where
-  of_one_record : BeginsAndEnds octets → IsNextStart padding octets fault None
-  of_records : {found : Option ℕ} → (BeginsAndEnds octets → ⊥) → SeemsRight octets
-      → IsFirstStart padding octets (offset_sum fault 1) found → IsNextStart padding octets fault found
+-- the offset from which an input with a fault at this offset is sound, and with whole elements up to the offset `top`:
+-- the first from 1 on; or behind the fault, if the first element of the input seems right, and the fault is inside it.
+-- None if that element ends near the end of the input, or if it seems right and is whole
+pub data IsNextStart (padding : Bool) (octets : List ℕ) (top fault : ℕ) : Option ℕ → Type 0 where
+  of_one_record : BeginsAndEnds octets → IsNextStart padding octets top fault None
+  of_records : (BeginsAndEnds octets → ⊥) → SeemsRight octets → 0 < top → IsNextStart padding octets top fault None
+  of_damaged : {found : Option ℕ} → (BeginsAndEnds octets → ⊥) → SeemsRight octets → top ≡ 0
+      → IsFirstStart padding octets (offset_sum fault 1) found → IsNextStart padding octets top fault found
   otherwise : {found : Option ℕ} → (BeginsAndEnds octets → ⊥) → (SeemsRight octets → ⊥)
-      → IsFirstStart padding octets 1 found → IsNextStart padding octets fault found
+      → IsFirstStart padding octets 1 found → IsNextStart padding octets top fault found

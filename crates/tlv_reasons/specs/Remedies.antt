@@ -141,7 +141,7 @@ IsLengthOrElse padding octets facts =
 
 abbrev pub IsRemedy : Bool → List ℕ → Facts → Option Sentence → Type 0
 IsRemedy padding octets facts =
-    IsElse (IsNextStart padding octets (fault_offset facts)) say.ParsesFrom
+    IsElse (IsNextStart padding octets facts.top (fault_offset facts)) say.ParsesFrom
     (IsElse (λ run. run ≡ run_around octets (fault_offset facts)) say.Overwritten (IsLengthOrElse padding octets facts))
 
 -- the lengths that such a sentence names

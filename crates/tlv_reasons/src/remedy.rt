@@ -29,7 +29,7 @@ pub(crate) fn remedy(
     ensures { IfOk result (λ found. IsRemedy padding octets.now facts.now found) }
 {
     let fault = fault_offset(facts);
-    if let Some(start) = next_start(octets, padding, fault) {
+    if let Some(start) = next_start(octets, padding, facts.top as usize, fault) {
         return Ok(Some(Sentence::ParsesFrom(start as u64)));
     }
     match run_around(octets, fault) {

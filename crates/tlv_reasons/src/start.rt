@@ -20,23 +20,27 @@ use tlv_walk::Ending;
 /// The greatest offset at which encodings are looked for, in octets from the start of the input.
 const START_LIMIT: usize = 256;
 
-/// The offset from which an input with a fault at the offset `fault` is sound, in octets from its start: the first from 1
-/// to 256 from which it is a single element, or, if there is none, the first at which a constructed element begins whose first octet is no space (`20`), with at least 10 octets from there
-/// on. If the first element of the input seems right, that is, it is constructed and its contents begin with whole
-/// encodings, the offset lies behind the fault. `None` also if the first element ends with the input, or is constructed
-/// and ends near its end: the distance is at most a quarter of the input. With `padding`, octets `00` are allowed between
-/// encodings and after them.
-pub fn next_start(octets: &[u8], padding: bool, fault: usize) -> Option<usize>
+/// The offset from which an input with a fault at the offset `fault`, and with whole elements up to the offset `top`, is
+/// sound, in octets from its start: the first from 1 to 256 from which it is a single element, or, if there is none, the
+/// first at which a constructed element begins. Its first octet is no space (`20`), and at least 10 octets are there. If
+/// the first element of the input seems right, that is, it is constructed and its contents begin with whole encodings, and
+/// the fault is inside it, the offset lies behind the fault. `None` also if the first element seems right and is whole; if
+/// it ends with the input; or if it is constructed and ends near the end of the input: the distance is at most a quarter
+/// of the input. With `padding`, octets `00` are allowed between encodings and after them.
+pub fn next_start(octets: &[u8], padding: bool, top: usize, fault: usize) -> Option<usize>
     requires { length octets.now ≤ input_limit }
-    ensures { IsNextStart padding octets.now fault result }
+    ensures { IsNextStart padding octets.now top fault result }
 {
     if begins_and_ends(octets) {
         return None;
     }
-    if seems_right(octets) {
-        return first_start(octets, padding, fault.saturating_add(1));
+    if !seems_right(octets) {
+        return first_start(octets, padding, 1);
     }
-    first_start(octets, padding, 1)
+    if top > 0 {
+        return None;
+    }
+    first_start(octets, padding, fault.saturating_add(1))
 }
 
 /// Whether the first element of the input ends with it, or near its end.

@@ -121,7 +121,7 @@ fn characters_of_latin1_are_found(rt: HostRuntime) -> Result<(), Fail> {
 #[test]
 fn another_start_is_found(rt: HostRuntime) {
     let behind_three = b"\x00\x00\x00\x30\x08\x02\x01\x05\x02\x03\x01\x02\x03";
-    expect_eq(&rt, next_start(behind_three, false, 0), Some(3));
+    expect_eq(&rt, next_start(behind_three, false, 0, 0), Some(3));
     let record = next_record(RECORDS, false, 5, None, None, 1 << 24);
     expect_eq(&rt, record, Some(13));
 }
