@@ -266,7 +266,7 @@ FETCH = "Try: fetch it anew, in binary."
 OTHERS = [
     ("lengths that are wrong together", b"\x30\x06\x30\x04\x04\x05abcde",
      "If each of the lengths at 0 and 2 were 3 more, all would parse: 3 octets may have been put in there, and they were not raised."),
-    ("a block that stands twice", b"\x30\x09\x30\x05\x04\x03ababc\x05\x00",
+    ("a block that stands twice", b"\x30\x0a\x30\x05\x04\x03ababc\x02\x01\x05",
      "The 2 octets from offset 6 on stand twice. If they stood once, all would parse."),
     ("octets in place of others", b"\x30\x1b\x02\x01\x05" + bytes(24),
      "The octets from offset 5 on are 00 alone: 24. They may stand in place of others."),
