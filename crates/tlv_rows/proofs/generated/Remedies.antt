@@ -24,7 +24,7 @@ use Rattle.tlv_reasons.specs.Overwritten.{run_around}
 use Rattle.tlv_reasons.specs.Remedies.{lengths_in, named_at, replaced_before, start_in, undoable, unless_mended}
 use Rattle.tlv_reasons.specs.Sizes.{difference_of, size_sentence_of}
 use Rattle.tlv_reasons.specs.Sentences.{sentence_text}
-use Rattle.tlv_reasons.specs.Values.{octets_in_words}
+use Rattle.tlv_reasons.specs.Values.{first_pairs, octets_between, octets_in_words}
 use Rattle.tlv_reasons.specs.TextCopies.{has_replacement, latin1_of_utf8, with_lf_alone}
 use Rattle.tlv_reasons.specs.Traces.{trace_of}
 use Rattle.tlv_reasons.specs.Suspects.{distinct}
