@@ -18,16 +18,16 @@ count_back x count [] = count
 count_back x count (y ∷ more) = count_back x (counted_on x count y) more
 
 -- erased memory, or a block that was not read, has such an octet
-abbrev pub is_blank : ℕ → Bool
-is_blank x = eqb x 0 || eqb x 0xff
+abbrev pub is_erased : ℕ → Bool
+is_erased x = eqb x 0 || eqb x 0xff
 
 -- a run of fewer octets is not told of: a limit of our own
 abbrev pub least_run : ℕ
 least_run = 24
 
 -- where the octets x around this offset begin, and where they end
-abbrev pub run_with : ℕ → List ℕ → ℕ → Run
-run_with x octets at = record {
+abbrev pub octet_run : ℕ → List ℕ → ℕ → Run
+octet_run x octets at = record {
   start = at - count_back x 0 (take at octets);
   end = at + count_front x (drop at octets);
 }
@@ -39,5 +39,5 @@ long_run run = if nat_le (run.start + least_run) run.end then Some run else None
 -- the octets 00 or ff in a row around this offset, if there are enough of them
 abbrev pub run_around : List ℕ → ℕ → Option Run
 run_around octets at =
-    if nat_lt at (length octets) && is_blank (slice_index octets at)
-    then long_run (run_with (slice_index octets at) octets at) else None
+    if nat_lt at (length octets) && is_erased (slice_index octets at)
+    then long_run (octet_run (slice_index octets at) octets at) else None

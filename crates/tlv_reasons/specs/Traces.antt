@@ -55,8 +55,8 @@ abbrev pub are_ends_paired : ℕ → List ℕ → Bool
 are_ends_paired before [] = true
 are_ends_paired before (x ∷ more) = (eqb before 0x0d || not (eqb x 0x0a)) && are_ends_paired x more
 
-abbrev pub line_feeds : List ℕ → ℕ
-line_feeds octets = count_by (λ x. eqb x 0x0a) octets
+abbrev pub line_feed_count : List ℕ → ℕ
+line_feed_count octets = count_by (λ x. eqb x 0x0a) octets
 
 -- three or more of so many octets, but not more than one in a hundred, as a text in lines has
 abbrev pub are_few_lines : ℕ → ℕ → Bool
@@ -64,18 +64,18 @@ are_few_lines size count = nat_le 3 count && nat_le (100 * count) size
 
 abbrev pub line_end_trace : List ℕ → Option Trace
 line_end_trace octets =
-    if are_ends_paired 0 octets && are_few_lines (length octets) (line_feeds octets)
-    then Some (trace.LineEnds (line_feeds octets)) else None
+    if are_ends_paired 0 octets && are_few_lines (length octets) (line_feed_count octets)
+    then Some (trace.LineEnds (line_feed_count octets)) else None
 
 -- ---- every second octet 00
 
 -- the number of octets 00 at every second place: at the first, third and so on, or at the others
-abbrev pub counted : Bool → ℕ → ℕ
-counted is_here x = if is_here && eqb x 0 then 1 else 0
+abbrev pub counted_zero : Bool → ℕ → ℕ
+counted_zero is_here x = if is_here && eqb x 0 then 1 else 0
 
 abbrev pub zeros_at : Bool → List ℕ → ℕ
 zeros_at is_here [] = 0
-zeros_at is_here (x ∷ more) = counted is_here x + zeros_at (not is_here) more
+zeros_at is_here (x ∷ more) = counted_zero is_here x + zeros_at (not is_here) more
 
 -- so many are nine of twenty of all, or more
 abbrev pub are_nearly_half : ℕ → ℕ → Bool

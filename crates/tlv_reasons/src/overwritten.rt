@@ -1,7 +1,7 @@
 //! Equal octets in a row that stand in place of others.
 ghost use Rattle.std.specs.Prelude.{◌≡◌, ◌<◌, ◌≤◌, ◌+◌, ◌^◌, length};
 ghost use Rattle.tlv_head.specs.Limits.{input_limit};
-ghost use Rattle.tlv_reasons.specs.Overwritten.{count_back, count_front, counted_on, is_blank, long_run, run_around, run_with};
+ghost use Rattle.tlv_reasons.specs.Overwritten.{count_back, count_front, counted_on, is_erased, long_run, run_around, octet_run};
 
 /// The least number of equal octets in a row that is told of.
 const LEAST_RUN: u64 = 24;
@@ -21,25 +21,25 @@ pub(crate) fn run_around(octets: &[u8], at: usize) -> Option<Run>
     requires { length octets.now ≤ input_limit }
     ensures { result ≡ run_around octets.now at }
 {
-    if at < octets.len() && is_blank(octets[at]) {
-        long_run(run_with(octets[at], octets, at))
+    if at < octets.len() && is_erased(octets[at]) {
+        long_run(octet_run(octets[at], octets, at))
     } else {
         None
     }
 }
 
 /// Whether this is an octet that erased memory has, or a block that was not read.
-fn is_blank(octet: u8) -> bool
-    ensures { result ≡ is_blank octet }
+fn is_erased(octet: u8) -> bool
+    ensures { result ≡ is_erased octet }
 {
     octet == 0 || octet == 0xff
 }
 
 /// Where the octets that are this one begin around this offset, and where they end.
-fn run_with(octet: u8, octets: &[u8], at: usize) -> Run
+fn octet_run(octet: u8, octets: &[u8], at: usize) -> Run
     requires limit { length octets.now ≤ input_limit }
     requires within { at < length octets.now }
-    ensures run { result ≡ run_with octet octets.now at }
+    ensures run { result ≡ octet_run octet octets.now at }
     ensures start { result.start < 2 ^ 63 }
 {
     Run {

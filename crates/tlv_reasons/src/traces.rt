@@ -4,7 +4,7 @@ ghost use Rattle.std.specs.Prelude.{◌≡◌, ◌≤◌, IfSome, count_by, eqb,
 ghost use Rattle.tlv_head.specs.Limits.{input_limit};
 ghost use Rattle.tlv_reasons.specs.Traces.{are_characters, are_ends_paired, are_few_lines, are_nearly_half, are_seven_bits};
 ghost use Rattle.tlv_reasons.specs.Traces.{are_some_high, begins_cleared, is_second_beyond};
-ghost use Rattle.tlv_reasons.specs.Traces.{beyond_ascii, bits_trace, counted, following_count, half_trace, line_end_trace, line_feeds};
+ghost use Rattle.tlv_reasons.specs.Traces.{beyond_ascii, bits_trace, counted_zero, following_count, half_trace, line_end_trace, line_feed_count};
 ghost use Rattle.tlv_reasons.specs.Traces.{question_marks, seven_bit_trace, trace_of, utf8_trace, wanted_after, zeros_at};
 
 use crate::facts_call::octet_at;
@@ -225,15 +225,15 @@ fn zeros_at(octets: &[u8], is_here: bool) -> u64
     let mut count = 0;
     let mut is_counted = is_here;
     for octet in octets {
-        count += counted(is_counted, *octet);
+        count += counted_zero(is_counted, *octet);
         is_counted = !is_counted;
     }
     count
 }
 
 /// 1 if an octet `00` is at one of these places; else 0.
-fn counted(is_here: bool, octet: u8) -> u64
-    ensures counted { result ≡ counted is_here octet }
+fn counted_zero(is_here: bool, octet: u8) -> u64
+    ensures counted { result ≡ counted_zero is_here octet }
     ensures within { result ≤ 1 }
 {
     if is_here && octet == 0 { 1 } else { 0 }
