@@ -58,6 +58,19 @@ def blocks_of(out):
     return re.split(rb"^# block .*\n", out, flags=re.M)
 
 
+def without_mending(lines):
+    """Returns these lines without the one that says what would mend the input, for which memory is needed, and without
+    those about lengths in front, which come if nothing would.
+    """
+    return [line for line in lines if not line.startswith(("If the header at offset ", "Or a length in front is wrong: "))]
+
+
+def is_begun(written, block):
+    """Returns whether the beginning of what is written of a block was written, or all but the line of what would mend it."""
+    lines = [without_mending(each.decode("latin-1").splitlines()) for each in (written, block)]
+    return block.startswith(written) or bool(lines[0]) and lines[0] == lines[1][: len(lines[0])]
+
+
 class Line:
     """A command line: its result if no request is refused, and the files that it opens."""
 
@@ -104,16 +117,18 @@ class Line:
         said, own = got.err.decode().splitlines(), self.own.err.decode().splitlines()
         refused = [line for line in said if self.refusal.fullmatch(line)]
         blocks = iter(blocks_of(self.own.out))
-        is_prefix = all(any(block.startswith(written) for block in blocks) for written in blocks_of(got.out))
+        is_prefix = all(any(is_begun(written, block) for block in blocks) for written in blocks_of(got.out))
         self.refused_reasons += self.is_all_but_reasons(got.out, said, refused)
+        said, own = without_mending(said), without_mending(own)
         return got.status == 5 and is_prefix and bool(refused) and set(said) <= {*refused, *own}
 
     def is_all_but_reasons(self, out, said, refused):
         """Returns whether the run wrote everything except reasons, which E8 ends."""
         if "--why" in self.words:
             return out not in (b"", self.own.out)
-        own, at = self.own.err.decode().splitlines(), said.index(refused[0]) if refused else 0
-        return out == self.own.out and len(refused) == 1 and 0 < at < len(own) and said[:at] == own[:at]
+        own, said = without_mending(self.own.err.decode().splitlines()), without_mending(said)
+        at = said.index(refused[0]) if refused else 0
+        return out == self.own.out and len(refused) == 1 and 0 < at <= len(own) and said[:at] == own[:at]
 
     def refuse_each(self, may_pass=False):
         """Refuses each request in turn, alone, and with all after it."""
