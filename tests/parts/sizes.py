@@ -44,8 +44,15 @@ BEHIND = (
     ("an element", NULL, ([], ["--check"], ["--why"])),
 )
 # More than this is not searched for a header with the wrong length, or for an octet that is missing or was put in. The front of
-# the short input is so long that its length has as many octets as that of a longer one.
-SEARCHED, SHORT = 1 << 20, 70_000
+# the short input is so long that its length has as many octets as that of a longer one, and that one header is named.
+SEARCHED, SHORT = 1 << 20, 270_000
+
+
+def with_sizes(text, offset, size):
+    """Returns a text in which the size of an element of so many octets is said, behind the message of its fault."""
+    line = b"By its length the SEQUENCE at offset %d ends with the input, at offset %d: no octet was lost or put in.\n"
+    message, end, more = text.partition(b"\n")
+    return message + end + line % (offset, offset + size) + more if b"fault at " in message else text
 
 
 def without_search(text):
@@ -63,6 +70,8 @@ def long_inputs(part, program):
                 wanted = Done(like.status, *(moved(text, SHORT, count - SHORT) for text in (like.out, like.err)))
                 if count + 5 + len(octets) > SEARCHED:
                     wanted.out, wanted.err = without_search(wanted.out), without_search(wanted.err)
+                    if what == "a fault":
+                        wanted.out, wanted.err = (with_sizes(text, count + 5, len(octets)) for text in (wanted.out, wanted.err))
                 parses = b"It parses: %d octets"
                 wanted.out = wanted.out.replace(parses % (5 + SHORT + len(octets)), parses % (5 + count + len(octets)))
                 wanted.out = wanted.out.replace(b" %6d: OCTET STRING\n" % SHORT, b" %6d: OCTET STRING\n" % count, 1)
