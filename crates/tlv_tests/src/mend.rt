@@ -87,7 +87,7 @@ fn inverted_bits_are_found(rt: HostRuntime) -> Result<(), Fail> {
 
 #[test]
 fn what_shows_a_text_is_found(rt: HostRuntime) {
-    let octets = b"\xc3\xbf\xc3\xbf\xc3\xbf\xc3\xbf\xc3\xbf\xc3\xbf\xc3\xbf\xc3\xbf";
+    let octets = b"\x30\xc3\xbf\xc3\xbf\xc3\xbf\xc3\xbf\xc3\xbf\xc3\xbf\xc3\xbf\xc3\xbf";
     expect_eq(&rt, trace_of(octets), Some(Trace::AsUtf8(8)));
     let wanted = Spacing {
         first: 0,
