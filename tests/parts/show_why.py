@@ -48,6 +48,30 @@ START = "No encoding begins so. Try: file FILE, which knows files of other kinds
 MORE = "If one octet more stood after the header at offset {0}, all would parse: an octet of its contents may be missing."
 FEWER = "If one octet fewer stood after the header at offset {0}, all would parse: an octet may have been put in there."
 WHOLE = "Try: head -c {0} FILE, for the whole encodings."
+# Octets that parse, the numbers of findings, and the lines of the first five.
+FINDINGS = [
+    (NULL, 0, 0, []),
+    (b"\x02\x02\x00\x05" + NULL, 1, 1, ["0 B08 integer is padded"]),
+    (b"\x04\x81\x01a", 0, 1, ["0 S01 length is not the shortest"]),
+    (b"\x30\x81\x03\x01\x01\x01", 0, 2, ["0 S01 length is not the shortest", "3 S02 TRUE is not ff"]),
+    (b"\x01\x01\x01" * 5, 0, 5, [f"{offset} S02 TRUE is not ff" for offset in range(0, 15, 3)]),
+    (b"\x01\x01\x01" * 6, 0, 6, [f"{offset} S02 TRUE is not ff" for offset in range(0, 15, 3)]),
+    (b"\x01\x01\x01" * 2000, 0, 2000, [f"{offset} S02 TRUE is not ff" for offset in range(0, 15, 3)]),
+]
+MANY_KINDS = ("It has {} outermost elements, which begin with {} different octets. Primitive: {}. "
+              "Octets that are no encodings may parse so by chance.")
+# First octets of 33 primitive elements and 31 constructed ones.
+TAGS = [*range(0x40, 0x5F), 4, 5, *range(0x60, 0x7F)]
+# Octets that parse, the numbers in the line about outermost elements, and the words.
+CHANCE = [
+    (NULL * 3 + b"\x04\x00", None, []),
+    (NULL + b"\x04\x00\x30\x00", (3, 3, 2), []),
+    (NULL + b"\x04\x00\x30\x00" + NULL * 2, (5, 3, 4), []),
+    (b"".join(bytes([tag, 0]) for tag in TAGS[:63]), (63, 63, 33), []),
+    (b"".join(bytes([tag, 0]) for tag in TAGS), None, []),
+    (NULL + b"\x04\x00\x30\x80\x00\x00", None, []),
+    (NULL + b"\x00\x04\x00\x00\x00\x30\x00\x00", (3, 3, 2), ["--padding"]),
+]
 # For each fault: the code, the octets, the words, and the sentences after "It does not parse".
 FAULTS = [
     ("F01", "", [], ["The input is empty.", "Try: look whether the program that should write it failed."]),
@@ -178,6 +202,8 @@ UTF_16 = "It begins as text in UTF-16 does. Try: iconv -f UTF-16 -t UTF-8 FILE |
 # A record, and one with a header that is refused inside it.
 RECORD, DAMAGED = element(0x30, b"\x02\x01\x05"), element(0x30, b"\xa0\x04\x04\xff\x05\x00")
 NEXT = "From offset {} on it parses: the next record may begin there. Try: tail -c +{} FILE | tlvdump-show"
+FAR_NEXT = ("The next record may begin at offset {}: from there on it parses up to another fault, at offset {}. "
+            "Try: tail -c +{} FILE | tlvdump-show")
 # Hints for a wrong start, a copy as text, and files of other kinds: words that must be written, and the status.
 HINTS = [
     ("the next record", RECORD + DAMAGED + RECORD, NEXT.format(13, 14), 2),
@@ -186,6 +212,11 @@ HINTS = [
     ("the next record, after it", RECORD + bytes.fromhex("300504ff30020500") + RECORD, NEXT.format(13, 14), 2),
     ("a record inside the damaged one", RECORD + bytes.fromhex("3009a00404ff3000") + RECORD, NEXT.format(11, 12), 2),
     ("the next record that parses", RECORD + DAMAGED + RECORD + DAMAGED + RECORD, NEXT.format(26, 27), 2),
+    # The faults are at 10 and 4109, which is 4096 octets behind the next record, and at 10 and 4108.
+    ("the next record, and another fault far behind", RECORD + DAMAGED + RECORD + string(bytes(4082)) + DAMAGED + RECORD,
+     FAR_NEXT.format(13, 4109, 14), 2),
+    ("the next record, and another fault nearer", RECORD + DAMAGED + RECORD + string(bytes(4081)) + DAMAGED + RECORD,
+     NEXT.format(4111, 4112), 2),
     ("a wrong start", b"\0\0\0" + BODY, "From offset 3 on it parses", 2),
     ("the command for it", b"\0\0\0" + BODY, "Try: tail -c +4 FILE | tlvdump-show", 2),
     ("a header that parses in part", b"\x02\x93" + BODY, "From offset 2 on it parses", 2),
@@ -198,6 +229,8 @@ HINTS = [
 ]
 UNDONE = [(what, octets) for what, octets, wanted, _ in HINTS if "ISO-8859-1" in wanted or "0d were" in wanted]
 PCAP = "It begins as a capture of packets (pcap) does: export the octets of a packet first."
+CHUNKS = ("It begins with a chunk of HTTP and its size. Try: fetch it anew with a program that joins the chunks, "
+          "as curl does.")
 # Files of other kinds, and the line that is the only reason why they do not parse. Behind some of the first octets stand
 # octets for which there would be lines of left-over octets, another length, line ends, or another start.
 KINDS = [
@@ -216,12 +249,14 @@ KINDS = [
     (b"\xfe\xed\xfe\xed\x00\x00\x00\x02", "It begins as a key store of Java (JKS) does: export what you need first."),
     (b"HTTP/1.1 200 OK\r\n\r\n" + BODY, "It begins with the header of an answer of HTTP. Try: sed '1,/^.$/d' FILE | tlvdump-show"),
     (b"\xef\xbb\xbf" + BODY, "It begins with the byte order mark of a text in UTF-8. Try: tail -c +4 FILE | tlvdump-show"),
+    (f"{len(BODY):x}\r\n".encode() + BODY + b"\r\n0\r\n\r\n", CHUNKS),
+    (f"{len(BODY):08X}\r\n".encode() + BODY + b"\r\n", CHUNKS),
 ]
 # Octets for which no other start may be suggested: those after whole encodings, and the last record.
 NO_START = [BODY + b"garbage\n", BODY + b"\x41\x82\x13\x04\x30", BODY + DAMAGED]
-# Octets that refuse every walk up to them. Between a damaged record and these, each record that stands there is tried, and a
-# string makes each try long.
-WALL, LONG = b"\x05\xff", 524_000
+# The header of a string that holds the last record and lacks an octet. So the input ends inside it for every walk up to it.
+# Between a damaged record and these octets, each record that stands there is tried, and a string makes each try long.
+WALL, LONG = b"\x04\x03", 524_000
 
 
 def behind_many(count):
@@ -293,7 +328,12 @@ LONG_LENGTHS = [
     (WIDE, ONE, "If the header at offset 262141 said 1 octet and not 2, or that at offset 0 said 262135 octets and not 262134, all would parse."),
     (WIDE + 1, ONE, "If the header at offset 262142 said 1 octet and not 2, all would parse."),
     (SEARCHED, ONE, "If the header at offset 1048573 said 1 octet and not 2, all would parse."),
-    (SEARCHED + 1, ONE, None),
+    # Here the damaged element alone is searched, if nothing follows it, or what follows parses, and if it is not too long.
+    (SEARCHED + 1, ONE, "If the header at offset 1048574 said 1 octet and not 2, all would parse."),
+    (SEARCHED + 1, ONE + RECORD, "If the header at offset 1048569 said 1 octet and not 2, all would parse."),
+    (SEARCHED + 1, ONE + RECORD + b"\x05", None),
+    (SEARCHED + 1, b"\x30\x0b\x04\x19" + b"a" * 9, "If the header at offset 1048566 said 9 octets and not 25, all would parse."),
+    (2 * SEARCHED, element(0x30, bytes([4]) + b"\x83\x0f\xff\xf1" + bytes(SEARCHED - 13) + b"\x04\x01"), None),
     (WIDE, BIT, "If the header at offset 262133 said 9 octets and not 25, all would parse."),
     (WIDE + 1, BIT, None),
 ]
@@ -335,9 +375,19 @@ def faults(why):
         fine = status == 2 and f": {code} " in message and lines[:1] == [f"It does not parse: {message.strip()}."]
         fine = fine and lines[1 : len(wanted) + 1] == wanted
         part.expect(f"why {digits} {words}", fine, *lines)
-    for octets, ber, der, wanted in ((NULL, 0, 0, 0), (b"\x02\x02\x00\x05" + NULL, 1, 1, 1), (b"\x04\x81\x01a", 0, 1, 0)):
+    for octets, ber, der, wanted in FINDINGS:
         got = why.said(octets)
-        part.expect(f"why {octets.hex()}", got == (wanted, [sound(octets), findings(ber, der)]), str(got))
+        status = 1 if ber else 0
+        part.expect(f"why {octets.hex()}", got == (status, [sound(octets), findings(ber, der), *wanted]), str(got))
+
+
+def by_chance(why):
+    """If outermost elements begin with 3 to 63 different octets, their numbers are said, but not if one has no length."""
+    for octets, numbers, words in CHANCE:
+        _, lines = why.said(octets, *words)
+        wanted = [MANY_KINDS.format(*numbers)] if numbers else []
+        given = [line for line in lines if line.startswith("It has ")]
+        why.part.expect(f"outermost elements, {octets[:12].hex()}", lines[:1] == [sound(octets)] and given == wanted, *lines)
 
 
 def undone(why):
@@ -401,6 +451,9 @@ def hints(why):
         text = "\n".join(lines)
         fine = f"end at offset {len(BODY)}." in text and "From offset" not in text
         why.part.expect(f"no other start after whole encodings, {octets.hex()}", fine, *lines)
+    # From the element in the damaged record on it parses far, but only up to the fault of the input.
+    _, lines = why.said(RECORD + element(0x30, RECORD + string(bytes(5000)) + b"\x04\xff") + RECORD[:-1])
+    why.part.expect("no next record in front of the fault", "record may begin" not in "\n".join(lines), *lines)
     got = why.program.run([], (b"\0\0\0" + BODY)[3:])
     why.part.expect("after the wrong start", got.status == 0, *got.lines())
 
@@ -434,32 +487,31 @@ def of_size(size, octets):
 
 
 def long_input(why):
-    """In more than 2^18 octets only lengths nearby are tried, and one header is named. In more than 2^20 none is, and no
-    next record.
+    """In more than 2^18 octets only lengths nearby are tried, and one header is named. In more than 2^20 the damaged element
+    alone is searched.
     """
     for size, octets, wanted in LONG_LENGTHS:
         _, lines = why.said(of_size(size, octets))
         fine = wanted in lines if wanted else not any(line.startswith("If ") for line in lines)
         why.part.expect(f"another length in {size} octets, {octets.hex()}", fine, *lines)
-    for size, is_found in ((1 << 20, True), ((1 << 20) + 1, False)):
+    for size in (1 << 20, (1 << 20) + 1):
         _, lines = why.said(of_size(size, DAMAGED + RECORD))
-        fine = (NEXT.format(size - 5, size - 4) in lines) == is_found
-        why.part.expect(f"the next record in {size} octets", fine, *lines)
+        why.part.expect(f"the next record in {size} octets", NEXT.format(size - 5, size - 4) in lines, *lines)
 
 
 def many_tries(why):
     """The tries for the next record read 2^24 octets, divided by the number of blocks, and then no other is made.
 
     With N records in front of the string, the first of these is tried twice: as the end of the damaged one, and after its
-    start. A walk from a record reads its two octets, those of the records behind it, the string and one octet of the wall. So
-    all walks read N * (N + 3) + (N + 1) * (LONG + 6) octets.
+    start. A walk from a record reads its two octets, those of the records behind it, the string and four octets up to the end
+    of the input. So all walks read N * (N + 3) + (N + 1) * (LONG + 9) octets.
     """
     part = why.part
     part.write("other", RECORD + DAMAGED + RECORD)
     for blocks, last_found in ((1, 31), (2, 15), (3, 9)):
         for count in (last_found - 1, last_found, last_found + 1, last_found + 2):
             octets, is_found = behind_many(count), count <= last_found
-            last, read = len(octets) - 2, count * (count + 3) + (count + 1) * (LONG + 6)
+            last, read = len(octets) - 2, count * (count + 3) + (count + 1) * (LONG + 9)
             part.write("many", octets)
             got = why.run(["--as", "octets", *["other"] * (blocks - 1), "many"])
             lines = got.out.decode().splitlines()
@@ -580,6 +632,7 @@ def texts(why):
 def test(part):
     why = Why(part)
     faults(why)
+    by_chance(why)
     undone(why)
     others(why)
     outermost(why)

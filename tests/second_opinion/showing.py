@@ -178,7 +178,7 @@ def why_shown(show, octets, strings, count):
     inside = [] if show.closed else strings.opened
     ber, der = (found_by(rules, octets, show.padding, inside) for rules in ("ber", "der"))
     headings = [f"The {line_of(*it)}." for it in strings.faults()][:1]
-    lines = [*why.sound_lines(octets, ber, der), *headings, *of_first(strings)]
+    lines = [*why.sound_lines(octets, show.padding, ber, der), *headings, *of_first(strings)]
     return with_broken(Shown(1 if ber else 0, written(lines)), strings)
 
 
@@ -188,9 +188,9 @@ def written(lines):
 
 
 def found_by(rules, octets, padding, inside):
-    """Returns how many findings a check by these rules reports, with these strings opened."""
+    """Returns the lines of a check by these rules, with these strings opened."""
     options = Options("check", padding=padding, all_findings=True)
-    return len(answer(options, Values(rules, 0, 0, inside), {}, octets).out.splitlines())
+    return answer(options, Values(rules, 0, 0, inside), {}, octets).out.decode().splitlines()
 
 
 def line_of(broken, fault):

@@ -7,6 +7,7 @@ from second_opinion.reading import Element, Reading
 
 MOST_BEFORE, MOST_OPEN = 25, 16
 LEAST_TEXT = 8
+MOST_SHOWN = 5
 BLANK = b" \t\n\r\x1a"
 PRINTABLE = b"\t\n\r" + bytes(range(0x20, 0x7F))
 
@@ -107,14 +108,35 @@ def lines_of(octets, padding, count=1):
                or why_chains.chain(search, stand))
     sizes = [] if mending or is_followed_by_other(stand) else why_lines.of_sizes(stand)
     is_named = mending == why_search.line_of_lengths(named) and stand.top in [it.offset for it, _ in named]
-    record = [] if start or is_named else why_search.next_record(octets, padding, stand.top, count)
+    record = [] if start or is_named else why_search.next_record(octets, padding, stand.fault.offset, stand.top, count)
     return (first, *replaced, *mending, *sizes, *reasons(stand, bool(mending)), *record)
 
 
 def named_lengths(search, stand):
     """Returns the elements of which another length is named, each with that length."""
-    agrees = why_search.sizes_agree(search.octets, search.padding, stand.top)
+    octets, padding, top = search.octets, search.padding, stand.top
+    if not search.is_short:
+        return lengths_inside(octets, padding, top)
+    agrees = why_search.sizes_agree(octets, padding, top)
     return search.other_lengths(stand.candidates(), stand.open) if agrees else []
+
+
+def lengths_inside(octets, padding, top):
+    """Returns the same for an input that is too long to be searched: only the element at the top end is searched, if what
+    follows it parses.
+    """
+    damaged = why_search.header_at(octets, top)
+    end = why_search.end_of(damaged) if damaged and damaged.constructed else None
+    if end is None or end > len(octets) or end - top > why_search.MOST_SEARCHED:
+        return []
+    if end < len(octets) and not why_search.parses(octets[end:], padding):
+        return []
+    part = octets[top:end]
+    stand = Stand(part, padding)
+    named = why_search.Search(part, padding).other_lengths(stand.candidates(), stand.open)
+    for it, _ in named:
+        it.offset += top
+    return named
 
 
 @functools.lru_cache(maxsize=16)
@@ -129,10 +151,11 @@ def lines_of_string(octets, padding, inside):
     return (*changed, *reasons(stand, bool(changed)))
 
 
-def sound_lines(octets, ber, der):
-    """Returns the lines about octets that parse, with `ber` findings of BER and `der` of DER."""
+def sound_lines(octets, padding, ber, der):
+    """Returns the lines about octets that parse, with these lines of a check by BER and by DER."""
     return [f"It parses: {why_lines.so_many(len(octets))}, which are whole encodings.",
-            f"By the rules of BER: findings: {ber}. By those of DER: findings: {der}."]
+            *why_search.line_of_kinds(octets, padding),
+            f"By the rules of BER: findings: {len(ber)}. By those of DER: findings: {len(der)}.", *der[:MOST_SHOWN]]
 
 
 def is_followed_by_other(stand):

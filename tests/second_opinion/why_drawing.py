@@ -112,6 +112,25 @@ def among_records(rng, octets):
     return front + damage(rng, octets) + back
 
 
+def damaged_twice(rng, octets):
+    """Puts damaged records behind a whole one, with a string between them that is mostly long, and others around them."""
+    def record(damage=None):
+        inside = show_drawing.whole(octets[0], show_drawing.small(rng) + nested(rng, 3))
+        return damage(rng, inside) if damage else inside
+    damages = [changed, changed, other_length, put_in, left_out]
+    between = show_drawing.whole(4, bytes(rng.choice([10, 3900, 4000, 4050, 4080, 4090, 4100, 5000])))
+    parts = [record(), record(rng.choice(damages)), between, record(rng.choice(damages)), record()]
+    if rng.random() < 0.5:
+        parts[2:2] = [record()]
+    return b"".join(parts)
+
+
+def in_chunks(rng, octets):
+    """Puts the octets into chunks of HTTP."""
+    size = f"{len(octets) + rng.choice([0, 0, 0, 1]):{rng.choice(['x', 'X', '08x', '09x'])}}".encode()
+    return size + b"\r\n" + octets + b"\r\n" + rng.choice([b"", b"0\r\n\r\n"])
+
+
 def as_text(rng, octets):
     """Changes the octets as a copy in text mode does."""
     if rng.random() < 0.5:
@@ -199,7 +218,7 @@ def unended(rng, octets):
 
 
 CHANGES = (other_length, other_length, other_length, cut, put_in, left_out, changed, as_text, front, after, padded, odd_header)
-CHANGES += (other_octet, unended, far, among_records, among_records)
+CHANGES += (other_octet, unended, far, among_records, among_records, damaged_twice, in_chunks)
 
 
 def few(rng):

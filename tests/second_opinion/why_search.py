@@ -1,5 +1,6 @@
 """Looks for changes that would make an input parse: docs/WHY.md from "Another length" on."""
 import itertools
+import re
 
 from second_opinion.reading import Element, Reading
 from second_opinion.tries import Walk
@@ -16,6 +17,11 @@ MOST_WIDE, MOST_NAMED = 1 << 18, 3
 MOST_REVERSED = 5
 # The octets that the tries for the next record may read in a run.
 MOST_READ = 1 << 24
+# From a record on the input parses far if the next fault is so many octets behind it, and behind that of the input.
+FAR = 4096
+# Outermost elements begin with many different octets if these are at least as many as the one and fewer than the other.
+LEAST_KINDS, TOO_MANY_KINDS = 3, 64
+CHUNK = re.compile(rb"([0-9a-fA-F]{1,8})\r\n")
 # The most octets of a header: 1 and 9 of the tag, and 1 and 126 of the length.
 LONGEST_HEADER = 137
 UTF_16 = "It begins as text in UTF-16 does. Try: iconv -f UTF-16 -t UTF-8 FILE | tlvdump-show"
@@ -41,6 +47,12 @@ KINDS = (
 START = ("From offset {} on it parses: what stands in front may be a header of the file or of the record, or damaged. "
          "Try: tail -c +{} FILE | tlvdump-show")
 RECORD = "From offset {} on it parses: the next record may begin there. Try: tail -c +{} FILE | tlvdump-show"
+RECORD_UP_TO = ("The next record may begin at offset {}: from there on it parses up to another fault, at offset {}. "
+                "Try: tail -c +{} FILE | tlvdump-show")
+KINDS_LINE = ("It has {} outermost elements, which begin with {} different octets. Primitive: {}. "
+              "Octets that are no encodings may parse so by chance.")
+CHUNKS = ("It begins with a chunk of HTTP and its size. Try: fetch it anew with a program that joins the chunks, "
+          "as curl does.")
 
 
 def so_many(count):
@@ -158,7 +170,29 @@ def spelled(length_octets, length):
 
 def other_kind(octets):
     """Returns the line about another kind of file."""
-    return [line for front, line in KINDS if octets.startswith(front)][:1]
+    lines = [line for front, line in KINDS if octets.startswith(front)]
+    size = CHUNK.match(octets)
+    if size and octets.startswith(b"\r\n", size.end() + int(size[1], 16)):
+        lines.append(CHUNKS)
+    return lines[:1]
+
+
+def line_of_kinds(octets, padding):
+    """Returns the line about the outermost elements of octets that parse, if they begin with many different octets."""
+    offset, first = 0, []
+    while offset < len(octets):
+        if padding and octets[offset] == 0:
+            offset += 1
+            continue
+        element = header_at(octets, offset)
+        if element.length is None:
+            return []
+        first.append((octets[offset], element.constructed))
+        offset = end_of(element)
+    kinds = len({octet for octet, _ in first})
+    if not LEAST_KINDS <= kinds < TOO_MANY_KINDS:
+        return []
+    return [KINDS_LINE.format(len(first), kinds, sum(not constructed for _, constructed in first))]
 
 
 def other_start(octets, padding, top, fault):
@@ -204,13 +238,13 @@ def overwritten(octets, fault):
     return [f"The octets from offset {start} on are {octet.hex()} alone: {end - start}. They may stand in place of others."]
 
 
-def next_record(octets, padding, top, count):
-    """Returns the line about the first offset after the top end that is like it, and from which on the input parses.
-    `count` is the number of blocks of the run.
+def next_record(octets, padding, first_fault, top, count):
+    """Returns the line about the first offset after the top end that is like it, and from which on the input parses, or
+    parses far behind its fault. `count` is the number of blocks of the run.
     """
     damaged = header_at(octets, top)
     end = end_of(damaged) if damaged else None
-    if not top or len(octets) > MOST_SEARCHED or end is not None and abs(end - len(octets)) < 2:
+    if not top or end is not None and abs(end - len(octets)) < 2:
         return []
     alike = (it for it in range(top + 1, len(octets)) if octets[it] in (octets[top], octets[0]))
     tried = list(itertools.islice(alike, MOST_TRIED))
@@ -223,6 +257,8 @@ def next_record(octets, padding, top, count):
             fault = Walk(octets[offset:], padding).fault
             if fault is None:
                 return [RECORD.format(offset, offset + 1)]
+            if fault[1] != "F02" and fault[0] >= FAR and offset + fault[0] - first_fault >= FAR:
+                return [RECORD_UP_TO.format(offset, offset + fault[0], offset + 1)]
             left -= fault[0]
     return []
 

@@ -7,6 +7,8 @@ pub mod LengthLemmas
 pub mod ChainLemmas
 pub mod OctetLemmas
 pub mod OutermostLemmas
+pub mod KindLemmas
+pub mod DigitLemmas
 pub mod RecordLemmas
 pub mod MovedElements
 pub mod SoundLemmas

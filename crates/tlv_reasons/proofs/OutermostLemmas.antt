@@ -18,7 +18,7 @@ use Rattle.tlv_reasons.specs.OutermostSizes.{SizesAgree, agree_at_end, agree_beh
 use Rattle.tlv_reasons.specs.OutermostSizes.{agree_without_end, is_padded_at}
 
 -- a header begins inside the input
-header-inside : (octets : List ℕ) (offset : ℕ) (h : HeaderValue) → BeginsWith (drop offset octets) offset false h
+pub header-inside : (octets : List ℕ) (offset : ℕ) (h : HeaderValue) → BeginsWith (drop offset octets) offset false h
     → offset < length octets
 header-inside octets offset h p =
     let two : 2 ≤ length (octets_of h) = header-two h p.valid in

@@ -11,6 +11,7 @@ use Rattle.tlv_reasons.specs.declared.element.Element.{Element}
 use Rattle.tlv_reasons.specs.declared.facts.Facts.{Facts}
 use Rattle.tlv_reasons.specs.declared.lengths.WrongLength.{WrongLength}
 use Rattle.tlv_reasons.specs.declared.octet_changes.OctetChange.{OctetChange}
+use Rattle.tlv_reasons.specs.declared.records.NextRecord.{NextRecord}
 use Rattle.tlv_reasons.specs.NextRecord.{IsNextRecord}
 use Rattle.tlv_reasons.specs.OneOctet.{IsOctetChange}
 use Rattle.tlv_reasons.specs.declared.sentence.Sentence.{Sentence}
@@ -36,9 +37,9 @@ InputsHaveOneChain = (padding : Bool) (octets : List ℕ) (facts : Facts) (candi
 
 -- an input, with what was found before, determines the next record, or that there is none
 abbrev pub InputsHaveOneNextRecord : Type 0
-InputsHaveOneNextRecord = (reads : ℕ) (padding : Bool) (octets : List ℕ) (top : ℕ) (wrong : Option WrongLength)
-    (start a b : Option ℕ) → IsNextRecord reads padding octets top wrong start a
-    → IsNextRecord reads padding octets top wrong start b → a ≡ b
+InputsHaveOneNextRecord = (reads : ℕ) (padding : Bool) (octets : List ℕ) (fault top : ℕ) (wrong : Option WrongLength)
+    (start : Option ℕ) (a b : Option NextRecord) → IsNextRecord reads padding octets fault top wrong start a
+    → IsNextRecord reads padding octets fault top wrong start b → a ≡ b
 
 -- a header with another length that its length octets can state is a header of the same number of octets
 abbrev pub OtherLengthsMakeHeaders : Type 0

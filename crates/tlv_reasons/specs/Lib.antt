@@ -16,10 +16,12 @@ pub mod Overwritten
 pub mod Doubled
 pub mod FirstOf
 pub mod WrongLength
+pub mod Alone
 pub mod Chains
 pub mod OneOctet
 pub mod NextStart
 pub mod NextRecord
+pub mod OutermostKinds
 pub mod OutermostSizes
 pub mod TextCopies
 pub mod Remedies

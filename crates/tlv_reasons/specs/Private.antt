@@ -2,3 +2,4 @@ pub mod Tracking
 pub mod Lengths
 pub mod Silence
 pub mod Sizes
+pub mod OutermostKinds

@@ -1,5 +1,6 @@
 -- What may be done with an input that does not parse: which change would make it sound, and where else it is sound.
-use Rattle.std.specs.Prelude.{◌≡◌, ℕ, Bool, false, true, eqb, not, if◌then◌else◌, slice_get, take, List, [], ◌∷◌, ◌++◌, Option, None, Some}
+use Rattle.std.specs.Prelude.{◌≡◌, ◌<◌, ◌≤◌, ℕ, Bool, false, true, eqb, not, if◌then◌else◌, slice_get, take, length}
+use Rattle.std.specs.Prelude.{List, [], ◌∷◌, ◌++◌, Option, None, Some}
 use Rattle.std.specs.List.{filter, find}
 use Rattle.std.specs.Option.{is_some, option_map, option_map_or}
 use Rattle.tlv_open.specs.Opens.{closed_framing}
@@ -8,10 +9,12 @@ use Rattle.tlv_reasons.specs.declared.chains.Chain.{Chain}
 use Rattle.tlv_reasons.specs.declared.facts.Facts.{Facts}
 use Rattle.tlv_reasons.specs.declared.kinds.FileKind.{FileKind}
 use Rattle.tlv_reasons.specs.declared.lengths.WrongLength.{WrongLength}
+use Rattle.tlv_reasons.specs.declared.records.NextRecord.{NextRecord}
 use Rattle.tlv_reasons.specs.declared.sentence.Sentence.{Sentence}
 use Rattle.tlv_reasons.specs.declared.sentence.Sentence.TheVariants as say
 use Rattle.tlv_reasons.specs.declared.text_changes.TextChange.{TextChange}
 use Rattle.tlv_reasons.specs.declared.text_changes.TextChange.TheVariants.{LineEnds, Replaced, Utf8}
+use Rattle.tlv_reasons.specs.Alone.{AreLengthsInside}
 use Rattle.tlv_reasons.specs.Chains.{IsChain}
 use Rattle.tlv_reasons.specs.Doubled.{IsDoubled}
 use Rattle.tlv_reasons.specs.FaultReasons.{said}
@@ -29,7 +32,7 @@ use Rattle.tlv_reasons.specs.Suspects.{suspect_offsets}
 use Rattle.tlv_reasons.specs.TextCopies.{IsSoundWithLfAlone, IsSoundWithoutUtf8, has_replacement}
 use Rattle.tlv_reasons.specs.Traces.{trace_of}
 use Rattle.tlv_reasons.specs.Why.{fault_sentences, reasons_of}
-use Rattle.tlv_reasons.specs.WrongLength.{NamesLengths}
+use Rattle.tlv_reasons.specs.WrongLength.{NamesLengths, search_limit}
 
 -- what was done to the input as if it were a text: what makes the input sound if it is undone, UTF-8 first; else, what
 -- has left octets ef bf bd
@@ -43,12 +46,16 @@ pub data IsTextChange (padding : Bool) (octets : List ℕ) : Option TextChange �
       → has_replacement octets ≡ false → IsTextChange padding octets None
 
 -- the other lengths that are named, if the sizes of the outermost elements agree with that of the input, from the top end
--- on. Otherwise octets are missing or left over, and none is named
+-- on. Otherwise octets are missing or left over, and none is named. In an input that is too long to be searched, the
+-- damaged element alone is
 pub data AreNamedLengths (padding : Bool) (octets : List ℕ) (facts : Facts) : List WrongLength → Type 0 where
-  in_agreement : {found : List WrongLength} → SizesAgree padding octets facts.top
+  in_agreement : {found : List WrongLength} → length octets ≤ search_limit → SizesAgree padding octets facts.top
       → NamesLengths (closed_framing padding) octets facts.holders.items (suspect_offsets facts) found
       → AreNamedLengths padding octets facts found
-  in_disagreement : (SizesAgree padding octets facts.top → ⊥) → AreNamedLengths padding octets facts []
+  in_disagreement : length octets ≤ search_limit → (SizesAgree padding octets facts.top → ⊥)
+      → AreNamedLengths padding octets facts []
+  in_element : {found : List WrongLength} → search_limit < length octets
+      → AreLengthsInside padding octets facts.top found → AreNamedLengths padding octets facts found
 
 -- another length that is named for the header at this offset
 abbrev pub named_at : ℕ → List WrongLength → Option WrongLength
@@ -156,18 +163,22 @@ abbrev pub start_in : Option Sentence → Option ℕ
 start_in (Some (say.ParsesFrom n)) = Some n
 start_in s = None
 
+-- the sentence about where the next record begins
+abbrev pub record_sentence : NextRecord → Sentence
+record_sentence r = option_map_or (say.NextRecordUpTo r.offset) r.fault (say.NextRecord r.offset)
+
 -- the reasons of an input with these facts to which nothing was done as a whole: octets ef bf bd, what would mend it,
 -- the sentences about the fault, and the next record
 pub record AreRemedies (reads : ℕ) (padding : Bool) (octets : List ℕ) (facts : Facts) (sentences : List Sentence)
     : Type 0 where
   pub remedy : Option Sentence
   pub is_remedy : IsRemedy padding octets facts remedy
-  pub record_after : Option ℕ
-  pub is_record : IsNextRecord reads padding octets facts.top (named_at facts.top (lengths_in remedy)) (start_in remedy)
-      record_after
+  pub record_after : Option NextRecord
+  pub is_record : IsNextRecord reads padding octets (fault_offset facts) facts.top
+      (named_at facts.top (lengths_in remedy)) (start_in remedy) record_after
   pub sentences_are : sentences
       ≡ said (replaced_sentence octets ∷ remedy ∷ [])
-      ++ (reasons_if (is_some remedy) octets facts ++ said (option_map (λ n. say.NextRecord n) record_after ∷ []))
+      ++ (reasons_if (is_some remedy) octets facts ++ said (option_map record_sentence record_after ∷ []))
 
 -- all reasons why an input with these facts does not parse: that it is another kind of file, and nothing else; what was
 -- done to it as a whole, and the first sentence about the fault; or all others. So many octets may be read for the next

@@ -118,10 +118,18 @@ file_kind_words kind.Http =
     codes "It begins with the header of an answer of HTTP. Try: sed '1,/^.$/d' FILE | tlvdump-show\n"
 file_kind_words kind.ByteOrderMark =
     codes "It begins with the byte order mark of a text in UTF-8. Try: tail -c +4 FILE | tlvdump-show\n"
+file_kind_words kind.Chunks =
+    codes "It begins with a chunk of HTTP and its size. Try: fetch it anew with a program that joins the chunks, "
+    ++ codes "as curl does.\n"
 
 -- the words of a sentence, with % for each value, and the values
 abbrev pub words_of : Sentence → List ℕ × List Value
 words_of (say.Parses size) = (codes "It parses: %, which are whole encodings.\n", Octets size ∷ [])
+words_of (say.ManyKinds k) = (
+  codes "It has % outermost elements, which begin with % different octets. Primitive: %. "
+      ++ codes "Octets that are no encodings may parse so by chance.\n",
+  Number k.elements ∷ Number k.kinds ∷ Number k.primitives ∷ [],
+)
 words_of (say.DoesNotParse fault) =
     (codes "It does not parse: fault at %: % %.\n", Number fault.offset ∷ Code fault ∷ Message fault ∷ [])
 words_of (say.Breaks x) = (codes "The %.\n", Broken x ∷ [])
@@ -301,6 +309,11 @@ words_of (say.ParsesFrom offset) = (
 words_of (say.NextRecord offset) = (
   codes "From offset % on it parses: the next record may begin there. Try: tail -c +% FILE | tlvdump-show\n",
   Number offset ∷ Number (offset_sum offset 1) ∷ [],
+)
+words_of (say.NextRecordUpTo offset fault) = (
+  codes "The next record may begin at offset %: from there on it parses up to another fault, at offset %. "
+      ++ codes "Try: tail -c +% FILE | tlvdump-show\n",
+  Number offset ∷ Number fault ∷ Number (offset_sum offset 1) ∷ [],
 )
 
 -- what stands for an octet of the words, if these values come next: for % the first of them

@@ -3,9 +3,11 @@
 //! which offset on it is sound.
 #![tactic(auto)]
 
+mod alone;
 mod chains;
 mod doubled;
 mod element;
+mod element_kinds;
 mod facts;
 mod facts_call;
 mod fault_reasons;
@@ -43,6 +45,7 @@ mod write;
 pub use chains::{Chain, length_chain};
 pub use doubled::{Doubled, doubled_block};
 pub use element::Element;
+pub use element_kinds::{OutermostKinds, outermost_kinds};
 pub use facts::{Facts, Unfinished};
 pub use facts_call::facts_of;
 pub use fault_reasons::Reasons;
@@ -52,7 +55,7 @@ pub use mend::{all_reasons, string_reasons};
 pub use moves::{Move, octets_moved};
 pub use octet_changes::{OctetChange, octet_change};
 pub use overwritten::Run;
-pub use records::next_record;
+pub use records::{NextRecord, next_record};
 pub use sentence::Sentence;
 pub use spacing::{Spacing, spaced_encodings};
 pub use start::next_start;

@@ -5,15 +5,15 @@ ghost use Rattle.tlv_head.specs.Limits.{input_limit};
 ghost use Rattle.tlv_reasons.specs.FaultReasons.{said};
 ghost use Rattle.tlv_reasons.specs.FileKinds.{file_kind};
 ghost use Rattle.tlv_reasons.specs.Remedies.{AreNamedLengths, AreReasons, AreRemedies, AreStringReasons, fault_offset};
-ghost use Rattle.tlv_reasons.specs.Remedies.{is_suspicion, length_sentence, named_at, reasons_if, replaced_before};
-ghost use Rattle.tlv_reasons.specs.Remedies.{replaced_sentence, unless_mended};
+ghost use Rattle.tlv_reasons.specs.Remedies.{is_suspicion, length_sentence, named_at, reasons_if, record_sentence};
+ghost use Rattle.tlv_reasons.specs.Remedies.{replaced_before, replaced_sentence, unless_mended};
 ghost use Rattle.tlv_reasons.specs.Suspects.{suspects_from};
 ghost use Rattle.tlv_reasons.specs.Why.{fault_sentences};
 
 use crate::fault_reasons::{Reasons, joined, said};
 use crate::kinds::file_kind;
 use crate::lengths::{WrongLength, WrongLengths, wrong_lengths};
-use crate::records::next_record;
+use crate::records::{NextRecord, next_record};
 use crate::remedy::{lengths_in, remedy, start_in};
 use crate::sizes::size_sentence;
 use crate::suspects::suspects_from;
@@ -112,12 +112,26 @@ fn other_reasons(
     let top = facts.top as usize;
     let remedy = remedy(alloc, octets, padding, facts)?;
     let wrong = named_at(top, lengths_in(remedy).as_slice());
-    let next = next_record(octets, padding, top, wrong, start_in(remedy), reads);
+    let fault = fault_offset(facts);
+    let next = next_record(octets, padding, fault, top, wrong, start_in(remedy), reads);
     let front = said(&[replaced_sentence(octets), remedy]);
     let reasons = reasons_if(remedy.is_some(), octets, facts);
-    let record = said(&[next.map(|offset| Sentence::NextRecord(offset as u64))]);
+    let record = said(&[next.map(record_sentence)]);
     let others = joined(reasons.as_slice(), record.as_slice());
     Ok(joined(front.as_slice(), others.as_slice()))
+}
+
+/// The sentence about where the next record begins.
+fn record_sentence(next: NextRecord) -> Sentence
+    ensures { result ≡ record_sentence next }
+{
+    match next.fault {
+        None => Sentence::NextRecord(next.offset),
+        Some(fault) => Sentence::NextRecordUpTo {
+            offset: next.offset,
+            fault,
+        },
+    }
 }
 
 /// Where the fault is; 0 if the octets parse.

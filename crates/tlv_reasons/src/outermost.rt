@@ -57,7 +57,7 @@ fn behind(octets: &[u8], padding: bool, offset: usize) -> Following
 }
 
 /// Whether an octet of padding is at this offset.
-fn is_padded_at(octets: &[u8], padding: bool, offset: usize) -> bool
+pub(crate) fn is_padded_at(octets: &[u8], padding: bool, offset: usize) -> bool
     requires { offset < length octets.now }
     ensures { result ≡ is_padded_at padding octets.now offset }
 {

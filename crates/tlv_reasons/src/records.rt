@@ -1,18 +1,19 @@
 //! Where the next record begins in an input, one of whose records is damaged.
 ghost use Rattle.std.specs.List.{filter};
-ghost use Rattle.std.specs.Prelude.{◌≡◌, ◌<◌, ◌≤◌, ◌+◌, ◌++◌, [], ◌∷◌, IfSome, MatchOption, None, Option, length};
+ghost use Rattle.std.specs.Prelude.{◌≡◌, ◌<◌, ◌≤◌, ◌+◌, ◌++◌, [], ◌∷◌, IfErr, IfOk, IfSome, None, Option, length};
 ghost use Rattle.std.specs.Prelude.{slice_index, ℕ};
+ghost use Rattle.std.specs.Option.{option_map};
 ghost use Rattle.tlv_head.specs.Limits.{input_limit};
 ghost use Rattle.tlv_reasons.specs.FirstOf.{IsFirstWithin};
-ghost use Rattle.tlv_reasons.specs.NextRecord.{EndsNear, IsNextRecord, IsRecordAfter, ReadsInVain, alike_offsets};
-ghost use Rattle.tlv_reasons.specs.NextRecord.{ends_near_input, is_alike, is_length_of, tried_offsets};
-ghost use Rattle.tlv_reasons.specs.NextStart.{IsStart};
-ghost use Rattle.tlv_reasons.specs.WrongLength.{search_limit};
+ghost use Rattle.tlv_reasons.specs.NextRecord.{EndsNear, IsNextRecord, IsRecordAfter, IsRecordAt, IsSomeRecord};
+ghost use Rattle.tlv_reasons.specs.NextRecord.{ReadsInVain, alike_offsets, ends_near_input, is_alike, is_far};
+ghost use Rattle.tlv_reasons.specs.NextRecord.{is_length_of, tried_offsets};
+ghost use Rattle.tlv_reasons.specs.Sizes.{is_short};
 
-use crate::lengths::{SEARCH_LIMIT, WrongLength};
+use crate::lengths::WrongLength;
 use crate::sound::{closed_framing, ending_in};
 use arrayvec::ArrayVec;
-use tlv_head::{Size, read_header};
+use tlv_head::{FaultCode, Size, read_header};
 use tlv_walk::Ending;
 
 /// The number of offsets that are tried after the start of the damaged element.
@@ -21,29 +22,43 @@ const RECORD_TRIES: usize = 1024;
 /// The number of all offsets that are tried: three near the end of the damaged element, and those.
 const ALL_TRIES: usize = 1027;
 
-/// The offset at which the next record begins, in octets from the start of the input, if one of several records is
-/// damaged. A constructed element begins there, and from there on the input is sound. The octet there is that at the
-/// start of the damaged record, or of the input. The damaged record begins at `top`, after whole elements. Its end is
-/// tried first, and the offsets one octet before and after that; then the first 1024 offsets after `top` with such an
-/// octet. A try reads up to the fault of what stands there. Once the tries have read `reads` octets, no other is
-/// made. `None` if there is no such offset, if no whole element stands in front, if the input ends
-/// near the end of the damaged record, if another length is named for that record (`wrong`), if another start was found
-/// (`start`), or if the input has more than [`SEARCH_LIMIT`] octets. With `padding`, octets `00` are allowed between
-/// encodings and after them.
+/// From a record on the input parses far if the next fault is so many octets behind it, and behind the fault of the input,
+/// or more.
+const FAR: u64 = 4096;
+
+/// Where the next record may begin. Offsets are in octets from the start of the input.
+#[derive(Clone, Copy, PartialEq, Eq, Debug)]
+pub struct NextRecord {
+    /// The offset of its first octet.
+    pub offset: u64,
+    /// Up to which fault the input parses from there on; `None` if it parses up to its end.
+    pub fault: Option<u64>,
+}
+
+/// Where the next record begins, if one of several records is damaged. A constructed element begins there, and from
+/// there on the input is sound, or parses up to an octet that is refused 4096 octets or more behind it, and behind the fault
+/// of the input, which is at `fault`. The octet there is that at the start of the damaged record, or of the input. The damaged record
+/// begins at `top`, after whole elements. Its end is tried first, and the offsets one octet before and after that; then the
+/// first 1024 offsets after `top` with such an octet. A try reads up to the fault of what stands there. Once the tries have
+/// read `reads` octets, no other is made. `None` if there is no such offset, if no whole element stands in front, if the
+/// input ends near the end of the damaged record, if another length is named for that record (`wrong`), or if another start
+/// was found (`start`). With `padding`, octets `00` are allowed between encodings and after them. Offsets are in octets
+/// from the start of the input.
 pub fn next_record(
     octets: &[u8],
     padding: bool,
+    fault: usize,
     top: usize,
     wrong: Option<WrongLength>,
     start: Option<usize>,
     reads: u64,
-) -> Option<usize>
-    ensures record { IsNextRecord reads padding octets.now top wrong start result }
-    ensures within { IfSome result (λ n. n ≤ length octets.now) }
+) -> Option<NextRecord>
+    requires { length octets.now ≤ input_limit }
+    ensures { IsNextRecord reads padding octets.now fault top wrong start result }
 {
     match start {
         Some(_) => None,
-        None => record_without_start(octets, padding, top, wrong, reads),
+        None => record_without_start(octets, padding, fault, top, wrong, reads),
     }
 }
 
@@ -51,26 +66,24 @@ pub fn next_record(
 fn record_without_start(
     octets: &[u8],
     padding: bool,
+    fault: usize,
     top: usize,
     wrong: Option<WrongLength>,
     reads: u64,
-) -> Option<usize>
-    ensures record { IsNextRecord reads padding octets.now top wrong None result }
-    ensures within { IfSome result (λ n. n ≤ length octets.now) }
+) -> Option<NextRecord>
+    requires { length octets.now ≤ input_limit }
+    ensures { IsNextRecord reads padding octets.now fault top wrong None result }
 {
     if top == 0 {
-        return None;
-    }
-    if octets.len() > SEARCH_LIMIT {
         return None;
     }
     if is_length_of(top, wrong) {
         return None;
     }
-    record_after(octets, padding, top, reads)
+    record_after(octets, padding, fault, top, reads)
 }
 
-/// Whether another length is named for the element at this offset.
+/// Whether the header at this offset is the one with another length.
 fn is_length_of(offset: usize, wrong: Option<WrongLength>) -> bool
     ensures { result ≡ is_length_of offset wrong }
 {
@@ -81,60 +94,107 @@ fn is_length_of(offset: usize, wrong: Option<WrongLength>) -> bool
 }
 
 /// Where the record after the damaged element at this offset begins.
-fn record_after(octets: &[u8], padding: bool, offset: usize, reads: u64) -> Option<usize>
-    requires { length octets.now ≤ search_limit }
-    ensures record { IsRecordAfter reads padding octets.now offset result }
-    ensures within { IfSome result (λ n. n ≤ length octets.now) }
+fn record_after(
+    octets: &[u8],
+    padding: bool,
+    fault: usize,
+    offset: usize,
+    reads: u64,
+) -> Option<NextRecord>
+    requires { length octets.now ≤ input_limit }
+    ensures { IsRecordAfter reads padding octets.now fault offset result }
 {
     let offsets = tried_offsets(octets, offset);
-    first_within(octets, padding, offsets.as_slice(), reads)
+    first_within(octets, padding, fault, offsets.as_slice(), reads)
 }
 
-/// The first of these offsets at which a constructed element begins, and from which on the input is sound, if the tries
-/// before it read fewer octets in vain than `budget`.
-fn first_within(octets: &[u8], padding: bool, offsets: &[usize], budget: u64) -> Option<usize>
-    requires { length octets.now ≤ search_limit }
-    ensures first { IsFirstWithin (IsStart padding octets.now) (ReadsInVain padding octets.now) budget offsets.now result }
-    ensures within { IfSome result (λ n. n ≤ length octets.now) }
+/// The first of these offsets at which a constructed element begins, and from which on the input is sound or parses far,
+/// if the tries before it read fewer octets in vain than `budget`.
+fn first_within(
+    octets: &[u8],
+    padding: bool,
+    fault: usize,
+    offsets: &[usize],
+    budget: u64,
+) -> Option<NextRecord>
+    requires { length octets.now ≤ input_limit }
+    ensures first { IsFirstWithin (IsSomeRecord padding octets.now fault) (ReadsInVain padding octets.now fault) budget
+        offsets.now (option_map (λ r. r.offset) result) }
+    ensures parses { IfSome result (λ r. IsRecordAt padding octets.now fault r.offset r.fault) }
 {
     let mut left = budget;
     for &offset in offsets {
         if left == 0 {
             return None;
         }
-        match reads_in_vain(octets, padding, offset) {
-            Some(count) => left = left.saturating_sub(count),
-            None => return Some(offset),
+        match record_at(octets, padding, fault, offset) {
+            Ok(next) => return Some(next),
+            Err(count) => left = left.saturating_sub(count),
         }
     }
     None
 }
 
-/// The number of octets that a try at this offset reads in vain: those up to the fault of what stands there, if a
-/// constructed element begins there; else none. `None` if the try is not in vain: from the offset on the input is sound.
-fn reads_in_vain(octets: &[u8], padding: bool, offset: usize) -> Option<u64>
-    requires { length octets.now ≤ search_limit }
-    ensures { MatchOption result (IsStart padding octets.now offset) (ReadsInVain padding octets.now offset) }
+/// What a try at this offset finds: a record, with the fault up to which the input parses from there on.
+///
+/// # Errors
+///
+/// The number of octets that are read in vain, if there is none: those up to the fault of what stands there, if a
+/// constructed element begins there; else none.
+fn record_at(octets: &[u8], padding: bool, fault: usize, offset: usize) -> Result<NextRecord, u64>
+    requires { length octets.now ≤ input_limit }
+    ensures there { IfOk result (λ r. (r.offset ≡ offset) × IsRecordAt padding octets.now fault offset r.fault) }
+    ensures vain { IfErr result (ReadsInVain padding octets.now fault offset) }
 {
     if offset > octets.len() {
-        return Some(0);
+        return Err(0);
     }
     let rest = &octets[offset..];
     let Some((fields, _)) = read_header(offset as u64, false, rest) else {
-        return Some(0);
+        return Err(0);
     };
     if !fields.constructed {
-        return Some(0);
+        return Err(0);
     }
     match ending_in(rest, &closed_framing(padding)) {
-        Ending::Done => None,
-        Ending::Fault(fault) => Some(fault.offset),
+        Ending::Done => Ok(record_up_to(offset, None)),
+        Ending::Fault(next) => {
+            if is_far(fault as u64, offset as u64, next.code, next.offset) {
+                Ok(record_up_to(offset, Some((offset as u64).saturating_add(next.offset))))
+            } else {
+                Err(next.offset)
+            }
+        }
     }
+}
+
+/// A record at this offset, up to this fault.
+fn record_up_to(offset: usize, fault: Option<u64>) -> NextRecord
+    ensures { result ≡ record { offset = offset; fault = fault } }
+{
+    NextRecord {
+        offset: offset as u64,
+        fault,
+    }
+}
+
+/// Whether octets are refused `count` octets after this offset, far behind it and behind the fault of the input.
+fn is_far(fault: u64, offset: u64, code: FaultCode, count: u64) -> bool
+    ensures { result ≡ is_far fault offset code count }
+{
+    !is_short(code) && count >= FAR && offset.saturating_add(count).saturating_sub(fault) >= FAR
+}
+
+/// Whether the input ends inside an encoding.
+fn is_short(code: FaultCode) -> bool
+    ensures { result ≡ is_short code }
+{
+    matches!(code, FaultCode::Short)
 }
 
 /// The offsets that are tried, after the damaged element at this offset.
 fn tried_offsets(octets: &[u8], offset: usize) -> ArrayVec<usize, ALL_TRIES>
-    requires { length octets.now ≤ search_limit }
+    requires { length octets.now ≤ input_limit }
     ensures { (end : Option ℕ) × EndsNear octets.now offset end × (result.items ≡ tried_offsets octets.now offset end) }
 {
     let mut tried = ArrayVec::new();
@@ -166,7 +226,7 @@ fn add_alike(octets: &[u8], offset: usize, place: usize, tried: &mut ArrayVec<us
 
 /// Adds the offsets after this one at which such an octet stands.
 fn add_alike_offsets(octets: &[u8], offset: usize, tried: &mut ArrayVec<usize, ALL_TRIES>)
-    requires limit { length octets.now ≤ search_limit }
+    requires limit { length octets.now ≤ input_limit }
     requires room { length tried.old.items ≤ 3 }
     ensures { tried.new.items ≡ tried.old.items ++ alike_offsets octets.now offset }
 {
@@ -188,7 +248,7 @@ fn add_alike_offsets(octets: &[u8], offset: usize, tried: &mut ArrayVec<usize, A
 /// Whether the input ends near the end of the damaged element.
 fn ends_near_input(octets: &[u8], end: usize) -> bool
     requires some { 1 ≤ end }
-    requires limit { end ≤ input_limit }
+    requires limit { end ≤ input_limit + 1 }
     ensures { result ≡ ends_near_input octets.now end }
 {
     end == octets.len() || end - 1 == octets.len() || end + 1 == octets.len()

@@ -4,9 +4,10 @@ ghost use Rattle.tlv_head.specs.Limits.{input_limit};
 ghost use Rattle.tlv_reasons.specs.Remedies.{AreNamedLengths, IsBlockOrElse, IsChainOrElse, IsLengthOrElse, IsLengthSentence};
 ghost use Rattle.tlv_reasons.specs.Remedies.{IsOctetOrElse, IsOtherChain, IsRemedy, lengths_in, start_in};
 
+use crate::alone::lengths_inside;
 use crate::chains::{Chain, length_chain};
 use crate::doubled::doubled_block;
-use crate::lengths::{WrongLengths, wrong_lengths};
+use crate::lengths::{SEARCH_LIMIT, WrongLengths, wrong_lengths};
 use crate::mend::{fault_offset, length_sentence};
 use crate::octet_changes::octet_change;
 use crate::outermost::sizes_agree;
@@ -69,7 +70,8 @@ fn other_length(
 }
 
 /// The headers whose length may be wrong; none if the sizes of the outermost elements do not agree with that of the
-/// input, since octets are then missing or left over.
+/// input, since octets are then missing or left over. In an input of more than [`SEARCH_LIMIT`] octets those in the damaged
+/// element.
 fn named_lengths(
     alloc: Global,
     octets: &[u8],
@@ -79,6 +81,9 @@ fn named_lengths(
     requires { length octets.now ≤ input_limit }
     ensures { IfOk result (λ found. AreNamedLengths padding octets.now facts.now found.items) }
 {
+    if octets.len() > SEARCH_LIMIT {
+        return lengths_inside(alloc, octets, padding, facts.top as usize);
+    }
     if !sizes_agree(octets, padding, facts.top as usize) {
         return Ok(WrongLengths::new());
     }

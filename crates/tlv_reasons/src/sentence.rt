@@ -1,8 +1,8 @@
 //! The sentences that say why an input does not parse, and what to try.
 
 use crate::{
-    Chain, Doubled, Element, FileKind, Move, OctetChange, Run, Spacing, TextChange, Trace,
-    Unfinished, WrongLength,
+    Chain, Doubled, Element, FileKind, Move, OctetChange, OutermostKinds, Run, Spacing, TextChange,
+    Trace, Unfinished, WrongLength,
 };
 use tlv_head::{Fault, FaultCode};
 use tlv_open::BrokenString;
@@ -13,6 +13,8 @@ use tlv_open::BrokenString;
 pub enum Sentence {
     /// It parses, and has so many octets.
     Parses(u64),
+    /// Its outermost elements begin with many different octets.
+    ManyKinds(OutermostKinds),
     /// It does not parse: the fault.
     DoesNotParse(Fault),
     /// A string in it breaks.
@@ -181,6 +183,11 @@ pub enum Sentence {
     ParsesFrom(u64),
     /// From this offset on it parses: the next record may begin there.
     NextRecord(u64),
+    /// From this offset on it parses up to another fault: the next record may begin there.
+    NextRecordUpTo {
+        offset: u64,
+        fault: u64,
+    },
 }
 
 /// Only for filling arrays.

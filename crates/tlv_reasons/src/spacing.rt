@@ -145,7 +145,7 @@ fn whole_end(octets: &[u8], offset: usize) -> Option<usize>
 }
 
 /// Where the constructed element of definite length that begins at this offset ends, in the input, by its header.
-fn stated_end(octets: &[u8], offset: usize) -> Option<usize>
+pub(crate) fn stated_end(octets: &[u8], offset: usize) -> Option<usize>
     requires { length octets.now ≤ input_limit }
     ensures end { MatchOption result ((end : ℕ) → EndsAsStated octets.now offset end → ⊥)
         (λ end. EndsAsStated octets.now offset end) }

@@ -31,9 +31,9 @@ fn distinct(offsets: &[usize]) -> ArrayVec<usize, SUSPECTS>
     kept
 }
 
-/// Adds an offset, unless it is there, to a list that has room for it.
-fn add_unless_seen(offset: usize, kept: &mut ArrayVec<usize, SUSPECTS>)
-    requires { length kept.old.items < 42 }
+/// Adds a number, unless it is there, to a list that has room for it.
+pub(crate) fn add_unless_seen<const ROOM: usize>(offset: usize, kept: &mut ArrayVec<usize, ROOM>)
+    requires { length kept.old.items < ROOM }
     ensures added { kept.new.items ≡ kept.old.items ++ unless_seen kept.old.items offset }
     ensures few { length kept.new.items ≤ length kept.old.items + 1 }
 {

@@ -39,6 +39,15 @@ pub(crate) fn words_of(sentence: &Sentence) -> Words
             b"It parses: %, which are whole encodings.\n",
             &[Value::Octets(size)],
         ),
+        Sentence::ManyKinds(kinds) => say(
+            b"It has % outermost elements, which begin with % different octets. Primitive: %. \
+              Octets that are no encodings may parse so by chance.\n",
+            &[
+                Value::Number(kinds.elements),
+                Value::Number(kinds.kinds),
+                Value::Number(kinds.primitives),
+            ],
+        ),
         Sentence::DoesNotParse(fault) => say(
             b"It does not parse: fault at %: % %.\n",
             &[
@@ -371,6 +380,15 @@ pub(crate) fn words_of(sentence: &Sentence) -> Words
                 Value::Number(offset.saturating_add(1)),
             ],
         ),
+        Sentence::NextRecordUpTo { offset, fault } => say(
+            b"The next record may begin at offset %: from there on it parses up to another fault, at offset %. \
+              Try: tail -c +% FILE | tlvdump-show\n",
+            &[
+                Value::Number(offset),
+                Value::Number(fault),
+                Value::Number(offset.saturating_add(1)),
+            ],
+        ),
     }
 }
 
@@ -513,6 +531,10 @@ fn file_kind_words(kind: FileKind) -> &'static [u8]
         }
         FileKind::ByteOrderMark => {
             b"It begins with the byte order mark of a text in UTF-8. Try: tail -c +4 FILE | tlvdump-show\n"
+        }
+        FileKind::Chunks => {
+            b"It begins with a chunk of HTTP and its size. Try: fetch it anew with a program that joins the chunks, \
+              as curl does.\n"
         }
     }
 }

@@ -25,6 +25,7 @@ pub use extract_call::{Cut, extract};
 pub use extract_follower::Extract;
 pub use indef_call::indef;
 pub use indef_follower::Indef;
+pub use memory_devices::BoundedDrain;
 pub use message::write_message;
 pub use report::{Report, device_report, indef_report, names_report, unopened_report};
 pub use run_call::run;

@@ -1,4 +1,4 @@
-//! Devices of `run_octets`: a source that fails after its octets, and a drain with limited room.
+//! Devices in memory: a source that fails after its octets, and a drain with limited room.
 ghost use Rattle.std.specs.Prelude.{◌≡◌, ◌<◌, ◌≤◌, [], Some, length};
 ghost use Rattle.tlv_io.specs.Device.{new_source};
 ghost use Rattle.tlv_run.specs.Private.MemoryDevices.{failing_source_state};
@@ -53,7 +53,7 @@ impl Source for FailingSource<'_> {
 
 /// A drain with room for `N` octets; a write fails if no room is left.
 #[derive(Drop)]
-pub(crate) struct BoundedDrain<const N: usize> {
+pub struct BoundedDrain<const N: usize> {
     octets: ArrayVec<u8, N>,
     failures: u64,
 }
@@ -70,7 +70,8 @@ impl<const N: usize> Model for BoundedDrain<N> {
 }
 
 impl<const N: usize> BoundedDrain<N> {
-    pub(crate) fn new() -> BoundedDrain<N>
+    /// A drain that has taken nothing.
+    pub fn new() -> BoundedDrain<N>
         ensures { result ≡ record { octets = Some []; failures = 0 } }
     {
         BoundedDrain {
@@ -80,7 +81,7 @@ impl<const N: usize> BoundedDrain<N> {
     }
 
     /// The octets taken, in order. If there is room for more, no write has failed.
-    pub(crate) fn into_octets(self) -> ArrayVec<u8, N>
+    pub fn into_octets(self) -> ArrayVec<u8, N>
         ensures octets_are { self.entry.octets ≡ Some result.items }
         ensures short { length result.items ≤ N }
         ensures full_if_failed { length result.items < N → self.entry.failures ≡ 0 }

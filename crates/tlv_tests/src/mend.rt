@@ -3,10 +3,11 @@ use crate::expect::expect_eq;
 use std::process::Abort;
 use std::test::Fail;
 use tlv_reasons::{
-    Chain, Doubled, FileKind, Move, OctetChange, Reasons, Spacing, TextChange, Trace, WrongLength,
-    all_reasons, doubled_block, facts_of, file_kind, latin1_of_utf8, laws, length_chain,
-    next_record, next_start, octet_change, octets_moved, spaced_encodings, string_reasons,
-    text_change, trace_of, undone_line_ends, undone_utf8, write_sentences, wrong_lengths,
+    Chain, Doubled, FileKind, Move, NextRecord, OctetChange, OutermostKinds, Reasons, Spacing,
+    TextChange, Trace, WrongLength, all_reasons, doubled_block, facts_of, file_kind,
+    latin1_of_utf8, laws, length_chain, next_record, next_start, octet_change, octets_moved,
+    outermost_kinds, spaced_encodings, string_reasons, text_change, trace_of, undone_line_ends,
+    undone_utf8, write_sentences, wrong_lengths,
 };
 use tlv_walk::{Framing, MemDrain};
 
@@ -122,8 +123,24 @@ fn characters_of_latin1_are_found(rt: HostRuntime) -> Result<(), Fail> {
 fn another_start_is_found(rt: HostRuntime) {
     let behind_three = b"\x00\x00\x00\x30\x08\x02\x01\x05\x02\x03\x01\x02\x03";
     expect_eq(&rt, next_start(behind_three, false, 0, 0), Some(3));
-    let record = next_record(RECORDS, false, 5, None, None, 1 << 24);
-    expect_eq(&rt, record, Some(13));
+    let record = next_record(RECORDS, false, 10, 5, None, None, 1 << 24);
+    let wanted = NextRecord {
+        offset: 13,
+        fault: None,
+    };
+    expect_eq(&rt, record, Some(wanted));
+}
+
+#[test]
+fn outermost_elements_of_many_kinds_are_counted(rt: HostRuntime) {
+    let wanted = OutermostKinds {
+        elements: 4,
+        kinds: 3,
+        primitives: 3,
+    };
+    let many = b"\x05\x00\x04\x00\x30\x00\x05\x00";
+    expect_eq(&rt, outermost_kinds(many, false), Some(wanted));
+    expect_eq(&rt, outermost_kinds(b"\x05\x00\x04\x00", false), None);
 }
 
 const LENGTH: &[u8] = b"If the header at offset 2 said 1 octet and not 2, all would parse.\n";

@@ -7,3 +7,5 @@ pub mod ShownLemmas
 pub mod ReadsSoFar
 mod FileLemmas
 mod RequestLemmas
+mod LineLemmas
+mod FirstOctets

@@ -7,6 +7,7 @@ pub mod ShownMessages
 pub mod ShownUsage
 pub mod ShownInputs
 pub mod ShownRuns
+pub mod ShownFindings
 pub mod ShownLists
 pub mod ShownText
 pub mod ShownValues

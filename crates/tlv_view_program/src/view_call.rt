@@ -5,11 +5,13 @@ ghost use Rattle.tlv_walk.specs.Inside.{are_rising};
 ghost use Rattle.tlv_walk.specs.Job.{device_states};
 ghost use Rattle.tlv_run.specs.Report.{report_value_of};
 ghost use Rattle.tlv_run.specs.RunsAndReports.{RunsAndReports};
+ghost use Rattle.tlv_view_program.specs.Reasons.{AreFirstOctets, findings_room};
 ghost use Rattle.tlv_view_program.specs.Views.{AreBrokenUnless, AreOpenedUnless, Views, job_of_view};
 
+use arrayvec::ArrayVec;
 use std::alloc::{AllocError, Global};
 use tlv_open::{BrokenString, Strings, laws, strings_of};
-use tlv_run::{Report, UnfailingSource, run_check_with, run_dump_with, run_extract};
+use tlv_run::{BoundedDrain, Report, UnfailingSource, run_check_with, run_dump_with, run_extract};
 use tlv_show::{FiniteNames, Options, Rules, Scope, Wanted};
 use tlv_walk::{Drain, Framing, Inside, Source};
 
@@ -85,6 +87,32 @@ pub fn view_octets<N: FiniteNames, D: Drain>(
         report,
         broken: strings.broken,
     })
+}
+
+/// The number of octets of a check that are kept. Five lines of findings have fewer.
+pub(crate) const FINDINGS_ROOM: usize = 1024;
+
+/// The first octets that a check of the octets by these rules writes: as many as there is room for.
+///
+/// # Errors
+///
+/// `AllocError` if memory for the lists of strings is refused.
+pub(crate) fn first_octets<N: FiniteNames>(
+    alloc: Global,
+    rules: Rules,
+    names: &N,
+    closed: bool,
+    padding: bool,
+    octets: &[u8],
+) -> Result<ArrayVec<u8, FINDINGS_ROOM>, AllocError>
+    requires { length octets.now ≤ input_limit }
+    ensures { IfOk result
+        (λ first. AreFirstOctets rules (N.table names.now) closed padding octets.now findings_room first.items) }
+{
+    let mut drain: BoundedDrain<FINDINGS_ROOM> = BoundedDrain::new();
+    let view = View::Check { rules };
+    let _viewed = view_octets(alloc, &view, names, closed, padding, octets, &mut drain)?;
+    Ok(drain.into_octets())
 }
 
 /// The opened strings and the broken strings; none if all are to stay closed.

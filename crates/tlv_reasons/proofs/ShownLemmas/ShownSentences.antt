@@ -96,6 +96,7 @@ kind-shown kind.Capture = refl
 kind-shown kind.KeyStore = refl
 kind-shown kind.Http = refl
 kind-shown kind.ByteOrderMark = refl
+kind-shown kind.Chunks = refl
 
 chain-shown : (is_greater is_one : Bool) → AreShown (chain_words_by is_greater is_one)
 chain-shown true true = refl
@@ -118,6 +119,7 @@ move-shown move.Inverted = refl
 
 words-shown : (s : Sentence) → AreShown (words_of s).0
 words-shown (say.Parses a) = refl
+words-shown (say.ManyKinds a) = refl
 words-shown (say.DoesNotParse a) = refl
 words-shown (say.Breaks a) = refl
 words-shown (say.LeftOver a b) = refl
@@ -176,6 +178,7 @@ words-shown (say.OctetsMoved a) = move-shown a
 words-shown (say.OtherKind a) = kind-shown a
 words-shown (say.ParsesFrom a) = refl
 words-shown (say.NextRecord a) = refl
+words-shown (say.NextRecordUpTo a b) = refl
 
 -- ---- sentences
 

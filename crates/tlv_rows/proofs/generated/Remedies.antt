@@ -12,16 +12,20 @@ use Rattle.tlv_reasons.specs.declared.octet_changes.OctetChange.TheVariants.{Mis
 use Rattle.tlv_reasons.specs.declared.kinds.FileKind.TheVariants as kind
 use Rattle.tlv_reasons.specs.declared.moves.Move.TheVariants as move
 use Rattle.tlv_reasons.specs.declared.traces.Trace.TheVariants as trace
-use Rattle.tlv_reasons.specs.declared.sentence.Sentence.TheVariants.{LengthInFront, NextRecord, NoneLost, OctetsMoved}
+use Rattle.tlv_head.specs.declared.fault.FaultCode.TheVariants.{Short, StrayEnd}
+use Rattle.tlv_reasons.specs.declared.sentence.Sentence.TheVariants.{LengthInFront, ManyKinds, NextRecord}
+use Rattle.tlv_reasons.specs.declared.sentence.Sentence.TheVariants.{NextRecordUpTo, NoneLost, OctetsMoved}
 use Rattle.tlv_reasons.specs.declared.sentence.Sentence.TheVariants.{OneOctet, OtherChain, OtherKind, OtherLength}
 use Rattle.tlv_reasons.specs.declared.sentence.Sentence.TheVariants.{Overwritten, ParsesFrom, SomeLost, SomePutIn, Spaced}
 use Rattle.tlv_reasons.specs.declared.sentence.Sentence.TheVariants.{StandsTwice, TextChanged, TextFollows, ThreeLengths}
 use Rattle.tlv_reasons.specs.declared.sentence.Sentence.TheVariants.{Traced, TryAnew, TwoLengths}
-use Rattle.tlv_reasons.specs.FileKinds.{file_kind}
+use Rattle.tlv_reasons.specs.FileKinds.{digit_of, file_kind, hex_number}
 use Rattle.tlv_reasons.specs.Moves.{undone_move}
+use Rattle.tlv_reasons.specs.NextRecord.{is_far}
 use Rattle.tlv_reasons.specs.NextStart.{is_near_end}
 use Rattle.tlv_reasons.specs.Overwritten.{run_around}
-use Rattle.tlv_reasons.specs.Remedies.{lengths_in, named_at, replaced_before, start_in, undoable, unless_mended}
+use Rattle.tlv_reasons.specs.Remedies.{lengths_in, named_at, record_sentence, replaced_before, start_in, undoable}
+use Rattle.tlv_reasons.specs.Remedies.{unless_mended}
 use Rattle.tlv_reasons.specs.Sizes.{difference_of, size_sentence_of}
 use Rattle.tlv_reasons.specs.Sentences.{sentence_text}
 use Rattle.tlv_reasons.specs.Values.{first_pairs, octets_between, octets_in_words}
@@ -246,191 +250,302 @@ row-40 : file_kind (octets "ef bb bf 30") ≡ (Some kind.ByteOrderMark)
 unfolding digits encode_with first_pairs octets_between octets_in_words sentence_text
 row-40 = refl
 
--- the octets have to be there whole
-row-41 : file_kind (octets "50 4b 03") ≡ None
+-- a chunk
+row-41 : file_kind (octets "31 31 0d 0a 30 0f 04 0d 01 02 03 04 05 06 07 08 09 0a 0b 0c 0d 0d 0a")
+    ≡ (Some kind.Chunks)
 unfolding digits encode_with first_pairs octets_between octets_in_words sentence_text
 row-41 = refl
 
-row-42 : sentence_text [] (OtherKind kind.Zip) ≡ (codes "It begins as a ZIP file does: unpack it first.\n")
+-- more behind it
+row-42 : file_kind (octets "32 0d 0a 05 00 0d 0a 30") ≡ (Some kind.Chunks)
 unfolding digits encode_with first_pairs octets_between octets_in_words sentence_text
 row-42 = refl
 
-row-43 : sentence_text [] (OtherKind kind.Gzip)
-    ≡ (codes "It begins as a file of gzip does. Try: gzip -dc FILE | tlvdump-show\n")
+-- no whole line end behind it
+row-43 : file_kind (octets "32 0d 0a 05 00 0d") ≡ None
 unfolding digits encode_with first_pairs octets_between octets_in_words sentence_text
 row-43 = refl
 
-row-44 : sentence_text [] (OtherKind kind.Bzip2)
-    ≡ (codes "It begins as a file of bzip2 does. Try: bzip2 -dc FILE | tlvdump-show\n")
+-- no line end behind the size
+row-44 : file_kind (octets "32 0a 05 00 0d 0a") ≡ None
 unfolding digits encode_with first_pairs octets_between octets_in_words sentence_text
 row-44 = refl
 
-row-45 : sentence_text [] (OtherKind kind.Pdf) ≡ (codes "It begins as a PDF file does.\n")
+-- nine digits
+row-45 : file_kind (octets "30 30 30 30 30 30 30 30 32 0d 0a 05 00 0d 0a") ≡ None
 unfolding digits encode_with first_pairs octets_between octets_in_words sentence_text
 row-45 = refl
 
-row-46 : sentence_text [] (OtherKind kind.Markup) ≡ (codes "It begins with the character <, as XML and HTML do.\n")
+-- the octets have to be there whole
+row-46 : file_kind (octets "50 4b 03") ≡ None
 unfolding digits encode_with first_pairs octets_between octets_in_words sentence_text
 row-46 = refl
 
-row-47 : sentence_text [] (OtherKind kind.OpenSsh)
-    ≡ (codes "It is a key of OpenSSH, which is no encoding by X.690.\n")
+row-47 : sentence_text [] (OtherKind kind.Zip) ≡ (codes "It begins as a ZIP file does: unpack it first.\n")
 unfolding digits encode_with first_pairs octets_between octets_in_words sentence_text
 row-47 = refl
 
-row-48 : sentence_text [] (OtherKind kind.Utf16)
-    ≡ (codes "It begins as text in UTF-16 does. Try: iconv -f UTF-16 -t UTF-8 FILE | tlvdump-show\n")
+row-48 : sentence_text [] (OtherKind kind.Gzip)
+    ≡ (codes "It begins as a file of gzip does. Try: gzip -dc FILE | tlvdump-show\n")
 unfolding digits encode_with first_pairs octets_between octets_in_words sentence_text
 row-48 = refl
 
-row-49 : sentence_text [] (OtherKind kind.Capture)
-    ≡ (codes "It begins as a capture of packets (pcap) does: export the octets of a packet first.\n")
+row-49 : sentence_text [] (OtherKind kind.Bzip2)
+    ≡ (codes "It begins as a file of bzip2 does. Try: bzip2 -dc FILE | tlvdump-show\n")
 unfolding digits encode_with first_pairs octets_between octets_in_words sentence_text
 row-49 = refl
 
-row-50 : sentence_text [] (OtherKind kind.KeyStore)
-    ≡ (codes "It begins as a key store of Java (JKS) does: export what you need first.\n")
+row-50 : sentence_text [] (OtherKind kind.Pdf) ≡ (codes "It begins as a PDF file does.\n")
 unfolding digits encode_with first_pairs octets_between octets_in_words sentence_text
 row-50 = refl
 
-row-51 : sentence_text [] (OtherKind kind.Http)
-    ≡ (codes "It begins with the header of an answer of HTTP. Try: sed '1,/^.$/d' FILE | tlvdump-show\n")
+row-51 : sentence_text [] (OtherKind kind.Markup) ≡ (codes "It begins with the character <, as XML and HTML do.\n")
 unfolding digits encode_with first_pairs octets_between octets_in_words sentence_text
 row-51 = refl
 
-row-52 : sentence_text [] (OtherKind kind.ByteOrderMark)
-    ≡ (codes "It begins with the byte order mark of a text in UTF-8. Try: tail -c +4 FILE | tlvdump-show\n")
+row-52 : sentence_text [] (OtherKind kind.OpenSsh)
+    ≡ (codes "It is a key of OpenSSH, which is no encoding by X.690.\n")
 unfolding digits encode_with first_pairs octets_between octets_in_words sentence_text
 row-52 = refl
 
--- start
-row-53 : sentence_text [] (ParsesFrom 9)
-    ≡ (codes "From offset 9 on it parses: what stands in front may be a header of the file or of the record, or damaged. Try: tail -c +10 FILE | tlvdump-show\n")
+row-53 : sentence_text [] (OtherKind kind.Utf16)
+    ≡ (codes "It begins as text in UTF-16 does. Try: iconv -f UTF-16 -t UTF-8 FILE | tlvdump-show\n")
 unfolding digits encode_with first_pairs octets_between octets_in_words sentence_text
 row-53 = refl
 
--- record
-row-54 : sentence_text [] (NextRecord 120)
-    ≡ (codes "From offset 120 on it parses: the next record may begin there. Try: tail -c +121 FILE | tlvdump-show\n")
+row-54 : sentence_text [] (OtherKind kind.Capture)
+    ≡ (codes "It begins as a capture of packets (pcap) does: export the octets of a packet first.\n")
 unfolding digits encode_with first_pairs octets_between octets_in_words sentence_text
 row-54 = refl
 
--- text behind
-row-55 : sentence_text [] (TextFollows 6 8)
-    ≡ (codes "Whole encodings end at offset 6. The octets after them are printable text: 8.\n")
+row-55 : sentence_text [] (OtherKind kind.KeyStore)
+    ≡ (codes "It begins as a key store of Java (JKS) does: export what you need first.\n")
 unfolding digits encode_with first_pairs octets_between octets_in_words sentence_text
 row-55 = refl
 
--- What the length of the outermost element says: the octets, the element, its end, and the sentence.
--- all there
-row-56 : size_sentence_of (octets "30 02 05 00") (element 0 16 (Definite 2) 2 (Some 4)) 4
-    ≡ (Some (NoneLost (element 0 16 (Definite 2) 2 (Some 4))))
+row-56 : sentence_text [] (OtherKind kind.Http)
+    ≡ (codes "It begins with the header of an answer of HTTP. Try: sed '1,/^.$/d' FILE | tlvdump-show\n")
+unfolding digits encode_with first_pairs octets_between octets_in_words sentence_text
 row-56 = refl
 
--- one lost
-row-57 : size_sentence_of (octets "30 02 05") (element 0 16 (Definite 2) 2 (Some 4)) 4
-    ≡ (Some (SomeLost (element 0 16 (Definite 2) 2 (Some 4)) 3))
+row-57 : sentence_text [] (OtherKind kind.ByteOrderMark)
+    ≡ (codes "It begins with the byte order mark of a text in UTF-8. Try: tail -c +4 FILE | tlvdump-show\n")
+unfolding digits encode_with first_pairs octets_between octets_in_words sentence_text
 row-57 = refl
 
--- one too many
-row-58 : size_sentence_of (octets "30 02 05 00 05") (element 0 16 (Definite 2) 2 (Some 4)) 4
-    ≡ (Some (SomePutIn (element 0 16 (Definite 2) 2 (Some 4)) 5))
+row-58 : sentence_text [] (OtherKind kind.Chunks)
+    ≡ (codes "It begins with a chunk of HTTP and its size. Try: fetch it anew with a program that joins the chunks, as curl does.\n")
+unfolding digits encode_with first_pairs octets_between octets_in_words sentence_text
 row-58 = refl
 
--- another record
-row-59 : size_sentence_of (octets "30 02 05 00 30") (element 0 16 (Definite 2) 2 (Some 4)) 4 ≡ None
+-- a hexadecimal digit, and numbers
+-- 0
+row-59 : digit_of 0x30 ≡ (Some 0)
+unfolding digits encode_with first_pairs octets_between octets_in_words sentence_text
 row-59 = refl
+
+-- 9
+row-60 : digit_of 0x39 ≡ (Some 9)
+unfolding digits encode_with first_pairs octets_between octets_in_words sentence_text
+row-60 = refl
+
+-- a
+row-61 : digit_of 0x61 ≡ (Some 10)
+unfolding digits encode_with first_pairs octets_between octets_in_words sentence_text
+row-61 = refl
+
+-- F
+row-62 : digit_of 0x46 ≡ (Some 15)
+unfolding digits encode_with first_pairs octets_between octets_in_words sentence_text
+row-62 = refl
+
+-- g
+row-63 : digit_of 0x67 ≡ None
+unfolding digits encode_with first_pairs octets_between octets_in_words sentence_text
+row-63 = refl
+
+-- in front of 0
+row-64 : digit_of 0x2f ≡ None
+unfolding digits encode_with first_pairs octets_between octets_in_words sentence_text
+row-64 = refl
+
+-- two digits
+row-65 : hex_number 0 (octets "31 30") ≡ 16
+unfolding digits encode_with first_pairs octets_between octets_in_words sentence_text
+row-65 = refl
+
+-- both cases
+row-66 : hex_number 0 (octets "46 66") ≡ 255
+unfolding digits encode_with first_pairs octets_between octets_in_words sentence_text
+row-66 = refl
+
+-- start
+row-67 : sentence_text [] (ParsesFrom 9)
+    ≡ (codes "From offset 9 on it parses: what stands in front may be a header of the file or of the record, or damaged. Try: tail -c +10 FILE | tlvdump-show\n")
+unfolding digits encode_with first_pairs octets_between octets_in_words sentence_text
+row-67 = refl
+
+-- record
+row-68 : sentence_text [] (NextRecord 120)
+    ≡ (codes "From offset 120 on it parses: the next record may begin there. Try: tail -c +121 FILE | tlvdump-show\n")
+unfolding digits encode_with first_pairs octets_between octets_in_words sentence_text
+row-68 = refl
+
+-- record up to a fault
+row-69 : sentence_text [] (NextRecordUpTo 120 9000)
+    ≡ (codes "The next record may begin at offset 120: from there on it parses up to another fault, at offset 9000. Try: tail -c +121 FILE | tlvdump-show\n")
+unfolding digits encode_with first_pairs octets_between octets_in_words sentence_text
+row-69 = refl
+
+-- the fault of the input is at the first offset, a record is at the second, and the next fault so many octets behind it
+-- far behind the record
+row-70 : is_far 10 13 StrayEnd 4096 ≡ true
+unfolding digits encode_with first_pairs octets_between octets_in_words sentence_text
+row-70 = refl
+
+-- nearer
+row-71 : is_far 10 13 StrayEnd 4095 ≡ false
+unfolding digits encode_with first_pairs octets_between octets_in_words sentence_text
+row-71 = refl
+
+-- nearer to the fault
+row-72 : is_far 20 13 StrayEnd 4102 ≡ false
+unfolding digits encode_with first_pairs octets_between octets_in_words sentence_text
+row-72 = refl
+
+-- far behind both
+row-73 : is_far 20 13 StrayEnd 4103 ≡ true
+unfolding digits encode_with first_pairs octets_between octets_in_words sentence_text
+row-73 = refl
+
+-- the input ends inside an encoding
+row-74 : is_far 10 13 Short 9000 ≡ false
+unfolding digits encode_with first_pairs octets_between octets_in_words sentence_text
+row-74 = refl
+
+-- outermost elements that begin with many different octets
+-- many
+row-75 : sentence_text [] (ManyKinds (record { elements = 5; kinds = 3; primitives = 4 }))
+    ≡ (codes "It has 5 outermost elements, which begin with 3 different octets. Primitive: 4. Octets that are no encodings may parse so by chance.\n")
+unfolding digits octets_in_words sentence_text
+row-75 = refl
+
+-- text behind
+row-76 : sentence_text [] (TextFollows 6 8)
+    ≡ (codes "Whole encodings end at offset 6. The octets after them are printable text: 8.\n")
+unfolding digits octets_in_words sentence_text
+row-76 = refl
+
+-- What the length of the outermost element says: the octets, the element, its end, and the sentence.
+-- all there
+row-77 : size_sentence_of (octets "30 02 05 00") (element 0 16 (Definite 2) 2 (Some 4)) 4
+    ≡ (Some (NoneLost (element 0 16 (Definite 2) 2 (Some 4))))
+row-77 = refl
+
+-- one lost
+row-78 : size_sentence_of (octets "30 02 05") (element 0 16 (Definite 2) 2 (Some 4)) 4
+    ≡ (Some (SomeLost (element 0 16 (Definite 2) 2 (Some 4)) 3))
+row-78 = refl
+
+-- one too many
+row-79 : size_sentence_of (octets "30 02 05 00 05") (element 0 16 (Definite 2) 2 (Some 4)) 4
+    ≡ (Some (SomePutIn (element 0 16 (Definite 2) 2 (Some 4)) 5))
+row-79 = refl
+
+-- another record
+row-80 : size_sentence_of (octets "30 02 05 00 30") (element 0 16 (Definite 2) 2 (Some 4)) 4 ≡ None
+row-80 = refl
 
 -- by how many octets an input of so many is longer or shorter than one that ends at the offset
 -- as long
-row-60 : difference_of 9 9 ≡ None
-row-60 = refl
+row-81 : difference_of 9 9 ≡ None
+row-81 = refl
 
 -- longer
-row-61 : difference_of 10 9 ≡ (Some (record { by = 1; is_longer = true }))
-row-61 = refl
+row-82 : difference_of 10 9 ≡ (Some (record { by = 1; is_longer = true }))
+row-82 = refl
 
 -- shorter
-row-62 : difference_of 9 11 ≡ (Some (record { by = 2; is_longer = false }))
-row-62 = refl
+row-83 : difference_of 9 11 ≡ (Some (record { by = 2; is_longer = false }))
+row-83 = refl
 
 -- the most
-row-63 : difference_of 4097 1 ≡ (Some (record { by = 4096; is_longer = true }))
-row-63 = refl
+row-84 : difference_of 4097 1 ≡ (Some (record { by = 4096; is_longer = true }))
+row-84 = refl
 
 -- more
-row-64 : difference_of 4098 1 ≡ None
-row-64 = refl
+row-85 : difference_of 4098 1 ≡ None
+row-85 = refl
 
 -- where the first element ends: whether it is constructed, the octets of the input, and the distance
 -- at the end
-row-65 : is_near_end false 40 0 ≡ true
-row-65 = refl
+row-86 : is_near_end false 40 0 ≡ true
+row-86 = refl
 
 -- a primitive
-row-66 : is_near_end false 40 1 ≡ false
-row-66 = refl
+row-87 : is_near_end false 40 1 ≡ false
+row-87 = refl
 
 -- a quarter
-row-67 : is_near_end true 40 10 ≡ true
-row-67 = refl
+row-88 : is_near_end true 40 10 ≡ true
+row-88 = refl
 
 -- more
-row-68 : is_near_end true 40 11 ≡ false
-row-68 = refl
+row-89 : is_near_end true 40 11 ≡ false
+row-89 = refl
 
 -- What was done to all octets, if it is undone.
-row-69 : undone_move move.Pairs (octets "01 02 03 04 05") ≡ (octets "02 01 04 03 05")
-row-69 = refl
+row-90 : undone_move move.Pairs (octets "01 02 03 04 05") ≡ (octets "02 01 04 03 05")
+row-90 = refl
 
-row-70 : undone_move move.Fours (octets "01 02 03 04 05 06 07") ≡ (octets "04 03 02 01 05 06 07")
-row-70 = refl
+row-91 : undone_move move.Fours (octets "01 02 03 04 05 06 07") ≡ (octets "04 03 02 01 05 06 07")
+row-91 = refl
 
-row-71 : undone_move move.Reversed (octets "01 02 03") ≡ (octets "03 02 01")
-row-71 = refl
+row-92 : undone_move move.Reversed (octets "01 02 03") ≡ (octets "03 02 01")
+row-92 = refl
 
-row-72 : undone_move move.Inverted (octets "00 30 ff") ≡ (octets "ff cf 00")
-row-72 = refl
+row-93 : undone_move move.Inverted (octets "00 30 ff") ≡ (octets "ff cf 00")
+row-93 = refl
 
 -- Traces of a text: in an octet less there is none.
 -- characters
-row-73 : trace_of (octets "30 c3 bf c3 bf c3 bf c3 bf c3 bf c3 bf c3 bf c3 bf") ≡ (Some (trace.AsUtf8 8))
-row-73 = refl
+row-94 : trace_of (octets "30 c3 bf c3 bf c3 bf c3 bf c3 bf c3 bf c3 bf c3 bf") ≡ (Some (trace.AsUtf8 8))
+row-94 = refl
 
 -- too few
-row-74 : trace_of (octets "30 c3 bf c3 bf c3 bf c3 bf c3 bf c3 bf c3 bf") ≡ None
-row-74 = refl
+row-95 : trace_of (octets "30 c3 bf c3 bf c3 bf c3 bf c3 bf c3 bf c3 bf") ≡ None
+row-95 = refl
 
 -- the last is cut off
-row-75 : trace_of (octets "30 c3 bf c3 bf c3 bf c3 bf c3 bf c3 bf c3 bf c3 bf e2 82") ≡ (Some (trace.AsUtf8 9))
-row-75 = refl
+row-96 : trace_of (octets "30 c3 bf c3 bf c3 bf c3 bf c3 bf c3 bf c3 bf c3 bf e2 82") ≡ (Some (trace.AsUtf8 9))
+row-96 = refl
 
 -- no character begins so
-row-76 : trace_of (octets "30 c3 bf c3 bf c3 bf c3 bf c3 bf c3 bf c3 bf c3 bf 82") ≡ None
-row-76 = refl
+row-97 : trace_of (octets "30 c3 bf c3 bf c3 bf c3 bf c3 bf c3 bf c3 bf c3 bf 82") ≡ None
+row-97 = refl
 
 -- a length below 128
-row-77 : trace_of (octets "30 20 c3 bf c3 bf c3 bf c3 bf c3 bf c3 bf c3 bf c3 bf") ≡ None
-row-77 = refl
+row-98 : trace_of (octets "30 20 c3 bf c3 bf c3 bf c3 bf c3 bf c3 bf c3 bf c3 bf") ≡ None
+row-98 = refl
 
 -- line ends
-row-78 : trace_of (octets "30 0d 0a 0d 0a 0d 0a" ++ replicate 293 0x80) ≡ (Some (trace.LineEnds 3))
-row-78 = refl
+row-99 : trace_of (octets "30 0d 0a 0d 0a 0d 0a" ++ replicate 293 0x80) ≡ (Some (trace.LineEnds 3))
+row-99 = refl
 
 -- too few
-row-79 : trace_of (octets "30 0d 0a 0d 0a" ++ replicate 293 0x80) ≡ None
-row-79 = refl
+row-100 : trace_of (octets "30 0d 0a 0d 0a" ++ replicate 293 0x80) ≡ None
+row-100 = refl
 
 -- one alone
-row-80 : trace_of (octets "30 0d 0a 0d 0a 0d 0a 0a" ++ replicate 400 0x80) ≡ None
-row-80 = refl
+row-101 : trace_of (octets "30 0d 0a 0d 0a 0d 0a 0a" ++ replicate 400 0x80) ≡ None
+row-101 = refl
 
 -- a text of lines
-row-81 : trace_of (octets "30 0d 0a 0d 0a 0d 0a" ++ replicate 292 0x80) ≡ None
-row-81 = refl
+row-102 : trace_of (octets "30 0d 0a 0d 0a 0d 0a" ++ replicate 292 0x80) ≡ None
+row-102 = refl
 
 -- UTF-16
-row-82 : trace_of (octets "80 00 80 00 80 00 80 00 80 00 80 00 80 00 80 00 80 00 80 00 80 00 80 00 80 00 80 00 80 00 80 00" ++
+row-103 : trace_of (octets "80 00 80 00 80 00 80 00 80 00 80 00 80 00 80 00 80 00 80 00 80 00 80 00 80 00 80 00 80 00 80 00" ++
     octets "80 00 80 00 80 00 80 00 80 00 80 00 80 00 80 00 80 00 80 00 80 00 80 00 80 00 80 00 80 00 80 00" ++
     octets "80 00 80 00 80 00 80 00 80 00 80 00 80 00 80 00 80 00 80 00 80 00 80 00 80 00 80 00 80 00 80 00" ++
     octets "80 00 80 00 80 00 80 00 80 00 80 00 80 00 80 00 80 00 80 00 80 00 80 00 80 00 80 00 80 00 80 00" ++
@@ -438,10 +553,10 @@ row-82 : trace_of (octets "80 00 80 00 80 00 80 00 80 00 80 00 80 00 80 00 80 00
     octets "80 00 80 00 80 00 80 00 80 00 80 00 80 00 80 00 80 00 80 00 80 00 80 00 80 00 80 00 80 00 80 00" ++
     octets "80 00 80 00 80 00 80 00")
     ≡ (Some trace.HalfZeros)
-row-82 = refl
+row-103 = refl
 
 -- nearly
-row-83 : trace_of (octets "00 80 00 80 00 80 00 80 00 80 00 80 00 80 00 80 00 80 00 80 00 80 00 80 00 80 00 80 00 80 00 80" ++
+row-104 : trace_of (octets "00 80 00 80 00 80 00 80 00 80 00 80 00 80 00 80 00 80 00 80 00 80 00 80 00 80 00 80 00 80 00 80" ++
     octets "00 80 00 80 00 80 00 80 00 80 00 80 00 80 00 80 00 80 00 80 00 80 00 80 00 80 00 80 00 80 00 80" ++
     octets "00 80 00 80 00 80 00 80 00 80 00 80 00 80 00 80 00 80 00 80 00 80 00 80 00 80 00 80 00 80 00 80" ++
     octets "00 80 00 80 00 80 00 80 00 80 00 80 00 80 00 80 00 80 00 80 00 80 00 80 00 80 00 80 00 80 00 80" ++
@@ -449,10 +564,10 @@ row-83 : trace_of (octets "00 80 00 80 00 80 00 80 00 80 00 80 00 80 00 80 00 80
     octets "00 80 00 80 00 80 00 80 00 80 00 80 00 80 00 80 00 80 00 80 01 80 01 80 01 80 01 80 01 80 01 80" ++
     octets "01 80 01 80 01 80 01 80")
     ≡ (Some trace.HalfZeros)
-row-83 = refl
+row-104 = refl
 
 -- too few
-row-84 : trace_of (octets "00 80 00 80 00 80 00 80 00 80 00 80 00 80 00 80 00 80 00 80 00 80 00 80 00 80 00 80 00 80 00 80" ++
+row-105 : trace_of (octets "00 80 00 80 00 80 00 80 00 80 00 80 00 80 00 80 00 80 00 80 00 80 00 80 00 80 00 80 00 80 00 80" ++
     octets "00 80 00 80 00 80 00 80 00 80 00 80 00 80 00 80 00 80 00 80 00 80 00 80 00 80 00 80 00 80 00 80" ++
     octets "00 80 00 80 00 80 00 80 00 80 00 80 00 80 00 80 00 80 00 80 00 80 00 80 00 80 00 80 00 80 00 80" ++
     octets "00 80 00 80 00 80 00 80 00 80 00 80 00 80 00 80 00 80 00 80 00 80 00 80 00 80 00 80 00 80 00 80" ++
@@ -460,10 +575,10 @@ row-84 : trace_of (octets "00 80 00 80 00 80 00 80 00 80 00 80 00 80 00 80 00 80
     octets "00 80 00 80 00 80 00 80 00 80 00 80 00 80 00 80 00 80 01 80 01 80 01 80 01 80 01 80 01 80 01 80" ++
     octets "01 80 01 80 01 80 01 80")
     ≡ None
-row-84 = refl
+row-105 = refl
 
 -- NULL, NULL and so on
-row-85 : trace_of (octets "05 00 05 00 05 00 05 00 05 00 05 00 05 00 05 00 05 00 05 00 05 00 05 00 05 00 05 00 05 00 05 00" ++
+row-106 : trace_of (octets "05 00 05 00 05 00 05 00 05 00 05 00 05 00 05 00 05 00 05 00 05 00 05 00 05 00 05 00 05 00 05 00" ++
     octets "05 00 05 00 05 00 05 00 05 00 05 00 05 00 05 00 05 00 05 00 05 00 05 00 05 00 05 00 05 00 05 00" ++
     octets "05 00 05 00 05 00 05 00 05 00 05 00 05 00 05 00 05 00 05 00 05 00 05 00 05 00 05 00 05 00 05 00" ++
     octets "05 00 05 00 05 00 05 00 05 00 05 00 05 00 05 00 05 00 05 00 05 00 05 00 05 00 05 00 05 00 05 00" ++
@@ -471,296 +586,304 @@ row-85 : trace_of (octets "05 00 05 00 05 00 05 00 05 00 05 00 05 00 05 00 05 00
     octets "05 00 05 00 05 00 05 00 05 00 05 00 05 00 05 00 05 00 05 00 05 00 05 00 05 00 05 00 05 00 05 00" ++
     octets "05 00 05 00 05 00 05 00")
     ≡ None
-row-85 = refl
+row-106 = refl
 
 -- seven bits
-row-86 : trace_of (octets "30 01" ++ replicate 126 0x05) ≡ (Some (trace.SevenBits 128))
-row-86 = refl
+row-107 : trace_of (octets "30 01" ++ replicate 126 0x05) ≡ (Some (trace.SevenBits 128))
+row-107 = refl
 
 -- too few
-row-87 : trace_of (octets "30 02" ++ replicate 125 0x05) ≡ None
-row-87 = refl
+row-108 : trace_of (octets "30 02" ++ replicate 125 0x05) ≡ None
+row-108 = refl
 
 -- a short element
-row-88 : trace_of (octets "30 03" ++ replicate 126 0x05) ≡ None
-row-88 = refl
+row-109 : trace_of (octets "30 03" ++ replicate 126 0x05) ≡ None
+row-109 = refl
 
 -- a primitive
-row-89 : trace_of (octets "02 01" ++ replicate 126 0x05) ≡ None
-row-89 = refl
+row-110 : trace_of (octets "02 01" ++ replicate 126 0x05) ≡ None
+row-110 = refl
 
 -- a tenth
-row-90 : trace_of (octets "30 01" ++
+row-111 : trace_of (octets "30 01" ++
     replicate 113 0x05 ++
     octets "3f 3f 3f 3f 3f 3f 3f 3f 3f 3f 3f 3f 3f")
     ≡ (Some (trace.QuestionMarks 13))
-row-90 = refl
+row-111 = refl
 
 -- fewer
-row-91 : trace_of (octets "30 01" ++
+row-112 : trace_of (octets "30 01" ++
     replicate 114 0x05 ++
     octets "3f 3f 3f 3f 3f 3f 3f 3f 3f 3f 3f 3f")
     ≡ (Some (trace.SevenBits 128))
-row-91 = refl
+row-112 = refl
 
 -- Equal octets in a row around an offset.
 -- from the first
-row-92 : run_around (octets "01" ++ replicate 24 0x00 ++ octets "05") 1 ≡ (Some (record { start = 1; end = 25 }))
-row-92 = refl
+row-113 : run_around (octets "01" ++ replicate 24 0x00 ++ octets "05") 1 ≡ (Some (record { start = 1; end = 25 }))
+row-113 = refl
 
 -- from the last
-row-93 : run_around (octets "01" ++ replicate 24 0x00 ++ octets "05") 24 ≡ (Some (record { start = 1; end = 25 }))
-row-93 = refl
+row-114 : run_around (octets "01" ++ replicate 24 0x00 ++ octets "05") 24 ≡ (Some (record { start = 1; end = 25 }))
+row-114 = refl
 
 -- up to the end
-row-94 : run_around (octets "01" ++ replicate 24 0xff) 9 ≡ (Some (record { start = 1; end = 25 }))
-row-94 = refl
+row-115 : run_around (octets "01" ++ replicate 24 0xff) 9 ≡ (Some (record { start = 1; end = 25 }))
+row-115 = refl
 
 -- too few
-row-95 : run_around (octets "01" ++ replicate 23 0x00 ++ octets "05") 1 ≡ None
-row-95 = refl
+row-116 : run_around (octets "01" ++ replicate 23 0x00 ++ octets "05") 1 ≡ None
+row-116 = refl
 
 -- spaces
-row-96 : run_around (replicate 30 0x20) 9 ≡ None
-row-96 = refl
+row-117 : run_around (replicate 30 0x20) 9 ≡ None
+row-117 = refl
 
 -- in front
-row-97 : run_around (octets "01" ++ replicate 24 0x00 ++ octets "05") 0 ≡ None
-row-97 = refl
+row-118 : run_around (octets "01" ++ replicate 24 0x00 ++ octets "05") 0 ≡ None
+row-118 = refl
 
 -- at the end
-row-98 : run_around (replicate 24 0x00) 24 ≡ None
-row-98 = refl
+row-119 : run_around (replicate 24 0x00) 24 ≡ None
+row-119 = refl
 
 -- What is said in front of the sentences about the fault.
 -- utf8
-row-99 : undoable (Some Utf8) ≡ (Some Utf8)
-row-99 = refl
+row-120 : undoable (Some Utf8) ≡ (Some Utf8)
+row-120 = refl
 
 -- line ends
-row-100 : undoable (Some LineEnds) ≡ (Some LineEnds)
-row-100 = refl
+row-121 : undoable (Some LineEnds) ≡ (Some LineEnds)
+row-121 = refl
 
 -- replaced
-row-101 : undoable (Some Replaced) ≡ None
-row-101 = refl
+row-122 : undoable (Some Replaced) ≡ None
+row-122 = refl
 
 -- nothing
-row-102 : undoable None ≡ None
-row-102 = refl
+row-123 : undoable None ≡ None
+row-123 = refl
 
 -- a trace
-row-103 : replaced_before (Traced trace.HalfZeros) (octets "ef bf bd") ≡ (Some (TextChanged Replaced))
-row-103 = refl
+row-124 : replaced_before (Traced trace.HalfZeros) (octets "ef bf bd") ≡ (Some (TextChanged Replaced))
+row-124 = refl
 
 -- no such octets
-row-104 : replaced_before (Traced trace.HalfZeros) (octets "ef bf") ≡ None
-row-104 = refl
+row-125 : replaced_before (Traced trace.HalfZeros) (octets "ef bf") ≡ None
+row-125 = refl
 
 -- no trace
-row-105 : replaced_before (OctetsMoved move.Pairs) (octets "ef bf bd") ≡ None
-row-105 = refl
+row-126 : replaced_before (OctetsMoved move.Pairs) (octets "ef bf bd") ≡ None
+row-126 = refl
 
 -- one
-row-106 : lengths_in (Some (OtherLength (record { offset = 2; said = 2; would = 1 })))
+row-127 : lengths_in (Some (OtherLength (record { offset = 2; said = 2; would = 1 })))
     ≡ ((record { offset = 2; said = 2; would = 1 }) ∷ [])
-row-106 = refl
+row-127 = refl
 
 -- none
-row-107 : lengths_in (Some (ParsesFrom 3)) ≡ []
-row-107 = refl
+row-128 : lengths_in (Some (ParsesFrom 3)) ≡ []
+row-128 = refl
 
 -- another start
-row-108 : start_in (Some (ParsesFrom 3)) ≡ (Some 3)
-row-108 = refl
+row-129 : start_in (Some (ParsesFrom 3)) ≡ (Some 3)
+row-129 = refl
 
 -- none
-row-109 : start_in (Some (NextRecord 3)) ≡ None
-row-109 = refl
+row-130 : start_in (Some (NextRecord 3)) ≡ None
+row-130 = refl
+
+-- up to the end
+row-131 : record_sentence (record { offset = 3; fault = None }) ≡ (NextRecord 3)
+row-131 = refl
+
+-- up to a fault
+row-132 : record_sentence (record { offset = 3; fault = (Some 9000) }) ≡ (NextRecordUpTo 3 9000)
+row-132 = refl
 
 -- a length in front is not said to be wrong if something is known that would mend the input
 -- mended
-row-110 : unless_mended true (LengthInFront (element 2 2 (Definite 1) 4 (Some 5)) ∷ TryAnew ∷ []) ≡ (TryAnew ∷ [])
-row-110 = refl
+row-133 : unless_mended true (LengthInFront (element 2 2 (Definite 1) 4 (Some 5)) ∷ TryAnew ∷ []) ≡ (TryAnew ∷ [])
+row-133 = refl
 
 -- not mended
-row-111 : unless_mended false (LengthInFront (element 2 2 (Definite 1) 4 (Some 5)) ∷ TryAnew ∷ [])
+row-134 : unless_mended false (LengthInFront (element 2 2 (Definite 1) 4 (Some 5)) ∷ TryAnew ∷ [])
     ≡ (LengthInFront (element 2 2 (Definite 1) 4 (Some 5)) ∷ TryAnew ∷ [])
-row-111 = refl
+row-134 = refl
 
 -- the second
-row-112 : named_at 5 ((record { offset = 2; said = 2; would = 1 }) ∷ (record { offset = 5; said = 8; would = 7 }) ∷ [])
+row-135 : named_at 5 ((record { offset = 2; said = 2; would = 1 }) ∷ (record { offset = 5; said = 8; would = 7 }) ∷ [])
     ≡ (Some (record { offset = 5; said = 8; would = 7 }))
-row-112 = refl
+row-135 = refl
 
 -- none
-row-113 : named_at 0 ((record { offset = 2; said = 2; would = 1 }) ∷ (record { offset = 5; said = 8; would = 7 }) ∷ [])
+row-136 : named_at 0 ((record { offset = 2; said = 2; would = 1 }) ∷ (record { offset = 5; said = 8; would = 7 }) ∷ [])
     ≡ None
-row-113 = refl
+row-136 = refl
 
 -- Octets that were taken for a text, and what they were.
 -- line end
-row-114 : with_lf_alone (octets "30 0d 0a 05") ≡ (octets "30 0a 05")
-row-114 = refl
+row-137 : with_lf_alone (octets "30 0d 0a 05") ≡ (octets "30 0a 05")
+row-137 = refl
 
 -- two returns
-row-115 : with_lf_alone (octets "0d 0d 0a") ≡ (octets "0d 0a")
-row-115 = refl
+row-138 : with_lf_alone (octets "0d 0d 0a") ≡ (octets "0d 0a")
+row-138 = refl
 
 -- others
-row-116 : with_lf_alone (octets "0a 0d 05 0d") ≡ (octets "0a 0d 05 0d")
-row-116 = refl
+row-139 : with_lf_alone (octets "0a 0d 05 0d") ≡ (octets "0a 0d 05 0d")
+row-139 = refl
 
 -- characters
-row-117 : latin1_of_utf8 (octets "30 c2 80 c3 bf") ≡ Some (octets "30 80 ff")
-row-117 = refl
+row-140 : latin1_of_utf8 (octets "30 c2 80 c3 bf") ≡ Some (octets "30 80 ff")
+row-140 = refl
 
 -- last
-row-118 : latin1_of_utf8 (octets "c2 bf 7f") ≡ Some (octets "bf 7f")
-row-118 = refl
+row-141 : latin1_of_utf8 (octets "c2 bf 7f") ≡ Some (octets "bf 7f")
+row-141 = refl
 
 -- a character above 255, overlong octets, an octet that is lacking, and one that no character begins with
-row-119 : latin1_of_utf8 (octets "c4 80") ≡ None
-row-119 = refl
+row-142 : latin1_of_utf8 (octets "c4 80") ≡ None
+row-142 = refl
 
 -- overlong
-row-120 : latin1_of_utf8 (octets "c1 bf") ≡ None
-row-120 = refl
+row-143 : latin1_of_utf8 (octets "c1 bf") ≡ None
+row-143 = refl
 
 -- lacking
-row-121 : latin1_of_utf8 (octets "30 c3") ≡ None
-row-121 = refl
+row-144 : latin1_of_utf8 (octets "30 c3") ≡ None
+row-144 = refl
 
 -- stray
-row-122 : latin1_of_utf8 (octets "80") ≡ None
-row-122 = refl
+row-145 : latin1_of_utf8 (octets "80") ≡ None
+row-145 = refl
 
 -- replacement
-row-123 : has_replacement (octets "30 ef ef bf bd") ≡ true
-row-123 = refl
+row-146 : has_replacement (octets "30 ef ef bf bd") ≡ true
+row-146 = refl
 
 -- part
-row-124 : has_replacement (octets "ef bf be ef bf") ≡ false
-row-124 = refl
+row-147 : has_replacement (octets "ef bf be ef bf") ≡ false
+row-147 = refl
 
 -- Headers that are tried, each only once, and how many are named.
 -- once
-row-125 : distinct (9 ∷ 5 ∷ 9 ∷ 2 ∷ 5 ∷ 0 ∷ []) ≡ (9 ∷ 5 ∷ 2 ∷ 0 ∷ [])
-row-125 = refl
+row-148 : distinct (9 ∷ 5 ∷ 9 ∷ 2 ∷ 5 ∷ 0 ∷ []) ≡ (9 ∷ 5 ∷ 2 ∷ 0 ∷ [])
+row-148 = refl
 
-row-126 : most_named 262144 ≡ 3
-row-126 = refl
+row-149 : most_named 262144 ≡ 3
+row-149 = refl
 
-row-127 : most_named 262145 ≡ 1
-row-127 = refl
+row-150 : most_named 262145 ≡ 1
+row-150 = refl
 
 -- Lengths that are tried, and octets that say them.
 -- near
-row-128 : lengths_within 3 5 ≡ (4 ∷ 2 ∷ 5 ∷ 1 ∷ 6 ∷ 0 ∷ 7 ∷ 8 ∷ [])
-row-128 = refl
+row-151 : lengths_within 3 5 ≡ (4 ∷ 2 ∷ 5 ∷ 1 ∷ 6 ∷ 0 ∷ 7 ∷ 8 ∷ [])
+row-151 = refl
 
 -- one bit
-row-129 : flips 5 4 ≡ (4 ∷ 7 ∷ 1 ∷ 13 ∷ [])
-row-129 = refl
+row-152 : flips 5 4 ≡ (4 ∷ 7 ∷ 1 ∷ 13 ∷ [])
+row-152 = refl
 
 -- 01 02 and 02 01
 -- reverse
-row-130 : reversed_lengths 3 258 ≡ (513 ∷ [])
-row-130 = refl
+row-153 : reversed_lengths 3 258 ≡ (513 ∷ [])
+row-153 = refl
 
 -- five octets after the first
-row-131 : reversed_lengths 6 1 ≡ (4294967296 ∷ [])
-row-131 = refl
+row-154 : reversed_lengths 6 1 ≡ (4294967296 ∷ [])
+row-154 = refl
 
 -- one octet after the first, and six
-row-132 : reversed_lengths 2 5 ≡ []
-row-132 = refl
+row-155 : reversed_lengths 2 5 ≡ []
+row-155 = refl
 
-row-133 : reversed_lengths 7 1 ≡ []
-row-133 = refl
+row-156 : reversed_lengths 7 1 ≡ []
+row-156 = refl
 
 -- contents from the offset 5 on
 -- up to the end
-row-134 : ending_lengths true 5 12 ≡ (7 ∷ [])
-row-134 = refl
+row-157 : ending_lengths true 5 12 ≡ (7 ∷ [])
+row-157 = refl
 
 -- no contents
-row-135 : ending_lengths true 5 5 ≡ (0 ∷ [])
-row-135 = refl
+row-158 : ending_lengths true 5 5 ≡ (0 ∷ [])
+row-158 = refl
 
 -- too near
-row-136 : ending_lengths true 5 4 ≡ []
-row-136 = refl
+row-159 : ending_lengths true 5 4 ≡ []
+row-159 = refl
 
 -- primitive
-row-137 : ending_lengths false 5 12 ≡ []
-row-137 = refl
+row-160 : ending_lengths false 5 12 ≡ []
+row-160 = refl
 
 -- where it should end: three open elements, one of indefinite length
 -- the innermost
-row-138 : reach_in (element 0 16 (Definite 98) 2 (Some 100) ∷ element 10 16 Indefinite 12 None ∷ element 20 16 (Definite 38) 22 (Some 60) ∷ []) 30 200
+row-161 : reach_in (element 0 16 (Definite 98) 2 (Some 100) ∷ element 10 16 Indefinite 12 None ∷ element 20 16 (Definite 38) 22 (Some 60) ∷ []) 30 200
     ≡ 60
-row-138 = refl
+row-161 = refl
 
 -- not itself
-row-139 : reach_in (element 0 16 (Definite 98) 2 (Some 100) ∷ element 10 16 Indefinite 12 None ∷ element 20 16 (Definite 38) 22 (Some 60) ∷ []) 20 200
+row-162 : reach_in (element 0 16 (Definite 98) 2 (Some 100) ∷ element 10 16 Indefinite 12 None ∷ element 20 16 (Definite 38) 22 (Some 60) ∷ []) 20 200
     ≡ 100
-row-139 = refl
+row-162 = refl
 
 -- the input
-row-140 : reach_in (element 0 16 (Definite 98) 2 (Some 100) ∷ element 10 16 Indefinite 12 None ∷ element 20 16 (Definite 38) 22 (Some 60) ∷ []) 0 200
+row-163 : reach_in (element 0 16 (Definite 98) 2 (Some 100) ∷ element 10 16 Indefinite 12 None ∷ element 20 16 (Definite 38) 22 (Some 60) ∷ []) 0 200
     ≡ 200
-row-140 = refl
+row-163 = refl
 
 -- not behind the input
-row-141 : reach_in (element 0 16 (Definite 98) 2 (Some 100) ∷ element 10 16 Indefinite 12 None ∷ element 20 16 (Definite 38) 22 (Some 60) ∷ []) 30 50
+row-164 : reach_in (element 0 16 (Definite 98) 2 (Some 100) ∷ element 10 16 Indefinite 12 None ∷ element 20 16 (Definite 38) 22 (Some 60) ∷ []) 30 50
     ≡ 50
-row-141 = refl
+row-164 = refl
 
 -- of a SEQUENCE at the offset 1, in an input of so many octets, in which it should end at an offset
 -- the short form says no length above 127
-row-142 : other_lengths (header 1 Universal true 16 (Definite 126) "30" "7e") 200 100
+row-165 : other_lengths (header 1 Universal true 16 (Definite 126) "30" "7e") 200 100
     ≡ (127 ∷ 125 ∷ 124 ∷ 123 ∷ 122 ∷ 121 ∷ 127 ∷ 124 ∷ 122 ∷ 118 ∷ 110 ∷ 94 ∷ 62 ∷ 97 ∷ [])
-row-142 = refl
+row-165 = refl
 
 -- no end of a primitive
-row-143 : other_lengths (header 1 Universal false 16 (Definite 126) "30" "7e") 200 100
+row-166 : other_lengths (header 1 Universal false 16 (Definite 126) "30" "7e") 200 100
     ≡ (127 ∷ 125 ∷ 124 ∷ 123 ∷ 122 ∷ 121 ∷ 127 ∷ 124 ∷ 122 ∷ 118 ∷ 110 ∷ 94 ∷ 62 ∷ [])
-row-143 = refl
+row-166 = refl
 
 -- the most octets in which all are tried, and one more
-row-144 : other_lengths (header 1 Universal true 16 (Definite 126) "30" "7e") 262144 100
+row-167 : other_lengths (header 1 Universal true 16 (Definite 126) "30" "7e") 262144 100
     ≡ (127 ∷ 125 ∷ 124 ∷ 123 ∷ 122 ∷ 121 ∷ 127 ∷ 124 ∷ 122 ∷ 118 ∷ 110 ∷ 94 ∷ 62 ∷ 97 ∷ [])
-row-144 = refl
+row-167 = refl
 
-row-145 : other_lengths (header 1 Universal true 16 (Definite 126) "30" "7e") 262145 100
+row-168 : other_lengths (header 1 Universal true 16 (Definite 126) "30" "7e") 262145 100
     ≡ (127 ∷ 125 ∷ 124 ∷ 123 ∷ 122 ∷ 121 ∷ [])
-row-145 = refl
+row-168 = refl
 
 -- two octets say no length above 255, and may say one below 128
-row-146 : other_lengths (header 1 Universal true 16 (Definite 255) "30" ("81 ff")) 300 250
+row-169 : other_lengths (header 1 Universal true 16 (Definite 255) "30" ("81 ff")) 300 250
     ≡ (254 ∷ 253 ∷ 252 ∷ 251 ∷ 250 ∷ 254 ∷ 253 ∷ 251 ∷ 247 ∷ 239 ∷ 223 ∷ 191 ∷ 127 ∷ 246 ∷ [])
-row-146 = refl
+row-169 = refl
 
 -- three octets, in reverse order too, and 256 more and less
-row-147 : other_lengths (header 1 Universal true 16 (Definite 258) "30" ("82 01 02")) 1000 4
+row-170 : other_lengths (header 1 Universal true 16 (Definite 258) "30" ("82 01 02")) 1000 4
     ≡ (259 ∷ 257 ∷ 260 ∷ 256 ∷ 261 ∷ 255 ∷ 262 ∷ 254 ∷ 263 ∷ 253 ∷ 259 ∷ 256 ∷ 262 ∷ 266 ∷ 274 ∷ 290 ∷ 322 ∷ 386 ∷ 2 ∷ 770 ∷ 1282 ∷ 2306 ∷ 4354 ∷ 8450 ∷ 16642 ∷ 33026 ∷ 513 ∷ 514 ∷ 2 ∷ [])
-row-147 = refl
+row-170 = refl
 
 -- padded
-row-148 : other_lengths (header 1 Universal true 16 (Definite 0) "30" ("82 00 00")) 100 50
+row-171 : other_lengths (header 1 Universal true 16 (Definite 0) "30" ("82 00 00")) 100 50
     ≡ (1 ∷ 2 ∷ 3 ∷ 4 ∷ 5 ∷ 1 ∷ 2 ∷ 4 ∷ 8 ∷ 16 ∷ 32 ∷ 64 ∷ 128 ∷ 256 ∷ 512 ∷ 1024 ∷ 2048 ∷ 4096 ∷ 8192 ∷ 16384 ∷ 32768 ∷ 0 ∷ 256 ∷ 45 ∷ [])
-row-148 = refl
+row-171 = refl
 
 -- indefinite
-row-149 : other_lengths (header 1 Universal true 16 Indefinite "30" "80") 100 50 ≡ []
-row-149 = refl
+row-172 : other_lengths (header 1 Universal true 16 Indefinite "30" "80") 100 50 ≡ []
+row-172 = refl
 
 -- octets
-row-150 : length_octets_saying 258 (octets "83 00 00 09") ≡ (octets "83 00 01 02")
-row-150 = refl
+row-173 : length_octets_saying 258 (octets "83 00 00 09") ≡ (octets "83 00 01 02")
+row-173 = refl
 
 -- input
-row-151 : input_with_length (octets "00 30 81 03 05 00") (header 1 Universal true 16 (Definite 3) "30" ("81 03")) 2
+row-174 : input_with_length (octets "00 30 81 03 05 00") (header 1 Universal true 16 (Definite 3) "30" ("81 03")) 2
     ≡ (octets "00 30 81 02 05 00")
-row-151 = refl
+row-174 = refl

@@ -48,7 +48,7 @@ use Rattle.tlv_reasons.specs.Laws.{AreShown}
 use Rattle.tlv_reasons.proofs.ShownLemmas.ShownValues.{decimal-shown}
 use Rattle.tlv_view_program.specs.ShownLines.{DumpsAreShown}
 use Rattle.tlv_view_program.proofs.ShownLemmas.ShownLabels.{joined-shown}
-use Rattle.tlv_view_program.proofs.ShownLemmas.ShownLists.{wording-shown}
+use Rattle.tlv_view_program.proofs.ShownLemmas.ShownFindings.{wording-shown}
 use Rattle.tlv_view_program.proofs.ShownLemmas.ShownReasons.{sends-shown}
 use Rattle.tlv_view_program.proofs.ShownLemmas.ShownText.{columns-shown, flat-shown, left-octets, right-octets}
 use Rattle.tlv_view_program.proofs.ShownLemmas.ShownText.{spaces-shown, tag-shown}

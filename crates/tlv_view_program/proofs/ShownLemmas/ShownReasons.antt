@@ -1,6 +1,9 @@
 -- What is written of reasons, with `--why` and after messages, is printable ASCII.
-use Rattle.std.proofs.Common.{◌≡◌, ℕ, Bool, true, false, List, [], ◌∷◌, ◌++◌, Result, Ok, Err, refl, subst, sym}
+use Rattle.std.proofs.Common.{◌≡◌, ℕ, Bool, true, false, List, [], ◌∷◌, ◌++◌, Result, Ok, Err, eqb, refl, subst, suc}
+use Rattle.std.proofs.Common.{sym, take, zero}
+use Rattle.std.specs.List.{concat}
 use Rattle.std.proofs.KnownBytes.{Appends-nil, Appends-trans}
+use Rattle.std.proofs.lemmas.Bool.{and_parts}
 use Rattle.std.proofs.lemmas.List.Folds.{list_all-append}
 use Rattle.tlv_io.specs.Device.{DrainState}
 use Rattle.tlv_io.specs.Out.{Sends}
@@ -12,16 +15,18 @@ use Rattle.tlv_run.specs.Report.{ReportValue}
 use Rattle.tlv_view_program.specs.declared.input.InputFault.TheVariants as input
 use Rattle.tlv_reasons.specs.Laws.{AreShown}
 use Rattle.tlv_reasons.specs.Sentences.{sentences_text}
-use Rattle.tlv_reasons.specs.Why.{first_sentence}
+use Rattle.tlv_show.specs.declared.rules.Rules.TheVariants.{Der}
 use Rattle.tlv_reasons.specs.declared.sentence.Sentence.{Sentence}
 use Rattle.tlv_reasons.proofs.ShownLemmas.ShownSentences.{sentences-shown}
-use Rattle.tlv_view_program.specs.Reasons.{ExplainsParsing, ShowsReasons, explained_report, findings_line}
-use Rattle.tlv_view_program.specs.Reasons.{findings_words}
+use Rattle.tlv_view_program.specs.Reasons.{AreFirstFindings, ExplainsParsing, ShowsReasons, explained_report}
+use Rattle.tlv_view_program.specs.Reasons.{findings_line, findings_room, findings_words, first_lines, parsing_sentences}
+use Rattle.tlv_view_program.specs.Reasons.{shown_findings, whole_lines}
 use Rattle.tlv_view_program.specs.ShownLines.{FindingsLinesAreShown, ReasonsAreShown, TakesShown}
 use Rattle.tlv_view_program.specs.WritesReasons.{ExplainsFirst, ExplainsString, Outcome, SendsReasons, WritesReasons}
 use Rattle.tlv_view_program.specs.WritesReasons.{first_of, heading}
 use Rattle.tlv_view_program.specs.declared.reasons.Explained.{Explained}
 use Rattle.tlv_view_program.proofs.ShownLemmas.ShownLabels.{front-shown, joined-shown}
+use Rattle.tlv_view_program.proofs.ShownLemmas.ShownFindings.{first_octets-shown}
 use Rattle.tlv_view_program.proofs.ShownLemmas.ShownReports.{IsShownReport, device_report-shown}
 use Rattle.tlv_view_program.proofs.ShownLemmas.ShownReports.{input_report-shown, views-shown}
 
@@ -33,6 +38,32 @@ words-shown (x ∷ message) shown = shown
 
 findings_line-shown : (ber der : List ℕ) → AreShown ber → AreShown der → AreShown (findings_line ber der)
 findings_line-shown ber der b d = simp (list_all-append, words-shown ber b, words-shown der d)
+
+-- the first lines of a text that is shown
+lines-shown : (most : ℕ) (line text : List ℕ) → AreShown line → AreShown text
+    → AreShown (concat (take most (whole_lines line text)))
+lines-shown zero line text l t = refl
+lines-shown (suc most) line [] l t = refl
+lines-shown (suc most) line (x ∷ text) l t = by (eqb x 10) refl
+    (lines-shown most [] text refl (and_parts _ _ t).1)
+    (lines-shown (suc most) (line ++ x ∷ []) text (joined-shown line (x ∷ []) l (front-shown (x ∷ []) text t))
+    (and_parts _ _ t).1)
+  where
+    by : (b : Bool) → eqb x 10 ≡ b → AreShown (concat (take most (whole_lines [] text)))
+        → AreShown (concat (take (suc most) (whole_lines (line ++ x ∷ []) text)))
+        → AreShown (concat (take (suc most) (whole_lines line (x ∷ text))))
+    by true e rest other =
+        rw e
+        (joined-shown (line ++ x ∷ []) (concat (take most (whole_lines [] text)))
+        (joined-shown line (x ∷ []) l (front-shown (x ∷ []) text t)) rest)
+    by false e rest other = rw e other
+
+-- the first octets that a check by DER writes
+first_findings-shown : (table : NamesValue) (closed padding : Bool) (octets message first : List ℕ)
+    → AreFirstFindings table closed padding octets message first → AreShown first
+first_findings-shown table closed padding octets _ _ AreFirstFindings.none = refl
+first_findings-shown table closed padding octets _ first (AreFirstFindings.some are) =
+    first_octets-shown Der table closed padding octets findings_room first are
 
 pub findings_lines-shown : FindingsLinesAreShown
 findings_lines-shown first second closed padding table octets ber der b d =
@@ -109,12 +140,15 @@ pub reasons-shown : ReasonsAreShown
 reasons-shown reads closed padding table octets old new _ _ o (ShowsReasons.refused facts outcome are some explains) =
     reasons-sent padding octets o (first_of true octets facts) _ _ _ old new outcome explains
 reasons-shown reads closed padding table octets old new _ _ o
-    (ShowsReasons.parses facts ber der broken outcome are none b d breaks explains) =
-    let lines : List ℕ = findings_line ber.message der.message in
-    let first : List Sentence = first_sentence octets facts ∷ [] in
-    parsing-shown padding octets o (sentences_text octets first ++ lines) broken old new outcome
-    (joined-shown (sentences_text octets first) lines (sentences-shown octets first o)
-    (findings_lines-shown _ _ closed padding table octets ber der b d)) explains
+    (ShowsReasons.parses facts ber der broken outcome are none b d breaks first f kinds k explains) =
+    let line : List ℕ = findings_line ber.message der.message in
+    let lines : List ℕ = first_lines shown_findings first in
+    let sentences : List Sentence = parsing_sentences octets facts kinds in
+    parsing-shown padding octets o (sentences_text octets sentences ++ (line ++ lines)) broken old new outcome
+    (joined-shown (sentences_text octets sentences) (line ++ lines) (sentences-shown octets sentences o)
+    (joined-shown line lines (findings_lines-shown _ _ closed padding table octets ber der b d)
+    (lines-shown shown_findings [] first refl (first_findings-shown table closed padding octets der.message first f))))
+    explains
 reasons-shown reads closed padding table octets old new _ _ o (ShowsReasons.no_memory facts are none same) =
     same-takes old new same
 
@@ -131,6 +165,7 @@ pub reasons_report-shown : {reads : ℕ} (closed padding : Bool) (table : NamesV
 reasons_report-shown closed padding table octets old new _ _
     (ShowsReasons.refused facts outcome are some explains) = explained-shown 2 outcome
 reasons_report-shown closed padding table octets old new _ _
-    (ShowsReasons.parses facts ber der broken outcome are none b d breaks explains) = explained-shown ber.status outcome
+    (ShowsReasons.parses facts ber der broken outcome are none b d breaks first f kinds k explains) =
+    explained-shown ber.status outcome
 reasons_report-shown closed padding table octets old new _ _ (ShowsReasons.no_memory facts are none same) =
     input_report-shown input.Memory

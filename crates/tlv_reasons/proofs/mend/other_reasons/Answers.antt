@@ -1,18 +1,18 @@
 use Rattle.std.proofs.Common.{◌≡◌, refl, rules}
 use Rattle.std.specs.Option.{option_map}
-use Rattle.tlv_reasons.specs.declared.sentence.Sentence.TheVariants as say
+use Rattle.tlv_reasons.specs.Remedies.{record_sentence}
 use Rattle.tlv_reasons.proofs.mend.other_reasons.Goals as goal
 
 pub returns-clause-reasons : goal.returns-clause-reasons
 returns-clause-reasons c =
-    let next : c.map.result ≡ option_map (λ n. say.NextRecord n) c.next_record-next.result = search rules in
+    let next : c.map.result ≡ option_map record_sentence c.next_record-next.result = search rules in
     record {
       remedy = c.in_ok-remedy.remedy;
       is_remedy = c.in_ok-remedy.ensures;
       record_after = c.next_record-next.result;
       is_record =
-          rw (c.named_at-wrong.ensures, c.as_slice.ensures.value, c.lengths_in.ensures, c.start_in.ensures)
-          at c.next_record-next.ensures.record;
+          rw (c.fault_offset-fault.ensures, c.named_at-wrong.ensures, c.as_slice.ensures.value, c.lengths_in.ensures, c.start_in.ensures)
+          at c.next_record-next.ensures;
       sentences_are =
           rw (
             c.joined.ensures,

@@ -31,4 +31,5 @@ returns g c =
     rw c.explained_report-2.ensures
     (parses c.closed_facts-facts.result _ _ c.in-Ok.found.ber.broken.items c.explain_parsing-outcome.result
     c.closed_facts-facts.ensures (no-fault _ _ c.is_some.ensures c.if-is_some.false) c.in-Ok.ensures.ber
-    c.in-Ok.ensures.der c.in-Ok.ensures.broken c.explain_parsing-outcome.ensures)
+    c.in-Ok.ensures.der c.in-Ok.ensures.broken c.in-Ok.found.first.items c.in-Ok.ensures.first
+    c.in-Ok.found.kinds c.in-Ok.ensures.kinds c.explain_parsing-outcome.ensures)
