@@ -43,10 +43,7 @@ pub(crate) enum Next {
     /// An octet of padding.
     Padding,
     /// An element, which ends at this offset.
-    Element {
-        end: usize,
-        primitive: bool,
-    },
+    Element { end: usize, primitive: bool },
 }
 
 /// How many outermost elements an input has, if they begin with three different octets or more, and fewer than 64, and

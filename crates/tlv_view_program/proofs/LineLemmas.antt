@@ -1,5 +1,5 @@
 -- The first lines of a text, from one octet to the next.
-use Rattle.std.proofs.Common.{◌≡◌, ℕ, ◌+◌, ◌-◌, ◌<◌, ◌≤◌, true, false, eqb, if◌then◌else◌, List, [], ◌∷◌, ◌++◌, length}
+use Rattle.std.proofs.Common.{◌≡◌, ℕ, ◌+◌, ◌-◌, ◌<◌, ◌≤◌, true, false, eqb, List, [], ◌∷◌, ◌++◌, length}
 use Rattle.std.proofs.Common.{◌∙◌, ap, append_assoc, arith, drop, get_or, get_or-drop, length-drop, refl, suc, sym, take}
 use Rattle.std.proofs.Common.{take-add, zero}
 use Rattle.std.specs.List.{concat}
@@ -7,7 +7,7 @@ use Rattle.std.proofs.Common.{ne_eqb}
 use Rattle.std.proofs.lemmas.Bool.{eq-eqb}
 use Rattle.std.proofs.lemmas.List.{drop_all, drop_more}
 use Rattle.std.proofs.Math.Seq.{take-suc}
-use Rattle.tlv_view_program.specs.Reasons.{first_lines, whole_lines}
+use Rattle.tlv_view_program.specs.Reasons.{whole_lines}
 
 none : List (List ℕ)
 none = []

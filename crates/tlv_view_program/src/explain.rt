@@ -147,7 +147,14 @@ fn findings_in<N: FiniteNames>(
 {
     let ber = checked(alloc, Rules::Ber, closed, padding, names, octets)?;
     let der = checked(alloc, Rules::Der, closed, padding, names, octets)?;
-    let first = first_findings(alloc, der.report.message.as_slice(), closed, padding, names, octets)?;
+    let first = first_findings(
+        alloc,
+        der.report.message.as_slice(),
+        closed,
+        padding,
+        names,
+        octets,
+    )?;
     Ok(Found {
         ber,
         der: der.report,

@@ -1,7 +1,6 @@
-use Rattle.std.proofs.Common.{ap, get_or, subst}
-use Rattle.std.specs.Prelude.{None, Some, ℕ}
+use Rattle.std.proofs.Common.{get_or}
+use Rattle.std.specs.Prelude.{None, Some}
 use Rattle.tlv_reasons.proofs.RecordLemmas.{tried-all, tried-here, tried-later, tried-spent}
-use Rattle.tlv_reasons.specs.NextRecord.{IsRecordAt}
 use Rattle.tlv_reasons.proofs.records.first_within.Goals as goal
 
 pub returns-then-left-eq0-clause-first : goal.returns-then-left-eq0-clause-first
