@@ -21,7 +21,7 @@ use Rattle.tlv_reasons.specs.declared.element_kinds.OutermostKinds.{OutermostKin
 use Rattle.tlv_reasons.specs.OutermostKinds.{AreKinds, AreOutermost, are_many, first_octets, kinds_of}
 use Rattle.tlv_reasons.specs.OutermostKinds as outer
 use Rattle.tlv_reasons.specs.OutermostSizes.{is_padded_at}
-use Rattle.tlv_reasons.specs.Private.OutermostKinds.{IsElementUpTo, kinds_counted, new_counts, with_element}
+use Rattle.tlv_reasons.specs.Private.OutermostKinds.{IsElementUpTo, kinds_counted, new_counts, counting_element}
 use Rattle.tlv_reasons.specs.Suspects.{distinct, distinct_after, unless_seen}
 use Rattle.tlv_reasons.specs.WrongLength.{contents_start}
 
@@ -185,7 +185,7 @@ module _ (padding : Bool) (octets : List ℕ) where
 
   pub counted-element : (offset end : ℕ) (primitive : Bool) (c : Counts) → Counted offset c
       → IsElementUpTo padding octets offset end primitive
-      → Counted end (with_element (slice_index octets offset) primitive c)
+      → Counted end (counting_element (slice_index octets offset) primitive c)
   unfolding primitives-in
   counted-element offset end primitive c x e = record {
     done = x.done ++ e.header ∷ [];

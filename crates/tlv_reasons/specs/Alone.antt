@@ -11,8 +11,8 @@ use Rattle.tlv_reasons.specs.Suspects.{suspect_offsets}
 use Rattle.tlv_reasons.specs.WrongLength.{NamesLengths, search_limit}
 
 -- the octets from this offset up to that one
-abbrev pub octets_between : List ℕ → ℕ → ℕ → List ℕ
-octets_between octets offset end = take (end - offset) (drop offset octets)
+abbrev pub element_octets : List ℕ → ℕ → ℕ → List ℕ
+element_octets octets offset end = take (end - offset) (drop offset octets)
 
 -- by its header the element at this offset ends at that one. It is not too long to be searched, and what follows it
 -- parses
@@ -28,8 +28,8 @@ behind front w = record w { offset = offset_sum w.offset front }
 -- the other lengths that are named in the element at this offset: it is searched as an input of its own
 pub data AreLengthsInside (padding : Bool) (octets : List ℕ) (offset : ℕ) : List WrongLength → Type 0 where
   alone : {end : ℕ} {facts : Facts} {found : List WrongLength} → IsAlone padding octets offset end
-      → AreFacts (closed_framing padding) (octets_between octets offset end) facts
-      → NamesLengths (closed_framing padding) (octets_between octets offset end) facts.holders.items
+      → AreFacts (closed_framing padding) (element_octets octets offset end) facts
+      → NamesLengths (closed_framing padding) (element_octets octets offset end) facts.holders.items
       (suspect_offsets facts) found
       → AreLengthsInside padding octets offset (map (behind offset) found)
   not_alone : ((end : ℕ) → IsAlone padding octets offset end → ⊥) → AreLengthsInside padding octets offset []

@@ -2,7 +2,7 @@
 ghost use Rattle.std.specs.Prelude.{◌≡◌, ◌<◌, ◌≤◌, length, slice_index};
 ghost use Rattle.tlv_head.specs.Limits.{input_limit};
 ghost use Rattle.tlv_reasons.specs.OutermostKinds.{AreKinds};
-ghost use Rattle.tlv_reasons.specs.Private.OutermostKinds.{IsNext, kinds_counted, new_counts, with_element};
+ghost use Rattle.tlv_reasons.specs.Private.OutermostKinds.{IsNext, kinds_counted, new_counts, counting_element};
 
 use crate::outermost::is_padded_at;
 use crate::suspects::add_unless_seen;
@@ -110,7 +110,7 @@ fn count_element(first: u8, primitive: bool, counts: &mut Counts)
     requires room { length counts.old.firsts.items < 64 }
     requires elements { counts.old.elements ≤ input_limit }
     requires primitives { counts.old.primitives ≤ input_limit }
-    ensures { counts.new ≡ with_element first primitive counts.old }
+    ensures { counts.new ≡ counting_element first primitive counts.old }
 {
     counts.elements += 1;
     if primitive {

@@ -7,7 +7,7 @@ use Rattle.std.proofs.Common.{ne_eqb}
 use Rattle.std.proofs.lemmas.Bool.{eq-eqb}
 use Rattle.std.proofs.lemmas.List.{drop_all, drop_more}
 use Rattle.std.proofs.Math.Seq.{take-suc}
-use Rattle.tlv_view_program.specs.Reasons.{whole_lines}
+use Rattle.tlv_view_program.specs.Reasons.{ended_lines}
 
 none : List (List ℕ)
 none = []
@@ -22,18 +22,18 @@ module _ (most : ℕ) (text : List ℕ) where
   -- of the text were looked at
   abbrev pub ToCome : ℕ → ℕ → ℕ → List ℕ
   ToCome end lines index =
-      concat (take (most - lines) (whole_lines (take (index - end) (drop end text)) (drop index text)))
+      concat (take (most - lines) (ended_lines (take (index - end) (drop end text)) (drop index text)))
 
   -- nothing is to come if there are enough lines, or if the text is at its end
   pub enough-lines : (end lines index : ℕ) → lines ≡ most → ToCome end lines index ≡ []
   enough-lines end lines index e =
       let nothing : most - lines ≡ 0 = omega (arith, e) in
-      ap (λ n. concat (take n (whole_lines (take (index - end) (drop end text)) (drop index text)))) nothing
+      ap (λ n. concat (take n (ended_lines (take (index - end) (drop end text)) (drop index text)))) nothing
 
   pub text-ends : (end lines index : ℕ) → length text ≤ index → ToCome end lines index ≡ []
   unfolding none
   text-ends end lines index h =
-      ap (λ l. concat (take (most - lines) (whole_lines (take (index - end) (drop end text)) l))) (drop_all index text h)
+      ap (λ l. concat (take (most - lines) (ended_lines (take (index - end) (drop end text)) l))) (drop_all index text h)
       ∙ none-taken (most - lines)
 
   module _ (end lines index : ℕ) (within : index < length text) (behind : end ≤ index) where
@@ -61,8 +61,8 @@ module _ (most : ℕ) (text : List ℕ) where
     pub other-octet : (octet ≡ 10 → ⊥) → ToCome end lines index ≡ ToCome end lines (index + 1)
     other-octet k =
         let e : eqb octet 10 ≡ false = ne_eqb octet 10 k in
-        ap (λ l. concat (take (most - lines) (whole_lines line l))) (drop_more text index 0 within)
-        ∙ rw e (ap (λ l. concat (take (most - lines) (whole_lines l (drop (index + 1) text)))) next-line)
+        ap (λ l. concat (take (most - lines) (ended_lines line l))) (drop_more text index 0 within)
+        ∙ rw e (ap (λ l. concat (take (most - lines) (ended_lines l (drop (index + 1) text)))) next-line)
 
     pub line-feed : lines < most → octet ≡ 10
         → take end text ++ ToCome end lines index ≡ take (index + 1) text ++ ToCome (index + 1) (lines + 1) (index + 1)
@@ -71,12 +71,12 @@ module _ (most : ℕ) (text : List ℕ) where
         let one : most - lines ≡ suc (most - (lines + 1)) = omega (arith, few) in
         let nothing : (index + 1) - (index + 1) ≡ 0 = omega arith in
         let first : ToCome end lines index
-        ≡ (line ++ octet ∷ []) ++ concat (take (most - (lines + 1)) (whole_lines [] (drop (index + 1) text))) =
-        ap (λ l. concat (take (most - lines) (whole_lines line l))) (drop_more text index 0 within) ∙ rw (e, one) refl in
+        ≡ (line ++ octet ∷ []) ++ concat (take (most - (lines + 1)) (ended_lines [] (drop (index + 1) text))) =
+        ap (λ l. concat (take (most - lines) (ended_lines line l))) (drop_more text index 0 within) ∙ rw (e, one) refl in
         rw nothing
         (ap (λ l. take end text ++ l) first
         ∙ sym (append_assoc (take end text) (line ++ octet ∷ []) _)
-        ∙ ap (λ l. l ++ concat (take (most - (lines + 1)) (whole_lines [] (drop (index + 1) text)))) whole)
+        ∙ ap (λ l. l ++ concat (take (most - (lines + 1)) (ended_lines [] (drop (index + 1) text)))) whole)
       where
         whole : take end text ++ (line ++ octet ∷ []) ≡ take (index + 1) text
         whole =

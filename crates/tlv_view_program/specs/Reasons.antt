@@ -54,18 +54,18 @@ findings_line ber der =
 -- ---- the first findings
 
 -- the whole lines of a text, each with its line feed; `line` is what stands in front of the text in its first line
-abbrev pub whole_lines : List ℕ → List ℕ → List (List ℕ)
-whole_lines line [] = []
-whole_lines line (x ∷ text) =
-    if eqb x 10 then (line ++ x ∷ []) ∷ whole_lines [] text else whole_lines (line ++ x ∷ []) text
+abbrev pub ended_lines : List ℕ → List ℕ → List (List ℕ)
+ended_lines line [] = []
+ended_lines line (x ∷ text) =
+    if eqb x 10 then (line ++ x ∷ []) ∷ ended_lines [] text else ended_lines (line ++ x ∷ []) text
 
 -- the first whole lines of a text: so many, or all
 abbrev pub first_lines : ℕ → List ℕ → List ℕ
-first_lines most text = concat (take most (whole_lines [] text))
+first_lines most text = concat (take most (ended_lines [] text))
 
 -- the lines of so many findings are shown
-abbrev pub shown_findings : ℕ
-shown_findings = 5
+abbrev pub most_finding_lines : ℕ
+most_finding_lines = 5
 
 -- a check writes them in fewer octets
 abbrev pub findings_room : ℕ
@@ -90,7 +90,7 @@ pub data AreFirstFindings (table : NamesValue) (closed padding : Bool) (octets :
 
 -- the findings in octets that parse: their numbers by BER and DER, and the lines of the first by DER
 abbrev pub findings_text : List ℕ → List ℕ → List ℕ → List ℕ
-findings_text ber der first = findings_line ber der ++ first_lines shown_findings first
+findings_text ber der first = findings_line ber der ++ first_lines most_finding_lines first
 
 -- ---- octets that parse
 

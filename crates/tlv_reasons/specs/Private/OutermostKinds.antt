@@ -37,8 +37,8 @@ abbrev pub new_counts : Counts
 new_counts = record { elements = 0; primitives = 0; firsts = record { items = [] } }
 
 -- one more is counted, which begins with this octet
-abbrev pub with_element : ℕ → Bool → Counts → Counts
-with_element first primitive c = record {
+abbrev pub counting_element : ℕ → Bool → Counts → Counts
+counting_element first primitive c = record {
   elements = c.elements + 1;
   primitives = if primitive then c.primitives + 1 else c.primitives;
   firsts = record { items = c.firsts.items ++ unless_seen c.firsts.items first };

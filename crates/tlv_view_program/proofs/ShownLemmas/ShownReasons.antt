@@ -20,7 +20,7 @@ use Rattle.tlv_reasons.specs.declared.sentence.Sentence.{Sentence}
 use Rattle.tlv_reasons.proofs.ShownLemmas.ShownSentences.{sentences-shown}
 use Rattle.tlv_view_program.specs.Reasons.{AreFirstFindings, ExplainsParsing, ShowsReasons, explained_report}
 use Rattle.tlv_view_program.specs.Reasons.{findings_line, findings_room, findings_words, first_lines, parsing_sentences}
-use Rattle.tlv_view_program.specs.Reasons.{shown_findings, whole_lines}
+use Rattle.tlv_view_program.specs.Reasons.{most_finding_lines, ended_lines}
 use Rattle.tlv_view_program.specs.ShownLines.{FindingsLinesAreShown, ReasonsAreShown, TakesShown}
 use Rattle.tlv_view_program.specs.WritesReasons.{ExplainsFirst, ExplainsString, Outcome, SendsReasons, WritesReasons}
 use Rattle.tlv_view_program.specs.WritesReasons.{first_of, heading}
@@ -41,7 +41,7 @@ findings_line-shown ber der b d = simp (list_all-append, words-shown ber b, word
 
 -- the first lines of a text that is shown
 lines-shown : (most : ℕ) (line text : List ℕ) → AreShown line → AreShown text
-    → AreShown (concat (take most (whole_lines line text)))
+    → AreShown (concat (take most (ended_lines line text)))
 lines-shown zero line text l t = refl
 lines-shown (suc most) line [] l t = refl
 lines-shown (suc most) line (x ∷ text) l t = by (eqb x 10) refl
@@ -49,12 +49,12 @@ lines-shown (suc most) line (x ∷ text) l t = by (eqb x 10) refl
     (lines-shown (suc most) (line ++ x ∷ []) text (joined-shown line (x ∷ []) l (front-shown (x ∷ []) text t))
     (and_parts _ _ t).1)
   where
-    by : (b : Bool) → eqb x 10 ≡ b → AreShown (concat (take most (whole_lines [] text)))
-        → AreShown (concat (take (suc most) (whole_lines (line ++ x ∷ []) text)))
-        → AreShown (concat (take (suc most) (whole_lines line (x ∷ text))))
+    by : (b : Bool) → eqb x 10 ≡ b → AreShown (concat (take most (ended_lines [] text)))
+        → AreShown (concat (take (suc most) (ended_lines (line ++ x ∷ []) text)))
+        → AreShown (concat (take (suc most) (ended_lines line (x ∷ text))))
     by true e rest other =
         rw e
-        (joined-shown (line ++ x ∷ []) (concat (take most (whole_lines [] text)))
+        (joined-shown (line ++ x ∷ []) (concat (take most (ended_lines [] text)))
         (joined-shown line (x ∷ []) l (front-shown (x ∷ []) text t)) rest)
     by false e rest other = rw e other
 
@@ -142,12 +142,12 @@ reasons-shown reads closed padding table octets old new _ _ o (ShowsReasons.refu
 reasons-shown reads closed padding table octets old new _ _ o
     (ShowsReasons.parses facts ber der broken outcome are none b d breaks first f kinds k explains) =
     let line : List ℕ = findings_line ber.message der.message in
-    let lines : List ℕ = first_lines shown_findings first in
+    let lines : List ℕ = first_lines most_finding_lines first in
     let sentences : List Sentence = parsing_sentences octets facts kinds in
     parsing-shown padding octets o (sentences_text octets sentences ++ (line ++ lines)) broken old new outcome
     (joined-shown (sentences_text octets sentences) (line ++ lines) (sentences-shown octets sentences o)
     (joined-shown line lines (findings_lines-shown _ _ closed padding table octets ber der b d)
-    (lines-shown shown_findings [] first refl (first_findings-shown table closed padding octets der.message first f))))
+    (lines-shown most_finding_lines [] first refl (first_findings-shown table closed padding octets der.message first f))))
     explains
 reasons-shown reads closed padding table octets old new _ _ o (ShowsReasons.no_memory facts are none same) =
     same-takes old new same
