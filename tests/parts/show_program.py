@@ -1,6 +1,7 @@
 """Runs the built program tlvdump-show, installed below a prefix as ./install does it."""
 import itertools
 import os
+import re
 
 from parts.harness import Done, message
 from second_opinion.names import read_names
@@ -10,6 +11,8 @@ from second_opinion.showing import File, Show, run
 
 # Options without reasons after the messages, and options with which no string is examined.
 WITHOUT_REASONS, WITHOUT_STRINGS = {"--raw", "--why"}, {"--offset", "--offsets"}
+# The lines of findings, and of outermost elements that begin with many different octets: only --why has them.
+FOUND = re.compile(r"\d+ [A-Z]\d\d |It has ")
 
 
 def words_of_why(words):
@@ -47,7 +50,7 @@ class Program:
         if options & WITHOUT_REASONS:
             return []
         got = self.run(["--why", *words_of_why(words)], octets)
-        lines = got.out.decode().splitlines()
+        lines = [line for line in got.out.decode().splitlines() if got.status == 2 or not FOUND.match(line)]
         front = ("It does not parse: ",) if got.status == 2 else ("It parses: ", "By the rules of BER: ", "The string at ")
         # If no string is broken, the third of these lines is absent, and there are no reasons.
         is_whole = all(line.startswith(it) for line, it in zip(lines, front)) and len(lines) >= min(len(front), 2)

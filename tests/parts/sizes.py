@@ -43,16 +43,10 @@ BEHIND = (
     ("findings", b"\x01\x01\x01\x04\x81\x01\x00", ([], ["--check"], ["--why"])),
     ("an element", NULL, ([], ["--check"], ["--why"])),
 )
-# More than this is not searched for a header with the wrong length, or for an octet that is missing or was put in. The front of
-# the short input is so long that its length has as many octets as that of a longer one, and that one header is named.
+# In more than this no octet that is missing or was put in is looked for, and no header with the wrong length in a string, but one
+# in an element that stands alone. The front of the short input is so long that its length has as many octets as that of a
+# longer one, and that one header is named.
 SEARCHED, SHORT = 1 << 20, 270_000
-
-
-def with_sizes(text, offset, size):
-    """Returns a text in which the size of an element of so many octets is said, behind the message of its fault."""
-    line = b"By its length the SEQUENCE at offset %d ends with the input, at offset %d: no octet was lost or put in.\n"
-    message, end, more = text.partition(b"\n")
-    return message + end + line % (offset, offset + size) + more if b"fault at " in message else text
 
 
 def without_search(text):
@@ -68,10 +62,8 @@ def long_inputs(part, program):
                 words = words or ["--limit", "0"]
                 like = program.run(words, front(SHORT) + octets)
                 wanted = Done(like.status, *(moved(text, SHORT, count - SHORT) for text in (like.out, like.err)))
-                if count + 5 + len(octets) > SEARCHED:
+                if count + 5 + len(octets) > SEARCHED and what != "a fault":
                     wanted.out, wanted.err = without_search(wanted.out), without_search(wanted.err)
-                    if what == "a fault":
-                        wanted.out, wanted.err = (with_sizes(text, count + 5, len(octets)) for text in (wanted.out, wanted.err))
                 parses = b"It parses: %d octets"
                 wanted.out = wanted.out.replace(parses % (5 + SHORT + len(octets)), parses % (5 + count + len(octets)))
                 wanted.out = wanted.out.replace(b" %6d: OCTET STRING\n" % SHORT, b" %6d: OCTET STRING\n" % count, 1)
@@ -84,7 +76,8 @@ def long_inputs(part, program):
         fine = (got.status, got.out) == (2, b"") and said in got.err.decode().splitlines() and b"E8" not in got.err
         part.expect(f"the header with the wrong length after {count} octets", fine, *got.lines())
     got = program.run(["--why"], front(2 << 20) + b"\x01\x01\x01\x04\x81\x01\x00")
-    counted = "It parses: 2097164 octets, which are whole encodings.\nBy the rules of BER: findings: 0. By those of DER: findings: 2.\n"
+    counted = ("It parses: 2097164 octets, which are whole encodings.\nBy the rules of BER: findings: 0. By those of DER: findings: 2.\n"
+               "2097157 S02 TRUE is not ff\n2097160 S01 length is not the shortest\n")
     part.same("findings that --why counts", got, Done(0, counted.encode(), b""))
 
 

@@ -20,6 +20,8 @@ from second_opinion.reading import Reading
 from second_opinion.tries import Walk
 
 SEED, STEP, COUNT = 1, 6, 300
+# More octets than are searched as a whole.
+LONG = 1 << 20
 LENGTH = re.compile(r" at offset (\d+) said (\d+) octets? and not \d+")
 
 
@@ -77,6 +79,14 @@ def by_256(rng, octets):
     long = [it for it in headers(octets) if len(it.length_octets) > 2]
     it = rng.choice(long) if long else None
     return with_length(octets, it, it.length + rng.choice((-256, 256))) if it else None
+
+
+def in_record(rng, octets):
+    """A length in one of many records of definite length is wrong by 1 to 5, in more than 2^20 octets."""
+    damage, others = by_few(rng, octets), octets * (LONG // (2 * len(octets)) + 1)
+    if damage is None or Reading(octets).elements()[0].length is None:
+        return None
+    return Damage(others + damage.octets + others, len(others) + damage.offset, damage.length)
 
 
 def by_any(rng, octets):
@@ -240,6 +250,7 @@ def apart(rng, octets):
 # Damages of a length: the least share of 100 with the header among those that are named, and with its right length.
 # Those by more than 5 have to reach theirs together. No share is asked of a length that is wrong by any number.
 FEW, MORE, ANY = ((by_few,), 95, 75), ((by_bit, by_swap, by_256), 95, 80), ((by_any,), 0, 0)
+IN_RECORD = (in_record,), 95, 75
 # Other damages. Of those of the second row, which change octets in place, many look like a wrong length.
 OTHERS = (lost, put_in, doubled, edited, cut, as_text)
 IN_PLACE = (over, of_tag)
@@ -314,8 +325,8 @@ def what_of(kind):
 
 def measure(shares, tell, expect):
     """Measures all kinds. `tell` writes a line, and `expect` counts a test."""
-    for kinds, least_named, least_right in (FEW, MORE, ANY):
-        found = [shares.of_lengths(kind, COUNT) for kind in kinds]
+    for kinds, least_named, least_right in (FEW, MORE, ANY, IN_RECORD):
+        found = [shares.of_lengths(kind, COUNT // 10 if kinds == (in_record,) else COUNT) for kind in kinds]
         for kind, (named, right) in zip(kinds, found):
             tell(f"{what_of(kind)}: the header is named in {named:.0f} of 100, its right length is said in {right:.0f}")
         named, right = (sum(it) / len(kinds) for it in zip(*found))
