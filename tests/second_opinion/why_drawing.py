@@ -112,10 +112,12 @@ def among_records(rng, octets):
     return front + damage(rng, octets) + back
 
 
-def damaged_twice(rng, octets):
-    """Puts damaged records behind a whole one, with a string between them that is mostly long, and others around them."""
+def damaged_twice(rng, _):
+    """Returns damaged records behind a whole one, with a string between them that is mostly long, and others around them."""
+    tag = rng.choice([0x30, 0x30, 0x31, 0xA0])
+
     def record(damage=None):
-        inside = show_drawing.whole(octets[0], show_drawing.small(rng) + nested(rng, 3))
+        inside = show_drawing.whole(tag, show_drawing.small(rng) + nested(rng, 3))
         return damage(rng, inside) if damage else inside
     damages = [changed, changed, other_length, put_in, left_out]
     between = show_drawing.whole(4, bytes(rng.choice([10, 3900, 4000, 4050, 4080, 4090, 4100, 5000])))
