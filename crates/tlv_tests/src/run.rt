@@ -1,9 +1,9 @@
-//! Tests of `tlv_run`: a dump with text. `tlv_program_tests` has those of the other runs.
-use crate::expect::expect_eq_of;
-use tlv_run::run_dump_with;
+//! Tests of `tlv_run`: a dump with text, and a drain in memory. `tlv_program_tests` has those of the other runs.
+use crate::expect::{expect_eq, expect_eq_of};
+use tlv_run::{BoundedDrain, run_dump_with};
 use tlv_show::{Options, Rules, Scope};
 use tlv_value::Names;
-use tlv_walk::{Framing, MemDrain, MemSource};
+use tlv_walk::{Drain, Framing, MemDrain, MemSource, WriteFault};
 
 /// `run_dump_with` shows the text beside pairs of digits.
 #[test]
@@ -29,4 +29,15 @@ fn a_dump_with_text_is_run(rt: HostRuntime) {
     let want = b"       0      3: OCTET STRING 61 62 63  |abc|\n";
     expect_eq_of(&rt, "written", drain.written(), want.as_slice());
     expect_eq_of(&rt, "status", report.status, 0);
+}
+
+/// A `BoundedDrain` keeps the first octets, and refuses what does not fit.
+#[test]
+fn a_drain_in_memory_keeps_what_fits(rt: HostRuntime) {
+    let mut drain: BoundedDrain<3> = BoundedDrain::new();
+    expect_eq(&rt, drain.write(b"ab"), Ok(2));
+    expect_eq(&rt, drain.write(b"cd"), Ok(1));
+    expect_eq(&rt, drain.write(b"e"), Err(WriteFault));
+    let kept = drain.into_octets();
+    expect_eq_of(&rt, "kept", kept.as_slice(), b"abc".as_slice());
 }
