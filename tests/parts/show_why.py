@@ -324,16 +324,25 @@ OTHERS = [
 # octet more, since 03 02 02 01 is a BIT STRING.
 ONE, BIT = bytes.fromhex("3003020201"), b"\x30\x0b\x04\x19" + b"a" * 9
 WIDE, SEARCHED = 1 << 18, 1 << 20
+# A record of indefinite length in which a length is wrong, and more records than are searched.
+OPEN, MANY = bytes.fromhex("3080020205") + bytes(2), RECORD * (SEARCHED // len(RECORD) + 1)
 LONG_LENGTHS = [
     (WIDE, ONE, "If the header at offset 262141 said 1 octet and not 2, or that at offset 0 said 262135 octets and not 262134, all would parse."),
     (WIDE + 1, ONE, "If the header at offset 262142 said 1 octet and not 2, all would parse."),
     (SEARCHED, ONE, "If the header at offset 1048573 said 1 octet and not 2, all would parse."),
-    # Here the damaged element alone is searched, if nothing follows it, or what follows parses, and if it is not too long.
+    # Here the octets from the damaged element on are searched, 2^20 of them at most. If more follow, the line says where these
+    # end. The first fault has to be among them, and no other. In front of some records an element may also swallow the first
+    # octet of one, since 03 02 01 05 is a BIT STRING.
     (SEARCHED + 1, ONE, "If the header at offset 1048574 said 1 octet and not 2, all would parse."),
-    (SEARCHED + 1, ONE + RECORD, "If the header at offset 1048569 said 1 octet and not 2, all would parse."),
+    (SEARCHED + 1, ONE + RECORD, "If the header at offset 1048569 said 1 octet and not 2, or that at offset 1048567 said 4 octets and not 3, all would parse."),
     (SEARCHED + 1, ONE + RECORD + b"\x05", None),
     (SEARCHED + 1, b"\x30\x0b\x04\x19" + b"a" * 9, "If the header at offset 1048566 said 9 octets and not 25, all would parse."),
     (2 * SEARCHED, element(0x30, bytes([4]) + b"\x83\x0f\xff\xf1" + bytes(SEARCHED - 13) + b"\x04\x01"), None),
+    (SEARCHED + 20, OPEN, "If the header at offset 1048591 said 1 octet and not 2, all would parse."),
+    (2 * SEARCHED, OPEN + MANY, "If the header at offset 1048567 said 1 octet and not 2, all up to offset 2097141 would parse."),
+    (2 * SEARCHED, BIT + MANY, "If the header at offset 1048561 said 9 octets and not 25, or that at offset 1048559 said 27 octets and not 11, all up to offset 2097135 would parse."),
+    (2 * SEARCHED, OPEN + DAMAGED + MANY, None),
+    (2 * SEARCHED, OPEN + MANY + DAMAGED, "If the header at offset 1048559 said 1 octet and not 2, all up to offset 2097133 would parse."),
     (WIDE, BIT, "If the header at offset 262133 said 9 octets and not 25, all would parse."),
     (WIDE + 1, BIT, None),
 ]
@@ -487,13 +496,13 @@ def of_size(size, octets):
 
 
 def long_input(why):
-    """In more than 2^18 octets only lengths nearby are tried, and one header is named. In more than 2^20 the damaged element
-    alone is searched.
+    """In more than 2^18 octets only lengths nearby are tried, and one header is named. In more than 2^20 a window is searched,
+    for all lengths.
     """
     for size, octets, wanted in LONG_LENGTHS:
         _, lines = why.said(of_size(size, octets))
         fine = wanted in lines if wanted else not any(line.startswith("If ") for line in lines)
-        why.part.expect(f"another length in {size} octets, {octets.hex()}", fine, *lines)
+        why.part.expect(f"another length in {size} octets, {octets[:20].hex()}", fine, *lines)
     for size in (1 << 20, (1 << 20) + 1):
         _, lines = why.said(of_size(size, DAMAGED + RECORD))
         why.part.expect(f"the next record in {size} octets", NEXT.format(size - 5, size - 4) in lines, *lines)

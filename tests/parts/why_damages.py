@@ -82,11 +82,14 @@ def by_256(rng, octets):
 
 
 def in_record(rng, octets):
-    """A length in one of many records of definite length is wrong by 1 to 5, in more than 2^20 octets."""
+    """A length in one of many records is wrong by 1 to 5. 2^19 octets or more stand in front of it, and as many behind it, or
+    twice as many.
+    """
     damage, others = by_few(rng, octets), octets * (LONG // (2 * len(octets)) + 1)
-    if damage is None or Reading(octets).elements()[0].length is None:
+    if damage is None:
         return None
-    return Damage(others + damage.octets + others, len(others) + damage.offset, damage.length)
+    behind = others * rng.choice((1, 2))
+    return Damage(others + damage.octets + behind, len(others) + damage.offset, damage.length)
 
 
 def by_any(rng, octets):

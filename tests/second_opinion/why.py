@@ -102,41 +102,41 @@ def lines_of(octets, padding, count=1):
         return (first, *(replaced if why_whole.is_trace(whole[0]) else []), *whole, *why_lines.of_fault(stand)[:1])
     search = why_search.Search(octets, padding)
     start = why_search.other_start(octets, padding, stand.top, stand.fault.offset)
-    named = [] if start else named_lengths(search, stand)
-    mending = (start or why_search.overwritten(octets, stand.fault.offset) or why_search.line_of_lengths(named)
+    named, end = ([], None) if start else named_lengths(search, stand)
+    mending = (start or why_search.overwritten(octets, stand.fault.offset) or why_search.line_of_lengths(named, end)
                or why_chains.doubled(search, stand) or search.other_count(stand.candidates())
                or why_chains.chain(search, stand))
     sizes = [] if mending or is_followed_by_other(stand) else why_lines.of_sizes(stand)
-    is_named = mending == why_search.line_of_lengths(named) and stand.top in [it.offset for it, _ in named]
+    is_named = mending == why_search.line_of_lengths(named, end) and stand.top in [it.offset for it, _ in named]
     record = [] if start or is_named else why_search.next_record(octets, padding, stand.fault.offset, stand.top, count)
     return (first, *replaced, *mending, *sizes, *reasons(stand, bool(mending)), *record)
 
 
 def named_lengths(search, stand):
-    """Returns the elements of which another length is named, each with that length."""
-    octets, padding, top = search.octets, search.padding, stand.top
-    if not search.is_short:
-        return lengths_inside(octets, padding, top)
-    agrees = why_search.sizes_agree(octets, padding, top)
-    return search.other_lengths(stand.candidates(), stand.open) if agrees else []
-
-
-def lengths_inside(octets, padding, top):
-    """Returns the same for an input that is too long to be searched: only the element at the top end is searched, if what
-    follows it parses.
+    """Returns the elements of which another length is named, each with that length, and up to where all would parse then, or
+    None for the end of the input.
     """
-    damaged = why_search.header_at(octets, top)
-    end = why_search.end_of(damaged) if damaged and damaged.constructed else None
-    if end is None or end > len(octets) or end - top > why_search.MOST_SEARCHED:
-        return []
-    if end < len(octets) and not why_search.parses(octets[end:], padding):
-        return []
-    part = octets[top:end]
+    octets, padding, top = search.octets, search.padding, stand.top
+    if not why_search.sizes_agree(octets, padding, top):
+        return [], None
+    if not search.is_short:
+        return lengths_in_window(octets, padding, top)
+    return search.other_lengths(stand.candidates(), stand.open), None
+
+
+def lengths_in_window(octets, padding, top):
+    """Returns the same for an input that is too long to be searched: the octets from the top end on are searched."""
+    end = top + why_search.MOST_SEARCHED
+    part, is_cut = octets[top:end], end < len(octets)
     stand = Stand(part, padding)
-    named = why_search.Search(part, padding).other_lengths(stand.candidates(), stand.open)
+    if is_cut and stand.fault.code == "F02":
+        return [], None
+    is_wide = stand.fault.offset <= why_search.MOST_WIDE
+    search = why_search.Search(part, padding, is_wide=is_wide, is_cut=is_cut)
+    named = search.other_lengths(stand.candidates(), stand.open)
     for it, _ in named:
         it.offset += top
-    return named
+    return named, end if is_cut else None
 
 
 @functools.lru_cache(maxsize=16)

@@ -68,18 +68,24 @@ def end_of(element):
 class Search:
     """The search for a change that would make an input parse."""
 
-    def __init__(self, octets, padding, inside=()):
-        """Keeps the input. The strings at the offsets `inside` are wrappers."""
-        self.octets, self.padding, self.inside = octets, padding, inside
-        self.is_short, self.is_wide = len(octets) <= MOST_SEARCHED, len(octets) <= MOST_WIDE
+    def __init__(self, octets, padding, inside=(), is_wide=None, is_cut=False):
+        """Keeps the input. The strings at the offsets `inside` are wrappers. A window is cut if more octets follow it; `is_wide`
+        says whether all lengths are tried in it.
+        """
+        self.octets, self.padding, self.inside, self.is_cut = octets, padding, inside, is_cut
+        self.is_short, self.is_wide = len(octets) <= MOST_SEARCHED, len(octets) <= MOST_WIDE if is_wide is None else is_wide
 
     def would_parse(self, element, ends, place, new, lost):
         """Returns whether the input would parse with other octets at a place: `new`, and not the first `lost` ones
         that stand there. Only octets from the header of this element on are read; `ends` has the ends of the elements
-        around it.
+        around it. It is enough that a window that is cut parses up to its end, with a whole element in front.
         """
         changed = self.octets[:place] + new + self.octets[place + lost :]
-        return Walk(changed, self.padding, self.inside, element.offset, ends).fault is None
+        fault = Walk(changed, self.padding, self.inside, element.offset, ends).fault
+        if fault and fault.code == "F02" and self.is_cut:
+            items = Reading(changed, self.inside, self.padding).items
+            return any(isinstance(it, Element) and it.end is not None for it in items)
+        return fault is None
 
     def other_lengths(self, candidates, open_ones):
         """Returns the first elements with which the input would parse if their length were another, with that length.
@@ -126,10 +132,11 @@ class Search:
         return []
 
 
-def line_of_lengths(named):
-    """Returns the line about these elements, each with another length."""
+def line_of_lengths(named, end=None):
+    """Returns the line about these elements, each with another length. All would parse, or all up to the offset `end`."""
     places = [f"at offset {it.offset} said {so_many(length)} and not {it.length}" for it, length in named]
-    return [f"If the header {', or that '.join(places)}, all would parse."] if places else []
+    mended = "all" if end is None else f"all up to offset {end}"
+    return [f"If the header {', or that '.join(places)}, {mended} would parse."] if places else []
 
 
 def parses(octets, padding):

@@ -1,7 +1,7 @@
 //! Examples of how to explain octets that do not parse.
 use crate::expect::expect_eq;
 use std::test::Fail;
-use tlv_reasons::{WrongLength, facts_of, first_sentence, write_sentences, wrong_lengths};
+use tlv_reasons::{Bounds, WrongLength, facts_of, first_sentence, write_sentences, wrong_lengths};
 use tlv_walk::{Framing, MemDrain};
 
 /// tlv_reasons: writes whether octets parse.
@@ -30,7 +30,8 @@ fn find_the_wrong_length(rt: HostRuntime) -> Result<(), Fail> {
         said: 2,
         would: 1,
     };
-    let found = wrong_lengths(rt.alloc(), octets, &Framing::plain(), &[], &[2])?;
+    let plain = Framing::plain();
+    let found = wrong_lengths(rt.alloc(), octets, &plain, Bounds::whole(octets), &[], &[2])?;
     expect_eq(&rt, found.as_slice(), &[wanted]);
     Ok(())
 }

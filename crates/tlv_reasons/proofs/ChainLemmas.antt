@@ -30,7 +30,8 @@ use Rattle.tlv_reasons.specs.OpenHolders.{has_end}
 use Rattle.tlv_reasons.specs.Private.Lengths.{with_octets_saying}
 use Rattle.tlv_reasons.specs.Sizes.{size_difference}
 use Rattle.tlv_reasons.specs.Suspects.{element_offset}
-use Rattle.tlv_reasons.specs.WrongLength.{input_with_length, length_bound, length_octets_saying, wide_limit}
+use Rattle.tlv_reasons.specs.Mended.{wide_limit}
+use Rattle.tlv_reasons.specs.WrongLength.{input_with_length, length_bound, length_octets_saying}
 
 -- ---- one header
 

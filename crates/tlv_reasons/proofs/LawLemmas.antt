@@ -11,10 +11,11 @@ use Rattle.tlv_head.proofs.NumberLemmas.Digits.{value_of-snoc}
 use Rattle.tlv_head.specs.declared.header.Size.{Size}
 use Rattle.tlv_head.specs.declared.header.Size.TheVariants.{Definite}
 use Rattle.tlv_head.specs.Header.{HeaderValue, IsHeader, IsLength, IsLongForm, announced_length, octets_of, value_of}
-use Rattle.tlv_walk.specs.declared.framing.Framing.{Framing}
 use Rattle.tlv_reasons.proofs.LengthLemmas.{begun-one}
 use Rattle.tlv_reasons.specs.declared.element.Element.{Element}
 use Rattle.tlv_reasons.specs.declared.lengths.WrongLength.{WrongLength}
+use Rattle.tlv_walk.specs.declared.framing.Framing.{Framing}
+use Rattle.tlv_reasons.specs.declared.bounds.Bounds.{Bounds}
 use Rattle.tlv_reasons.specs.FirstOf.{IsFirstOf, IsFirstWithin}
 use Rattle.tlv_reasons.specs.FirstOf as first
 use Rattle.tlv_reasons.specs.WrongLength.{AreWrongLengths, HasNoOtherLength, IsOtherLength, IsRightLength, base_256}
@@ -50,14 +51,14 @@ within-one {P} {Costs} {b = r} one (first.tried_in_vain {budget} {cost = i} {x} 
     let same : j ≡ i = one x j i d c in
     within-one one f (subst (λ (k : ℕ). IsFirstWithin P Costs (budget - k) more r) same g)
 
-module _ (framing : Framing) (octets : List ℕ) (holders : List Element) where
+module _ (framing : Framing) (bounds : Bounds) (octets : List ℕ) (holders : List Element) where
   -- an offset has one other length
-  other-one : {offset : ℕ} {v w : WrongLength} → IsOtherLength framing octets holders offset v
-      → IsOtherLength framing octets holders offset w → v ≡ w
+  other-one : {offset : ℕ} {v w : WrongLength} → IsOtherLength framing bounds octets holders offset v
+      → IsOtherLength framing bounds octets holders offset w → v ≡ w
   other-one {offset = offset} {v = v} {w = w} p q =
       let same : p.header ≡ q.header = begun-one p.header q.header p.begins q.begins in
-      let right : IsRightLength framing octets holders offset q.header (Some v.would) =
-      subst (λ (h : HeaderValue). IsRightLength framing octets holders offset h (Some v.would)) same p.right in
+      let right : IsRightLength framing bounds octets holders offset q.header (Some v.would) =
+      subst (λ (h : HeaderValue). IsRightLength framing bounds octets holders offset h (Some v.would)) same p.right in
       let e : Some v.would ≡ Some w.would = first-one right q.right in
       let would : v.would ≡ w.would = cc in
       let place : v.offset ≡ w.offset = p.offset_is ∙ sym q.offset_is in
@@ -66,13 +67,13 @@ module _ (framing : Framing) (octets : List ℕ) (holders : List Element) where
       λ i. record { offset = place i; said = said i; would = would i }
 
   -- it has one, or none
-  other-none : {offset : ℕ} {w : WrongLength} → IsOtherLength framing octets holders offset w
-      → HasNoOtherLength framing octets holders offset → ⊥
+  other-none : {offset : ℕ} {w : WrongLength} → IsOtherLength framing bounds octets holders offset w
+      → HasNoOtherLength framing bounds octets holders offset → ⊥
   other-none {w = w} p none = let e : Some w.would ≡ None = first-one p.right (none p.header p.begins) in cc
 
   pub wrong-one : {most : ℕ} {candidates : List ℕ} {a b : List WrongLength}
-      → AreWrongLengths framing octets holders most candidates a
-      → AreWrongLengths framing octets holders most candidates b → a ≡ b
+      → AreWrongLengths framing bounds octets holders most candidates a
+      → AreWrongLengths framing bounds octets holders most candidates b → a ≡ b
   wrong-one wrong.no_more wrong.no_more = refl
   wrong-one wrong.no_more wrong.enough = refl
   wrong-one wrong.enough wrong.no_more = refl

@@ -20,14 +20,15 @@ use Rattle.tlv_head.specs.Header.{HeaderValue, announced_length, definite_length
 use Rattle.tlv_head.specs.HeaderFields.{new_header}
 use Rattle.tlv_head.specs.ReadHeader.{BeginsWithFields}
 use Rattle.tlv_head.specs.Refusal.{BeginsWith}
-use Rattle.tlv_walk.specs.declared.framing.Framing.{Framing}
-use Rattle.tlv_walk.specs.Reading.{IsSoundList}
 use Rattle.tlv_reasons.proofs.FirstLemmas.{first-along, from-next}
 use Rattle.tlv_reasons.specs.declared.element.Element.{Element}
 use Rattle.tlv_reasons.specs.declared.lengths.WrongLength.{WrongLength}
+use Rattle.tlv_walk.specs.declared.framing.Framing.{Framing}
+use Rattle.tlv_reasons.specs.declared.bounds.Bounds.{Bounds}
 use Rattle.tlv_reasons.specs.FirstOf.{IsFirstOf, no_more}
-use Rattle.tlv_reasons.specs.Private.Lengths.{SoundWithOctets, sayable, with_octets_saying}
-use Rattle.tlv_reasons.specs.WrongLength.{AreWrongLengths, HasNoOtherLength, IsOtherLength, IsRightLength, WouldBeSound}
+use Rattle.tlv_reasons.specs.Mended.{IsMended}
+use Rattle.tlv_reasons.specs.Private.Lengths.{MendedWithOctets, sayable, with_octets_saying}
+use Rattle.tlv_reasons.specs.WrongLength.{AreWrongLengths, HasNoOtherLength, IsOtherLength, IsRightLength, WouldBeMended}
 use Rattle.tlv_reasons.specs.WrongLength.{contents_start, input_with_length, length_bound, reach_in, reversed, tried_lengths}
 use Rattle.tlv_reasons.specs.WrongLength as wrong
 use Rattle.tlv_reasons.specs.WrongLength.{length_octets_saying, other_lengths}
@@ -90,26 +91,26 @@ changed-with n octets rest h offset id count within o i k d =
     (subst (λ (s : ℕ). with_octets_saying (length front + length h.identifier_octets) s n (front ++ (octets_of h ++ rest))
     ≡ input_with_length (front ++ (octets_of h ++ rest)) h n) end e))
 
-others-are : (w v : ℕ) (c d : Bool) (s t : ℕ) (size : Size) (all reach said : ℕ) (lengths : List ℕ) → w ≡ v → c ≡ d
-    → s ≡ t → size ≡ Definite said → lengths ≡ tried_lengths v d t all reach said
+others-are : (w v : ℕ) (c d : Bool) (s t : ℕ) (size : Size) (wide : Bool) (reach said : ℕ) (lengths : List ℕ) → w ≡ v → c ≡ d
+    → s ≡ t → size ≡ Definite said → lengths ≡ tried_lengths v d t wide reach said
     → filter (λ n. nat_lt n (length_bound w))
-    (option_map_or (λ x. tried_lengths w c s all reach x) (definite_length size) []) ≡ sayable v lengths
-others-are w v c d s t size all reach said lengths e f g z l =
+    (option_map_or (λ x. tried_lengths w c s wide reach x) (definite_length size) []) ≡ sayable v lengths
+others-are w v c d s t size wide reach said lengths e f g z l =
     rw (e, f, g, z) (ap (λ (xs : List ℕ). sayable v xs) (sym l))
 
 -- what is tried for a header
-pub record IsTried (octets : List ℕ) (offset start count : ℕ) (fields : HeaderFields) (said : ℕ) (holders : List Element)
-    (lengths : List ℕ) : Type 0 where
+pub record IsTried (wide : Bool) (octets : List ℕ) (offset start count : ℕ) (fields : HeaderFields) (said : ℕ)
+    (holders : List Element) (lengths : List ℕ) : Type 0 where
   pub within : offset ≤ length octets
   pub begins : BeginsWithFields (drop offset octets) offset false fields count
   pub start_is : start ≡ offset + fields.id_len
   pub size_is : fields.size ≡ Definite said
   pub lengths_are : lengths
-      ≡ tried_lengths ((offset + count) - start) fields.constructed (offset + count) (length octets)
+      ≡ tried_lengths ((offset + count) - start) fields.constructed (offset + count) wide
       (reach_in holders offset (length octets)) said
 
 module _ {octets : List ℕ} {offset start count : ℕ} {fields : HeaderFields} {said : ℕ} {holders : List Element}
-    {lengths : List ℕ} (framing : Framing) (t : IsTried octets offset start count fields said holders lengths) where
+    {lengths : List ℕ} (framing : Framing) (bounds : Bounds) (t : IsTried bounds.wide octets offset start count fields said holders lengths) where
   abbrev raw : List ℕ
   raw = take count (drop offset octets)
 
@@ -118,8 +119,8 @@ module _ {octets : List ℕ} {offset start count : ℕ} {fields : HeaderFields} 
 
   -- the first length that does if its octets are changed in place is the first that does if the header says it
   first-with : (r : Option ℕ)
-      → IsFirstOf (SoundWithOctets framing start (offset + count) octets) (sayable ((offset + count) - start) lengths) r
-      → IsRightLength framing octets holders offset header r
+      → IsFirstOf (MendedWithOctets framing bounds start (offset + count) octets) (sayable ((offset + count) - start) lengths) r
+      → IsRightLength framing bounds octets holders offset header r
   first-with r f =
       let whole : length raw ≡ count = length-take-le count (drop offset octets) t.begins.within in
       let id : length header.identifier_octets ≡ fields.id_len =
@@ -134,20 +135,20 @@ module _ {octets : List ℕ} {offset start count : ℕ} {fields : HeaderFields} 
       (sym t.start_is)
       (changed-with n octets t.begins.begins.rest header offset fields.id_len count t.within t.begins.begins.offset id all
       t.begins.begins.octets_are) in
-      let others : other_lengths header (length octets) (reach_in holders offset (length octets))
+      let others : other_lengths header bounds.wide (reach_in holders offset (length octets))
       ≡ sayable ((offset + count) - start) lengths =
       others-are (length header.length_octets) ((offset + count) - start) fields.constructed fields.constructed
-      (contents_start header) (offset + count) fields.size (length octets) (reach_in holders offset (length octets)) said
+      (contents_start header) (offset + count) fields.size bounds.wide (reach_in holders offset (length octets)) said
       lengths room refl contents t.size_is t.lengths_are in
-      subst (λ (xs : List ℕ). IsFirstOf (WouldBeSound framing octets header) xs r) (sym others)
-      (first-along (λ n. subst (λ (xs : List ℕ). IsSoundList framing xs) (same n))
-      (λ n. subst (λ (xs : List ℕ). IsSoundList framing xs) (sym (same n))) f)
+      subst (λ (xs : List ℕ). IsFirstOf (WouldBeMended framing bounds octets header) xs r) (sym others)
+      (first-along (λ n. subst (λ (xs : List ℕ). IsMended framing bounds xs) (same n))
+      (λ n. subst (λ (xs : List ℕ). IsMended framing bounds xs) (sym (same n))) f)
 
   -- a length is found there
   pub found-at : (would : ℕ)
-      → IsFirstOf (SoundWithOctets framing start (offset + count) octets) (sayable ((offset + count) - start) lengths)
+      → IsFirstOf (MendedWithOctets framing bounds start (offset + count) octets) (sayable ((offset + count) - start) lengths)
       (Some would)
-      → IsOtherLength framing octets holders offset (record { offset = offset; said = said; would = would })
+      → IsOtherLength framing bounds octets holders offset (record { offset = offset; said = said; would = would })
   found-at would f = record {
     header = header;
     begins = t.begins.begins;
@@ -158,78 +159,78 @@ module _ {octets : List ℕ} {offset start count : ℕ} {fields : HeaderFields} 
 
   -- none is found there
   pub none-at :
-      IsFirstOf (SoundWithOctets framing start (offset + count) octets) (sayable ((offset + count) - start) lengths) None
-      → HasNoOtherLength framing octets holders offset
+      IsFirstOf (MendedWithOctets framing bounds start (offset + count) octets) (sayable ((offset + count) - start) lengths) None
+      → HasNoOtherLength framing bounds octets holders offset
   none-at f h p =
-      subst (λ (x : HeaderValue). IsRightLength framing octets holders offset x None) (begun-one header h t.begins.begins p)
+      subst (λ (x : HeaderValue). IsRightLength framing bounds octets holders offset x None) (begun-one header h t.begins.begins p)
       (first-with None f)
 
-no-others : (P : ℕ → Type 0) (w : ℕ) (c : Bool) (s all reach : ℕ) (size : Size) → ((n : ℕ) → size ≡ Definite n → ⊥)
+no-others : (P : ℕ → Type 0) (w : ℕ) (c : Bool) (s : ℕ) (wide : Bool) (reach : ℕ) (size : Size) → ((n : ℕ) → size ≡ Definite n → ⊥)
     → IsFirstOf P (filter (λ n. nat_lt n (length_bound w))
-    (option_map_or (λ x. tried_lengths w c s all reach x) (definite_length size) [])) None
-no-others P w c s all reach (Definite n) k = absurd (k n refl)
-no-others P w c s all reach Indefinite k = no_more
+    (option_map_or (λ x. tried_lengths w c s wide reach x) (definite_length size) [])) None
+no-others P w c s wide reach (Definite n) k = absurd (k n refl)
+no-others P w c s wide reach Indefinite k = no_more
 
 -- of a header in the indefinite form there are no other lengths
-pub indefinite-none : (framing : Framing) (octets : List ℕ) (holders : List Element) (offset count : ℕ)
+pub indefinite-none : (framing : Framing) (bounds : Bounds) (octets : List ℕ) (holders : List Element) (offset count : ℕ)
     (fields : HeaderFields) → BeginsWithFields (drop offset octets) offset false fields count
-    → ((n : ℕ) → fields.size ≡ Definite n → ⊥) → HasNoOtherLength framing octets holders offset
-indefinite-none framing octets holders offset count fields b k h p =
+    → ((n : ℕ) → fields.size ≡ Definite n → ⊥) → HasNoOtherLength framing bounds octets holders offset
+indefinite-none framing bounds octets holders offset count fields b k h p =
     let g : HeaderValue = new_header fields (take count (drop offset octets)) in
     let e : g ≡ h = begun-one g h b.begins p in
-    no-others (WouldBeSound framing octets h) (length h.length_octets) h.constructed (contents_start h) (length octets)
+    no-others (WouldBeMended framing bounds octets h) (length h.length_octets) h.constructed (contents_start h) bounds.wide
     (reach_in holders offset (length octets)) h.size (λ n s. k n (ap (λ (x : HeaderValue). x.size) e ∙ s))
 
 -- ---- offsets that are searched one after another
 
-module _ (framing : Framing) (octets : List ℕ) (holders : List Element) where
+module _ (framing : Framing) (bounds : Bounds) (octets : List ℕ) (holders : List Element) where
   -- one more was looked at
   pub candidates-more : (xs : List ℕ) (i most : ℕ) (found : List WrongLength) (r : Option WrongLength) → i < length xs
       → length found < most
-      → MatchOption r (HasNoOtherLength framing octets holders (get_or xs i 0))
-      (λ w. IsOtherLength framing octets holders (get_or xs i 0) w)
+      → MatchOption r (HasNoOtherLength framing bounds octets holders (get_or xs i 0))
+      (λ w. IsOtherLength framing bounds octets holders (get_or xs i 0) w)
       → ((rest : List WrongLength)
-      → AreWrongLengths framing octets holders (most - length found) (drop i xs) rest
-      → AreWrongLengths framing octets holders most xs (found ++ rest))
+      → AreWrongLengths framing bounds octets holders (most - length found) (drop i xs) rest
+      → AreWrongLengths framing bounds octets holders most xs (found ++ rest))
       → (rest : List WrongLength)
-      → AreWrongLengths framing octets holders (most - length (found ++ cons_option r [])) (drop (i + 1) xs) rest
-      → AreWrongLengths framing octets holders most xs ((found ++ cons_option r []) ++ rest)
+      → AreWrongLengths framing bounds octets holders (most - length (found ++ cons_option r [])) (drop (i + 1) xs) rest
+      → AreWrongLengths framing bounds octets holders most xs ((found ++ cons_option r []) ++ rest)
   candidates-more xs i most found None h few none so_far rest p =
       let same : found ++ [] ≡ found = append-nil found in
       rw same
       (so_far rest
       (rw (from-next xs i h)
       (wrong.passed_over {most = most - length found} (omega (arith, few)) none
-      (subst (λ (l : List WrongLength). AreWrongLengths framing octets holders (most - length l) (drop (i + 1) xs) rest)
+      (subst (λ (l : List WrongLength). AreWrongLengths framing bounds octets holders (most - length l) (drop (i + 1) xs) rest)
       same p))))
   candidates-more xs i most found (Some w) h few is so_far rest p =
       let count : length (found ++ w ∷ []) ≡ length found + 1 = length-append found (w ∷ []) in
       let less : most - length (found ++ w ∷ []) ≡ (most - length found) - 1 = omega (arith, count, few) in
-      subst (λ (l : List WrongLength). AreWrongLengths framing octets holders most xs l)
+      subst (λ (l : List WrongLength). AreWrongLengths framing bounds octets holders most xs l)
       (sym (append_assoc found (w ∷ []) rest))
       (so_far (w ∷ rest)
       (rw (from-next xs i h)
       (wrong.named {most = most - length found} (omega (arith, few)) is
-      (subst (λ (n : ℕ). AreWrongLengths framing octets holders n (drop (i + 1) xs) rest) less p))))
+      (subst (λ (n : ℕ). AreWrongLengths framing bounds octets holders n (drop (i + 1) xs) rest) less p))))
 
   -- enough are named, or there are no more
   pub candidates-enough : (xs : List ℕ) (i most : ℕ) (found : List WrongLength) → most ≤ length found
       → ((rest : List WrongLength)
-      → AreWrongLengths framing octets holders (most - length found) (drop i xs) rest
-      → AreWrongLengths framing octets holders most xs (found ++ rest))
-      → AreWrongLengths framing octets holders most xs found
+      → AreWrongLengths framing bounds octets holders (most - length found) (drop i xs) rest
+      → AreWrongLengths framing bounds octets holders most xs (found ++ rest))
+      → AreWrongLengths framing bounds octets holders most xs found
   candidates-enough xs i most found h so_far =
       let none : most - length found ≡ 0 = omega (arith, h) in
-      subst (λ (l : List WrongLength). AreWrongLengths framing octets holders most xs l) (append-nil found)
+      subst (λ (l : List WrongLength). AreWrongLengths framing bounds octets holders most xs l) (append-nil found)
       (so_far [] (rw none wrong.enough))
 
   pub candidates-end : (xs : List ℕ) (i most : ℕ) (found : List WrongLength) → length xs ≤ i
       → ((rest : List WrongLength)
-      → AreWrongLengths framing octets holders (most - length found) (drop i xs) rest
-      → AreWrongLengths framing octets holders most xs (found ++ rest))
-      → AreWrongLengths framing octets holders most xs found
+      → AreWrongLengths framing bounds octets holders (most - length found) (drop i xs) rest
+      → AreWrongLengths framing bounds octets holders most xs (found ++ rest))
+      → AreWrongLengths framing bounds octets holders most xs found
   candidates-end xs i most found h so_far =
-      subst (λ (l : List WrongLength). AreWrongLengths framing octets holders most xs l) (append-nil found)
+      subst (λ (l : List WrongLength). AreWrongLengths framing bounds octets holders most xs l) (append-nil found)
       (so_far [] (rw (drop_all i xs h) wrong.no_more))
 
 -- a slice from an offset on is all that comes after it

@@ -14,6 +14,7 @@ pub mod MovedElements
 pub mod SoundLemmas
 pub mod StartLemmas
 pub mod TextLemmas
+pub mod MendedLemmas
 pub mod MoveLemmas
 pub mod SpacingLemmas
 pub mod LawLemmas

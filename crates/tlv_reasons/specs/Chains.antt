@@ -15,7 +15,8 @@ use Rattle.tlv_reasons.specs.Facts.{open_holders}
 use Rattle.tlv_reasons.specs.OpenHolders.{has_end}
 use Rattle.tlv_reasons.specs.Sizes.{size_difference}
 use Rattle.tlv_reasons.specs.Suspects.{element_offset}
-use Rattle.tlv_reasons.specs.WrongLength.{input_with_length, length_bound, wide_limit}
+use Rattle.tlv_reasons.specs.Mended.{wide_limit}
+use Rattle.tlv_reasons.specs.WrongLength.{input_with_length, length_bound}
 
 -- ---- headers that state other lengths
 

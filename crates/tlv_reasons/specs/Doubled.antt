@@ -6,7 +6,7 @@ use Rattle.std.specs.Cmp.Lexicographic.{pointwise}
 use Rattle.tlv_open.specs.Opens.{closed_framing}
 use Rattle.tlv_walk.specs.Reading.{IsSoundList}
 use Rattle.tlv_reasons.specs.Sizes.{size_difference}
-use Rattle.tlv_reasons.specs.WrongLength.{wide_limit}
+use Rattle.tlv_reasons.specs.Mended.{wide_limit}
 use Rattle.tlv_reasons.specs.declared.doubled.Doubled.{Doubled}
 use Rattle.tlv_reasons.specs.declared.facts.Facts.{Facts}
 use Rattle.tlv_reasons.specs.declared.sizes.Difference.{Difference}

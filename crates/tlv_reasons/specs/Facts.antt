@@ -1,5 +1,6 @@
 -- What is open where the reading of an input ends, and what comes before that.
 use Rattle.std.specs.Prelude.{◌≡◌, ℕ, ◌+◌, false, List, [], ◌∷◌, MatchOption, Option, Some, None, drop, take}
+use Rattle.std.specs.Option.{option_map_or}
 use Rattle.tlv_head.specs.declared.fault.Fault.{Fault}
 use Rattle.tlv_head.specs.Header.{HeaderValue}
 use Rattle.tlv_head.specs.Refusal.{BeginsWith, BeginsWithNoHeader}
@@ -63,6 +64,10 @@ unfinished_in end = unfinished.Nothing
 abbrev pub IsElementThere : List ℕ → ℕ → Option Element → Type 0
 IsElementThere octets offset found = MatchOption found (BeginsWithNoHeader (drop offset octets))
     (λ e. (h : HeaderValue) × BeginsWith (drop offset octets) offset false h × (e ≡ element_of h))
+
+-- where the fault is
+abbrev pub fault_offset : Facts → ℕ
+fault_offset facts = option_map_or (λ fault. fault.offset) facts.fault 0
 
 -- the open end of a reading
 abbrev pub end_of_reading : Framing → Forest → OpenEnd

@@ -14,15 +14,17 @@ use Rattle.tlv_reasons.specs.declared.octet_changes.OctetChange.{OctetChange}
 use Rattle.tlv_reasons.specs.declared.records.NextRecord.{NextRecord}
 use Rattle.tlv_reasons.specs.NextRecord.{IsNextRecord}
 use Rattle.tlv_reasons.specs.OneOctet.{IsOctetChange}
+use Rattle.tlv_reasons.specs.declared.bounds.Bounds.{Bounds}
 use Rattle.tlv_reasons.specs.declared.sentence.Sentence.{Sentence}
 use Rattle.tlv_reasons.specs.Sentences.{sentences_text}
 use Rattle.tlv_reasons.specs.WrongLength.{NamesLengths, length_bound, with_length}
 
--- an input, its open elements and offsets determine the other lengths that are named
+-- the bounds of a search, an input, its open elements and offsets determine the other lengths that are named
 abbrev pub InputsHaveOneWrongLength : Type 0
 InputsHaveOneWrongLength =
-    (framing : Framing) (octets : List ℕ) (holders : List Element) (candidates : List ℕ) (a b : List WrongLength)
-    → NamesLengths framing octets holders candidates a → NamesLengths framing octets holders candidates b → a ≡ b
+    (framing : Framing) (bounds : Bounds) (octets : List ℕ) (holders : List Element) (candidates : List ℕ)
+    (a b : List WrongLength) → NamesLengths framing bounds octets holders candidates a
+    → NamesLengths framing bounds octets holders candidates b → a ≡ b
 
 -- with the first of these they also determine the octet that is missing or was put in, or that there is none
 abbrev pub InputsHaveOneOctetChange : Type 0

@@ -15,8 +15,9 @@ pub mod Spacing
 pub mod Overwritten
 pub mod Doubled
 pub mod FirstOf
+pub mod Mended
 pub mod WrongLength
-pub mod Alone
+pub mod Window
 pub mod Chains
 pub mod OneOctet
 pub mod NextStart

@@ -14,12 +14,13 @@ use Rattle.tlv_reasons.specs.declared.sentence.Sentence.{Sentence}
 use Rattle.tlv_reasons.specs.declared.sentence.Sentence.TheVariants as say
 use Rattle.tlv_reasons.specs.declared.text_changes.TextChange.{TextChange}
 use Rattle.tlv_reasons.specs.declared.text_changes.TextChange.TheVariants.{LineEnds, Replaced, Utf8}
-use Rattle.tlv_reasons.specs.Alone.{AreLengthsInside}
 use Rattle.tlv_reasons.specs.Chains.{IsChain}
 use Rattle.tlv_reasons.specs.Doubled.{IsDoubled}
+use Rattle.tlv_reasons.specs.Facts.{fault_offset}
 use Rattle.tlv_reasons.specs.FaultReasons.{said}
 use Rattle.tlv_reasons.specs.FileKinds.{file_kind}
 use Rattle.tlv_reasons.specs.FirstOf.{IsElse, IsNothing}
+use Rattle.tlv_reasons.specs.Mended.{whole_bounds}
 use Rattle.tlv_reasons.specs.Moves.{IsMove}
 use Rattle.tlv_reasons.specs.NextRecord.{IsNextRecord}
 use Rattle.tlv_reasons.specs.NextStart.{IsNextStart}
@@ -32,6 +33,7 @@ use Rattle.tlv_reasons.specs.Suspects.{suspect_offsets}
 use Rattle.tlv_reasons.specs.TextCopies.{IsSoundWithLfAlone, IsSoundWithoutUtf8, has_replacement}
 use Rattle.tlv_reasons.specs.Traces.{trace_of}
 use Rattle.tlv_reasons.specs.Why.{fault_sentences, reasons_of}
+use Rattle.tlv_reasons.specs.Window.{AreLengthsInWindow, window_end}
 use Rattle.tlv_reasons.specs.WrongLength.{NamesLengths, search_limit}
 
 -- what was done to the input as if it were a text: what makes the input sound if it is undone, UTF-8 first; else, what
@@ -46,27 +48,26 @@ pub data IsTextChange (padding : Bool) (octets : List ℕ) : Option TextChange �
       → has_replacement octets ≡ false → IsTextChange padding octets None
 
 -- the other lengths that are named, if the sizes of the outermost elements agree with that of the input, from the top end
--- on. Otherwise octets are missing or left over, and none is named. In an input that is too long to be searched, the
--- damaged element alone is
+-- on. Otherwise octets are missing or left over, and none is named. Of an input that is too long to be searched as a
+-- whole, a window is searched
 pub data AreNamedLengths (padding : Bool) (octets : List ℕ) (facts : Facts) : List WrongLength → Type 0 where
-  in_agreement : {found : List WrongLength} → length octets ≤ search_limit → SizesAgree padding octets facts.top
-      → NamesLengths (closed_framing padding) octets facts.holders.items (suspect_offsets facts) found
+  in_disagreement : (SizesAgree padding octets facts.top → ⊥) → AreNamedLengths padding octets facts []
+  in_agreement : {found : List WrongLength} → SizesAgree padding octets facts.top → length octets ≤ search_limit
+      → NamesLengths (closed_framing padding) (whole_bounds octets) octets facts.holders.items (suspect_offsets facts) found
       → AreNamedLengths padding octets facts found
-  in_disagreement : length octets ≤ search_limit → (SizesAgree padding octets facts.top → ⊥)
-      → AreNamedLengths padding octets facts []
-  in_element : {found : List WrongLength} → search_limit < length octets
-      → AreLengthsInside padding octets facts.top found → AreNamedLengths padding octets facts found
+  in_window : {found : List WrongLength} → SizesAgree padding octets facts.top → search_limit < length octets
+      → AreLengthsInWindow padding octets facts.top found → AreNamedLengths padding octets facts found
 
 -- another length that is named for the header at this offset
 abbrev pub named_at : ℕ → List WrongLength → Option WrongLength
 named_at offset found = find (λ w. eqb w.offset offset) found
 
--- the sentence about the lengths that are named: three at most
-abbrev pub length_sentence : List WrongLength → Option Sentence
-length_sentence [] = None
-length_sentence (v ∷ []) = Some (say.OtherLength v)
-length_sentence (v ∷ w ∷ []) = Some (say.TwoLengths v w)
-length_sentence (v ∷ w ∷ x ∷ more) = Some (say.ThreeLengths v w x)
+-- the sentence about the lengths that are named: three at most. They mend all octets, or all up to an offset
+abbrev pub length_sentence : List WrongLength → Option ℕ → Option Sentence
+length_sentence [] end = None
+length_sentence (v ∷ []) end = Some (say.OtherLength v end)
+length_sentence (v ∷ w ∷ []) end = Some (say.TwoLengths v w end)
+length_sentence (v ∷ w ∷ x ∷ more) end = Some (say.ThreeLengths v w x end)
 
 -- what was done to the input as if it were a text, if that can be undone
 abbrev pub undoable : Option TextChange → Option TextChange
@@ -112,14 +113,10 @@ abbrev pub reasons_if : Bool → List ℕ → Facts → List Sentence
 reasons_if true octets facts = unless_mended true (reasons_of octets facts)
 reasons_if false octets facts = said (size_sentence octets facts ∷ []) ++ reasons_of octets facts
 
--- where the fault is
-abbrev pub fault_offset : Facts → ℕ
-fault_offset facts = option_map_or (λ fault. fault.offset) facts.fault 0
-
 -- the sentence about the lengths that are named
 pub data IsLengthSentence (padding : Bool) (octets : List ℕ) (facts : Facts) : Option Sentence → Type 0 where
   about : {found : List WrongLength} → AreNamedLengths padding octets facts found
-      → IsLengthSentence padding octets facts (length_sentence found)
+      → IsLengthSentence padding octets facts (length_sentence found (window_end octets facts.top))
 
 -- other lengths of several elements inside one another; none if the input ends inside an encoding, since it was mostly cut
 pub data IsOtherChain (padding : Bool) (octets : List ℕ) (facts : Facts) : Option Chain → Type 0 where
@@ -153,9 +150,9 @@ IsRemedy padding octets facts =
 
 -- the lengths that such a sentence names
 abbrev pub lengths_in : Option Sentence → List WrongLength
-lengths_in (Some (say.OtherLength v)) = v ∷ []
-lengths_in (Some (say.TwoLengths v w)) = v ∷ w ∷ []
-lengths_in (Some (say.ThreeLengths v w x)) = v ∷ w ∷ x ∷ []
+lengths_in (Some (say.OtherLength v end)) = v ∷ []
+lengths_in (Some (say.TwoLengths v w end)) = v ∷ w ∷ []
+lengths_in (Some (say.ThreeLengths v w x end)) = v ∷ w ∷ x ∷ []
 lengths_in s = []
 
 -- the other start that such a sentence names
@@ -196,6 +193,6 @@ pub data AreReasons (reads : ℕ) (padding : Bool) (octets : List ℕ) (facts : 
 pub record AreStringReasons (framing : Framing) (octets candidates : List ℕ) (facts : Facts) (sentences : List Sentence)
     : Type 0 where
   pub wrong : List WrongLength
-  pub are_wrong : NamesLengths framing octets facts.holders.items candidates wrong
+  pub are_wrong : NamesLengths framing (whole_bounds octets) octets facts.holders.items candidates wrong
   pub sentences_are : sentences
-      ≡ said (length_sentence wrong ∷ []) ++ unless_mended (is_some (slice_get wrong 0)) (reasons_of octets facts)
+      ≡ said (length_sentence wrong None ∷ []) ++ unless_mended (is_some (slice_get wrong 0)) (reasons_of octets facts)

@@ -17,7 +17,7 @@ use Rattle.tlv_reasons.specs.declared.traces.Trace.{Trace}
 use Rattle.tlv_reasons.specs.declared.traces.Trace.TheVariants as trace
 use Rattle.tlv_reasons.specs.declared.value.Value.{Value}
 use Rattle.tlv_reasons.specs.declared.value.Value.TheVariants.{Broken, Code, Header, LackingZeros, Message, Name, Number}
-use Rattle.tlv_reasons.specs.declared.value.Value.TheVariants.{Octets, Offsets, Pairs}
+use Rattle.tlv_reasons.specs.declared.value.Value.TheVariants.{All, Octets, Offsets, Pairs}
 use Rattle.tlv_reasons.specs.Elements.{offset_sum}
 use Rattle.tlv_reasons.specs.OpenHolders.{element_end}
 use Rattle.tlv_reasons.specs.Values.{value_text}
@@ -245,19 +245,19 @@ words_of say.TryAnew = (
 words_of (say.LengthInFront e) =
     (codes "Or a length in front is wrong: that of the %. %\n", Name e ∷ Header e ∷ [])
 -- what would mend the input
-words_of (say.OtherLength w) = (
-  codes "If the header at offset % said % and not %, all would parse.\n",
-  Number w.offset ∷ Octets w.would ∷ Number w.said ∷ [],
+words_of (say.OtherLength w end) = (
+  codes "If the header at offset % said % and not %, % would parse.\n",
+  Number w.offset ∷ Octets w.would ∷ Number w.said ∷ All end ∷ [],
 )
-words_of (say.TwoLengths v w) = (
-  codes "If the header at offset % said % and not %, or that at offset % said % and not %, all would parse.\n",
-  Number v.offset ∷ Octets v.would ∷ Number v.said ∷ Number w.offset ∷ Octets w.would ∷ Number w.said ∷ [],
+words_of (say.TwoLengths v w end) = (
+  codes "If the header at offset % said % and not %, or that at offset % said % and not %, % would parse.\n",
+  Number v.offset ∷ Octets v.would ∷ Number v.said ∷ Number w.offset ∷ Octets w.would ∷ Number w.said ∷ All end ∷ [],
 )
-words_of (say.ThreeLengths v w x) = (
+words_of (say.ThreeLengths v w x end) = (
   codes "If the header at offset % said % and not %, or that at offset % said % and not %, "
-      ++ codes "or that at offset % said % and not %, all would parse.\n",
+      ++ codes "or that at offset % said % and not %, % would parse.\n",
   Number v.offset ∷ Octets v.would ∷ Number v.said ∷ Number w.offset ∷ Octets w.would ∷ Number w.said
-      ∷ Number x.offset ∷ Octets x.would ∷ Number x.said ∷ [],
+      ∷ Number x.offset ∷ Octets x.would ∷ Number x.said ∷ All end ∷ [],
 )
 words_of (say.OneOctet (Missing offset)) = (
   codes "If one octet more stood after the header at offset %, all would parse: "

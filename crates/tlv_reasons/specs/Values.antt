@@ -1,6 +1,6 @@
 -- The texts of the values in sentences: numbers, octets, elements.
 use Rattle.std.specs.Prelude.{ℕ, ◌-◌, Bool, eqb, nat_lt, if◌then◌else◌, List, [], ◌∷◌, ◌++◌, codes, decimal, drop}
-use Rattle.std.specs.Prelude.{length, take}
+use Rattle.std.specs.Prelude.{length, take, Option, Some, None}
 use Rattle.tlv_head.specs.declared.header.Size.{Size}
 use Rattle.tlv_head.specs.declared.header.Size.TheVariants.{Definite, Indefinite}
 use Rattle.tlv_head.specs.Fault.{fault_code, fault_text}
@@ -71,6 +71,11 @@ abbrev pub offsets_in_words : List ℕ → List ℕ
 offsets_in_words [] = []
 offsets_in_words (offset ∷ more) = (decimal offset ++ mark_before more) ++ offsets_in_words more
 
+-- all octets, or all up to an offset, in words
+unfoldable pub all_in_words : Option ℕ → List ℕ
+all_in_words None = codes "all"
+all_in_words (Some end) = codes "all up to offset " ++ decimal end
+
 -- the offsets of the headers of a chain
 abbrev pub chain_offsets : Chain → List ℕ
 chain_offsets c = take c.count c.offsets
@@ -87,3 +92,4 @@ value_text octets (value.Code fault) = fault_code fault.code
 value_text octets (value.Message fault) = fault_text fault.code
 value_text octets (value.Broken x) = broken_line x
 value_text octets (value.Offsets c) = offsets_in_words (chain_offsets c)
+value_text octets (value.All end) = all_in_words end

@@ -1,4 +1,4 @@
--- Which single length, changed, would make an input sound: X.690 8.1.3.
+-- Which single length, changed, would mend an input: X.690 8.1.3.
 use Rattle.std.specs.Prelude.{◌≡◌, ℕ, ◌+◌, ◌-◌, ◌*◌, ◌/◌, ◌%◌, ◌^◌, ◌<◌, ◌≤◌, Bool, ◌&&◌, false, eqb, min, nat_le, nat_lt}
 use Rattle.std.specs.Prelude.{if◌then◌else◌, List, [], ◌∷◌, ◌++◌, length, take, drop, Option, Some, None, zero, suc}
 use Rattle.std.specs.List.{filter}
@@ -7,10 +7,11 @@ use Rattle.tlv_head.specs.declared.header.Size.TheVariants.{Definite}
 use Rattle.tlv_head.specs.Header.{HeaderValue, announced_length, definite_length, octets_of}
 use Rattle.tlv_head.specs.Refusal.{BeginsWith}
 use Rattle.tlv_walk.specs.declared.framing.Framing.{Framing}
-use Rattle.tlv_walk.specs.Reading.{IsSoundList}
 use Rattle.tlv_reasons.specs.declared.element.Element.{Element}
 use Rattle.tlv_reasons.specs.declared.lengths.WrongLength.{WrongLength}
+use Rattle.tlv_reasons.specs.declared.bounds.Bounds.{Bounds}
 use Rattle.tlv_reasons.specs.FirstOf.{IsFirstOf}
+use Rattle.tlv_reasons.specs.Mended.{IsMended}
 
 -- inputs of more octets are not searched: a limit of our own
 abbrev pub search_limit : ℕ
@@ -36,10 +37,6 @@ contents_start h = h.offset + length (octets_of h)
 
 -- ---- the lengths that are tried
 
--- of an input of more octets only the lengths nearby are tried, and one header is named: a limit of our own
-abbrev pub wide_limit : ℕ
-wide_limit = 2 ^ 18
-
 -- the number that differs from this one in the bit of value 2^bit
 abbrev pub flipped : ℕ → ℕ → ℕ
 flipped said bit = if eqb ((said / 2 ^ bit) % 2) 0 then said + 2 ^ bit else said - 2 ^ bit
@@ -64,22 +61,22 @@ abbrev pub ending_lengths : Bool → ℕ → ℕ → List ℕ
 ending_lengths constructed start reach =
     if constructed && nat_le start reach then (reach - start) ∷ [] else []
 
--- the lengths that are tried in an input of `size` octets, for a header with `count` length octets, contents from `start`
--- on, and `reach` as the offset at which it should end
-abbrev pub tried_lengths : ℕ → Bool → ℕ → ℕ → ℕ → ℕ → List ℕ
-tried_lengths count constructed start size reach said =
-    if nat_le size wide_limit
+-- the lengths that are tried in a search, wide or not, for a header with `count` length octets, contents from `start`
+-- on, and `reach` as the offset at which it should end. If the search is not wide, only lengths nearby are
+abbrev pub tried_lengths : ℕ → Bool → ℕ → Bool → ℕ → ℕ → List ℕ
+tried_lengths count constructed start wide reach said =
+    if wide
     then
     (((lengths_within said 5 ++ flips said 40) ++ reversed_lengths count said) ++ lengths_at_distance said 256)
     ++ ending_lengths constructed start reach
     else lengths_within said 5
 
 -- the other lengths that a header could state in as many octets, in the order in which they are tried
-abbrev pub other_lengths : HeaderValue → ℕ → ℕ → List ℕ
-other_lengths h size reach =
+abbrev pub other_lengths : HeaderValue → Bool → ℕ → List ℕ
+other_lengths h wide reach =
     filter (λ n. nat_lt n (length_bound (length h.length_octets)))
     (option_map_or
-    (λ said. tried_lengths (length h.length_octets) h.constructed (contents_start h) size reach said)
+    (λ said. tried_lengths (length h.length_octets) h.constructed (contents_start h) wide reach said)
     (definite_length h.size) [])
 
 -- ---- a header that states another length
@@ -104,9 +101,9 @@ abbrev pub input_with_length : List ℕ → HeaderValue → ℕ → List ℕ
 input_with_length octets h n =
     take h.offset octets ++ (octets_of (with_length h n) ++ drop (h.offset + length (octets_of h)) octets)
 
--- the input would be sound if the header stated that length
-abbrev pub WouldBeSound : Framing → List ℕ → HeaderValue → ℕ → Type 0
-WouldBeSound framing octets h n = IsSoundList framing (input_with_length octets h n)
+-- the input would be mended if the header stated that length
+abbrev pub WouldBeMended : Framing → Bounds → List ℕ → HeaderValue → ℕ → Type 0
+WouldBeMended framing bounds octets h n = IsMended framing bounds (input_with_length octets h n)
 
 -- where an element at this offset should end, among these open elements, outermost first: where the innermost of
 -- definite length that begins in front of it ends; or at `reach` if there is none
@@ -121,50 +118,50 @@ reach_of (e ∷ holders) offset reach = reach_of holders offset (nearer_reach e 
 abbrev pub reach_in : List Element → ℕ → ℕ → ℕ
 reach_in holders offset size = min size (reach_of holders offset size)
 
--- with this length of the header at the offset `offset`, and none before it, the input would be sound. `holders` are
+-- with this length of the header at the offset `offset`, and none before it, the input would be mended. `holders` are
 -- the open elements
-abbrev pub IsRightLength : Framing → List ℕ → List Element → ℕ → HeaderValue → Option ℕ → Type 0
-IsRightLength framing octets holders offset h found =
-    IsFirstOf (WouldBeSound framing octets h)
-    (other_lengths h (length octets) (reach_in holders offset (length octets))) found
+abbrev pub IsRightLength : Framing → Bounds → List ℕ → List Element → ℕ → HeaderValue → Option ℕ → Type 0
+IsRightLength framing bounds octets holders offset h found =
+    IsFirstOf (WouldBeMended framing bounds octets h)
+    (other_lengths h bounds.wide (reach_in holders offset (length octets))) found
 
 -- this is what the header at the offset `offset` says, and what it should say
-pub record IsOtherLength (framing : Framing) (octets : List ℕ) (holders : List Element) (offset : ℕ) (w : WrongLength)
-    : Type 0 where
+pub record IsOtherLength (framing : Framing) (bounds : Bounds) (octets : List ℕ) (holders : List Element) (offset : ℕ)
+    (w : WrongLength) : Type 0 where
   pub header : HeaderValue
   pub begins : BeginsWith (drop offset octets) offset false header
-  pub right : IsRightLength framing octets holders offset header (Some w.would)
+  pub right : IsRightLength framing bounds octets holders offset header (Some w.would)
   pub offset_is : w.offset ≡ offset
   pub said_is : w.said ≡ announced_length header.size
 
--- there is no header at this offset, or none of its other lengths would make the input sound
-abbrev pub HasNoOtherLength : Framing → List ℕ → List Element → ℕ → Type 0
-HasNoOtherLength framing octets holders offset =
+-- there is no header at this offset, or none of its other lengths would mend the input
+abbrev pub HasNoOtherLength : Framing → Bounds → List ℕ → List Element → ℕ → Type 0
+HasNoOtherLength framing bounds octets holders offset =
     (h : HeaderValue) → BeginsWith (drop offset octets) offset false h
-    → IsRightLength framing octets holders offset h None
+    → IsRightLength framing bounds octets holders offset h None
 
--- the headers at these offsets for which another length would make the input sound, each with the first such length:
+-- the headers at these offsets for which another length would mend the input, each with the first such length:
 -- as many of them as the number says, in order
-pub data AreWrongLengths (framing : Framing) (octets : List ℕ) (holders : List Element)
+pub data AreWrongLengths (framing : Framing) (bounds : Bounds) (octets : List ℕ) (holders : List Element)
     : ℕ → List ℕ → List WrongLength → Type 0 where
-  no_more : {most : ℕ} → AreWrongLengths framing octets holders most [] []
-  enough : {candidates : List ℕ} → AreWrongLengths framing octets holders 0 candidates []
+  no_more : {most : ℕ} → AreWrongLengths framing bounds octets holders most [] []
+  enough : {candidates : List ℕ} → AreWrongLengths framing bounds octets holders 0 candidates []
   named : {most offset : ℕ} {more : List ℕ} {w : WrongLength} {found : List WrongLength} → 0 < most
-      → IsOtherLength framing octets holders offset w
-      → AreWrongLengths framing octets holders (most - 1) more found
-      → AreWrongLengths framing octets holders most (offset ∷ more) (w ∷ found)
+      → IsOtherLength framing bounds octets holders offset w
+      → AreWrongLengths framing bounds octets holders (most - 1) more found
+      → AreWrongLengths framing bounds octets holders most (offset ∷ more) (w ∷ found)
   passed_over : {most offset : ℕ} {more : List ℕ} {found : List WrongLength} → 0 < most
-      → HasNoOtherLength framing octets holders offset
-      → AreWrongLengths framing octets holders most more found
-      → AreWrongLengths framing octets holders most (offset ∷ more) found
+      → HasNoOtherLength framing bounds octets holders offset
+      → AreWrongLengths framing bounds octets holders most more found
+      → AreWrongLengths framing bounds octets holders most (offset ∷ more) found
 
--- so many headers are named at most: three, or one in an input of which only lengths nearby are tried
-abbrev pub most_named : ℕ → ℕ
-most_named size = if nat_le size wide_limit then 3 else 1
+-- so many headers are named at most: three, or one if only lengths nearby are tried
+abbrev pub most_named : Bool → ℕ
+most_named wide = if wide then 3 else 1
 
 -- which of the headers at these offsets may have a wrong length, if the input is searched
-pub record NamesLengths (framing : Framing) (octets : List ℕ) (holders : List Element) (candidates : List ℕ)
-    (found : List WrongLength) : Type 0 where
+pub record NamesLengths (framing : Framing) (bounds : Bounds) (octets : List ℕ) (holders : List Element)
+    (candidates : List ℕ) (found : List WrongLength) : Type 0 where
   pub searched : length octets ≤ search_limit
-      → AreWrongLengths framing octets holders (most_named (length octets)) candidates found
+      → AreWrongLengths framing bounds octets holders (most_named bounds.wide) candidates found
   pub unsearched : search_limit < length octets → found ≡ []

@@ -6,12 +6,12 @@ ghost use Rattle.tlv_reasons.specs.Chains.{AreAround, AreMoved, IsChain, IsChain
 ghost use Rattle.tlv_reasons.specs.Chains.{chain_limit, chain_of, moved_length};
 ghost use Rattle.tlv_reasons.specs.OpenHolders.{has_end};
 ghost use Rattle.tlv_reasons.specs.Suspects.{element_offset};
-ghost use Rattle.tlv_reasons.specs.WrongLength.{wide_limit};
+ghost use Rattle.tlv_reasons.specs.Mended.{wide_limit};
 
+use crate::bounds::WIDE_LIMIT;
 use crate::facts_call::facts_of;
 use crate::holders::has_end;
 use crate::length_octets::{can_say, set_length};
-use crate::lengths::WIDE_LIMIT;
 use crate::sizes::{Difference, size_difference};
 use crate::sound::{closed_framing, is_sound};
 use crate::{Element, Facts};

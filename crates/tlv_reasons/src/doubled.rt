@@ -3,10 +3,10 @@ ghost use Rattle.std.specs.Prelude.{◌≡◌, ◌≤◌, ◌+◌, ◌↔◌, If
 ghost use Rattle.tlv_head.specs.Limits.{input_limit};
 ghost use Rattle.tlv_reasons.specs.Doubled.{IsDoubled, IsDoubledBy, IsFirstDoubled, IsSoundWithout, begins_twice};
 ghost use Rattle.tlv_reasons.specs.Doubled.{block_size, block_tries};
-ghost use Rattle.tlv_reasons.specs.WrongLength.{wide_limit};
+ghost use Rattle.tlv_reasons.specs.Mended.{wide_limit};
 
 use crate::Facts;
-use crate::lengths::WIDE_LIMIT;
+use crate::bounds::WIDE_LIMIT;
 use crate::sizes::{Difference, size_difference};
 use crate::sound::is_sound;
 use std::alloc::{AllocError, Global};

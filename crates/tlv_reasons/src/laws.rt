@@ -3,7 +3,7 @@ ghost use Rattle.tlv_reasons.specs.Laws.{InputsHaveOneChain, InputsHaveOneNextRe
 ghost use Rattle.tlv_reasons.specs.Laws.{InputsHaveOneOctetChange, InputsHaveOneWrongLength};
 ghost use Rattle.tlv_reasons.specs.Laws.{OtherLengthsMakeHeaders, SentencesAreShown};
 
-/// An input, its open elements and candidates determine the other lengths that are named.
+/// A framing, bounds, an input, its open elements and candidates determine the other lengths that are named.
 pub fn inputs_have_one_wrong_length()
     ensures { InputsHaveOneWrongLength }
 {}

@@ -1,9 +1,9 @@
 //! Length octets, changed in place.
 ghost use Rattle.std.specs.Prelude.{◌≡◌, ◌<◌, ◌≤◌, ◌-◌, ◌^◌, ◌↔◌, IsTrue, length, nat_lt, true};
-ghost use Rattle.tlv_reasons.specs.Private.Lengths.{SoundWithOctets};
+ghost use Rattle.tlv_reasons.specs.Private.Lengths.{MendedWithOctets};
 ghost use Rattle.tlv_reasons.specs.WrongLength.{base_256, length_bound, length_octets_saying, search_limit};
 
-use crate::sound::is_sound_list;
+use crate::bounds::{Bounds, is_mended};
 use tlv_walk::Framing;
 
 /// Where length octets are in an input.
@@ -28,11 +28,12 @@ pub(crate) fn can_say(count: usize, would: u64) -> bool
     }
 }
 
-/// Whether the input is sound if the length octets there state this length. Changes the copy, and then restores it.
-pub(crate) fn is_sound_with(
+/// Whether the input is mended if the length octets there state this length. Changes the copy, and then restores it.
+pub(crate) fn is_mended_with(
     octets: &[u8],
     copy: &mut [u8],
     framing: &Framing<'_>,
+    bounds: Bounds,
     place: LengthPlace,
     would: u64,
 ) -> bool
@@ -42,12 +43,12 @@ pub(crate) fn is_sound_with(
     requires within { place.end ≤ length octets.now }
     requires sayable { nat_lt would (length_bound (place.end - place.start)) ≡ true }
     ensures copied { copy.new ≡ octets.now }
-    ensures sound { IsTrue result ↔ SoundWithOctets framing.now place.start place.end octets.now would }
+    ensures mended { IsTrue result ↔ MendedWithOctets framing.now bounds place.start place.end octets.now would }
 {
     set_length(&mut copy[place.start..place.end], would);
-    let sound = is_sound_list(copy, framing);
+    let mended = is_mended(copy, framing, bounds);
     copy[place.start..place.end].copy_from_slice(&octets[place.start..place.end]);
-    sound
+    mended
 }
 
 /// Makes length octets state another length, in the same form.

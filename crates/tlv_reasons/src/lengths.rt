@@ -1,13 +1,14 @@
-//! Which single length, changed, would make an input sound.
+//! Which single length, changed, would mend an input.
 ghost use Rattle.std.specs.Prelude.{◌≡◌, ◌<◌, ◌≤◌, ◌+◌, ◌++◌, ◌-◌, ◌^◌, All, IfOk, MatchOption, [], length};
 ghost use Rattle.std.specs.List.{cons_option};
 ghost use Rattle.tlv_reasons.specs.FirstOf.{IsFirstOf};
-ghost use Rattle.tlv_reasons.specs.Private.Lengths.{SoundWithOctets, sayable};
+ghost use Rattle.tlv_reasons.specs.Private.Lengths.{MendedWithOctets, sayable};
 ghost use Rattle.tlv_reasons.specs.WrongLength.{AreWrongLengths, HasNoOtherLength, IsOtherLength, NamesLengths};
 ghost use Rattle.tlv_reasons.specs.WrongLength.{most_named, nearer_reach, reach_in, reach_of, search_limit};
 
 use crate::Element;
-use crate::length_octets::{LengthPlace, can_say, is_sound_with};
+use crate::bounds::Bounds;
+use crate::length_octets::{LengthPlace, can_say, is_mended_with};
 use crate::tried_lengths::tried_lengths;
 use arrayvec::ArrayVec;
 use std::alloc::{AllocError, Global};
@@ -17,13 +18,10 @@ use tlv_walk::Framing;
 /// The greatest number of octets of an input that is searched.
 pub const SEARCH_LIMIT: usize = 1 << 20;
 
-/// The greatest number of octets of an input of which further lengths are tried.
-pub(crate) const WIDE_LIMIT: usize = 1 << 18;
-
 /// Headers whose length may be wrong.
 pub type WrongLengths = ArrayVec<WrongLength, 3>;
 
-/// A header whose length may be wrong: with another length, the input would be sound.
+/// A header whose length may be wrong: another length would mend the input.
 #[derive(Clone, Copy, PartialEq, Eq, Debug)]
 pub struct WrongLength {
     /// Where the header begins, in octets from the start of the input.
@@ -46,13 +44,13 @@ impl Default for WrongLength {
 }
 
 /// Finds which of the headers at these offsets, in octets from the start of the input, may have a wrong length: the first
-/// three for which another length would make the input sound, each with the first such length. These lengths are tried:
+/// three for which another length would mend the input, each with the first such length. These lengths are tried:
 /// 1 to 5 octets more or fewer, nearer ones first, and of two that are equally near the greater first; those that differ
 /// in one bit; the octets of the length in reverse order; 256 octets more or fewer; and, if the element is constructed, the
 /// length with which it ends where the innermost of the open elements (`holders`) in front of it ends, or with the input.
-/// The other length takes as many length octets as before. Of an input of more than 262144 octets only those at most 5
-/// octets away are tried, and one header is named; if it has more than [`SEARCH_LIMIT`] octets, there is none. `framing`
-/// says how the input is read: which strings hold encodings, and whether octets `00` are allowed at the top level.
+/// The other length takes as many length octets as before. Unless `bounds.wide` is set, only those at most 5 octets away
+/// are tried, and one header is named. Of an input of more than [`SEARCH_LIMIT`] octets there is none. `framing` says how the
+/// input is read: which strings hold encodings, and whether octets `00` are allowed at the top level.
 ///
 /// # Errors
 ///
@@ -61,18 +59,26 @@ pub fn wrong_lengths(
     alloc: Global,
     octets: &[u8],
     framing: &Framing<'_>,
+    bounds: Bounds,
     holders: &[Element],
     candidates: &[usize],
 ) -> Result<WrongLengths, AllocError>
     ensures { IfOk result
-        (λ found. NamesLengths framing.now octets.now holders.now candidates.now found.items) }
+        (λ found. NamesLengths framing.now bounds octets.now holders.now candidates.now found.items) }
 {
     if octets.len() > SEARCH_LIMIT {
         return Ok(WrongLengths::new());
     }
     let mut copy = Vec::new(alloc);
     copy.extend_from_slice(octets)?;
-    Ok(lengths_among(octets, copy.as_mut_slice(), framing, holders, candidates))
+    Ok(lengths_among(
+        octets,
+        copy.as_mut_slice(),
+        framing,
+        bounds,
+        holders,
+        candidates,
+    ))
 }
 
 /// [`wrong_lengths`] of an input that is searched. Changes a copy of the input, and restores it in the end.
@@ -80,32 +86,33 @@ fn lengths_among(
     octets: &[u8],
     copy: &mut [u8],
     framing: &Framing<'_>,
+    bounds: Bounds,
     holders: &[Element],
     candidates: &[usize],
 ) -> WrongLengths
     requires copied { copy.old ≡ octets.now }
     requires limit { length octets.now ≤ search_limit }
-    ensures { AreWrongLengths framing.now octets.now holders.now (most_named (length octets.now)) candidates.now
+    ensures { AreWrongLengths framing.now bounds octets.now holders.now (most_named bounds.wide) candidates.now
         result.items }
 {
-    let most = most_named(octets.len());
+    let most = most_named(bounds.wide);
     let mut found = WrongLengths::new();
     for &candidate in candidates {
         if found.len() >= most {
             return found;
         }
-        let wrong = wrong_length_at(octets, copy, framing, holders, candidate);
+        let wrong = wrong_length_at(octets, copy, framing, bounds, holders, candidate);
         add_length(wrong, &mut found);
     }
     found
 }
 
 /// The most headers that are named.
-fn most_named(size: usize) -> usize
-    ensures most { result ≡ most_named size }
+fn most_named(wide: bool) -> usize
+    ensures most { result ≡ most_named wide }
     ensures few { result ≤ 3 }
 {
-    if size <= WIDE_LIMIT { 3 } else { 1 }
+    if wide { 3 } else { 1 }
 }
 
 /// Adds a length, if there is one, to a list that has room for it.
@@ -118,19 +125,20 @@ fn add_length(wrong: Option<WrongLength>, found: &mut WrongLengths)
     }
 }
 
-/// The length that the header at this offset states, and the length with which the input would be sound.
+/// The length that the header at this offset states, and the length that would mend the input.
 fn wrong_length_at(
     octets: &[u8],
     copy: &mut [u8],
     framing: &Framing<'_>,
+    bounds: Bounds,
     holders: &[Element],
     offset: usize,
 ) -> Option<WrongLength>
     requires copied { copy.old ≡ octets.now }
     requires limit { length octets.now ≤ search_limit }
     ensures copied { copy.new ≡ octets.now }
-    ensures found { MatchOption result (HasNoOtherLength framing.now octets.now holders.now offset)
-        (λ w. IsOtherLength framing.now octets.now holders.now offset w) }
+    ensures found { MatchOption result (HasNoOtherLength framing.now bounds octets.now holders.now offset)
+        (λ w. IsOtherLength framing.now bounds octets.now holders.now offset w) }
 {
     if offset > octets.len() {
         return None;
@@ -144,8 +152,8 @@ fn wrong_length_at(
         end: offset + count,
     };
     let reach = reach_in(holders, offset, octets.len());
-    let lengths = tried_lengths(place, fields.constructed, octets.len(), reach, said);
-    match first_right_length(octets, copy, framing, place, lengths.as_slice()) {
+    let lengths = tried_lengths(place, fields.constructed, bounds.wide, reach, said);
+    match first_right_length(octets, copy, framing, bounds, place, lengths.as_slice()) {
         Some(would) => Some(WrongLength {
             offset,
             said,
@@ -178,11 +186,12 @@ fn nearer_reach(holder: &Element, offset: u64, reach: u64) -> u64
     }
 }
 
-/// The first of these lengths that the length octets there can state and that makes the input sound.
+/// The first of these lengths that the length octets there can state and that mends the input.
 fn first_right_length(
     octets: &[u8],
     copy: &mut [u8],
     framing: &Framing<'_>,
+    bounds: Bounds,
     place: LengthPlace,
     lengths: &[u64],
 ) -> Option<u64>
@@ -192,12 +201,12 @@ fn first_right_length(
     requires within { place.end ≤ length octets.now }
     requires below { All (λ n. n < 2 ^ 41) lengths.now }
     ensures copied { copy.new ≡ octets.now }
-    ensures first { IsFirstOf (SoundWithOctets framing.now place.start place.end octets.now)
+    ensures first { IsFirstOf (MendedWithOctets framing.now bounds place.start place.end octets.now)
         (sayable (place.end - place.start) lengths.now) result }
 {
     for &length in lengths {
         if can_say(place.end - place.start, length)
-            && is_sound_with(octets, copy, framing, place, length)
+            && is_mended_with(octets, copy, framing, bounds, place, length)
         {
             return Some(length);
         }

@@ -3,7 +3,7 @@
 //! which offset on it is sound.
 #![tactic(auto)]
 
-mod alone;
+mod bounds;
 mod chains;
 mod doubled;
 mod element;
@@ -39,9 +39,11 @@ mod tried_lengths;
 mod value;
 mod whole;
 mod why;
+mod window;
 mod words;
 mod write;
 
+pub use bounds::Bounds;
 pub use chains::{Chain, length_chain};
 pub use doubled::{Doubled, doubled_block};
 pub use element::Element;

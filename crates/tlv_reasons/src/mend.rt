@@ -4,12 +4,14 @@ ghost use Rattle.std.specs.Prelude.{◌≡◌, ◌≤◌, ◌++◌, ◌∷◌, I
 ghost use Rattle.tlv_head.specs.Limits.{input_limit};
 ghost use Rattle.tlv_reasons.specs.FaultReasons.{said};
 ghost use Rattle.tlv_reasons.specs.FileKinds.{file_kind};
-ghost use Rattle.tlv_reasons.specs.Remedies.{AreNamedLengths, AreReasons, AreRemedies, AreStringReasons, fault_offset};
+ghost use Rattle.tlv_reasons.specs.Facts.{fault_offset};
+ghost use Rattle.tlv_reasons.specs.Remedies.{AreNamedLengths, AreReasons, AreRemedies, AreStringReasons};
 ghost use Rattle.tlv_reasons.specs.Remedies.{is_suspicion, length_sentence, named_at, reasons_if, record_sentence};
 ghost use Rattle.tlv_reasons.specs.Remedies.{replaced_before, replaced_sentence, unless_mended};
 ghost use Rattle.tlv_reasons.specs.Suspects.{suspects_from};
 ghost use Rattle.tlv_reasons.specs.Why.{fault_sentences};
 
+use crate::bounds::Bounds;
 use crate::fault_reasons::{Reasons, joined, said};
 use crate::kinds::file_kind;
 use crate::lengths::{WrongLength, WrongLengths, wrong_lengths};
@@ -165,10 +167,18 @@ pub fn string_reasons(
 {
     let candidates = suspects_from(offset, facts);
     let holders = facts.holders.as_slice();
-    let wrong = wrong_lengths(alloc, octets, framing, holders, candidates.as_slice())?;
+    let bounds = Bounds::whole(octets);
+    let wrong = wrong_lengths(
+        alloc,
+        octets,
+        framing,
+        bounds,
+        holders,
+        candidates.as_slice(),
+    )?;
     let is_mended = wrong.as_slice().first().is_some();
     let reasons = unless_mended(is_mended, reasons_of(octets, facts).as_slice());
-    let front = said(&[length_sentence(wrong.as_slice())]);
+    let front = said(&[length_sentence(wrong.as_slice(), None)]);
     Ok(joined(front.as_slice(), reasons.as_slice()))
 }
 
@@ -220,15 +230,24 @@ fn is_suspicion(sentence: &Sentence) -> bool
     matches!(sentence, Sentence::LengthInFront(_))
 }
 
-/// The sentence about the lengths that are named: three at most.
-pub(crate) fn length_sentence(wrong: &[WrongLength]) -> Option<Sentence>
-    ensures { result ≡ length_sentence wrong.now }
+/// The sentence about the lengths that are named: three at most. They mend all, or all octets up to the offset `end`.
+pub(crate) fn length_sentence(wrong: &[WrongLength], end: Option<u64>) -> Option<Sentence>
+    ensures { result ≡ length_sentence wrong.now end }
 {
     match wrong {
         [] => None,
-        [first] => Some(Sentence::OtherLength(*first)),
-        [first, second] => Some(Sentence::TwoLengths(*first, *second)),
-        [first, second, third, ..] => Some(Sentence::ThreeLengths(*first, *second, *third)),
+        [first] => Some(Sentence::OtherLength { first: *first, end }),
+        [first, second] => Some(Sentence::TwoLengths {
+            first: *first,
+            second: *second,
+            end,
+        }),
+        [first, second, third, ..] => Some(Sentence::ThreeLengths {
+            first: *first,
+            second: *second,
+            third: *third,
+            end,
+        }),
     }
 }
 

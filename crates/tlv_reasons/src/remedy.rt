@@ -4,7 +4,7 @@ ghost use Rattle.tlv_head.specs.Limits.{input_limit};
 ghost use Rattle.tlv_reasons.specs.Remedies.{AreNamedLengths, IsBlockOrElse, IsChainOrElse, IsLengthOrElse, IsLengthSentence};
 ghost use Rattle.tlv_reasons.specs.Remedies.{IsOctetOrElse, IsOtherChain, IsRemedy, lengths_in, start_in};
 
-use crate::alone::lengths_inside;
+use crate::bounds::Bounds;
 use crate::chains::{Chain, length_chain};
 use crate::doubled::doubled_block;
 use crate::lengths::{SEARCH_LIMIT, WrongLengths, wrong_lengths};
@@ -16,6 +16,7 @@ use crate::sizes::says_sizes;
 use crate::sound::closed_framing;
 use crate::start::next_start;
 use crate::suspects::suspect_offsets;
+use crate::window::{lengths_in_window, window_end};
 use crate::{Facts, Sentence};
 use std::alloc::{AllocError, Global};
 
@@ -66,12 +67,11 @@ fn other_length(
     ensures { IfOk result (λ found. IsLengthSentence padding octets.now facts.now found) }
 {
     let wrong = named_lengths(alloc, octets, padding, facts)?;
-    Ok(length_sentence(wrong.as_slice()))
+    Ok(length_sentence(wrong.as_slice(), window_end(octets, facts.top as usize)))
 }
 
 /// The headers whose length may be wrong; none if the sizes of the outermost elements do not agree with that of the
-/// input, since octets are then missing or left over. In an input of more than [`SEARCH_LIMIT`] octets those in the damaged
-/// element.
+/// input, since octets are then missing or left over. In an input of more than [`SEARCH_LIMIT`] octets those in the window.
 fn named_lengths(
     alloc: Global,
     octets: &[u8],
@@ -81,18 +81,21 @@ fn named_lengths(
     requires { length octets.now ≤ input_limit }
     ensures { IfOk result (λ found. AreNamedLengths padding octets.now facts.now found.items) }
 {
-    if octets.len() > SEARCH_LIMIT {
-        return lengths_inside(alloc, octets, padding, facts.top as usize);
-    }
     if !sizes_agree(octets, padding, facts.top as usize) {
         return Ok(WrongLengths::new());
     }
+    if octets.len() > SEARCH_LIMIT {
+        return lengths_in_window(alloc, octets, padding, facts.top as usize);
+    }
+    let framing = closed_framing(padding);
+    let bounds = Bounds::whole(octets);
     let candidates = suspect_offsets(facts);
     let holders = facts.holders.as_slice();
     wrong_lengths(
         alloc,
         octets,
-        &closed_framing(padding),
+        &framing,
+        bounds,
         holders,
         candidates.as_slice(),
     )
@@ -171,12 +174,19 @@ pub(crate) fn lengths_in(remedy: Option<Sentence>) -> WrongLengths
 {
     let mut lengths = WrongLengths::new();
     match remedy {
-        Some(Sentence::OtherLength(first)) => lengths.push(first),
-        Some(Sentence::TwoLengths(first, second)) => {
+        Some(Sentence::OtherLength { first, .. }) => lengths.push(first),
+        Some(Sentence::TwoLengths { first, second, .. }) => {
             lengths.push(first);
             lengths.push(second);
         }
-        Some(Sentence::ThreeLengths(first, second, third)) => {
+        Some(
+            Sentence::ThreeLengths {
+                first,
+                second,
+                third,
+                ..
+            },
+        ) => {
             lengths.push(first);
             lengths.push(second);
             lengths.push(third);

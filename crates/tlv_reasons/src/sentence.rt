@@ -143,12 +143,24 @@ pub enum Sentence {
     TryAnew,
     /// The length of this element may be wrong.
     LengthInFront(Element),
-    /// With another length all would parse.
-    OtherLength(WrongLength),
-    /// With one of two other lengths all would parse.
-    TwoLengths(WrongLength, WrongLength),
-    /// With one of three other lengths all would parse.
-    ThreeLengths(WrongLength, WrongLength, WrongLength),
+    /// With another length all would parse, or all up to the offset `end`.
+    OtherLength {
+        first: WrongLength,
+        end: Option<u64>,
+    },
+    /// With one of two other lengths all would parse, or all up to the offset `end`.
+    TwoLengths {
+        first: WrongLength,
+        second: WrongLength,
+        end: Option<u64>,
+    },
+    /// With one of three other lengths all would parse, or all up to the offset `end`.
+    ThreeLengths {
+        first: WrongLength,
+        second: WrongLength,
+        third: WrongLength,
+        end: Option<u64>,
+    },
     /// With an octet more or fewer all would parse.
     OneOctet(OctetChange),
     /// The outermost open element ends with the input.

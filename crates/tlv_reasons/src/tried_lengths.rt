@@ -4,18 +4,17 @@ ghost use Rattle.tlv_reasons.specs.WrongLength.{ending_lengths, flipped, flips, 
 ghost use Rattle.tlv_reasons.specs.WrongLength.{reversed, reversed_lengths, search_limit, tried_lengths};
 
 use crate::length_octets::LengthPlace;
-use crate::lengths::WIDE_LIMIT;
 use arrayvec::ArrayVec;
 
 /// Lengths, in the order in which they are tried.
 type Lengths = ArrayVec<u64, 64>;
 
-/// The lengths that are tried in an input of this size for a header that states the length `said` in the octets at this
-/// place. It should end at the offset `reach`.
+/// The lengths that are tried for a header that states the length `said` in the octets at this place: all in a wide
+/// framing, bounds, or else only those nearby. The element should end at the offset `reach`.
 pub(crate) fn tried_lengths(
     place: LengthPlace,
     constructed: bool,
-    size: usize,
+    wide: bool,
     reach: usize,
     said: u64,
 ) -> Lengths
@@ -23,11 +22,11 @@ pub(crate) fn tried_lengths(
     requires said { said < 2 ^ 40 }
     requires reach { reach ≤ search_limit }
     ensures lengths { result.items
-        ≡ tried_lengths (place.end - place.start) constructed place.end size reach said }
+        ≡ tried_lengths (place.end - place.start) constructed place.end wide reach said }
     ensures below { All (λ n. n < 2 ^ 41) result.items }
 {
     let mut lengths = near_lengths(said);
-    if size <= WIDE_LIMIT {
+    if wide {
         add_flips(said, &mut lengths);
         add_reversed(place.end - place.start, said, &mut lengths);
         add_distant(said, &mut lengths);

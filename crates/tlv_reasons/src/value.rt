@@ -3,7 +3,7 @@ ghost use Rattle.std.specs.Prelude.{◌≡◌, ◌≤◌, ◌+◌, ◌++◌, dec
 ghost use Rattle.tlv_io.specs.LineTexts.{spaced_pairs};
 ghost use Rattle.tlv_io.specs.Out.{Puts};
 ghost use Rattle.tlv_reasons.specs.Values.{chain_offsets, dots_if, first_pairs, header_closing, header_octets, header_opening};
-ghost use Rattle.tlv_reasons.specs.Values.{header_sentence, lacking_zeros, named_element, octets_between};
+ghost use Rattle.tlv_reasons.specs.Values.{all_in_words, header_sentence, lacking_zeros, named_element, octets_between};
 ghost use Rattle.tlv_reasons.specs.Values.{mark_before, octets_in_words, offsets_in_words, size_in_words, value_text};
 
 use crate::{Chain, Element, Unfinished};
@@ -36,6 +36,8 @@ pub(crate) enum Value {
     Broken(BrokenString),
     /// The offsets of headers, one after another, with `and` before the last.
     Offsets(Chain),
+    /// All octets, or all up to an offset.
+    All(Option<u64>),
 }
 
 /// Only for filling arrays.
@@ -64,6 +66,7 @@ pub(crate) fn put_value<D: Drain>(
         Value::Message(fault) => out.put(fault.text()),
         Value::Broken(string) => out.put(broken_line(string).as_slice()),
         Value::Offsets(chain) => out.put(offsets_in_words(chain_offsets(chain)).as_slice()),
+        Value::All(end) => out.put(all_in_words(*end).as_slice()),
     }
 }
 
@@ -90,6 +93,22 @@ fn put_octet_count<D: Drain>(count: u64, out: &mut Out<'_, D>) -> Result<(), Wri
     ensures { Puts D.state out.old out.new (octets_in_words count) result }
 {
     out.put(octets_in_words(count).as_slice())
+}
+
+/// All octets, or all up to an offset, in words.
+#[tactic(auto, unfolding(crate::specs::Values::all_in_words))]
+fn all_in_words(end: Option<u64>) -> ArrayVec<u8, 48>
+    ensures { result.items ≡ all_in_words end }
+{
+    let mut text = ArrayVec::new();
+    let Some(end) = end else {
+        let _ = text.try_extend_from_slice(b"all");
+        return text;
+    };
+    let mut digits = Buffer::new();
+    let _ = text.try_extend_from_slice(b"all up to offset ");
+    let _ = text.try_extend_from_slice(digits.format(end).as_bytes());
+    text
 }
 
 /// The offsets of the headers of a chain.

@@ -15,12 +15,12 @@ pub(crate) struct Words {
     /// The words, with `%` for each value.
     pub(crate) text: &'static [u8],
     /// The values.
-    pub(crate) values: ArrayVec<Value, 9>,
+    pub(crate) values: ArrayVec<Value, 10>,
 }
 
 /// These words, with these values.
 fn say(text: &'static [u8], values: &[Value]) -> Words
-    requires { length values.now ≤ 9 }
+    requires { length values.now ≤ 10 }
     ensures text { result.text.now ≡ text.now }
     ensures values { result.values.items ≡ values.now }
 {
@@ -262,16 +262,17 @@ pub(crate) fn words_of(sentence: &Sentence) -> Words
             b"Or a length in front is wrong: that of the %. %\n",
             &[Value::Name(element), Value::Header(element)],
         ),
-        Sentence::OtherLength(wrong) => say(
-            b"If the header at offset % said % and not %, all would parse.\n",
+        Sentence::OtherLength { first, end } => say(
+            b"If the header at offset % said % and not %, % would parse.\n",
             &[
-                Value::Number(wrong.offset as u64),
-                Value::Octets(wrong.would),
-                Value::Number(wrong.said),
+                Value::Number(first.offset as u64),
+                Value::Octets(first.would),
+                Value::Number(first.said),
+                Value::All(end),
             ],
         ),
-        Sentence::TwoLengths(first, second) => say(
-            b"If the header at offset % said % and not %, or that at offset % said % and not %, all would parse.\n",
+        Sentence::TwoLengths { first, second, end } => say(
+            b"If the header at offset % said % and not %, or that at offset % said % and not %, % would parse.\n",
             &[
                 Value::Number(first.offset as u64),
                 Value::Octets(first.would),
@@ -279,11 +280,17 @@ pub(crate) fn words_of(sentence: &Sentence) -> Words
                 Value::Number(second.offset as u64),
                 Value::Octets(second.would),
                 Value::Number(second.said),
+                Value::All(end),
             ],
         ),
-        Sentence::ThreeLengths(first, second, third) => say(
+        Sentence::ThreeLengths {
+            first,
+            second,
+            third,
+            end,
+        } => say(
             b"If the header at offset % said % and not %, or that at offset % said % and not %, \
-              or that at offset % said % and not %, all would parse.\n",
+              or that at offset % said % and not %, % would parse.\n",
             &[
                 Value::Number(first.offset as u64),
                 Value::Octets(first.would),
@@ -294,6 +301,7 @@ pub(crate) fn words_of(sentence: &Sentence) -> Words
                 Value::Number(third.offset as u64),
                 Value::Octets(third.would),
                 Value::Number(third.said),
+                Value::All(end),
             ],
         ),
         Sentence::OneOctet(OctetChange::Missing(offset)) => say(

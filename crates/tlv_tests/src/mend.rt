@@ -3,8 +3,8 @@ use crate::expect::expect_eq;
 use std::process::Abort;
 use std::test::Fail;
 use tlv_reasons::{
-    Chain, Doubled, FileKind, Move, NextRecord, OctetChange, OutermostKinds, Reasons, Spacing,
-    TextChange, Trace, WrongLength, all_reasons, doubled_block, facts_of, file_kind,
+    Bounds, Chain, Doubled, FileKind, Move, NextRecord, OctetChange, OutermostKinds, Reasons,
+    Spacing, TextChange, Trace, WrongLength, all_reasons, doubled_block, facts_of, file_kind,
     latin1_of_utf8, laws, length_chain, next_record, next_start, octet_change, octets_moved,
     outermost_kinds, spaced_encodings, string_reasons, text_change, trace_of, undone_line_ends,
     undone_utf8, write_sentences, wrong_lengths,
@@ -25,7 +25,8 @@ fn another_length_is_found(rt: HostRuntime) -> Result<(), Fail> {
     let plain = Framing::plain();
     let facts = facts_of(TOO_LONG, &plain);
     let holders = facts.holders.as_slice();
-    let found = wrong_lengths(rt.alloc(), TOO_LONG, &plain, holders, &[2, 0])?;
+    let bounds = Bounds::whole(TOO_LONG);
+    let found = wrong_lengths(rt.alloc(), TOO_LONG, &plain, bounds, holders, &[2, 0])?;
     let lengths: &[WrongLength] = &[WrongLength {
         offset: 2,
         said: 2,
@@ -187,7 +188,15 @@ fn a_length_with_a_wrong_bit_is_found(rt: HostRuntime) -> Result<(), Fail> {
     let octets = b"\x30\x05\x04\x09\x07\x05\x00";
     let plain = Framing::plain();
     let facts = facts_of(octets, &plain);
-    let found = wrong_lengths(rt.alloc(), octets, &plain, facts.holders.as_slice(), &[2])?;
+    let holders = facts.holders.as_slice();
+    let found = wrong_lengths(
+        rt.alloc(),
+        octets,
+        &plain,
+        Bounds::whole(octets),
+        holders,
+        &[2],
+    )?;
     let wanted = WrongLength {
         offset: 2,
         said: 9,

@@ -28,7 +28,7 @@ use Rattle.tlv_reasons.specs.Sentences.{refused_header_words, sentence_text, tex
 use Rattle.tlv_reasons.specs.Sentences.{trace_words, values_after, words_of}
 use Rattle.tlv_reasons.specs.Values.{chain_offsets, lacking_zeros, mark_before, offsets_in_words, value_text}
 use Rattle.tlv_reasons.proofs.ShownLemmas.ShownValues.{broken_line-shown, code-shown, decimal-shown, first_pairs-shown, header_sentence-shown}
-use Rattle.tlv_reasons.proofs.ShownLemmas.ShownValues.{named_element-shown, octets_in_words-shown}
+use Rattle.tlv_reasons.proofs.ShownLemmas.ShownValues.{all_in_words-shown, named_element-shown, octets_in_words-shown}
 
 -- ---- values
 
@@ -62,6 +62,7 @@ value-shown octets (value.Code f) o = (code-shown f.code).0
 value-shown octets (value.Message f) o = (code-shown f.code).1
 value-shown octets (value.Broken x) o = broken_line-shown x
 value-shown octets (value.Offsets c) o = offsets-shown (chain_offsets c)
+value-shown octets (value.All end) o = all_in_words-shown end
 
 -- ---- words
 
@@ -160,9 +161,9 @@ words-shown (say.ElementPast a b) = refl
 words-shown say.OneOfTwo = refl
 words-shown say.TryAnew = refl
 words-shown (say.LengthInFront a) = refl
-words-shown (say.OtherLength a) = refl
-words-shown (say.TwoLengths a b) = refl
-words-shown (say.ThreeLengths a b c) = refl
+words-shown (say.OtherLength a b) = refl
+words-shown (say.TwoLengths a b c) = refl
+words-shown (say.ThreeLengths a b c d) = refl
 words-shown (say.OneOctet (Missing a)) = refl
 words-shown (say.OneOctet (PutIn a)) = refl
 words-shown (say.NoneLost a) = refl

@@ -1,7 +1,7 @@
 -- The values in sentences are printable ASCII.
 use Rattle.std.proofs.Common.{◌≡◌, inl, inr, ℕ, zero, suc, ◌-◌, ◌<◌, ◌/◌, ◌%◌, Bool, true, false, ◌&&◌}
 use Rattle.std.proofs.Common.{eqb, List, [], ◌∷◌, take, drop, refl, arith}
-use Rattle.std.specs.Prelude.{◌==◌, codes, decimal, slice_index}
+use Rattle.std.specs.Prelude.{◌==◌, Option, Some, None, codes, decimal, slice_index}
 use Rattle.std.specs.Fmt.{digit_glyph, digits, digits_onto}
 use Rattle.std.specs.List.{find, list_all}
 use Rattle.std.specs.Option.{option_map, unwrap_or}
@@ -27,7 +27,7 @@ use Rattle.tlv_walk.specs.Reading.{AreOctets}
 use Rattle.tlv_reasons.specs.declared.element.Element.{Element}
 use Rattle.tlv_reasons.specs.Laws.{AreShown, is_shown_octet}
 use Rattle.tlv_reasons.specs.Values.{dots_if, first_pairs, header_closing, header_octets, header_opening, header_sentence}
-use Rattle.tlv_reasons.specs.Values.{named_element, octets_between, octets_in_words, size_in_words}
+use Rattle.tlv_reasons.specs.Values.{all_in_words, named_element, octets_between, octets_in_words, size_in_words}
 
 -- ---- numbers
 
@@ -72,6 +72,11 @@ pairs-shown (x ∷ xs) o =
 dots-shown : (is_more : Bool) → AreShown (dots_if is_more)
 dots-shown true = refl
 dots-shown false = refl
+
+pub all_in_words-shown : (end : Option ℕ) → AreShown (all_in_words end)
+unfolding all_in_words
+all_in_words-shown None = refl
+all_in_words-shown (Some end) = decimal-shown end
 
 pub first_pairs-shown : (octets : List ℕ) (start end : ℕ) → AreOctets octets
     → AreShown (first_pairs (octets_between octets start end))

@@ -5,7 +5,7 @@ use Rattle.tlv_reasons.specs.WrongLength.{search_limit}
 use Rattle.tlv_reasons.proofs.laws.inputs_have_one_wrong_length.Goals as goal
 
 pub returns : goal.returns
-returns c = λ framing octets holders candidates a b x y. elim (cases_lt search_limit (length octets)) [
+returns c = λ framing bounds octets holders candidates a b x y. elim (cases_lt search_limit (length octets)) [
   | inl great ↦ x.unsearched great ∙ sym (y.unsearched great)
-  | inr few ↦ wrong-one framing octets holders (x.searched few) (y.searched few)
+  | inr few ↦ wrong-one framing bounds octets holders (x.searched few) (y.searched few)
 ]

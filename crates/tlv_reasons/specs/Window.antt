@@ -1,0 +1,49 @@
+-- Other lengths in a window of an input that is too long to be searched as a whole: X.690 8.1.3.
+use Rattle.std.specs.Prelude.{◌≡◌, ◌&&◌, ℕ, Bool, false, true, if◌then◌else◌, List, [], drop, length, map, nat_le, nat_lt, take, Option}
+use Rattle.std.specs.Prelude.{None, Some}
+use Rattle.tlv_open.specs.Opens.{closed_framing}
+use Rattle.tlv_reasons.specs.declared.facts.Facts.{Facts}
+use Rattle.tlv_reasons.specs.declared.lengths.WrongLength.{WrongLength}
+use Rattle.tlv_reasons.specs.declared.bounds.Bounds.{Bounds}
+use Rattle.tlv_reasons.specs.Elements.{offset_sum}
+use Rattle.tlv_reasons.specs.Facts.{AreFacts, fault_offset}
+use Rattle.tlv_reasons.specs.Mended.{wide_limit}
+use Rattle.tlv_reasons.specs.Sizes.{says_sizes}
+use Rattle.tlv_reasons.specs.Suspects.{suspect_offsets}
+use Rattle.tlv_reasons.specs.WrongLength.{NamesLengths, search_limit}
+
+-- the octets from the top end on, as many as are searched at most
+abbrev pub window : List ℕ → ℕ → List ℕ
+window octets top = take search_limit (drop top octets)
+
+-- more octets follow the window
+abbrev pub is_cut : List ℕ → ℕ → Bool
+is_cut octets top = nat_lt search_limit (length (drop top octets))
+
+-- where the window ends, if more octets follow
+abbrev pub window_end : List ℕ → ℕ → Option ℕ
+window_end octets top = if is_cut octets top then Some (offset_sum top search_limit) else None
+
+-- the bounds of the search of a window with these facts. All lengths are tried if its fault is in so many octets from its
+-- start: a limit of our own
+abbrev pub window_bounds : Bool → Facts → Bounds
+window_bounds cut facts = record { cut = cut; wide = nat_le (fault_offset facts) wide_limit }
+
+-- the same header and lengths, but so many octets stand in front
+abbrev pub behind : ℕ → WrongLength → WrongLength
+behind front w = record w { offset = offset_sum w.offset front }
+
+-- the fault of the input is behind a window with these facts: nothing is wrong in it but that it is cut off
+abbrev pub is_fault_behind : Bool → Facts → Bool
+is_fault_behind cut facts = cut && says_sizes facts.fault
+
+-- the other lengths that are named in the window, which is searched as an input of its own. None if the fault is behind it
+pub data AreLengthsInWindow (padding : Bool) (octets : List ℕ) (top : ℕ) : List WrongLength → Type 0 where
+  fault_behind : {facts : Facts} → AreFacts (closed_framing padding) (window octets top) facts
+      → is_fault_behind (is_cut octets top) facts ≡ true → AreLengthsInWindow padding octets top []
+  fault_inside : {facts : Facts} {found : List WrongLength}
+      → AreFacts (closed_framing padding) (window octets top) facts
+      → is_fault_behind (is_cut octets top) facts ≡ false
+      → NamesLengths (closed_framing padding) (window_bounds (is_cut octets top) facts) (window octets top)
+      facts.holders.items (suspect_offsets facts) found
+      → AreLengthsInWindow padding octets top (map (behind top) found)
