@@ -110,7 +110,8 @@ pub record IsTried (wide : Bool) (octets : List ℕ) (offset start count : ℕ) 
       (reach_in holders offset (length octets)) said
 
 module _ {octets : List ℕ} {offset start count : ℕ} {fields : HeaderFields} {said : ℕ} {holders : List Element}
-    {lengths : List ℕ} (framing : Framing) (bounds : Bounds) (t : IsTried bounds.wide octets offset start count fields said holders lengths) where
+    {lengths : List ℕ} (framing : Framing) (bounds : Bounds)
+    (t : IsTried bounds.wide octets offset start count fields said holders lengths) where
   abbrev raw : List ℕ
   raw = take count (drop offset octets)
 
@@ -159,13 +160,16 @@ module _ {octets : List ℕ} {offset start count : ℕ} {fields : HeaderFields} 
 
   -- none is found there
   pub none-at :
-      IsFirstOf (MendedWithOctets framing bounds start (offset + count) octets) (sayable ((offset + count) - start) lengths) None
+      IsFirstOf (MendedWithOctets framing bounds start (offset + count) octets)
+      (sayable ((offset + count) - start) lengths) None
       → HasNoOtherLength framing bounds octets holders offset
   none-at f h p =
-      subst (λ (x : HeaderValue). IsRightLength framing bounds octets holders offset x None) (begun-one header h t.begins.begins p)
+      subst (λ (x : HeaderValue). IsRightLength framing bounds octets holders offset x None)
+      (begun-one header h t.begins.begins p)
       (first-with None f)
 
-no-others : (P : ℕ → Type 0) (w : ℕ) (c : Bool) (s : ℕ) (wide : Bool) (reach : ℕ) (size : Size) → ((n : ℕ) → size ≡ Definite n → ⊥)
+no-others : (P : ℕ → Type 0) (w : ℕ) (c : Bool) (s : ℕ) (wide : Bool) (reach : ℕ) (size : Size)
+    → ((n : ℕ) → size ≡ Definite n → ⊥)
     → IsFirstOf P (filter (λ n. nat_lt n (length_bound w))
     (option_map_or (λ x. tried_lengths w c s wide reach x) (definite_length size) [])) None
 no-others P w c s wide reach (Definite n) k = absurd (k n refl)

@@ -1,6 +1,6 @@
 -- Other lengths in a window of an input that is too long to be searched as a whole: X.690 8.1.3.
-use Rattle.std.specs.Prelude.{◌≡◌, ◌&&◌, ℕ, Bool, false, true, if◌then◌else◌, List, [], drop, length, map, nat_le, nat_lt, take, Option}
-use Rattle.std.specs.Prelude.{None, Some}
+use Rattle.std.specs.Prelude.{◌≡◌, ◌&&◌, ℕ, Bool, false, true, if◌then◌else◌, List, [], drop, length, map, nat_le}
+use Rattle.std.specs.Prelude.{None, Option, Some, nat_lt, take}
 use Rattle.tlv_open.specs.Opens.{closed_framing}
 use Rattle.tlv_reasons.specs.declared.facts.Facts.{Facts}
 use Rattle.tlv_reasons.specs.declared.lengths.WrongLength.{WrongLength}

@@ -27,8 +27,9 @@ use Rattle.tlv_reasons.specs.Sentences.{chain_words_by, file_kind_words, filled,
 use Rattle.tlv_reasons.specs.Sentences.{refused_header_words, sentence_text, text_change_words, sentences_text}
 use Rattle.tlv_reasons.specs.Sentences.{trace_words, values_after, words_of}
 use Rattle.tlv_reasons.specs.Values.{chain_offsets, lacking_zeros, mark_before, offsets_in_words, value_text}
-use Rattle.tlv_reasons.proofs.ShownLemmas.ShownValues.{broken_line-shown, code-shown, decimal-shown, first_pairs-shown, header_sentence-shown}
-use Rattle.tlv_reasons.proofs.ShownLemmas.ShownValues.{all_in_words-shown, named_element-shown, octets_in_words-shown}
+use Rattle.tlv_reasons.proofs.ShownLemmas.ShownValues.{all_in_words-shown, broken_line-shown, code-shown, decimal-shown}
+use Rattle.tlv_reasons.proofs.ShownLemmas.ShownValues.{first_pairs-shown, header_sentence-shown, named_element-shown}
+use Rattle.tlv_reasons.proofs.ShownLemmas.ShownValues.{octets_in_words-shown}
 
 -- ---- values
 
