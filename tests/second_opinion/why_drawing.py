@@ -16,6 +16,8 @@ FRONTS += (b"\xff\xfe", b"\xfe\xff", b"\xef\xbf\xbd", b"\xef\xbf")
 BLANKS = (b"\n", b"\r\n", b" ", b"\t", b"\x1a", b"\n\n", b"\r", b" \n ", b"\n\x1a")
 FIRST_OCTETS = bytes.fromhex("30303124020405 8080a0bf9f81828586ff 0000000102030a")
 INDEFINITE = 0.25
+# The most octets of an input that is searched as a whole.
+LONG = 1 << 20
 
 
 def read(path):
@@ -127,6 +129,25 @@ def damaged_twice(rng, _):
     return b"".join(parts)
 
 
+def in_window(rng, octets):
+    """Damages the octets between long strings, so that an input of more than 2^20 octets is mostly searched from the damaged ones
+    on, or puts them among records. Another damaged record may follow.
+    """
+    if rng.random() < 0.7:
+        return among_records(rng, octets)
+    damages = [changed, other_length, other_length, put_in, left_out, cut]
+    behind = rng.choice([0, 10, LONG // 2, LONG, LONG + 5, LONG - rng.randrange(2000), LONG - rng.randrange(2000)])
+    parts = [string(LONG - rng.randrange(100)), rng.choice(damages)(rng, octets), string(behind), show_drawing.small(rng)]
+    if rng.random() < 0.2:
+        parts.insert(rng.choice([2, 3]), rng.choice(damages)(rng, nested(rng, 3)))
+    return b"".join(parts)
+
+
+def string(size):
+    """Returns an OCTET STRING with so many contents octets."""
+    return show_drawing.whole(4, bytes(size))
+
+
 def in_chunks(rng, octets):
     """Puts the octets into chunks of HTTP."""
     size = f"{len(octets) + rng.choice([0, 0, 0, 1]):{rng.choice(['x', 'X', '08x', '09x'])}}".encode()
@@ -220,7 +241,7 @@ def unended(rng, octets):
 
 
 CHANGES = (other_length, other_length, other_length, cut, put_in, left_out, changed, as_text, front, after, padded, odd_header)
-CHANGES += (other_octet, unended, far, among_records, among_records, damaged_twice, in_chunks)
+CHANGES += (other_octet, unended, far, among_records, among_records, damaged_twice, in_window, in_chunks)
 
 
 def few(rng):

@@ -81,11 +81,8 @@ class Search:
         around it. It is enough that a window that is cut parses up to its end, with a whole element in front.
         """
         changed = self.octets[:place] + new + self.octets[place + lost :]
-        fault = Walk(changed, self.padding, self.inside, element.offset, ends).fault
-        if fault and fault.code == "F02" and self.is_cut:
-            items = Reading(changed, self.inside, self.padding).items
-            return any(isinstance(it, Element) and it.end is not None for it in items)
-        return fault is None
+        walk = Walk(changed, self.padding, self.inside, element.offset, ends)
+        return walk.fault is None or self.is_cut and walk.fault[1] == "F02" and walk.top is not None
 
     def other_lengths(self, candidates, open_ones):
         """Returns the first elements with which the input would parse if their length were another, with that length.
