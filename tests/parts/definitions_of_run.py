@@ -1,7 +1,7 @@
 """Checks what the pages say of the definitions that a reader must believe.
 
-docs/PROVED.md says how many definitions the contract of `run_octets` reaches, how many lines these have, and how many more
-`run` reaches. README may say the first number too. What the pages give `tests/definitions` must be there. Each definition in
+docs/PROVED.md says how many definitions the contract of `run_octets` reaches, how many lines these have, how many more `run` and
+`view_octets` reach, and how many the latter reaches in all. README may say the first number too. What the pages give `tests/definitions` must be there. Each definition in
 specs must be reached by some contract.
 """
 import os
@@ -18,7 +18,7 @@ NUMBER = re.compile(r"\b(\d+)\s+(?:short\s+)?definitions\b(?:,\s+(?:of\s+)?([\d,
 
 def said(root, *page):
     """Returns the numbers of definitions that a page says, and the numbers of lines beside them."""
-    return [(int(number), lines and int(lines.replace(",", ""))) for number, lines in NUMBER.findall(
+    return [(int(number), int(lines.replace(",", "")) if lines else None) for number, lines in NUMBER.findall(
         contract_pages.read(root, *page))]
 
 
@@ -26,8 +26,9 @@ def test(part):
     """Counts a test for each number, and one for each file of specs."""
     all_of = Definitions(part.root)
     of_octets = all_of.of_word("run_octets")
-    more = all_of.of_word("run") - of_octets
-    here = {(len(of_octets), all_of.lines(of_octets)), (len(more), all_of.lines(more))}
+    of_view = all_of.of_word("view_octets")
+    needed = [of_octets, all_of.of_word("run") - of_octets, of_view - of_octets]
+    here = {(len(each), all_of.lines(each)) for each in needed} | {(len(of_view), None)}
     numbers = set(said(part.root, "docs", "PROVED.md"))
     part.expect("docs/PROVED.md says how many definitions a run needs", numbers == here, *sorted(map(str, numbers ^ here)))
     others = {number for number, _ in said(part.root, "README.md")} - {len(of_octets)}
