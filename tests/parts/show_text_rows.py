@@ -64,6 +64,7 @@ def t1(text):
     return f'X1 text of no form that is known: "{text}"; {KNOWN}'
 
 
+ENDS = "taken for a hex dump; it ends in front of line"
 PAIR, ROW, LIST = "a pair of hexadecimal digits", "a row of a hex dump", "taken for decimal numbers"
 ONE_LIST = "only one list of numbers from -128 to 255"
 BROKEN = b"-----BEGIN A-----\nBQA\n*\n-----END A-----\n"
@@ -101,7 +102,17 @@ RAW = [
     (["--as=hex"], b"30\n0g", 2, b"\x30", t2("hexadecimal", 2, PAIR)),
     (["--as=hex"], b"0x30, 0x03,\n5, 0x02", 2, b"\x30\x03", t2("hexadecimal", 2, PAIR)),
     (["--as=dump"], b"0000 05 00", 0, NULL, "taken for a hex dump"),
-    (["--as=dump"], b"0000: 05 00\nend", 2, NULL, t2("a hex dump", 2, ROW)),
+    (["--as=dump"], b"0000: 05 00\nend", 0, NULL, f"{ENDS} 2"), ([], b"0000: 05 00\nend", 0, NULL, f"{ENDS} 2"),
+    ([], b"$ xxd a\n00000000: 3002 0500    0...\n\n$ \n", 0, b"\x30\x02\x05\x00", f"{ENDS} 4"),
+    (["--as=dump"], b"0000: 0500 05\nend", 0, NULL + b"\x05", f"{ENDS} 2"),
+    ([], b"0000: 0500 05\nend", 2, b"", t1("0000: 0500 05?end")),
+    ([], b"0000: 3103 05\nend", 0, b"\x31\x03\x05", f"{ENDS} 2"),
+    (["--as=dump"], b"0000: 0500\nend\n0002: 0500\n", 2, NULL, t2("a hex dump", 2, ROW)),
+    ([], b"0000: 0500\nend\n0002: 0500\n", 2, b"", t1("0000: 0500?end?0002: 0500?")),
+    (["--as=dump"], b"0000: 0500\n0002: zz\n", 2, NULL, t2("a hex dump", 2, ROW)),
+    (["--as=dump"], b"0000: 0500\n0002: 0500\n*\nend", 2, NULL * 2, t2("a hex dump", 4, ROW)),
+    ([], b"0100: 0500\n", 0, NULL, "taken for a hex dump; it begins at offset 256"),
+    ([], b"0100: 0500\nend\n", 0, NULL, f"{ENDS} 2"),
     (["--as=dump"], b"no dump", 2, b"", t2("a hex dump", 1, ROW)),
     (["--as=dump"], b"0000: 05 00  |..|\n", 0, NULL, "taken for a hex dump"),
     (["--as=dump"], b"0000: 05 00  |..||\n", 2, b"", t2("a hex dump", 1, ROW)),
@@ -137,7 +148,7 @@ RAW = [
     ([], element(0x80, pem(b"CMS", NULL)), 0, element(0x80, pem(b"CMS", NULL)), ""),
     ([], b"caf\xc3\xa9: " + pem(b"CMS", NULL), 0, NULL, CMS), ([], b"\x0c\n" + pem(b"CMS", NULL), 0, NULL, CMS),
     ([], element(0x30, NULL + WRAPPED), 0, element(0x30, NULL + WRAPPED), ""), ([], PRIVATE, 0, PRIVATE, ""),
-    ([], b"0000 05 00\nend", 2, b"", t1("0000 05 00?end")), ([], b"00000 05 00\n0000", 2, b"", t1("00000 05 00?0000")),
+    ([], b"0000 05 01\nend", 2, b"", t1("0000 05 01?end")), ([], b"00000 05 00\n0000", 2, b"", t1("00000 05 00?0000")),
     ([], b"000000 05 00\n0000", 2, b"", t1("000000 05 00?0000")), (["--as=hex"], b"000000 05", 0, b"\0\0\0\x05", HEX),
     ([], b"-----BEGIN A-----\nMAMCAQ:=\n-----END A-----\n", 2, b"\x30\x03\x02", t2("PEM, A", 2)),
     ([], pem(b"A", NULL, b"Version: x\n"), 2, base64.b64decode(b"Vers"), t2("PEM, A", 2)),

@@ -21,6 +21,8 @@ MORE = re.compile(rb"[ \t]%s(?=[ \t]|\Z)" % PAIR)
 BEHIND, BARS = re.compile(rb"[^ \t\x80-\xbf]"), 2
 # An offset in front of a line, by its base.
 FRONT_OFFSET = {base: re.compile(OFFSET % digits + rb"(?=[: \t]|\Z)") for base, digits in DIGITS.items()}
+# A row that has a pair, with a hexadecimal offset.
+ROW = re.compile(OFFSET % DIGITS[16] + FRONT)
 # An offset as od writes it.
 OF_OD = re.compile(rb"[ \t]*(?:0[xX])?[0-7]{7}[ \t]")
 
@@ -31,10 +33,14 @@ class TooLong(Exception):
 
 @dataclass
 class Decoded:
-    """The octets that a text gives, and the place where it is refused, or None."""
+    """The octets that a text gives, and the place where it is refused, or None. For a dump also the place of the line in
+    front of which it ends, though it is not refused, and the offset of its first row.
+    """
 
     octets: bytes
     place: int | None = None
+    end: int | None = None
+    start: int = 0
 
 
 @dataclass
@@ -59,7 +65,21 @@ def decoded(text):
     if OF_OD.match(dump.first):
         octal = Dump(text, 8)
         dump = octal if octal.fits_further(dump) else dump
-    return Decoded(dump.octets(), dump.place)
+    octets = dump.octets()
+    if octets and dump.place is not None and ends_at(text, dump.place):
+        return Decoded(octets, None, dump.place)
+    return Decoded(octets, dump.place, start=dump.start)
+
+
+def ends_at(text, place):
+    """Returns whether a dump that is refused at a line ends there: the line has no offset, no row and no repeat comes from
+    there on, and the last line before it that is not empty is no repeat.
+    """
+    before = [line for _, line in lines_of(text[:place]) if not EMPTY.fullmatch(line)]
+    after = [line for _, line in lines_of(text[place:])]
+    if FRONT_OFFSET[16].match(after[0]) or before and REPEAT.fullmatch(before[-1]):
+        return False
+    return not any(ROW.match(line) or REPEAT.fullmatch(line) for line in after)
 
 
 def lines_of(text):
@@ -74,7 +94,7 @@ def lines_of(text):
 class Dump:
     """A dump whose offsets have this base.
 
-    `place` is where it is refused, or None. `first` is the first row. `pieces` are octets, each with a size: the octets
+    `place` is where it is refused, or None. `first` is the first row, and `start` its offset. `pieces` are octets, each with a size: the octets
     are repeated up to this size, because a repeat may stand for many. `width` is the number of octets in a row. It is
     None for a single row, which may have any number.
     """
@@ -84,11 +104,11 @@ class Dump:
         self.row = re.compile(OFFSET % DIGITS[base] + FRONT)
         self.end = re.compile(OFFSET % DIGITS[base] + rb"[ \t]*")
         self.base, self.text_size = base, len(text)
-        self.pieces, self.place, self.first = [], None, b""
+        self.pieces, self.place, self.first, self.start = [], None, b"", 0
         lines = lines_of(text)
         items, misfit = self.items_of(lines)
         if items:
-            self.first = items[0].text
+            self.first, self.start = items[0].text, items[0].offset
             self.width = self.width_of(items[0], lines)
             self.read(items, misfit)
         else:

@@ -33,6 +33,7 @@ class Block:
 
     form: what the text was taken for, or None. label: that of a PEM block. line: that of a run. layers: the layers of
     base64 around the text, innermost first, each the line of a run or None. wrong: X1 to X4, if something is refused.
+    said: what else is reported of a block that is not refused.
     """
 
     form: str | None
@@ -41,7 +42,7 @@ class Block:
     line: int | None = None
     layers: list = field(default_factory=list)
     wrong: str | None = None
-    is_ended: bool = True
+    said: str | None = None
 
     def name(self):
         """Returns the name of the block in its title, or None if it has only that of the FILE."""
@@ -53,8 +54,8 @@ class Block:
             return self.wrong
         words = f"PEM, {self.label}" if self.form == "pem" else WORDS.get(self.form) or self.name()
         layers = "".join(f", in base64 of line {line}" if line else ", in base64" for line in self.layers)
-        wrong = f"; {self.wrong}" if self.wrong else "" if self.is_ended else f"; {NO_END}"
-        return f"taken for {words}{layers}{wrong}"
+        said = self.wrong or self.said
+        return f"taken for {words}{layers}" + (f"; {said}" if said else "")
 
     def status(self, status, is_raw):
         """Returns the status of the block. `status` is that of the octets that are shown."""
@@ -152,7 +153,7 @@ def of_known_form(text, layers):
     """Returns the blocks of the first form that applies, or None. The text is inside `layers` layers of base64."""
     if text_forms.of_pem(text):
         return of_form("pem", text)
-    blocks = sound("dump", text_dumps.decoded(text)) or sound("hex", text_forms.of_hexadecimal(text), OFFSET)
+    blocks = of_counting_dump(text) or sound("hex", text_forms.of_hexadecimal(text), OFFSET)
     numbers = text_forms.of_numbers(text)
     if not blocks and numbers is not None and numbers.place is None and not text_forms.may_be_pairs(text):
         return of_form("numbers", text)
@@ -177,8 +178,20 @@ def of_form(form, text):
         return [Block(None, wrong=NO_LIST) if decoded is None else of_decoded(form, text, decoded)]
     if form == "runs":
         return [of_run(text, it) for it in text_forms.of_runs(text)] or [Block(None, wrong=NO_BASE64)]
-    decoded = {"dump": text_dumps.decoded, "hex": text_forms.of_hexadecimal, "base64": text_forms.of_base64}[form]
+    if form == "dump":
+        return [of_dump(text, text_dumps.decoded(text))]
+    decoded = {"hex": text_forms.of_hexadecimal, "base64": text_forms.of_base64}[form]
     return [of_decoded(form, text, decoded(text))]
+
+
+def of_dump(text, decoded):
+    """Returns the block of a dump, with the line in front of which it ends, or else the offset at which it begins."""
+    said = None
+    if decoded.end is not None:
+        said = f"it ends in front of line {line_of(text, decoded.end)}"
+    elif decoded.start:
+        said = f"it begins at offset {decoded.start}"
+    return of_decoded("dump", text, decoded, said=said)
 
 
 def of_decoded(form, text, decoded, **more):
@@ -199,7 +212,7 @@ def of_pem(text, pem):
     """Returns the block for a PEM block."""
     if pem.decoded is None:
         return Block("pem", label=pem.label, wrong=ENCRYPTED)
-    return of_decoded("pem", text, pem.decoded, label=pem.label, is_ended=pem.is_ended)
+    return of_decoded("pem", text, pem.decoded, label=pem.label, said=None if pem.is_ended else NO_END)
 
 
 def of_run(text, run):
@@ -227,6 +240,15 @@ def in_layer(blocks, line):
     for block in blocks:
         block.layers.append(line)
     return blocks
+
+
+def of_counting_dump(text):
+    """Returns the block of a dump that is not refused, or None. If it ends in front of a line, its octets have to count.
+    """
+    decoded = text_dumps.decoded(text)
+    if decoded.place is not None or decoded.end is not None and not counts(decoded.octets):
+        return None
+    return [of_dump(text, decoded)] if decoded.octets else None
 
 
 def of_counting_base64(text, layers):

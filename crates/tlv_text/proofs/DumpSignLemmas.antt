@@ -9,6 +9,7 @@ use Rattle.std.proofs.lemmas.List.Folds.{list_any_at, list_any_none}
 use Rattle.std.proofs.Math.Seq.{drop-length}
 use Rattle.memchr.specs.Find.{IsFirstByte, is_byte, is_byte3}
 use Rattle.tlv_text.specs.Dump.{dump_in, dump_read, first_at, is_octal_first, lines_read, octal_first_at}
+use Rattle.tlv_text.specs.DumpEnds.{begins_dump_row}
 use Rattle.tlv_text.specs.TextRead.{PartRead, refused_with}
 use Rattle.tlv_text.specs.DumpLines.{LineKind, OffsetRead, RowRead, TextLine, after_blanks, after_prefix, dump_lines}
 use Rattle.tlv_text.specs.DumpLines.{into_line, is_digit_of, is_dump_blank, kind_from, line_kind, new_text_line}
@@ -143,31 +144,24 @@ offset-none count number (x ∷ text) none =
     (record { count = count; number = number; rest = x ∷ text })
     (offset-none (count + 1) (number * base Hexadecimal + hex_value x) text (tail-none x text none)) none
 
--- a row with a pair or a repeat
-abbrev pub starts : LineKind → Bool
-starts LineKind.blank = false
-starts LineKind.repeat = true
-starts (LineKind.row r) = has_pair r
-starts LineKind.other = false
-
 row-if : (b : Bool) (r : RowRead) → has_pair r ≡ false
-    → starts (row_or_other (if b then Some r else None)) ≡ false
+    → begins_dump_row (row_or_other (if b then Some r else None)) ≡ false
 row-if true r e = e
 row-if false r e = refl
 
-no-row : (b : Bool) (r : RowRead) → starts (row_or_other (if b && false then Some r else None)) ≡ false
+no-row : (b : Bool) (r : RowRead) → begins_dump_row (row_or_other (if b && false then Some r else None)) ≡ false
 no-row true r = refl
 no-row false r = refl
 
 row-none : (count number : ℕ) (rest : List ℕ) → NoSign rest
-    → starts (row_or_other (row_of (record { count = count; number = number; rest = rest }))) ≡ false
+    → begins_dump_row (row_or_other (row_of (record { count = count; number = number; rest = rest }))) ≡ false
 row-none count number [] none =
     row-if (nat_le 4 count && true) (record { digits = count; offset = number; rest = [] }) refl
 row-none count number (x ∷ rest) none =
     rw (ends-none x (head-none x rest none))
     (no-row (nat_le 4 count) (record { digits = count; offset = number; rest = x ∷ rest }))
 
-kind-none : (text : List ℕ) → NoSign text → starts (kind_from Hexadecimal text) ≡ false
+kind-none : (text : List ℕ) → NoSign text → begins_dump_row (kind_from Hexadecimal text) ≡ false
 kind-none [] none = refl
 kind-none (x ∷ text) none =
     rw (asterisk-none x (head-none x text none))
@@ -176,7 +170,7 @@ kind-none (x ∷ text) none =
     (offset_read Hexadecimal 0 0 (after_prefix (x ∷ text))).rest
     (offset-none 0 0 (after_prefix (x ∷ text)) (prefix-none (x ∷ text) none)))
 
-line-none : (line : List ℕ) → NoSign line → starts (line_kind Hexadecimal line) ≡ false
+line-none : (line : List ℕ) → NoSign line → begins_dump_row (line_kind Hexadecimal line) ≡ false
 line-none line none =
     kind-none (after_blanks (without_return line))
     (blanks-none (without_return line)
@@ -185,14 +179,15 @@ line-none line none =
 
 -- ---- what is read of it
 
-first-passed : (kind : LineKind) (left : ℕ) (lines : List TextLine) (more : PartRead) → starts kind ≡ false
+first-passed : (kind : LineKind) (left : ℕ) (lines : List TextLine) (more : PartRead) → begins_dump_row kind ≡ false
     → first_at Hexadecimal kind left lines more ≡ more
 first-passed LineKind.blank left lines more e = refl
 first-passed LineKind.repeat left lines more e = cc e
 first-passed (LineKind.row r) left lines more e = rw e refl
 first-passed LineKind.other left lines more e = refl
 
-octal-passed : (kind octal : LineKind) (more : Bool) → starts kind ≡ false → octal_first_at kind octal more ≡ more
+octal-passed : (kind octal : LineKind) (more : Bool) → begins_dump_row kind ≡ false
+    → octal_first_at kind octal more ≡ more
 octal-passed LineKind.blank octal more e = refl
 octal-passed LineKind.repeat octal more e = refl
 octal-passed (LineKind.row r) octal more e = rw e refl
@@ -201,7 +196,7 @@ octal-passed LineKind.other octal more e = refl
 -- lines of which none is a row with a pair or a repeat
 abbrev pub NoneStarts : List TextLine → Type 0
 NoneStarts [] = Unit {0}
-NoneStarts (line ∷ lines) = (starts (line_kind Hexadecimal line.characters) ≡ false) × NoneStarts lines
+NoneStarts (line ∷ lines) = (begins_dump_row (line_kind Hexadecimal line.characters) ≡ false) × NoneStarts lines
 
 pub none-read : (lines : List TextLine) → NoneStarts lines → lines_read Hexadecimal lines ≡ refused_with 0
 none-read [] all = refl

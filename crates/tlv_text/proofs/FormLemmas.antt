@@ -6,7 +6,7 @@ use Rattle.std.specs.List.{All}
 use Rattle.std.proofs.Math.Seq.{drop-cons}
 use Rattle.std.proofs.lemmas.Bool.{cases_Bool, eqb-true}
 use Rattle.std.proofs.lemmas.List.{drop_all}
-use Rattle.tlv_text.specs.Private.Counting.{IsBounded, IsFittingForm, is_kept}
+use Rattle.tlv_text.specs.Private.Counting.{IsBounded, IsDumpCount, IsFittingForm, is_kept}
 use Rattle.tlv_text.specs.Taken.{AreFirstBlocks, BlocksCount, BlocksTooLong, HasBlocks}
 use Rattle.tlv_text.specs.Taken.{IsFirstTooLong, IsMemoryOr, TakenValue, TextBlocks}
 use Rattle.tlv_text.specs.Taken.{TextTooLong, all_forms, has_controls, taken_as, taken_value, text_of}
@@ -53,14 +53,6 @@ module _ (Inner : List ℕ → List TakenValue → Type 0) where
       → ts ≡ map (taken_as (Text Pem)) (filter (is_kept Pem) bs) → BlocksCount Inner Pem bs ts
   pem-count bs ts are = subst (λ (us : List TakenValue). BlocksCount Inner Pem bs us) (sym are) BlocksCount.pem
 
-  pub dump-count : (bs : List BlockValue) (ts : List TakenValue) → length bs ≡ 1
-      → ts ≡ map (taken_as (Text Dump)) (filter (is_kept Dump) bs) → BlocksCount Inner Dump bs ts
-  dump-count [] ts one are = absurd (omega (arith, one))
-  dump-count (b ∷ []) ts one are =
-      subst (λ (us : List TakenValue). BlocksCount Inner Dump (b ∷ []) us) (sym (are ∙ kept-one Dump b))
-      BlocksCount.dump
-  dump-count (b ∷ c ∷ bs) ts one are = absurd (omega (arith, one))
-
   pub hex-count : (bs : List BlockValue) (ts : List TakenValue) → length bs ≡ 1
       → ts ≡ map (taken_as (Text Hex)) (filter (is_kept Hex) bs) → BlocksCount Inner Hex bs ts
   hex-count [] ts one are = absurd (omega (arith, one))
@@ -77,14 +69,22 @@ module _ (Inner : List ℕ → List TakenValue → Type 0) where
   numbers-count (b ∷ c ∷ bs) ts one are = absurd (omega (arith, one))
 
   pub kept-count : (form : Form) (bs : List BlockValue) (ts : List TakenValue)
-      → (form ≡ Pem) ⊎ ((form ≡ Dump) ⊎ ((form ≡ Hex) ⊎ (form ≡ Numbers))) → IsFittingForm form bs
+      → (form ≡ Pem) ⊎ ((form ≡ Hex) ⊎ (form ≡ Numbers)) → IsFittingForm form bs
       → ts ≡ map (taken_as (Text form)) (filter (is_kept form) bs) → BlocksCount Inner form bs ts
   kept-count form bs ts is fitting are =
       ⊎_elim (λ (e : form ≡ Pem). rw e (pem-count bs ts (rw e at are)))
-      (⊎_elim (λ (e : form ≡ Dump). rw e (dump-count bs ts (rw e at fitting) (rw e at are)))
       (⊎_elim (λ (e : form ≡ Hex). rw e (hex-count bs ts (rw e at fitting) (rw e at are)))
-      (λ (e : form ≡ Numbers). rw e (numbers-count bs ts (rw e at fitting) (rw e at are)))))
+      (λ (e : form ≡ Numbers). rw e (numbers-count bs ts (rw e at fitting) (rw e at are))))
       is
+
+  -- ---- a dump
+
+  dump-count : (bs : List BlockValue) (ts : List TakenValue) → IsDumpCount bs ts → BlocksCount Inner Dump bs ts
+  dump-count _ _ (IsDumpCount.counted counts) = BlocksCount.dump counts
+
+  pub dump-counted : (form : Form) (bs : List BlockValue) (ts : List TakenValue) → form ≡ Dump → IsDumpCount bs ts
+      → BlocksCount Inner form bs ts
+  dump-counted form bs ts is counts = rw is (dump-count bs ts counts)
 
   -- ---- the first form in which a block counts
 

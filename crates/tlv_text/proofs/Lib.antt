@@ -1,6 +1,7 @@
 pub mod BlockLemmas
 pub mod BodyLemmas
 pub mod DecodeLemmas
+pub mod DumpCountLemmas
 pub mod DumpLemmas
 pub mod DumpOutputLemmas
 pub mod DumpPairLemmas

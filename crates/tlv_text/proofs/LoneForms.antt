@@ -1,14 +1,15 @@
 -- What a text that is hexadecimal or base64 alone is taken for.
-use Rattle.std.proofs.Common.{◌≡◌, ◌==◌, List, [], ◌∷◌, ℕ, true, false, ◌∙◌, ap, arith, length, map, None, refl, subst}
-use Rattle.std.proofs.Common.{sym}
+use Rattle.std.proofs.Common.{◌≡◌, ◌==◌, List, [], ◌∷◌, ℕ, Bool, true, false, ◌∙◌, ap, arith, length, map, None, refl}
+use Rattle.std.proofs.Common.{if◌then◌else◌, subst, sym}
 use Rattle.std.proofs.lemmas.Bool.{eqb-true, le-ltb}
 use Rattle.std.specs.Prelude.{nat_lt}
 use Rattle.tlv_text.specs.Private.Counting.{is_kept}
-use Rattle.tlv_text.specs.Taken.{AreFirstBlocks, AreFittingBlocks, BlocksCount, BlocksTooLong, Counts, HoldsTooLong}
-use Rattle.tlv_text.specs.Taken.{IsFirstTooLong, TakenValue, all_forms, is_complete, taken_as, taken_value}
+use Rattle.tlv_text.specs.Taken.{AreFirstBlocks, AreFittingBlocks, BlocksCount, BlocksTooLong, Counts, DumpCounts}
+use Rattle.tlv_text.specs.Taken.{HoldsTooLong, IsFirstTooLong, TakenValue, all_forms, is_complete, is_ended, taken_as}
+use Rattle.tlv_text.specs.Taken.{taken_value}
 use Rattle.tlv_text.specs.declared.taken.Taken.{Taken}
 use Rattle.tlv_text.specs.declared.taken.TakenFor.TheVariants.{Text}
-use Rattle.tlv_text.proofs.FormLemmas.{dump-count, hex-count, numbers-count, only-long}
+use Rattle.tlv_text.proofs.FormLemmas.{hex-count, numbers-count, only-long}
 use Rattle.tlv_text.specs.Blocks.{AreBlocks, ArePemBlocks, BlockValue, IsBase64Alone, IsHexAlone, absent_block}
 use Rattle.tlv_text.specs.Blocks.{dump_block, numbers_block}
 use Rattle.tlv_text.specs.Dump.{dump_read, text_limit}
@@ -61,9 +62,12 @@ module _ (Inner : List ℕ → List TakenValue → Type 0) where
   -- a text without a row of a dump
   no-dump : (text : List ℕ) → dump_read text ≡ refused_with 0 → OnlyForm text Dump []
   no-dump text none =
+      let refused : is_ended (dump_block text).state ≡ false = rw none refl in
       let broken : is_complete (dump_block text) ≡ false = rw none refl in
       OnlyForm.counted (dump_block text ∷ []) (record { are = AreBlocks.dump; fit = rw none (nothing-fits text) })
-      (dump-count Inner (dump_block text ∷ []) [] refl (rw broken refl))
+      (subst (λ (answer : Bool). BlocksCount Inner Dump (dump_block text ∷ [])
+      (if answer then taken_as (Text Dump) (dump_block text) ∷ [] else [])) broken
+      (BlocksCount.dump (DumpCounts.not_ended refused)))
 
   -- a text without a list of numbers
   no-numbers : (text : List ℕ) → numbers_read text ≡ None → OnlyForm text Numbers []

@@ -1,17 +1,18 @@
 -- An input is taken for one thing.
 use Rattle.std.proofs.Common.{◌≡◌, ℕ, zero, suc, List, [], ◌∷◌, ◌++◌, Option, Some, None, Bool, true, false, ◌∙◌, ◌&&◌, ap}
-use Rattle.std.proofs.Common.{map, not, refl, subst, sym}
+use Rattle.std.proofs.Common.{if◌then◌else◌, map, not, refl, subst, sym}
 use Rattle.std.specs.List.{list_any}
 use Rattle.std.specs.Str.{is_utf8}
 use Rattle.std.proofs.lemmas.Bool.{and_parts}
 use Rattle.tlv_text.specs.Laws.{InputsAreTakenForOneThing}
-use Rattle.tlv_text.specs.Taken.{AreFirstBlocks, AreFittingBlocks, AreTakenAsEncodings, BlocksCount, Counts, HasBlocks}
-use Rattle.tlv_text.specs.Taken.{HasInner, IsTakenFor, RunsCount, TakenValue, TextBlocks, all_forms, has_controls}
-use Rattle.tlv_text.specs.Taken.{in_layer, is_other_text, is_seen, text_of}
+use Rattle.tlv_text.specs.Taken.{AreFirstBlocks, AreFittingBlocks, AreTakenAsEncodings, BlocksCount, Counts, DumpCounts}
+use Rattle.tlv_text.specs.Taken.{HasBlocks, HasInner, IsTakenFor, RunsCount, TakenValue, TextBlocks, all_forms}
+use Rattle.tlv_text.specs.Taken.{has_controls, in_layer, is_other_text, is_seen, taken_as, text_of}
 use Rattle.tlv_text.proofs.OneBlocks.{one-list_of_blocks}
 use Rattle.tlv_text.specs.Blocks.{BlockValue}
 use Rattle.tlv_text.specs.declared.block.Form.{Form}
-use Rattle.tlv_text.specs.declared.block.Form.TheVariants.{Base64, Runs}
+use Rattle.tlv_text.specs.declared.block.Form.TheVariants.{Base64, Dump, Runs}
+use Rattle.tlv_text.specs.declared.taken.TakenFor.TheVariants.{Text}
 
 -- octets have one list of blocks
 abbrev HaveOne : (List ℕ → List TakenValue → Type 0) → Type 0
@@ -30,6 +31,20 @@ module _ (Inner : List ℕ → List TakenValue → Type 0) (one : HaveOne Inner)
   one-answer : (octets : List ℕ) → AreTakenAsEncodings octets true → AreTakenAsEncodings octets false → ⊥
   one-answer octets (AreTakenAsEncodings.sound is) (AreTakenAsEncodings.neither unsound other) = unsound is
   one-answer octets (AreTakenAsEncodings.begins is) (AreTakenAsEncodings.neither unsound other) = absurd (cc (is, other))
+
+  -- whether octets are taken for encodings, and whether a dump counts, has one answer
+  one-encodings : (octets : List ℕ) (a c : Bool) → AreTakenAsEncodings octets a → AreTakenAsEncodings octets c
+      → a ≡ c
+  one-encodings octets true true are also = refl
+  one-encodings octets true false are not = absurd (one-answer octets are not)
+  one-encodings octets false true not are = absurd (one-answer octets are not)
+  one-encodings octets false false not also = refl
+
+  one-dump : (b : BlockValue) (a c : Bool) → DumpCounts b a → DumpCounts b c → a ≡ c
+  one-dump b _ _ (DumpCounts.not_ended not) (DumpCounts.not_ended also) = refl
+  one-dump b _ _ (DumpCounts.not_ended not) (DumpCounts.ended c is are) = absurd (cc (not, is))
+  one-dump b _ _ (DumpCounts.ended a is are) (DumpCounts.not_ended not) = absurd (cc (not, is))
+  one-dump b _ _ (DumpCounts.ended a is are) (DumpCounts.ended c same also) = one-encodings b.octets a c are also
 
   one-count : (form : Form) (layer : Option ℕ) (b : BlockValue) (ts us : List TakenValue)
       → Counts Inner form layer b ts → Counts Inner form layer b us → ts ≡ us
@@ -68,7 +83,8 @@ module _ (Inner : List ℕ → List TakenValue → Type 0) (one : HaveOne Inner)
   one-form_count : (form : Form) (bs : List BlockValue) (ts us : List TakenValue) → BlocksCount Inner form bs ts
       → BlocksCount Inner form bs us → ts ≡ us
   one-form_count _ _ _ _ BlocksCount.pem BlocksCount.pem = refl
-  one-form_count _ _ _ _ BlocksCount.dump BlocksCount.dump = refl
+  one-form_count _ _ _ _ (BlocksCount.dump {b} {answer} counts) (BlocksCount.dump {answer = other} also) =
+      ap (λ (a : Bool). if a then taken_as (Text Dump) b ∷ [] else []) (one-dump b answer other counts also)
   one-form_count _ _ _ _ BlocksCount.hex BlocksCount.hex = refl
   one-form_count _ _ _ _ BlocksCount.numbers BlocksCount.numbers = refl
   one-form_count _ _ _ _ (BlocksCount.base64 {b} {ts} complete counts) (BlocksCount.base64 {ts = us} also others) =

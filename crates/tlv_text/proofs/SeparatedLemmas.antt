@@ -16,7 +16,8 @@ use Rattle.tlv_text.specs.Pairs.{is_between_pairs}
 use Rattle.tlv_text.specs.Pem.{HasNoBlock, begin_marker, dashes}
 use Rattle.tlv_text.specs.Separated.{are_separated}
 use Rattle.tlv_text.specs.declared.dump.lines.Radix.TheVariants.{Hexadecimal}
-use Rattle.tlv_text.proofs.DumpSignLemmas.{NoneStarts, none-octal, none-read, starts}
+use Rattle.tlv_text.specs.DumpEnds.{begins_dump_row}
+use Rattle.tlv_text.proofs.DumpSignLemmas.{NoneStarts, none-octal, none-read}
 use Rattle.tlv_text.proofs.PairReadLemmas.{between-no_digit, between-separated, digit-not_between}
 use Rattle.tlv_text.proofs.PairReadLemmas.{digits-separated}
 
@@ -181,7 +182,7 @@ digit-no_prefix x y e = by (x == 48) ((y == 120) || (y == 88)) (no_x y e)
     by false b none = refl
 
 -- fewer than four digits are no offset
-no-offset : (read : OffsetRead) → nat_le 4 read.count ≡ false → starts (row_or_other (row_of read)) ≡ false
+no-offset : (read : OffsetRead) → nat_le 4 read.count ≡ false → begins_dump_row (row_or_other (row_of read)) ≡ false
 no-offset read few = rw few refl
 
 few-after_between : (x : ℕ) (text : List ℕ) → is_between_pairs x ≡ true
@@ -193,7 +194,7 @@ few-after_pair : (x y : ℕ) (rest : List ℕ) → is_hex_digit x ≡ true → i
 few-after_pair x y [] dx dy apart = rw (dx, dy) refl
 few-after_pair x y (z ∷ rest) dx dy apart = let none : is_hex_digit z ≡ false = apart in rw (dx, dy, none) refl
 
-kind-separated : (text : List ℕ) → are_separated text ≡ true → starts (kind_from Hexadecimal text) ≡ false
+kind-separated : (text : List ℕ) → are_separated text ≡ true → begins_dump_row (kind_from Hexadecimal text) ≡ false
 kind-separated [] e = refl
 kind-separated (x ∷ []) e =
     elim (cases_Bool (is_between_pairs x)) [
@@ -216,7 +217,7 @@ kind-separated (x ∷ y ∷ rest) e =
           (no-offset (offset_read Hexadecimal 0 0 (x ∷ y ∷ rest)) (few-after_pair x y rest p.first p.second p.apart))
     ]
 
-line-separated : (line : List ℕ) → are_separated line ≡ true → starts (line_kind Hexadecimal line) ≡ false
+line-separated : (line : List ℕ) → are_separated line ≡ true → begins_dump_row (line_kind Hexadecimal line) ≡ false
 line-separated line e =
     kind-separated (after_blanks (without_return line))
     (blanks-separated (without_return line)

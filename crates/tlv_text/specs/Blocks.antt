@@ -4,6 +4,7 @@ use Rattle.std.specs.Prelude.{List, [], ◌∷◌, length, take, Option, Some, N
 use Rattle.std.specs.List.{list_any}
 use Rattle.tlv_text.specs.Base64.{IsBase64, ReadsBase64}
 use Rattle.tlv_text.specs.Dump.{dump_read, text_limit}
+use Rattle.tlv_text.specs.DumpEnds.{dump_offset, ends_dump}
 use Rattle.tlv_text.specs.Numbers.{may_be_pairs, numbers_read}
 use Rattle.tlv_text.specs.Pairs.{pairs_read}
 use Rattle.tlv_text.specs.Pem.{HasNoBlock, IsFirstBlock}
@@ -16,7 +17,8 @@ use Rattle.tlv_text.specs.declared.base64_text.Alphabet.{Alphabet}
 use Rattle.tlv_text.specs.declared.base64_text.Alphabet.TheVariants.{Standard, UrlSafe}
 use Rattle.tlv_text.specs.declared.block.Block.{Block}
 use Rattle.tlv_text.specs.declared.block.BlockState.{BlockState}
-use Rattle.tlv_text.specs.declared.block.BlockState.TheVariants.{Whole, MayBePairs, Unended, Encrypted, Refused, Absent}
+use Rattle.tlv_text.specs.declared.block.BlockState.TheVariants.{Whole, BeginsAt, MayBePairs, Unended, Ended, Encrypted}
+use Rattle.tlv_text.specs.declared.block.BlockState.TheVariants.{Refused, Absent}
 use Rattle.tlv_text.specs.declared.block.Form.{Form}
 use Rattle.tlv_text.specs.declared.block.Form.TheVariants.{Pem, Dump, Hex, Numbers, Base64, Runs}
 use Rattle.tlv_text.specs.declared.text_fault.TextFault.{TextFault}
@@ -73,8 +75,22 @@ hex_read text = if nat_le 2 (token_count text) then tokens_read text else pairs_
 abbrev pub hex_block : List ℕ → BlockValue
 hex_block text = only_block (hex_read text).octets (state_at_place text 0 (refused_at text (hex_read text).rest))
 
+-- the state of a dump of which nothing is refused, and that begins at this offset
+abbrev pub state_at_offset : ℕ → BlockState
+state_at_offset offset = if offset == 0 then Whole else BeginsAt offset
+
+-- the state of a dump with these octets, which is refused at a place, or at none. It is not refused, and ends there, if
+-- it has an octet and no row follows
+abbrev pub dump_state : List ℕ → List ℕ → Option ℕ → BlockState
+dump_state text octets None = state_at_offset (dump_offset text)
+dump_state text [] (Some place) = Refused (line_at text place)
+dump_state text (x ∷ octets) (Some place) =
+    if ends_dump text place then Ended (line_at text place) else Refused (line_at text place)
+
 abbrev pub dump_block : List ℕ → BlockValue
-dump_block text = only_block (dump_read text).octets (state_at_place text 0 (refused_in text (dump_read text).left))
+dump_block text =
+    only_block (dump_read text).octets
+    (dump_state text (dump_read text).octets (refused_in text (dump_read text).left))
 
 -- numbers of which nothing is refused, but which may be pairs of hexadecimal digits
 abbrev pub state_of_list : List ℕ → BlockState → BlockState

@@ -194,12 +194,14 @@ goes_further (Some left) None = false
 goes_further (Some left) (Some other) = nat_lt left other
 
 -- offsets are octal if they look like the offsets of od, and the text read so is not refused, or is refused further on
--- than with hexadecimal offsets. Otherwise they are hexadecimal
+-- than with hexadecimal offsets. Otherwise they are hexadecimal. The Bool says that they are octal
+abbrev pub is_octal_dump : List ℕ → Bool
+is_octal_dump text =
+    is_octal_first (dump_lines text) && goes_further (dump_in Octal text).left (dump_in Hexadecimal text).left
+
+-- what is read of a dump
 abbrev pub dump_read : List ℕ → PartRead
-dump_read text =
-    if is_octal_first (dump_lines text) && goes_further (dump_in Octal text).left (dump_in Hexadecimal text).left then
-    dump_in Octal text
-    else dump_in Hexadecimal text
+dump_read text = if is_octal_dump text then dump_in Octal text else dump_in Hexadecimal text
 
 -- the maximum number of octets in all blocks of a text: 2^30
 abbrev pub dump_limit : ℕ

@@ -10,6 +10,7 @@ pub mod Runs
 pub mod Tokens
 pub mod Private
 pub mod Dump
+pub mod DumpEnds
 pub mod DumpLines
 pub mod DumpPairs
 pub mod DumpWords

@@ -11,7 +11,7 @@ use Rattle.tlv_text.specs.Characters.{is_white}
 use Rattle.tlv_text.specs.Dump.{dump_limit}
 use Rattle.tlv_text.specs.Marks.{after_mark, ascii_of_utf16}
 use Rattle.tlv_text.specs.declared.block.BlockState.{BlockState}
-use Rattle.tlv_text.specs.declared.block.BlockState.TheVariants.{Whole, Absent}
+use Rattle.tlv_text.specs.declared.block.BlockState.TheVariants.{Whole, BeginsAt, Ended, Absent}
 use Rattle.tlv_text.specs.declared.block.Form.{Form}
 use Rattle.tlv_text.specs.declared.block.Form.TheVariants.{Pem, Dump, Hex, Numbers, Base64, Runs}
 use Rattle.tlv_text.specs.declared.text_fault.TextFault.{TextFault}
@@ -110,6 +110,7 @@ is_present state = true
 
 abbrev pub is_whole_block : BlockState → Bool
 is_whole_block Whole = true
+is_whole_block (BeginsAt offset) = true
 is_whole_block state = false
 
 -- all of a text is decoded, and gives octets
@@ -125,11 +126,23 @@ abbrev pub begins_as_sequence : List ℕ → Bool
 begins_as_sequence [] = false
 begins_as_sequence (x ∷ octets) = (x == 0x30) || (x == 0x31)
 
--- octets from base64 are taken for encodings: they are sound, or begin as a SEQUENCE or a SET. The Bool is the answer
+-- octets from base64, or from a dump that ends in front of a line, are taken for encodings: they are sound, or begin as
+-- a SEQUENCE or a SET. The Bool is the answer
 pub data AreTakenAsEncodings (octets : List ℕ) : Bool → Type 0 where
   sound : IsSoundInput octets → AreTakenAsEncodings octets true
   begins : begins_as_sequence octets ≡ true → AreTakenAsEncodings octets true
   neither : (IsSoundInput octets → ⊥) → begins_as_sequence octets ≡ false → AreTakenAsEncodings octets false
+
+-- a dump ends in front of a line that is no row
+abbrev pub is_ended : BlockState → Bool
+is_ended (Ended line) = true
+is_ended state = false
+
+-- a dump counts if all of the text is decoded. One that ends in front of a line counts if its octets are taken for
+-- encodings. The Bool is the answer
+pub data DumpCounts (b : BlockValue) : Bool → Type 0 where
+  not_ended : is_ended b.state ≡ false → DumpCounts b (is_complete b)
+  ended : (answer : Bool) → is_ended b.state ≡ true → AreTakenAsEncodings b.octets answer → DumpCounts b answer
 
 -- two octets 00 at the start: no encoding begins so, but the digits of a dump's first offset do
 abbrev pub begins_with_zeros : List ℕ → Bool
@@ -171,9 +184,10 @@ module _ (Inner : List ℕ → List TakenValue → Type 0) where
     -- all blocks of PEM count
     pem : {bs : List BlockValue}
         → BlocksCount Pem bs (map (taken_as (Text Pem)) (filter (λ b. is_present b.state) bs))
-    -- a dump, hexadecimal and numbers count if all of the text is decoded; a refused dump is not hexadecimal
-    dump : {b : BlockValue}
-        → BlocksCount Dump (b ∷ []) (if is_complete b then taken_as (Text Dump) b ∷ [] else [])
+    -- a dump, as said above
+    dump : {b : BlockValue} {answer : Bool} → DumpCounts b answer
+        → BlocksCount Dump (b ∷ []) (if answer then taken_as (Text Dump) b ∷ [] else [])
+    -- hexadecimal and numbers count if all of the text is decoded; a refused dump is not hexadecimal
     hex : {b : BlockValue}
         → BlocksCount Hex (b ∷ [])
         (if is_complete b && not (begins_with_zeros b.octets) then taken_as (Text Hex) b ∷ [] else [])

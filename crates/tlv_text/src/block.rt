@@ -23,11 +23,16 @@ pub enum Form {
 pub enum BlockState {
     /// Nothing is wrong: all of the block is decoded.
     Whole,
+    /// All of the block is decoded: it is a hex dump, and its first row has this offset, which is not 0.
+    BeginsAt(u64),
     /// All of the block is decoded: it is numbers that may be pairs of hexadecimal digits. No number has a minus or
     /// three digits, and one has two digits, of which the first is 0.
     MayBePairs,
     /// It is PEM, and the text ends before its end marker.
     Unended,
+    /// It is a hex dump, and ends in front of this line, counted from 1: from there on it has no row. All rows before
+    /// it are decoded.
+    Ended(usize),
     /// It is PEM, and its headers say that it is encrypted. It has no octets.
     Encrypted,
     /// The text is refused in this line, counted from 1. The block has the octets decoded before that place.

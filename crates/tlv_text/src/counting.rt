@@ -1,13 +1,14 @@
 //! Which blocks of a text count.
 ghost use Rattle.std.specs.List.{list_any};
 ghost use Rattle.std.specs.Prelude.{◌≡◌, ◌+◌, ◌<◌, ◌≤◌, All, IfErr, IfOk, MatchOption, Some, false, filter, map, true};
-ghost use Rattle.tlv_text.specs.Private.Counting.{IsBounded, IsFittingForm, is_kept, is_too_long};
-ghost use Rattle.tlv_text.specs.Taken.{AreFirstBlocks, BlocksCount, BlocksTooLong, Counts, HasInner, HoldsTooLong};
+ghost use Rattle.tlv_text.specs.Private.Counting.{IsBounded, IsDumpCount, IsFittingForm, is_kept, is_too_long};
+ghost use Rattle.tlv_text.specs.Taken.{AreFirstBlocks, BlocksCount, BlocksTooLong, Counts, DumpCounts, HasInner};
+ghost use Rattle.tlv_text.specs.Taken.{HoldsTooLong};
 ghost use Rattle.tlv_text.specs.Taken.{IsFirstTooLong, IsMemoryOr, TextBlocks, TextTooLong, all_forms, taken_count};
 ghost use Rattle.tlv_text.specs.Taken.{begins_with_zeros, is_complete, is_whole_block, taken_as, taken_value};
 ghost use Rattle.tlv_text.specs.Blocks.{IsBase64Alone, block_value};
 ghost use Rattle.tlv_text.specs.declared.block.Form.{Form};
-ghost use Rattle.tlv_text.specs.declared.block.Form.TheVariants.{Base64, Runs};
+ghost use Rattle.tlv_text.specs.declared.block.Form.TheVariants.{Base64, Dump, Runs};
 
 use crate::characters::{has_controls, text_in};
 use crate::encodings::are_taken_as_encodings;
@@ -130,7 +131,8 @@ fn counted_blocks(
     match form {
         Form::Base64 => counted_base64(alloc, layers, blocks),
         Form::Runs => counted_runs(alloc, layers, blocks),
-        Form::Pem | Form::Dump | Form::Hex | Form::Numbers => Ok(kept_blocks(alloc, form, blocks)?),
+        Form::Dump => Ok(counted_dump(alloc, blocks)?),
+        Form::Pem | Form::Hex | Form::Numbers => Ok(kept_blocks(alloc, form, blocks)?),
     }
 }
 
@@ -238,7 +240,9 @@ fn inner_blocks(alloc: Global, layers: u8, block: &Block) -> Result<Vec<Taken>, 
         (IsMemoryOr ((is_whole_block block.now.state ≡ true) × TextTooLong layers block.now.octets.items)) }
 {
     match block.state {
-        BlockState::Whole => text_blocks(alloc, layers, block.octets.as_slice()),
+        BlockState::Whole | BlockState::BeginsAt(_) => {
+            text_blocks(alloc, layers, block.octets.as_slice())
+        }
         _ => Ok(Vec::new(alloc)),
     }
 }
@@ -261,6 +265,33 @@ fn text_blocks(alloc: Global, layers: u8, octets: &[u8]) -> Result<Vec<Taken>, T
         return Ok(Vec::new(alloc));
     }
     first_blocks(alloc, layers - 1, text)
+}
+
+/// What the block of a dump counts as.
+fn counted_dump(alloc: Global, mut blocks: Vec<Block>) -> Result<Vec<Taken>, AllocError>
+    requires fitting { IsFittingForm Dump (map block_value blocks.items) }
+    requires fit { list_any is_too_long (map block_value blocks.items) ≡ false }
+    ensures taken { IfOk result (λ ts. IsDumpCount (map block_value blocks.items) (map taken_value ts.items)) }
+    ensures bounded { IfOk result (λ ts. All (IsBounded 1) ts.items) }
+{
+    match blocks.pop() {
+        Some(block) if dump_counts(&block) => {
+            one_taken(alloc, taken_as(TakenFor::Text(Form::Dump), block))
+        }
+        _ => Ok(Vec::new(alloc)),
+    }
+}
+
+/// Whether a dump counts. One that ends in front of a line that is no row may be a line of something else: so its
+/// octets have to look like encodings.
+fn dump_counts(block: &Block) -> bool
+    requires { is_too_long (block_value block.now) ≡ false }
+    ensures { DumpCounts (block_value block.now) result }
+{
+    match block.state {
+        BlockState::Ended(_) => are_taken_as_encodings(block.octets.as_slice()),
+        _ => is_complete(block),
+    }
 }
 
 /// The blocks of a text that count, in a form in which each block counts by itself.
@@ -296,7 +327,7 @@ fn is_kept(form: Form, block: &Block) -> bool
 fn is_complete(block: &Block) -> bool
     ensures { result ≡ is_complete (block_value block.now) }
 {
-    block.state == BlockState::Whole && !block.octets.is_empty()
+    matches!(block.state, BlockState::Whole | BlockState::BeginsAt(_)) && !block.octets.is_empty()
 }
 
 /// Whether the octets begin with two octets 00, as no encoding does.

@@ -2,6 +2,7 @@
 ghost use Rattle.std.specs.Prelude.{◌≡◌, ◌<◌, ◌≤◌, IfErr, IfOk, OnOk, Some, None, length, true};
 ghost use Rattle.tlv_text.specs.Dump.{IsFault, dump_in, dump_read, goes_further, left_in, read_from, read_in_order};
 ghost use Rattle.tlv_text.specs.Dump.{rows_read, size_in, text_limit};
+ghost use Rattle.tlv_text.specs.DumpEnds.{dump_radix};
 ghost use Rattle.tlv_text.specs.DumpLines.{dump_lines};
 ghost use Rattle.tlv_text.specs.DumpPairs.{begins_pair, has_single_offset, pairs_at, single_row_octets};
 ghost use Rattle.tlv_text.specs.Private.DumpSteps.{IsAdded, IsFirstRow, Reads, dump_place_of, row_seen};
@@ -9,6 +10,7 @@ ghost use Rattle.tlv_text.specs.Private.PairSteps.{AreWholePairs};
 ghost use Rattle.tlv_text.specs.TextRead.{refused_in, refused_with};
 
 mod ahead;
+mod ends;
 mod lines;
 mod output;
 mod pairs;
@@ -20,7 +22,9 @@ use crate::digits::begins_digit;
 use crate::{Decoded, TextFault};
 use ahead::{from_first_row, has_pair, is_octal_first, size_in};
 use arrayvec::ArrayVec;
-use lines::{DumpLine, Radix, RowLine, after_blanks, begins_colon, line_of, split_line};
+pub(crate) use ends::{ends_dump, first_offset};
+pub(crate) use lines::Radix;
+use lines::{DumpLine, RowLine, after_blanks, begins_colon, line_of, split_line};
 use output::{Output, add_octets, no_octets};
 use pairs::{
     DIGITS, Gap, before_pairs, begins_pair, begins_symbol_name, ends_line, gap_of, row_digits,
@@ -45,6 +49,24 @@ pub(crate) struct Reading {
     pub(crate) left: Option<usize>,
 }
 
+/// The reading of a dump, and the radix of its offsets.
+#[derive(Debug, Drop)]
+struct DumpReading {
+    /// The reading.
+    reading: Reading,
+    /// The radix.
+    radix: Radix,
+}
+
+/// What is decoded from a dump, and the radix of its offsets.
+#[derive(Debug, Drop)]
+pub(crate) struct DumpDecoded {
+    /// What is decoded.
+    pub(crate) decoded: Decoded,
+    /// The radix.
+    pub(crate) radix: Radix,
+}
+
 /// Decodes a hex dump with offsets, as xxd, hexdump, od, Wireshark, tcpdump, Format-Hex, OpenSSL and gdb write it. A
 /// text is refused at the first line that does not fit. A row does not fit if its line holds more than the row, as it
 /// does if line ends are lost. There are two signs of that: after the pairs come more characters than the row has
@@ -62,16 +84,31 @@ pub fn decode_dump(alloc: Global, text: &[u8]) -> Result<Decoded, TextFault>
     ensures fits { IfOk result (λ d. length (dump_read text.now).octets ≤ text_limit text.now) }
     ensures too_long { IfErr result (IsFault text.now) }
 {
-    let Ok(reading) = read_dump(alloc, text_limit(text), text) else {
+    match decode_with_radix(alloc, text) {
+        Ok(dump) => Ok(dump.decoded),
+        Err(fault) => Err(fault),
+    }
+}
+
+/// Decodes a hex dump as `decode_dump` does, and says which radix its offsets have.
+pub(crate) fn decode_with_radix(alloc: Global, text: &[u8]) -> Result<DumpDecoded, TextFault>
+    ensures octets { IfOk result (λ d. d.decoded.octets.items ≡ (dump_read text.now).octets) }
+    ensures refused { IfOk result (λ d. d.decoded.refused ≡ refused_in text.now (dump_read text.now).left) }
+    ensures fits { IfOk result (λ d. length (dump_read text.now).octets ≤ text_limit text.now) }
+    ensures radix { IfOk result (λ d. d.radix ≡ dump_radix text.now) }
+    ensures too_long { IfErr result (IsFault text.now) }
+{
+    let Ok(DumpReading { reading, radix }) = read_dump(alloc, text_limit(text), text) else {
         return Err(TextFault::Memory);
     };
     if reading.output.over {
         return Err(TextFault::TooLong);
     }
-    Ok(Decoded {
+    let decoded = Decoded {
         octets: reading.output.octets,
         refused: refused_in(text, reading.left),
-    })
+    };
+    Ok(DumpDecoded { decoded, radix })
 }
 
 /// The maximum number of octets in all blocks of a text: 2^30, and 2^24 more than the text has characters.
@@ -82,23 +119,33 @@ pub(crate) fn text_limit(text: &[u8]) -> usize
 }
 
 /// Reads a dump, with hexadecimal offsets or octal ones. At most `limit` octets are kept.
-fn read_dump(alloc: Global, limit: usize, text: &[u8]) -> Result<Reading, AllocError>
-    ensures { IfOk result (Reads limit (dump_read text.now)) }
+fn read_dump(alloc: Global, limit: usize, text: &[u8]) -> Result<DumpReading, AllocError>
+    ensures reading { IfOk result (λ d. Reads limit (dump_read text.now) d.reading) }
+    ensures radix { IfOk result (λ d. d.radix ≡ dump_radix text.now) }
 {
     let rest = from_first_row(text);
     if !is_octal_first(rest) {
-        return read_lines(alloc, limit, Radix::Hexadecimal, rest);
+        let reading = read_lines(alloc, limit, Radix::Hexadecimal, rest)?;
+        return Ok(read_with(Radix::Hexadecimal, reading));
     }
     let octal = read_lines(alloc, limit, Radix::Octal, text)?;
     if octal.left.is_none() {
-        return Ok(octal);
+        return Ok(read_with(Radix::Octal, octal));
     }
     let hexadecimal = read_lines(alloc, limit, Radix::Hexadecimal, rest)?;
     if goes_further(octal.left, hexadecimal.left) {
-        Ok(octal)
+        Ok(read_with(Radix::Octal, octal))
     } else {
-        Ok(hexadecimal)
+        Ok(read_with(Radix::Hexadecimal, hexadecimal))
     }
+}
+
+/// A reading with offsets of this radix.
+fn read_with(radix: Radix, reading: Reading) -> DumpReading
+    ensures reading { result.reading ≡ reading }
+    ensures radix { result.radix ≡ radix }
+{
+    DumpReading { reading, radix }
 }
 
 /// Whether a reading is whole, or is refused further on than another one, given the number of characters from where

@@ -3,7 +3,8 @@ use Rattle.std.specs.Prelude.{ℕ, Bool, true, false, List, [], ◌∷◌, ◌++
 use Rattle.std.specs.Prelude.{if◌then◌else◌}
 use Rattle.tlv_text.specs.Blocks.{BlockValue}
 use Rattle.tlv_text.specs.declared.block.BlockState.{BlockState}
-use Rattle.tlv_text.specs.declared.block.BlockState.TheVariants.{Whole, MayBePairs, Unended, Encrypted, Refused, Absent}
+use Rattle.tlv_text.specs.declared.block.BlockState.TheVariants.{Whole, BeginsAt, MayBePairs, Unended, Ended, Encrypted}
+use Rattle.tlv_text.specs.declared.block.BlockState.TheVariants.{Refused, Absent}
 use Rattle.tlv_text.specs.declared.block.Form.{Form}
 use Rattle.tlv_text.specs.declared.block.Form.TheVariants.{Pem, Dump, Hex, Numbers, Base64, Runs}
 use Rattle.tlv_text.specs.declared.text_fault.TextFault.{TextFault}
@@ -49,11 +50,13 @@ expected_words Hex = codes "a pair of hexadecimal digits"
 expected_words Numbers = codes "only one list of numbers from -128 to 255"
 expected_words form = codes "base64"
 
--- what is wrong with the text of a block
+-- what is to be said about the text of a block: what is wrong with it, and where a dump begins and ends
 abbrev pub state_words : Form → BlockState → List ℕ
 state_words form Whole = []
+state_words form (BeginsAt offset) = codes "; it begins at offset " ++ decimal offset
 state_words form MayBePairs = []
 state_words form Unended = codes "; its end marker is missing"
+state_words form (Ended line) = codes "; it ends in front of line " ++ decimal line
 state_words form Encrypted = codes "; X3 it is encrypted"
 state_words form (Refused line) =
     codes "; X2 refused in line " ++ decimal line ++ codes ", where " ++ expected_words form ++ codes " is expected"

@@ -16,7 +16,7 @@ use Rattle.tlv_open.specs.Opens.{AreOpened, closed_framing}
 use Rattle.tlv_open.specs.declared.strings.BrokenString.{BrokenString}
 use Rattle.tlv_text.specs.Blocks.{BlockValue}
 use Rattle.tlv_text.specs.declared.block.BlockState.{BlockState}
-use Rattle.tlv_text.specs.declared.block.BlockState.TheVariants.{Whole, MayBePairs, Unended}
+use Rattle.tlv_text.specs.declared.block.BlockState.TheVariants.{Whole, BeginsAt, MayBePairs, Unended, Ended}
 use Rattle.tlv_text.specs.Taken.{TakenValue, has_some}
 use Rattle.tlv_run.specs.Report.{ReportValue, device_report, indef_report, report_with}
 use Rattle.tlv_view_program.specs.ReadWhole.{input_report}
@@ -98,8 +98,10 @@ status_with status (string ∷ strings) = max status 1
 -- a text that is not decoded, or not decoded to its end
 abbrev pub is_undecoded : BlockState → Bool
 is_undecoded Whole = false
+is_undecoded (BeginsAt offset) = false
 is_undecoded MayBePairs = false
 is_undecoded Unended = false
+is_undecoded (Ended line) = false
 is_undecoded state = true
 
 -- octets that are shown: those of a text that is not decoded are shown if there are any

@@ -237,7 +237,11 @@ fn is_undecoded(state: BlockState) -> bool
 {
     !matches!(
         state,
-        BlockState::Whole | BlockState::MayBePairs | BlockState::Unended
+        BlockState::Whole
+            | BlockState::BeginsAt(_)
+            | BlockState::MayBePairs
+            | BlockState::Unended
+            | BlockState::Ended(_)
     )
 }
 

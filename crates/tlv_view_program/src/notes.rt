@@ -158,13 +158,23 @@ fn run_words(line: usize) -> ArrayVec<u8, 64>
     words_with_number(b"base64 of line ", line)
 }
 
-/// The words for what is wrong with the text of a block.
+/// The words for what is wrong with the text of a block, or for where a dump begins or ends.
 fn state_words(form: Form, state: BlockState) -> ArrayVec<u8, 128>
     ensures { result.items ≡ state_words form state }
 {
     let mut words = ArrayVec::new();
     match state {
         BlockState::Whole | BlockState::MayBePairs | BlockState::Absent => {}
+        BlockState::BeginsAt(offset) => {
+            let mut digits = Buffer::new();
+            let _ = words.try_extend_from_slice(b"; it begins at offset ");
+            let _ = words.try_extend_from_slice(digits.format(offset).as_bytes());
+        }
+        BlockState::Ended(line) => {
+            let mut digits = Buffer::new();
+            let _ = words.try_extend_from_slice(b"; it ends in front of line ");
+            let _ = words.try_extend_from_slice(digits.format(line).as_bytes());
+        }
         BlockState::Unended => {
             let _ = words.try_extend_from_slice(b"; its end marker is missing");
         }

@@ -1,12 +1,14 @@
 -- How the blocks of a text are counted.
-use Rattle.std.specs.Prelude.{◌≡◌, ℕ, ◌<◌, ◌≤◌, ◌&&◌, Bool, List, [], ◌∷◌, length, nat_lt, not}
-use Rattle.tlv_text.specs.Taken.{TakenValue, begins_with_zeros, is_complete, is_present, taken_octets}
+use Rattle.std.specs.Prelude.{◌≡◌, ℕ, ◌<◌, ◌≤◌, ◌&&◌, Bool, List, [], ◌∷◌, if◌then◌else◌, length, nat_lt, not}
+use Rattle.tlv_text.specs.Taken.{DumpCounts, TakenValue, begins_with_zeros, is_complete, is_present, taken_as}
+use Rattle.tlv_text.specs.Taken.{taken_octets}
 use Rattle.tlv_text.specs.declared.taken.Taken.{Taken}
 use Rattle.tlv_head.specs.Limits.{input_limit}
 use Rattle.tlv_text.specs.Blocks.{BlockValue}
 use Rattle.tlv_text.specs.Dump.{dump_limit}
 use Rattle.tlv_text.specs.declared.block.Form.{Form}
-use Rattle.tlv_text.specs.declared.block.Form.TheVariants.{Hex, Pem, Runs}
+use Rattle.tlv_text.specs.declared.block.Form.TheVariants.{Dump, Hex, Pem, Runs}
+use Rattle.tlv_text.specs.declared.taken.TakenFor.TheVariants.{Text}
 
 -- a block is in fewer than `layers` layers of base64, and is no longer than an input may be
 pub record IsBounded (layers : ℕ) (t : Taken) : Type 0 where
@@ -22,6 +24,11 @@ abbrev pub IsFittingForm : Form → List BlockValue → Type 0
 IsFittingForm Pem bs = Unit {0}
 IsFittingForm Runs bs = Unit {0}
 IsFittingForm form bs = length bs ≡ 1
+
+-- what the block of a dump counts as
+pub data IsDumpCount : List BlockValue → List TakenValue → Type 0 where
+  counted : {b : BlockValue} {answer : Bool} → DumpCounts b answer
+      → IsDumpCount (b ∷ []) (if answer then taken_as (Text Dump) b ∷ [] else [])
 
 -- a block counts, in a form in which each block counts by itself
 abbrev pub is_kept : Form → BlockValue → Bool

@@ -1,17 +1,20 @@
 //! Texts that are one block as a whole.
 ghost use Rattle.std.specs.Prelude.{◌≡◌, IfErr, IfOk, length};
-ghost use Rattle.tlv_text.specs.Blocks.{IsBase64Block, absent_block, alphabet_of, block_value, dump_block, hex_block};
-ghost use Rattle.tlv_text.specs.Blocks.{hex_read, numbers_block, only_block, state_at_place, state_of_list};
+ghost use Rattle.tlv_text.specs.Blocks.{IsBase64Block, absent_block, alphabet_of, block_value, dump_block, dump_state};
+ghost use Rattle.tlv_text.specs.Blocks.{hex_block, hex_read, numbers_block, only_block, state_at_offset};
+ghost use Rattle.tlv_text.specs.Blocks.{state_at_place, state_of_list};
 ghost use Rattle.tlv_text.specs.Dump.{IsFault};
+ghost use Rattle.tlv_text.specs.DumpEnds.{dump_radix};
 ghost use Rattle.tlv_text.specs.Numbers.{may_be_pairs};
 ghost use Rattle.tlv_text.specs.Private.BlockSteps.{IsRefusedWithin};
 ghost use Rattle.tlv_text.specs.TextRead.{refused_at};
 
-use super::lines::{TEXT_START, state_at_place};
+use super::lines::{TEXT_START, line_from, state_at_place};
+use crate::dump::{DumpDecoded, Radix, decode_with_radix, ends_dump, first_offset};
 use crate::numbers::{NumbersRead, read_numbers};
 use crate::{
-    Alphabet, Block, BlockState, Decoded, TextFault, decode_base64, decode_dump, decode_pairs,
-    decode_tokens, has_tokens,
+    Alphabet, Block, BlockState, Decoded, TextFault, decode_base64, decode_pairs, decode_tokens,
+    has_tokens,
 };
 use arrayvec::ArrayVec;
 use memchr::memchr2;
@@ -22,9 +25,38 @@ pub(super) fn dump_block(alloc: Global, text: &[u8]) -> Result<Block, TextFault>
     ensures block { IfOk result (λ b. block_value b ≡ dump_block text.now) }
     ensures fault { IfErr result (IsFault text.now) }
 {
-    match decode_dump(alloc, text) {
-        Ok(decoded) => Ok(decoded_block(text, decoded)),
+    match decode_with_radix(alloc, text) {
+        Ok(DumpDecoded { decoded, radix }) => {
+            let state = dump_state(text, radix, decoded.octets.as_slice(), decoded.refused);
+            Ok(only_block(decoded.octets, state))
+        }
         Err(fault) => Err(fault),
+    }
+}
+
+/// The state of a dump with these octets, and with offsets of this radix.
+fn dump_state(text: &[u8], radix: Radix, octets: &[u8], refused: Option<usize>) -> BlockState
+    requires radix { radix ≡ dump_radix text.now }
+    requires refused { IsRefusedWithin (length text.now) refused }
+    ensures { result ≡ dump_state text.now octets.now refused }
+{
+    match refused {
+        None => state_at_offset(first_offset(radix, text)),
+        Some(place) if !octets.is_empty() && ends_dump(text, place) => {
+            BlockState::Ended(line_from(text, TEXT_START, place).line)
+        }
+        Some(place) => BlockState::Refused(line_from(text, TEXT_START, place).line),
+    }
+}
+
+/// The state of a dump of which nothing is refused, and that begins at this offset.
+fn state_at_offset(offset: u64) -> BlockState
+    ensures { result ≡ state_at_offset offset }
+{
+    if offset == 0 {
+        BlockState::Whole
+    } else {
+        BlockState::BeginsAt(offset)
     }
 }
 

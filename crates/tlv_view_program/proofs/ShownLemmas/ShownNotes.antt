@@ -9,7 +9,8 @@ use Rattle.std.proofs.lemmas.List.Folds.{list_all-append}
 use Rattle.tlv_value.specs.Units.{is_printable}
 use Rattle.tlv_text.specs.Blocks.{BlockValue}
 use Rattle.tlv_text.specs.declared.block.BlockState.{BlockState}
-use Rattle.tlv_text.specs.declared.block.BlockState.TheVariants.{Whole, MayBePairs, Unended, Encrypted, Refused, Absent}
+use Rattle.tlv_text.specs.declared.block.BlockState.TheVariants.{Whole, BeginsAt, MayBePairs, Unended, Ended, Encrypted}
+use Rattle.tlv_text.specs.declared.block.BlockState.TheVariants.{Refused, Absent}
 use Rattle.tlv_text.specs.declared.block.Form.{Form}
 use Rattle.tlv_text.specs.declared.block.Form.TheVariants.{Pem, Dump, Hex, Numbers, Base64, Runs}
 use Rattle.tlv_text.specs.declared.text_fault.TextFault.{TextFault}
@@ -91,8 +92,10 @@ expected-shown Runs = refl
 
 state-shown : (form : Form) (state : BlockState) → AreShown (state_words form state)
 state-shown form Whole = refl
+state-shown form (BeginsAt offset) = simp (list_all-append, decimal-shown)
 state-shown form MayBePairs = refl
 state-shown form Unended = refl
+state-shown form (Ended line) = simp (list_all-append, decimal-shown)
 state-shown form Encrypted = refl
 state-shown form (Refused line) = simp (list_all-append, decimal-shown, expected-shown)
 state-shown form Absent = refl
@@ -119,8 +122,10 @@ form_note-shown form layers b shown =
 text_note-shown : (form : Form) (layers : List (Option ℕ)) (b : BlockValue) (state : BlockState) → HasShownLabel b
     → AreShown (text_note form layers b state)
 text_note-shown form layers b Whole shown = form_note-shown form layers b shown
+text_note-shown form layers b (BeginsAt offset) shown = form_note-shown form layers b shown
 text_note-shown form layers b MayBePairs shown = form_note-shown form layers b shown
 text_note-shown form layers b Unended shown = form_note-shown form layers b shown
+text_note-shown form layers b (Ended line) shown = form_note-shown form layers b shown
 text_note-shown form layers b Encrypted shown = form_note-shown form layers b shown
 text_note-shown form layers b (Refused line) shown = form_note-shown form layers b shown
 text_note-shown form layers b Absent shown = absent-shown form
@@ -164,8 +169,10 @@ name_in_form-shown Hex state b shown = refl
 name_in_form-shown Numbers state b shown = refl
 name_in_form-shown Base64 state b shown = refl
 name_in_form-shown Runs Whole b shown = form_words-shown Runs b.line
+name_in_form-shown Runs (BeginsAt offset) b shown = form_words-shown Runs b.line
 name_in_form-shown Runs MayBePairs b shown = form_words-shown Runs b.line
 name_in_form-shown Runs Unended b shown = form_words-shown Runs b.line
+name_in_form-shown Runs (Ended line) b shown = form_words-shown Runs b.line
 name_in_form-shown Runs Encrypted b shown = form_words-shown Runs b.line
 name_in_form-shown Runs (Refused line) b shown = form_words-shown Runs b.line
 name_in_form-shown Runs Absent b shown = refl

@@ -63,7 +63,7 @@ module _ (Inner : List ℕ → List TakenValue → Type 0) (inner : ShowsInner I
       → BlocksCount Inner form bs ts → All IsShownTaken ts
   blocks_count-shown _ _ _ all (BlocksCount.pem {bs}) =
       all_taken-shown _ _ (All-filter (λ (b : BlockValue). is_present b.state) HasShownLabel bs all)
-  blocks_count-shown _ _ _ all (BlocksCount.dump {b}) = if-shown _ _ (All-head HasShownLabel b [] all)
+  blocks_count-shown _ _ _ all (BlocksCount.dump {b} counts) = if-shown _ _ (All-head HasShownLabel b [] all)
   blocks_count-shown _ _ _ all (BlocksCount.hex {b}) = if-shown _ _ (All-head HasShownLabel b [] all)
   blocks_count-shown _ _ _ all (BlocksCount.numbers {b}) = if-shown _ _ (All-head HasShownLabel b [] all)
   blocks_count-shown _ _ _ all (BlocksCount.base64 {b} {ts} complete counts) =

@@ -13,7 +13,8 @@ use Rattle.tlv_text.proofs.CountLemmas.{each-fits, next-fit, one-fits}
 use Rattle.tlv_text.proofs.CountingLemmas.{base64-broken, base64-counts, counts-encodings, counts-nothing}
 use Rattle.tlv_text.proofs.CountingLemmas.{counts-other, counts-text, fault-weaker, next-run, octets-none, octets-some}
 use Rattle.tlv_text.proofs.CountingLemmas.{only-base64, returned-fault, written-back}
-use Rattle.tlv_text.proofs.FormLemmas.{first-here, first-later, first-none, inner-control, inner-long, inner-text}
+use Rattle.tlv_text.proofs.FormLemmas.{dump-counted, first-here, first-later, first-none, inner-control, inner-long}
+use Rattle.tlv_text.proofs.FormLemmas.{inner-text}
 use Rattle.tlv_text.proofs.FormLemmas.{kept-count, long-here, long-inside, long-later, more-bounded}
 use Rattle.tlv_text.proofs.RunCounts.{count-more, runs-all, runs-more, runs-too_many}
 use Rattle.tlv_text.proofs.InputLemmas.{none-taken, text-is}
@@ -107,12 +108,29 @@ counted_base64-returns-clause-taken t c =
           absurd (omega (arith, none.0, length-map c.args.blocks.items block_value))
     ]
 
-pub counted_blocks-returns-in_err-kept_blocks-in-Pem :
-    goal.counted_blocks-returns-in_err-kept_blocks-in-Pem
-counted_blocks-returns-in_err-kept_blocks-in-Pem t c = record {
+pub counted_blocks-returns-in_err-counted_dump-in-Dump :
+    goal.counted_blocks-returns-in_err-counted_dump-in-Dump
+counted_blocks-returns-in_err-counted_dump-in-Dump t c = record {
   taken = IfOk-from_err _ _ c.from_residual.ensures.0;
   bounded = IfOk-from_err _ _ c.from_residual.ensures.0;
   fault = returned-fault _ Memory _ c.from_residual.ensures.1 tt;
+}
+
+pub counted_blocks-returns-in_ok-counted_dump-in-Dump :
+    goal.counted_blocks-returns-in_ok-counted_dump-in-Dump
+counted_blocks-returns-in_ok-counted_dump-in-Dump t c = record {
+  taken = dump-counted (TextBlocks c.args.layers) c.args.form _ _ c.in-Dump.is
+      c.in_ok-counted_dump-in-Dump.ensures.taken;
+  bounded = more-bounded c.args.layers _ c.in_ok-counted_dump-in-Dump.ensures.bounded;
+  fault = tt;
+}
+
+pub counted_blocks-returns-in_err-kept_blocks-in-Pem :
+    goal.counted_blocks-returns-in_err-kept_blocks-in-Pem
+counted_blocks-returns-in_err-kept_blocks-in-Pem t c = record {
+  taken = IfOk-from_err _ _ c.from_residual-in_err-kept_blocks-in-Pem.ensures.0;
+  bounded = IfOk-from_err _ _ c.from_residual-in_err-kept_blocks-in-Pem.ensures.0;
+  fault = returned-fault _ Memory _ c.from_residual-in_err-kept_blocks-in-Pem.ensures.1 tt;
 }
 
 pub counted_blocks-returns-in-Runs-clause-taken : goal.counted_blocks-returns-in-Runs-clause-taken
