@@ -96,7 +96,20 @@ def sound(checks, octets, has_iconv):
             checks.same(f"{what}, spaces for line ends", text.replace(b"\n", b" "), octets)
         if form == "dump":
             in_one_line(checks, what, text)
+            with_lines_behind(checks, what, text, octets)
         shown(checks, what, text, octets)
+
+
+def with_lines_behind(checks, what, text, octets):
+    """A dump ends in front of lines that are no rows, and is refused there if a row or a repeat comes behind them."""
+    for behind in (b"user@host:~$ ", b"end\n0000\n1234 files\n", b"\n \n$ exit\n\n"):
+        line = text.count(b"\n") + 1 + 2 * behind.startswith(b"\n")
+        for as_form in (None, "dump"):
+            got, here = checks.raw(what, text + behind, as_form), f"{what}, {behind!r} behind it, {as_form}"
+            said = f"taken for a hex dump; it ends in front of line {line}\n".encode()
+            checks.part.expect(here, (got.status, got.out) == (0, octets) and got.err.endswith(said), *got.lines())
+        for more in (b"\n0000: 30\n", b"\n*\n"):
+            checks.refused(f"{what}, {behind + more!r} behind it", text + behind + more, octets, "dump", line)
 
 
 def in_one_line(checks, what, text):

@@ -91,6 +91,7 @@ ROWS = (
 )
 OCTAL = (od,)
 BEFORE = ("12:00:01.5 IP 10.0.0.1.22 > 10.0.0.2.5: Flags [P.], length 5", "# x", "", "Path: a", "0000 zz", "*", "abcd")
+AFTER = ("user@host:~$ ", "end", "", "*", "0010", "1234 files", "00000010: 05", "zz: 05 00")
 ENDED = (hexdump, od, od_z, words)
 
 
@@ -115,6 +116,8 @@ def dump(rng, octets):
         lines.append(f"{end:07o}" if row in OCTAL else f"{end:08x}")
     if rng.random() < 0.1:
         lines.insert(0, rng.choice(BEFORE))
+    while rng.random() < 0.15:
+        lines.append(rng.choice(AFTER))
     if rng.random() < 0.12:
         lines = altered(rng, lines)
     return ("\n".join(lines) + rng.choice(["\n", "\n", "\n\n", ""])).encode()

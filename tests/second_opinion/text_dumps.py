@@ -72,8 +72,8 @@ def decoded(text):
 
 
 def ends_at(text, place):
-    """Returns whether a dump that is refused at a line ends there: the line has no offset, no row and no repeat comes from
-    there on, and the last line before it that is not empty is no repeat.
+    """Returns whether a dump that is refused at a line ends there: the line has no offset, no row and no repeat comes
+    from there on, and the last line before it that is not empty is no repeat.
     """
     before = [line for _, line in lines_of(text[:place]) if not EMPTY.fullmatch(line)]
     after = [line for _, line in lines_of(text[place:])]
@@ -94,9 +94,9 @@ def lines_of(text):
 class Dump:
     """A dump whose offsets have this base.
 
-    `place` is where it is refused, or None. `first` is the first row, and `start` its offset. `pieces` are octets, each with a size: the octets
-    are repeated up to this size, because a repeat may stand for many. `width` is the number of octets in a row. It is
-    None for a single row, which may have any number.
+    `place` is where it is refused, or None. `first` is the first row, and `start` its offset. `pieces` are octets, each
+    with a size: the octets are repeated up to this size, because a repeat may stand for many. `width` is the number of
+    octets in a row. It is None for a single row, which may have any number.
     """
 
     def __init__(self, text, base):

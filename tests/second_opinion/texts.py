@@ -243,7 +243,8 @@ def in_layer(blocks, line):
 
 
 def of_counting_dump(text):
-    """Returns the block of a dump that is not refused, or None. If it ends in front of a line, its octets have to count.
+    """Returns the block of a dump that is not refused, or None.
+    If it ends in front of a line, its octets have to count.
     """
     decoded = text_dumps.decoded(text)
     if decoded.place is not None or decoded.end is not None and not counts(decoded.octets):

@@ -81,16 +81,16 @@ state_at_offset offset = if offset == 0 then Whole else BeginsAt offset
 
 -- the state of a dump with these octets, which is refused at a place, or at none. It is not refused, and ends there, if
 -- it has an octet and no row follows
-abbrev pub dump_state : List ℕ → List ℕ → Option ℕ → BlockState
-dump_state text octets None = state_at_offset (dump_offset text)
-dump_state text [] (Some place) = Refused (line_at text place)
-dump_state text (x ∷ octets) (Some place) =
+abbrev pub state_of_dump : List ℕ → List ℕ → Option ℕ → BlockState
+state_of_dump text octets None = state_at_offset (dump_offset text)
+state_of_dump text [] (Some place) = Refused (line_at text place)
+state_of_dump text (x ∷ octets) (Some place) =
     if ends_dump text place then Ended (line_at text place) else Refused (line_at text place)
 
 abbrev pub dump_block : List ℕ → BlockValue
 dump_block text =
     only_block (dump_read text).octets
-    (dump_state text (dump_read text).octets (refused_in text (dump_read text).left))
+    (state_of_dump text (dump_read text).octets (refused_in text (dump_read text).left))
 
 -- numbers of which nothing is refused, but which may be pairs of hexadecimal digits
 abbrev pub state_of_list : List ℕ → BlockState → BlockState

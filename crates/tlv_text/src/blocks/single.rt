@@ -1,8 +1,8 @@
 //! Texts that are one block as a whole.
 ghost use Rattle.std.specs.Prelude.{◌≡◌, IfErr, IfOk, length};
-ghost use Rattle.tlv_text.specs.Blocks.{IsBase64Block, absent_block, alphabet_of, block_value, dump_block, dump_state};
-ghost use Rattle.tlv_text.specs.Blocks.{hex_block, hex_read, numbers_block, only_block, state_at_offset};
-ghost use Rattle.tlv_text.specs.Blocks.{state_at_place, state_of_list};
+ghost use Rattle.tlv_text.specs.Blocks.{IsBase64Block, absent_block, alphabet_of, block_value, dump_block, hex_block};
+ghost use Rattle.tlv_text.specs.Blocks.{hex_read, numbers_block, only_block, state_at_offset, state_at_place};
+ghost use Rattle.tlv_text.specs.Blocks.{state_of_dump, state_of_list};
 ghost use Rattle.tlv_text.specs.Dump.{IsFault};
 ghost use Rattle.tlv_text.specs.DumpEnds.{dump_radix};
 ghost use Rattle.tlv_text.specs.Numbers.{may_be_pairs};
@@ -27,7 +27,7 @@ pub(super) fn dump_block(alloc: Global, text: &[u8]) -> Result<Block, TextFault>
 {
     match decode_with_radix(alloc, text) {
         Ok(DumpDecoded { decoded, radix }) => {
-            let state = dump_state(text, radix, decoded.octets.as_slice(), decoded.refused);
+            let state = state_of_dump(text, radix, decoded.octets.as_slice(), decoded.refused);
             Ok(only_block(decoded.octets, state))
         }
         Err(fault) => Err(fault),
@@ -35,10 +35,10 @@ pub(super) fn dump_block(alloc: Global, text: &[u8]) -> Result<Block, TextFault>
 }
 
 /// The state of a dump with these octets, and with offsets of this radix.
-fn dump_state(text: &[u8], radix: Radix, octets: &[u8], refused: Option<usize>) -> BlockState
+fn state_of_dump(text: &[u8], radix: Radix, octets: &[u8], refused: Option<usize>) -> BlockState
     requires radix { radix ≡ dump_radix text.now }
     requires refused { IsRefusedWithin (length text.now) refused }
-    ensures { result ≡ dump_state text.now octets.now refused }
+    ensures { result ≡ state_of_dump text.now octets.now refused }
 {
     match refused {
         None => state_at_offset(first_offset(radix, text)),
