@@ -85,11 +85,17 @@ def in_record(rng, octets):
     """A length in one of many records is wrong by 1 to 5. 2^19 octets or more stand in front of it, and as many behind it, or
     twice as many.
     """
-    damage, others = by_few(rng, octets), octets * (LONG // (2 * len(octets)) + 1)
+    return among_records(rng, octets, by_few(rng, octets))
+
+
+def among_records(rng, octets, damage):
+    """Puts so many sound records around a damaged one, if there is one."""
     if damage is None:
         return None
+    others = octets * (LONG // (2 * len(octets)) + 1)
     behind = others * rng.choice((1, 2))
-    return Damage(others + damage.octets + behind, len(others) + damage.offset, damage.length)
+    offset = None if damage.offset is None else len(others) + damage.offset
+    return Damage(others + damage.octets + behind, offset, damage.length)
 
 
 def by_any(rng, octets):
@@ -250,6 +256,13 @@ def apart(rng, octets):
     return Damage(b"".join(len(it).to_bytes(size, rng.choice(("big", "little"))) + it for it in records))
 
 
+def other_in_record(rng, octets):
+    """In one of many such records, of definite length, octets are lost, put in or doubled, or a value is edited."""
+    if Reading(octets).items[0].length is None:
+        return None
+    return among_records(rng, octets, rng.choice((lost, put_in, doubled, edited))(rng, octets))
+
+
 # Damages of a length: the least share of 100 with the header among those that are named, and with its right length.
 # Those by more than 5 have to reach theirs together. No share is asked of a length that is wrong by any number.
 FEW, MORE, ANY = ((by_few,), 95, 75), ((by_bit, by_swap, by_256), 95, 80), ((by_any,), 0, 0)
@@ -340,6 +353,9 @@ def measure(shares, tell, expect):
         tell(f"{what_of(kind)}: another length is said in {share:.1f} of 100")
     share = sum(others) / len(others)
     expect("damages that change no length", share <= MOST_FALSE, f"another length is said in {share:.1f} of 100")
+    share = shares.of_others(other_in_record, COUNT // 2)
+    tell(f"{what_of(other_in_record)}: another length is said in {share:.1f} of 100")
+    expect("damages in a record that change no length", share <= MOST_FALSE, f"another length is said in {share:.1f} of 100")
     for kind in IN_PLACE:
         tell(f"{what_of(kind)}: another length is said in {shares.of_others(kind, COUNT):.1f} of 100")
     measure_sizes(shares, tell, expect)

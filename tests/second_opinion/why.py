@@ -117,10 +117,10 @@ def named_lengths(search, stand):
     None for the end of the input.
     """
     octets, padding, top = search.octets, search.padding, stand.top
-    if not why_search.sizes_agree(octets, padding, top):
-        return [], None
     if not search.is_short:
         return lengths_in_window(octets, padding, top)
+    if not why_search.sizes_agree(octets, padding, top):
+        return [], None
     return search.other_lengths(stand.candidates(), stand.open), None
 
 
@@ -129,7 +129,7 @@ def lengths_in_window(octets, padding, top):
     end = top + why_search.MOST_SEARCHED
     part, is_cut = octets[top:end], end < len(octets)
     stand = Stand(part, padding)
-    if is_cut and stand.fault.code == "F02":
+    if not is_followed(part, padding, is_cut) or is_cut and stand.fault.code == "F02":
         return [], None
     is_wide = stand.fault.offset <= why_search.MOST_WIDE
     search = why_search.Search(part, padding, is_wide=is_wide, is_cut=is_cut)
@@ -137,6 +137,18 @@ def lengths_in_window(octets, padding, top):
     for it, _ in named:
         it.offset += top
     return named, end if is_cut else None
+
+
+def is_followed(part, padding, is_cut):
+    """Returns whether what follows the first element of a window speaks for the length that it states."""
+    first = why_search.header_at(part, 0)
+    if first is None or first.length is None:
+        return first is not None
+    end = why_search.end_of(first)
+    if not first.constructed or end >= len(part):
+        return first.constructed and end == len(part)
+    fault = Reading(part[end:], (), padding).fault
+    return part[end] == part[0] and (fault is None or is_cut and fault.code == "F02")
 
 
 @functools.lru_cache(maxsize=16)

@@ -51,11 +51,12 @@ pub data IsTextChange (padding : Bool) (octets : List ℕ) : Option TextChange �
 -- on. Otherwise octets are missing or left over, and none is named. Of an input that is too long to be searched as a
 -- whole, a window is searched
 pub data AreNamedLengths (padding : Bool) (octets : List ℕ) (facts : Facts) : List WrongLength → Type 0 where
-  in_disagreement : (SizesAgree padding octets facts.top → ⊥) → AreNamedLengths padding octets facts []
-  in_agreement : {found : List WrongLength} → SizesAgree padding octets facts.top → length octets ≤ search_limit
+  in_disagreement : length octets ≤ search_limit → (SizesAgree padding octets facts.top → ⊥)
+      → AreNamedLengths padding octets facts []
+  in_agreement : {found : List WrongLength} → length octets ≤ search_limit → SizesAgree padding octets facts.top
       → NamesLengths (closed_framing padding) (whole_bounds octets) octets facts.holders.items (suspect_offsets facts) found
       → AreNamedLengths padding octets facts found
-  in_window : {found : List WrongLength} → SizesAgree padding octets facts.top → search_limit < length octets
+  in_window : {found : List WrongLength} → search_limit < length octets
       → AreLengthsInWindow padding octets facts.top found → AreNamedLengths padding octets facts found
 
 -- another length that is named for the header at this offset

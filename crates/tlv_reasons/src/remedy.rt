@@ -81,11 +81,11 @@ fn named_lengths(
     requires { length octets.now ≤ input_limit }
     ensures { IfOk result (λ found. AreNamedLengths padding octets.now facts.now found.items) }
 {
-    if !sizes_agree(octets, padding, facts.top as usize) {
-        return Ok(WrongLengths::new());
-    }
     if octets.len() > SEARCH_LIMIT {
         return lengths_in_window(alloc, octets, padding, facts.top as usize);
+    }
+    if !sizes_agree(octets, padding, facts.top as usize) {
+        return Ok(WrongLengths::new());
     }
     let framing = closed_framing(padding);
     let bounds = Bounds::whole(octets);

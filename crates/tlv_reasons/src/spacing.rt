@@ -94,7 +94,7 @@ fn spaced_from(octets: &[u8], gap: usize, first: usize) -> Option<Spacing>
 }
 
 /// Whether the octets at these two offsets are equal.
-fn are_alike(octets: &[u8], first: usize, second: usize) -> bool
+pub(crate) fn are_alike(octets: &[u8], first: usize, second: usize) -> bool
     ensures { result ≡ are_alike octets.now first second }
 {
     octet_at(octets, first as u64) == octet_at(octets, second as u64)

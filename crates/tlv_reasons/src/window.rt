@@ -1,7 +1,7 @@
 //! Other lengths in a window of an input that is too long to be searched as a whole.
-ghost use Rattle.std.specs.Prelude.{◌≡◌, ◌≤◌, IfOk, length, map, take};
+ghost use Rattle.std.specs.Prelude.{◌≡◌, ◌≤◌, ◌↔◌, IfOk, IsTrue, length, map, take};
 ghost use Rattle.tlv_head.specs.Limits.{input_limit};
-ghost use Rattle.tlv_reasons.specs.Window.{AreLengthsInWindow, behind, is_cut, is_fault_behind, window, window_end};
+ghost use Rattle.tlv_reasons.specs.Window.{AreLengthsInWindow, BeginsIndefinite, IsFollowed, ParsesOn, behind, is_cut, is_fault_behind, window, window_end};
 ghost use Rattle.tlv_reasons.specs.WrongLength.{search_limit};
 
 use crate::Facts;
@@ -10,12 +10,16 @@ use crate::facts_call::{facts_of, octets_from};
 use crate::lengths::{SEARCH_LIMIT, WrongLength, WrongLengths, wrong_lengths};
 use crate::mend::fault_offset;
 use crate::sizes::says_sizes;
-use crate::sound::closed_framing;
+use crate::sound::{closed_framing, ending_in};
+use crate::spacing::{are_alike, stated_end};
 use crate::suspects::suspect_offsets;
 use std::alloc::{AllocError, Global};
+use tlv_head::{Size, read_header};
+use tlv_walk::{Ending, Framing};
 
 /// The headers whose length may be wrong in the octets from the top end on, at most [`SEARCH_LIMIT`] of them, which are
-/// searched as an input of their own. None if the fault is behind them.
+/// searched as an input of their own. None if what follows the damaged element speaks against the length that it states,
+/// or if the fault is behind them.
 pub(crate) fn lengths_in_window(
     alloc: Global,
     octets: &[u8],
@@ -28,6 +32,9 @@ pub(crate) fn lengths_in_window(
     let searched = window(octets, top);
     let cut = is_cut(octets, top);
     let framing = closed_framing(padding);
+    if !is_followed(searched, &framing, cut) {
+        return Ok(WrongLengths::new());
+    }
     let facts = facts_of(searched, &framing);
     if is_fault_behind(cut, &facts) {
         return Ok(WrongLengths::new());
@@ -47,6 +54,53 @@ pub(crate) fn lengths_in_window(
         candidates.as_slice(),
     )?;
     Ok(all_behind(top, found.as_slice()))
+}
+
+/// Whether what follows the damaged element, with which a window begins, speaks for the length that it states: nothing
+/// follows, or a record that begins as it does, and nothing is wrong from there on. Otherwise octets are missing in the damaged
+/// element, or too many. An indefinite length states nothing.
+fn is_followed(octets: &[u8], framing: &Framing<'_>, cut: bool) -> bool
+    requires { length octets.now ≤ input_limit }
+    ensures { IsTrue result ↔ IsFollowed framing.now cut octets.now }
+{
+    let Some(end) = stated_end(octets, 0) else {
+        return begins_indefinite(octets);
+    };
+    if end == octets.len() {
+        return true;
+    }
+    if !are_alike(octets, 0, end) {
+        return false;
+    }
+    parses_on(octets_from(octets, end as u64), framing, cut)
+}
+
+/// Whether nothing is wrong with these octets, with which a window ends, but that they are cut off.
+fn parses_on(octets: &[u8], framing: &Framing<'_>, cut: bool) -> bool
+    requires { length octets.now ≤ input_limit }
+    ensures { IsTrue result ↔ ParsesOn framing.now cut octets.now }
+{
+    let fault = match ending_in(octets, framing) {
+        Ending::Done => return true,
+        Ending::Fault(fault) => fault,
+    };
+    if !cut {
+        return false;
+    }
+    says_sizes(Some(fault))
+}
+
+/// Whether the octets begin with an element of indefinite length.
+fn begins_indefinite(octets: &[u8]) -> bool
+    ensures { IsTrue result ↔ BeginsIndefinite octets.now }
+{
+    let Some((fields, _)) = read_header(0, false, octets) else {
+        return false;
+    };
+    match fields.size {
+        Size::Indefinite => true,
+        Size::Definite(_) => false,
+    }
 }
 
 /// Whether the fault of the input is behind a window with these facts: nothing is wrong in it but that it is cut off.
