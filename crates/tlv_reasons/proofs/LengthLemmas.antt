@@ -120,7 +120,8 @@ module _ {octets : List ℕ} {offset start count : ℕ} {fields : HeaderFields} 
 
   -- the first length that does if its octets are changed in place is the first that does if the header says it
   first-with : (r : Option ℕ)
-      → IsFirstOf (MendedWithOctets framing bounds start (offset + count) octets) (sayable ((offset + count) - start) lengths) r
+      → IsFirstOf (MendedWithOctets framing bounds start (offset + count) octets)
+      (sayable ((offset + count) - start) lengths) r
       → IsRightLength framing bounds octets holders offset header r
   first-with r f =
       let whole : length raw ≡ count = length-take-le count (drop offset octets) t.begins.within in
@@ -147,8 +148,8 @@ module _ {octets : List ℕ} {offset start count : ℕ} {fields : HeaderFields} 
 
   -- a length is found there
   pub found-at : (would : ℕ)
-      → IsFirstOf (MendedWithOctets framing bounds start (offset + count) octets) (sayable ((offset + count) - start) lengths)
-      (Some would)
+      → IsFirstOf (MendedWithOctets framing bounds start (offset + count) octets)
+      (sayable ((offset + count) - start) lengths) (Some would)
       → IsOtherLength framing bounds octets holders offset (record { offset = offset; said = said; would = would })
   found-at would f = record {
     header = header;

@@ -37,7 +37,8 @@ begins-by framing octets facts are = (
     some = subst (λ (n : ℕ). 0 < n) are.are_facts.top (ltb-true 0 facts.top t);
   }),
   (λ b.
-      let same : b.reading ≡ are.reading = reading-unique framing octets b.reading are.reading b.is_reading are.is_reading in
+      let same : b.reading ≡ are.reading =
+      reading-unique framing octets b.reading are.reading b.is_reading are.is_reading in
       let top : whole_end 0 b.reading ≡ facts.top = ap (whole_end 0) same ∙ sym are.are_facts.top in
       lt-ltb 0 facts.top (subst (λ (n : ℕ). 0 < n) top b.some)),
 )

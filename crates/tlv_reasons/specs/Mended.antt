@@ -15,8 +15,8 @@ pub record BeginsWhole (framing : Framing) (octets : List ℕ) : Type 0 where
   pub some : 0 < whole_end 0 reading
 
 -- the octets, as a change leaves them, are whole encodings. If more octets of the input follow that are not searched,
--- it is enough that they begin with whole elements, and that nothing is wrong with them but that they end inside another
--- encoding (F02)
+-- it is enough that they begin with whole elements, and that nothing is wrong with them but that they end inside
+-- another encoding (F02)
 pub data IsMended (framing : Framing) (bounds : Bounds) (octets : List ℕ) : Type 0 where
   whole : IsSoundList framing octets → IsMended framing bounds octets
   cut_off : (count : ℕ) → bounds.cut ≡ true → BeginsWhole framing octets

@@ -54,7 +54,8 @@ pub data AreNamedLengths (padding : Bool) (octets : List ℕ) (facts : Facts) : 
   in_disagreement : length octets ≤ search_limit → (SizesAgree padding octets facts.top → ⊥)
       → AreNamedLengths padding octets facts []
   in_agreement : {found : List WrongLength} → length octets ≤ search_limit → SizesAgree padding octets facts.top
-      → NamesLengths (closed_framing padding) (whole_bounds octets) octets facts.holders.items (suspect_offsets facts) found
+      → NamesLengths (closed_framing padding) (whole_bounds octets) octets facts.holders.items
+      (suspect_offsets facts) found
       → AreNamedLengths padding octets facts found
   in_window : {found : List WrongLength} → search_limit < length octets
       → AreLengthsInWindow padding octets facts.top found → AreNamedLengths padding octets facts found

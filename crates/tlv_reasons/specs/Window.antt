@@ -32,8 +32,8 @@ is_cut octets top = nat_lt search_limit (length (drop top octets))
 abbrev pub window_end : List ℕ → ℕ → Option ℕ
 window_end octets top = if is_cut octets top then Some (offset_sum top search_limit) else None
 
--- the bounds of the search of a window with these facts. All lengths are tried if its fault is in so many octets from its
--- start: a limit of our own
+-- the bounds of the search of a window with these facts. All lengths are tried if its fault is in so many octets from
+-- its start: a limit of our own
 abbrev pub window_bounds : Bool → Facts → Bounds
 window_bounds cut facts = record { cut = cut; wide = nat_le (fault_offset facts) wide_limit }
 
@@ -53,9 +53,9 @@ pub record BeginsIndefinite (octets : List ℕ) : Type 0 where
   pub begins : BeginsWith octets 0 false header
   pub size_is : header.size ≡ Indefinite
 
--- what follows the damaged element, with which a window begins, speaks for the length that it states: nothing follows, or a
--- record that begins as it does, and nothing is wrong from there on. Otherwise octets are missing in the damaged element, or
--- too many. An indefinite length states nothing
+-- what follows the damaged element, with which a window begins, speaks for the length that it states: nothing follows,
+-- or a record that begins as it does, and nothing is wrong from there on. Otherwise octets are missing in the damaged
+-- element, or too many. An indefinite length states nothing
 pub data IsFollowed (framing : Framing) (cut : Bool) (octets : List ℕ) : Type 0 where
   by_nothing : (end : ℕ) → EndsAsStated octets 0 end → end ≡ length octets → IsFollowed framing cut octets
   by_a_record : (end : ℕ) → EndsAsStated octets 0 end → are_alike octets 0 end ≡ true

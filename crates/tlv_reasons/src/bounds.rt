@@ -14,8 +14,8 @@ pub(crate) const WIDE_LIMIT: usize = 1 << 18;
 /// How far octets are searched for a wrong length.
 #[derive(Clone, Copy, Debug, PartialEq, Eq)]
 pub struct Bounds {
-    /// Whether more octets of the input follow that are not searched. Then a change mends these octets also if they begin
-    /// with a whole element, and nothing is wrong with them but that they end inside another.
+    /// Whether more octets of the input follow that are not searched. Then a change mends these octets also if they
+    /// begin with a whole element, and nothing is wrong with them but that they end inside another.
     pub cut: bool,
     /// Whether all lengths are tried, and not only those nearby, and up to three headers are named, and not only one.
     pub wide: bool,

@@ -48,9 +48,9 @@ impl Default for WrongLength {
 /// 1 to 5 octets more or fewer, nearer ones first, and of two that are equally near the greater first; those that differ
 /// in one bit; the octets of the length in reverse order; 256 octets more or fewer; and, if the element is constructed, the
 /// length with which it ends where the innermost of the open elements (`holders`) in front of it ends, or with the input.
-/// The other length takes as many length octets as before. Unless `bounds.wide` is set, only those at most 5 octets away
-/// are tried, and one header is named. Of an input of more than [`SEARCH_LIMIT`] octets there is none. `framing` says how the
-/// input is read: which strings hold encodings, and whether octets `00` are allowed at the top level.
+/// The other length takes as many length octets as before. Unless `bounds.wide` is set, only those at most 5 octets
+/// away are tried, and one header is named. Of an input of more than [`SEARCH_LIMIT`] octets there is none. `framing`
+/// says how the input is read: which strings hold encodings, and whether octets `00` are allowed at the top level.
 ///
 /// # Errors
 ///

@@ -71,7 +71,8 @@ fn other_length(
 }
 
 /// The headers whose length may be wrong; none if the sizes of the outermost elements do not agree with that of the
-/// input, since octets are then missing or left over. In an input of more than [`SEARCH_LIMIT`] octets those in the window.
+/// input, since octets are then missing or left over. In an input of more than [`SEARCH_LIMIT`] octets those in the
+/// window.
 fn named_lengths(
     alloc: Global,
     octets: &[u8],

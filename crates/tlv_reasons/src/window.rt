@@ -1,7 +1,8 @@
 //! Other lengths in a window of an input that is too long to be searched as a whole.
 ghost use Rattle.std.specs.Prelude.{◌≡◌, ◌≤◌, ◌↔◌, IfOk, IsTrue, length, map, take};
 ghost use Rattle.tlv_head.specs.Limits.{input_limit};
-ghost use Rattle.tlv_reasons.specs.Window.{AreLengthsInWindow, BeginsIndefinite, IsFollowed, ParsesOn, behind, is_cut, is_fault_behind, window, window_end};
+ghost use Rattle.tlv_reasons.specs.Window.{AreLengthsInWindow, BeginsIndefinite, IsFollowed, ParsesOn, behind, is_cut};
+ghost use Rattle.tlv_reasons.specs.Window.{is_fault_behind, window, window_end};
 ghost use Rattle.tlv_reasons.specs.WrongLength.{search_limit};
 
 use crate::Facts;
@@ -18,8 +19,8 @@ use tlv_head::{Size, read_header};
 use tlv_walk::{Ending, Framing};
 
 /// The headers whose length may be wrong in the octets from the top end on, at most [`SEARCH_LIMIT`] of them, which are
-/// searched as an input of their own. None if what follows the damaged element speaks against the length that it states,
-/// or if the fault is behind them.
+/// searched as an input of their own. None if what follows the damaged element speaks against the length that it
+/// states, or if the fault is behind them.
 pub(crate) fn lengths_in_window(
     alloc: Global,
     octets: &[u8],
@@ -57,8 +58,8 @@ pub(crate) fn lengths_in_window(
 }
 
 /// Whether what follows the damaged element, with which a window begins, speaks for the length that it states: nothing
-/// follows, or a record that begins as it does, and nothing is wrong from there on. Otherwise octets are missing in the damaged
-/// element, or too many. An indefinite length states nothing.
+/// follows, or a record that begins as it does, and nothing is wrong from there on. Otherwise octets are missing in
+/// the damaged element, or too many. An indefinite length states nothing.
 fn is_followed(octets: &[u8], framing: &Framing<'_>, cut: bool) -> bool
     requires { length octets.now ≤ input_limit }
     ensures { IsTrue result ↔ IsFollowed framing.now cut octets.now }
