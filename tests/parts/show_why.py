@@ -342,6 +342,9 @@ LONG_LENGTHS = [
     (2 * SEARCHED, OPEN + MANY, "If the header at offset 1048567 said 1 octet and not 2, all up to offset 2097141 would parse."),
     (2 * SEARCHED, BIT + MANY, "If the header at offset 1048561 said 9 octets and not 25, or that at offset 1048559 said 27 octets and not 11, all up to offset 2097135 would parse."),
     (2 * SEARCHED, OPEN + DAMAGED + MANY, None),
+    (2 * SEARCHED, element(0x30, string(bytes(WIDE - 100)) + BIT) + MANY,
+     "If the header at offset 1048561 said 9 octets and not 25, all up to offset 1835081 would parse."),
+    (2 * SEARCHED, element(0x30, string(bytes(WIDE)) + BIT) + MANY, None),
     (2 * SEARCHED, OPEN + MANY + DAMAGED, "If the header at offset 1048559 said 1 octet and not 2, all up to offset 2097133 would parse."),
     (WIDE, BIT, "If the header at offset 262133 said 9 octets and not 25, all would parse."),
     (WIDE + 1, BIT, None),
@@ -496,8 +499,8 @@ def of_size(size, octets):
 
 
 def long_input(why):
-    """In more than 2^18 octets only lengths nearby are tried, and one header is named. In more than 2^20 a window is searched,
-    for all lengths.
+    """In more than 2^18 octets only lengths nearby are tried, and one header is named. In more than 2^20 a window is searched:
+    for all lengths if its fault is in the first 2^18 octets.
     """
     for size, octets, wanted in LONG_LENGTHS:
         _, lines = why.said(of_size(size, octets))
